@@ -65,6 +65,10 @@ fn a_key_without_an_item_is_refused(rt: HostRuntime) -> Result<(), Fail> {
     set.insert(7)?;
     let one = set_to_value(alloc, &set, number)?;
     is(&rt, one.to_string(alloc)?.as_str(), "[7]");
-    is(&rt, set_to_value(alloc, &set, |_| None).err(), Some(Refused::Item));
+    is(
+        &rt,
+        set_to_value(alloc, &set, |_| None).err(),
+        Some(Refused::Item),
+    );
     Ok(())
 }

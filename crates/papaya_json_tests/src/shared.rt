@@ -14,7 +14,14 @@ type Shared = HashMap<u64, u64>;
 /// The map of numbers of this value.
 fn shared_of<R: Wait>(rt: &R, alloc: Global, v: &Value) -> Result<Shared, Refused> {
     let hasher = BuildHasherDefault::new();
-    shared_map_from_value(rt, alloc, v, hasher, |text| text.parse().ok(), Value::as_u64)
+    shared_map_from_value(
+        rt,
+        alloc,
+        v,
+        hasher,
+        |text| text.parse().ok(),
+        Value::as_u64,
+    )
 }
 
 /// The text of the JSON of the map of this text.
@@ -75,7 +82,11 @@ fn clash<R: Wait, W: Fn(&u64) -> Option<Value>>(
 fn equal_texts_of_a_shared_map_are_refused(rt: HostRuntime) -> Result<(), Fail> {
     let alloc = rt.alloc();
     let map = shared_of(&rt, alloc, &Value::from_str(alloc, "{\"0\":4,\"1\":3}")?)?;
-    is(&rt, clash(&rt, alloc, &map, number), Some(Refused::KeyClash));
+    is(
+        &rt,
+        clash(&rt, alloc, &map, number),
+        Some(Refused::KeyClash),
+    );
     is(&rt, clash(&rt, alloc, &map, no_four), Some(Refused::Item));
     Ok(())
 }

@@ -1,4 +1,4 @@
-use Rattle.std.proofs.Common.{◌≡◌, ◌++◌, ◌∷◌, [], Some, string_bytes, inl, inr, refl, sym, ◌∙◌, subst, map}
+use Rattle.std.proofs.Common.{◌++◌, ◌∷◌, [], Some, string_bytes, inl, inr, refl, sym, ◌∙◌, subst, map}
 use Rattle.std.proofs.lemmas.Slice.Zip.{all_zipped_more}
 use Rattle.std.specs.Fn.{FnReturnsAt}
 use Rattle.std.specs.List.{Any}
@@ -13,13 +13,11 @@ pub loop-name-preserved : goal.loop-name-preserved
 loop-name-preserved g c =
     let l = c.loop-name in
     let key : FnReturnsAt g.T.Fn c.args.key (string_bytes c.in-Some.name.now) (Some c.in-Some-key.k) = record { shown = c.as_str.result; shows = c.as_str.ensures.value; says = record { met = c.in-Some-key.ensures } } in
-    let value : FnReturnsAt g.W.Fn c.args.value c.in-Some.member.now (Some c.in-Some-value.v) = record { shown = c.in-Some.member; shows = refl; says = record { met = c.in-Some-value.ensures } } in
-    (
-      subst (IsEachRead (IsPair (FnReturnsAt g.T.Fn c.args.key) (FnReturnsAt g.W.Fn c.args.value))) (sym (map_push deref_pair l.yielded (c.in-Some.name, c.in-Some.member)))
-          (
-            l.invariant.0.0 ++ (c.in-Some-key.k, c.in-Some-value.v) ∷ [],
-            all_zipped_more (IsPair (FnReturnsAt g.T.Fn c.args.key) (FnReturnsAt g.W.Fn c.args.value)) (map deref_pair l.yielded) l.invariant.0.0 (c.in-Some.name.now, c.in-Some.member.now) (c.in-Some-key.k, c.in-Some-value.v) l.invariant.0.1 (key, value),
-          ),
+    let value : FnReturnsAt g.W.Fn c.args.value c.in-Some.member.now (Some c.in-Some-value.v) = record { shown = c.in-Some.member; shows = refl; says = record { met = c.in-Some-value.ensures } } in (
+      subst (IsEachRead (IsPair (FnReturnsAt g.T.Fn c.args.key) (FnReturnsAt g.W.Fn c.args.value))) (sym (map_push deref_pair l.yielded (c.in-Some.name, c.in-Some.member))) (
+        l.invariant.0.0 ++ (c.in-Some-key.k, c.in-Some-value.v) ∷ [],
+        all_zipped_more (IsPair (FnReturnsAt g.T.Fn c.args.key) (FnReturnsAt g.W.Fn c.args.value)) (map deref_pair l.yielded) l.invariant.0.0 (c.in-Some.name.now, c.in-Some.member.now) (c.in-Some-key.k, c.in-Some-value.v) l.invariant.0.1 (key, value),
+      ),
       c.insert_as.ensures.book ∙ l.invariant.1,
     )
 
