@@ -70,6 +70,12 @@ abbrev pub IsObjectWith : Value → (List Entry → Type 0) → Type 0
 IsObjectWith v so = (object : BTreeMap (String Global) Value) × (v ≡ Object object)
     × so object.entries
 
+-- the value is no object, or it is one, and its members are refused for this cause
+abbrev pub IsNoObjectOr : Value → (Refused → List Entry → Type 0) → Refused → Type 0
+IsNoObjectOr v why refused = ((refused ≡ Shape)
+    × ((object : BTreeMap (String Global) Value) → v ≢ Object object))
+    ⊎ IsObjectWith v (why refused)
+
 -- Reading. What the caller's two functions may answer to a text and to a value.
 module _ {K V : Type 0} (key_of : List ℕ → Option K → Type 0)
     (value_of : Value → Option V → Type 0) where
@@ -87,6 +93,4 @@ module _ {K V : Type 0} (key_of : List ℕ → Option K → Type 0)
 
   -- why there is no map: the value is no object, or it is one, and there is none of its members
   abbrev pub IsMapRefusal : (S : Type 0) → (K → K → Bool) → Value → Refused → Type 0
-  IsMapRefusal S eq v refused = ((refused ≡ Shape)
-      × ((object : BTreeMap (String Global) Value) → v ≢ Object object))
-      ⊎ IsObjectWith v (IsReadRefusal S eq IsPair HasNoPair (λ p. p) refused)
+  IsMapRefusal S eq v refused = IsNoObjectOr v (IsReadRefusal S eq IsPair HasNoPair (λ p. p)) refused

@@ -1,10 +1,13 @@
-//! Maps of JSON objects.
+//! Maps of JSON objects, and sets of JSON arrays.
 ghost use Rattle.std.specs.Prelude.{◌≡◌, IfErr, IfOk};
 ghost use Rattle.std.specs.Fn.{FnReturnsAt};
+ghost use Rattle.papaya_set.specs.Sets.{entry_of_key};
+ghost use Rattle.papaya_json.specs.Arrays.{HasNoKey, IsKey, IsSetOf, IsSetRefusal};
 ghost use Rattle.papaya_json.specs.Objects.{HasNoPair, IsMapOf, IsMapRefusal, IsPair};
 ghost use Rattle.papaya_json.specs.Reads.{IsRead, IsReadRefusal};
 
 use papaya_seq::seq::HashMap;
+use papaya_set::seq::HashSet;
 use papaya_words::probe::Refused;
 use serde_json::{Map, Value};
 use std::alloc::Global;
@@ -76,4 +79,55 @@ where
         return Err(Refused::Shape);
     };
     map_of(alloc, members, hasher, key, value)
+}
+
+/// The set of an array's items.
+fn set_of<K: Hash + Eq + Drop, S: BuildHasher + Drop, T: Fn(&Value) -> Option<K>>(
+    alloc: Global,
+    items: &Vec<Value>,
+    hasher: S,
+    key: T,
+) -> Result<HashSet<K, S>, Refused>
+    requires { T.IsAlwaysCallable key }
+    ensures ok { IfOk result (IsRead K.eq (IsKey (FnReturnsAt T.Fn key)) entry_of_key
+        items.now.items) }
+    ensures hasher { IfOk result (λ set. set.store.hasher ≡ hasher) }
+    ensures err { IfErr result (λ e. IsReadRefusal S K.eq (IsKey (FnReturnsAt T.Fn key))
+        (HasNoKey (FnReturnsAt T.Fn key)) entry_of_key e items.now.items) }
+{
+    let mut set = HashSet::with_hasher(alloc, hasher)?;
+    for item in items {
+        let Some(k) = key(item) else {
+            return Err(Refused::Item);
+        };
+        match set.insert(k) {
+            Ok(_) => {}
+            Err(refused) => return Err(refused),
+        }
+    }
+    Ok(set)
+}
+
+/// The set of a JSON array: of each item a key, which the function answers. It stands for the
+/// implementation of `Deserialize` in 0.2.5. Of two items with equal keys the later one stays. No
+/// room is made ahead.
+///
+/// `Refused::Shape` where the value is no array, before all else. `Refused::Item` at the first item
+/// for which the function answered none. `Refused::Memory` where the set was not made; else refused
+/// as [`HashSet::insert`].
+pub fn set_from_value<K: Hash + Eq + Drop, S: BuildHasher + Drop, T: Fn(&Value) -> Option<K>>(
+    alloc: Global,
+    v: &Value,
+    hasher: S,
+    key: T,
+) -> Result<HashSet<K, S>, Refused>
+    requires { T.IsAlwaysCallable key }
+    ensures ok { IfOk result (IsSetOf (FnReturnsAt T.Fn key) K.eq v.now) }
+    ensures hasher { IfOk result (λ set. set.store.hasher ≡ hasher) }
+    ensures err { IfErr result (IsSetRefusal (FnReturnsAt T.Fn key) S K.eq v.now) }
+{
+    let Value::Array(items) = v else {
+        return Err(Refused::Shape);
+    };
+    set_of(alloc, items, hasher, key)
 }

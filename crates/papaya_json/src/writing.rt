@@ -1,15 +1,18 @@
-//! Maps as JSON objects.
-ghost use Rattle.std.specs.Prelude.{◌≡◌, ◌+◌, ◌⊎◌, IfErr, IfOk, OnOk, if◌then◌else◌, length, map};
-ghost use Rattle.std.specs.Prelude.{string_cmp};
+//! Maps as JSON objects, and sets as JSON arrays.
+ghost use Rattle.std.specs.Prelude.{◌≡◌, ◌+◌, ◌⊎◌, ◌++◌, ◌∷◌, [], IfErr, IfOk, OnOk, length};
+ghost use Rattle.std.specs.Prelude.{if◌then◌else◌, map, string_cmp};
 ghost use Rattle.std.specs.BTreeMap.{insert_entry};
 ghost use Rattle.std.specs.Fn.{FnReturnsAt};
 ghost use Rattle.std.specs.Iterator.{IsFiniteIterable};
 ghost use Rattle.std.specs.Map.Iter.{deref_pair};
 ghost use Rattle.papaya_seq.specs.Entries.{AllCome, ComesNext};
+ghost use Rattle.papaya_set.specs.Sets.{keys_of};
+ghost use Rattle.papaya_json.specs.Arrays.{HasNoItem, IsArray, IsListRefusal};
 ghost use Rattle.papaya_json.specs.Objects.{HasClash, HasNoMember, IsObject};
 ghost use Rattle.papaya_json.specs.Objects.{IsWriteRefusal, pairs_of};
 
 use papaya_seq::seq::HashMap;
+use papaya_set::seq::HashSet;
 use papaya_words::probe::Refused;
 use serde_json::{Map, Value};
 use std::alloc::Global;
@@ -112,4 +115,69 @@ where
         (pairs_of K.eq map.now.store)) }
 {
     object_from(alloc, map, key, value)
+}
+
+/// Puts an item at the end.
+fn push(items: &mut Vec<Value>, item: Value) -> Result<(), Refused>
+    ensures ok { OnOk result (items.new.items ≡ items.old.items ++ item ∷ []) }
+    ensures err { IfErr result (λ e. e ≡ Refused.Memory) }
+{
+    match items.push(item) {
+        Ok(()) => Ok(()),
+        Err(failed) => {
+            drop(failed);
+            Err(Refused::Memory)
+        }
+    }
+}
+
+/// The array of these keys: for each an item, which the function answers.
+///
+/// `Refused::Item` at the first key for which it answered none. `Refused::Memory` where a growth was
+/// refused.
+pub(crate) fn array_from<'a, K, U, T>(alloc: Global, keys: U, key: T) -> Result<Value, Refused>
+where
+    K: 'a,
+    U: IntoIterator<Item = &'a K>,
+    U::IntoIter: Drop,
+    T: Fn(&K) -> Option<Value>,
+    requires keys { IsFiniteIterable U.into_iter_gives U.IntoIter.can_next
+        U.IntoIter.remaining keys }
+    requires key { T.IsAlwaysCallable key }
+    ensures ok { IfOk result (λ v. AllCome U.into_iter_gives U.IntoIter.next_gives keys
+        (λ items. IsArray (FnReturnsAt T.Fn key) (map (λ k. k.now) items) v)) }
+    ensures err { IfErr result (λ e. (e ≡ Refused.Memory)
+        ⊎ ((e ≡ Refused.Item)
+        × ComesNext U.into_iter_gives U.IntoIter.next_gives keys
+        (λ items item. HasNoItem (FnReturnsAt T.Fn key) item.now))) }
+{
+    let mut items: Vec<Value> = Vec::new(alloc);
+    for k in keys {
+        let Some(item) = key(k) else {
+            return Err(Refused::Item);
+        };
+        match push(&mut items, item) {
+            Ok(()) => {}
+            Err(refused) => return Err(refused),
+        }
+    }
+    Ok(Value::Array(items))
+}
+
+/// The set as a JSON array, in the order of a walk: of each key an item, which the function answers.
+/// It stands for the implementation of `Serialize` in 0.2.5.
+///
+/// `Refused::Item` at the first key for which it answered none. `Refused::Memory` where a growth was
+/// refused.
+pub fn set_to_value<K: Hash + Eq, S: BuildHasher, T: Fn(&K) -> Option<Value>>(
+    alloc: Global,
+    set: &HashSet<K, S>,
+    key: T,
+) -> Result<Value, Refused>
+    requires { T.IsAlwaysCallable key }
+    ensures ok { IfOk result (IsArray (FnReturnsAt T.Fn key) (keys_of K.eq set.now.store)) }
+    ensures err { IfErr result (IsListRefusal (FnReturnsAt T.Fn key)
+        (keys_of K.eq set.now.store)) }
+{
+    array_from(alloc, set, key)
 }

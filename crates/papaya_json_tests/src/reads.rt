@@ -14,7 +14,7 @@ use std::test::Fail;
 type Texts = HashMap<String, u64>;
 
 /// The map of numbers of this value.
-fn numbers_of(alloc: Global, v: &Value) -> Result<Numbers, Refused> {
+pub fn numbers_of(alloc: Global, v: &Value) -> Result<Numbers, Refused> {
     map_from_value(
         alloc,
         v,

@@ -1,4 +1,4 @@
-use Rattle.std.proofs.Common.{◌≡◌, ◌++◌, ◌∷◌, [], List, Some, string_bytes, inl, inr, refl, sym, ◌∙◌, subst, map}
+use Rattle.std.proofs.Common.{Some, string_bytes, inl, inr, refl, sym, ◌∙◌, subst, map}
 use Rattle.std.specs.Fn.{FnReturnsAt}
 use Rattle.std.specs.Map.Iter.{deref_pair}
 use Rattle.papaya_json.specs.Objects.{IsPair}

@@ -1,4 +1,4 @@
-use Rattle.std.proofs.Common.{◌≡◌, ◌<◌, ◌++◌, ◌∷◌, [], ◌||◌, not, cond, inl, inr, refl, sym, ◌∙◌, ap, subst, map, length, false, Some, Option}
+use Rattle.std.proofs.Common.{◌<◌, ◌++◌, ◌∷◌, [], not, inl, inr, refl, sym, ◌∙◌, ap, subst, map, length, false, Some}
 use Rattle.std.specs.Fn.{FnReturnsAt}
 use Rattle.std.specs.Map.Iter.{deref_pair}
 use Rattle.serde_json.specs.Data.{object}

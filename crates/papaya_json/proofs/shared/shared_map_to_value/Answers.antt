@@ -1,0 +1,23 @@
+use Rattle.std.proofs.Common.{[], ◌∷◌, ◌++◌, inl, inr, ⊎_elim, map}
+use Rattle.std.proofs.lemmas.Result.{IfErr-weaker, IfOk-weaker}
+use Rattle.std.specs.Fn.{FnReturnsAt}
+use Rattle.std.specs.Map.Iter.{deref_pair}
+use Rattle.papaya_json.specs.Objects.{HasNoMember}
+use Rattle.papaya_json.proofs.Building.{any_middle}
+use Rattle.papaya_json.proofs.shared.shared_map_to_value.Goals as goal
+
+pub returns-clause-ok : goal.returns-clause-ok
+returns-clause-ok g c = IfOk-weaker c.object_from.result _ _ (λ v came. (map deref_pair came.items, came.is.2)) c.object_from.ensures.ok
+
+pub returns-clause-err : goal.returns-clause-err
+returns-clause-err g c =
+    let none = HasNoMember (FnReturnsAt g.T.Fn c.args.key) (FnReturnsAt g.W.Fn c.args.value) in
+    IfErr-weaker c.object_from.result _ _
+    (λ e why. ⊎_elim (λ memory. inr ([], inl memory)) (λ other. ⊎_elim
+    (λ clash. inr (map deref_pair clash.1.items, inr (inl (clash.0, clash.1.is.2))))
+    (λ item. inr (
+      map deref_pair item.1.items ++ deref_pair item.1.is.0 ∷ [],
+      inr (inr (item.0, any_middle none (map deref_pair item.1.items) (deref_pair item.1.is.0) [] item.1.is.3)),
+    ))
+    other) why)
+    c.object_from.ensures.err

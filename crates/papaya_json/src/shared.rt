@@ -1,0 +1,134 @@
+//! Maps that threads share as JSON objects, and back.
+ghost use Rattle.std.specs.Prelude.{◌≡◌, ◌⊎◌, IfErr, IfOk, List};
+ghost use Rattle.std.specs.Fn.{FnReturnsAt};
+ghost use Rattle.papaya_words.specs.declared.limits.TheConstants.{DEFAULT_CHUNK};
+ghost use Rattle.papaya_map.specs.Fixed.{IsFor};
+ghost use Rattle.papaya_json.specs.Objects.{HasNoPair, IsNoObjectOr, IsObject, IsObjectWith};
+ghost use Rattle.papaya_json.specs.Objects.{IsPair, IsWriteRefusal};
+ghost use Rattle.papaya_json.specs.Shared.{IsEachRead, IsUnread, IsUnwritten};
+
+use crate::writing::object_from;
+use papaya_map::map::HashMap;
+use papaya_words::probe::{Refused, ResizeMode};
+use serde_json::{Map, Value};
+use std::alloc::Global;
+use std::hash::{BuildHasher, Hash};
+use std::sync::Wait;
+
+/// [`crate::writing::map_to_value`] of a map that threads share: the object of the pairs that a walk
+/// gives. Where others change the map meanwhile, those are as [`papaya_map::map::HashMapRef::iter`]
+/// gives them.
+///
+/// Refused as that is, and as the walk is, so also `Refused::Capacity`.
+pub fn shared_map_to_value<R: Wait, K: Hash + Eq, V, S: BuildHasher, T, W>(
+    rt: &R,
+    alloc: Global,
+    map: &HashMap<K, V, S>,
+    key: T,
+    value: W,
+) -> Result<Value, Refused>
+where
+    T: Fn(&K) -> Option<String>,
+    W: Fn(&V) -> Option<Value>,
+    requires key { T.IsAlwaysCallable key }
+    requires value { W.IsAlwaysCallable value }
+    ensures ok { IfOk result (λ v. (pairs : List (K × V))
+        × IsObject (FnReturnsAt T.Fn key) (FnReturnsAt W.Fn value) pairs v) }
+    ensures err { IfErr result (IsUnwritten (IsWriteRefusal (FnReturnsAt T.Fn key)
+        (FnReturnsAt W.Fn value))) }
+{
+    let pairs = map.pin().iter(rt)?;
+    object_from(alloc, pairs, key, value)
+}
+
+/// Stores the pairs of an object's members.
+fn fill<R: Wait, K: Hash + Eq + Drop, V: Drop, S: BuildHasher, T, W>(
+    rt: &R,
+    map: &HashMap<K, V, S>,
+    members: &Map<String, Value>,
+    key: T,
+    value: W,
+) -> Result<(), Refused>
+where
+    T: Fn(&str) -> Option<K>,
+    W: Fn(&Value) -> Option<V>,
+    requires key { T.IsAlwaysCallable key }
+    requires value { W.IsAlwaysCallable value }
+    ensures ok { IfOk result (λ _. IsEachRead (IsPair (FnReturnsAt T.Fn key)
+        (FnReturnsAt W.Fn value)) members.now.entries) }
+    ensures err { IfErr result (λ e. IsUnread (HasNoPair (FnReturnsAt T.Fn key)
+        (FnReturnsAt W.Fn value)) e members.now.entries) }
+{
+    let mut pass = map.pass();
+    for (name, member) in members {
+        let Some(k) = key(name.as_str()) else {
+            return Err(Refused::Item);
+        };
+        let Some(v) = value(member) else {
+            return Err(Refused::Item);
+        };
+        match map.pin().insert_as(rt, k, v, &mut pass) {
+            Ok(_) => {}
+            Err(refused) => return Err(refused),
+        }
+    }
+    Ok(())
+}
+
+/// The map of an object's members.
+fn shared_map_of<R: Wait, K: Hash + Eq + Drop, V: Drop, S: BuildHasher + Drop, T, W>(
+    rt: &R,
+    alloc: Global,
+    members: &Map<String, Value>,
+    hasher: S,
+    key: T,
+    value: W,
+) -> Result<HashMap<K, V, S>, Refused>
+where
+    T: Fn(&str) -> Option<K>,
+    W: Fn(&Value) -> Option<V>,
+    requires key { T.IsAlwaysCallable key }
+    requires value { W.IsAlwaysCallable value }
+    ensures ok { IfOk result (λ map. IsEachRead (IsPair (FnReturnsAt T.Fn key)
+        (FnReturnsAt W.Fn value)) members.now.entries) }
+    ensures made { IfOk result (IsFor (ResizeMode.Incremental DEFAULT_CHUNK) 0) }
+    ensures err { IfErr result (λ e. IsUnread (HasNoPair (FnReturnsAt T.Fn key)
+        (FnReturnsAt W.Fn value)) e members.now.entries) }
+{
+    let map = HashMap::with_hasher(rt, alloc, hasher)?;
+    match fill(rt, &map, members, key, value) {
+        Ok(()) => Ok(map),
+        Err(refused) => Err(refused),
+    }
+}
+
+/// [`crate::reading::map_from_value`] of a map that threads share: of each member a pair, whose key
+/// and value the functions answer, in the order of their texts.
+///
+/// `Refused::Shape` where the value is no object, before the map is made. `Refused::Item` at the
+/// first member for which a function answered none. Else refused as
+/// [`papaya_map::map::HashMap::with_hasher`] and an insertion are.
+pub fn shared_map_from_value<R: Wait, K: Hash + Eq + Drop, V: Drop, S: BuildHasher + Drop, T, W>(
+    rt: &R,
+    alloc: Global,
+    v: &Value,
+    hasher: S,
+    key: T,
+    value: W,
+) -> Result<HashMap<K, V, S>, Refused>
+where
+    T: Fn(&str) -> Option<K>,
+    W: Fn(&Value) -> Option<V>,
+    requires key { T.IsAlwaysCallable key }
+    requires value { W.IsAlwaysCallable value }
+    ensures ok { IfOk result (λ map. IsObjectWith v.now (IsEachRead (IsPair (FnReturnsAt T.Fn key)
+        (FnReturnsAt W.Fn value)))) }
+    ensures made { IfOk result (IsFor (ResizeMode.Incremental DEFAULT_CHUNK) 0) }
+    ensures err { IfErr result (IsNoObjectOr v.now (IsUnread (HasNoPair (FnReturnsAt T.Fn key)
+        (FnReturnsAt W.Fn value)))) }
+{
+    let Value::Object(members) = v else {
+        return Err(Refused::Shape);
+    };
+    shared_map_of(rt, alloc, members, hasher, key, value)
+}
