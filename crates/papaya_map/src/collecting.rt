@@ -9,7 +9,7 @@ ghost use Rattle.papaya_change.specs.Writing.{IsMemoryOrCapacity};
 ghost use Rattle.papaya_map.specs.Fixed.{HasSettingsOf, IsFor};
 
 use crate::map::HashMap;
-use papaya_words::probe::Refused;
+use papaya_words::probe::{Refused, ResizeMode};
 use std::alloc::Global;
 use std::hash::{BuildHasher, BuildHasherDefault, FoldHasher, Hash};
 use std::sync::Wait;
