@@ -14,13 +14,12 @@ use std::sync::atomic::{AtomicBool, Ordering};
 use std::test::Fail;
 
 /// A map that threads share, and what may wait.
-#[derive(Clone, Copy)]
-pub struct Shared<'a, R, S: BuildHasher> {
-    pub rt: &'a R,
-    pub map: &'a HashMap<u64, u64, S>,
+pub struct Shared<'r, 'm, R, S: BuildHasher> {
+    pub rt: &'r R,
+    pub map: &'m HashMap<u64, u64, S>,
 }
 
-impl<R: Wait, S: BuildHasher> Calls for Shared<'_, R, S> {
+impl<R: Wait, S: BuildHasher> Calls for Shared<'_, '_, R, S> {
     fn insert_one(&mut self, key: u64, value: u64) -> Result<Answer, Refused> {
         Ok(value_of(self.map.pin().insert(self.rt, key, value)?))
     }

@@ -1,7 +1,7 @@
-// Threads that remove the same keys, and that look keys up while room is made.
+// Threads that remove the same keys of a map.
 use crate::answers::Answer::{self, Number};
 use crate::expect::{MODES, is};
-use crate::maps::goes;
+use crate::maps::{Case, goes};
 use crate::shared::Shared;
 use crate::steps::Step::{GetBelow, InsertBelow, Len, RemoveBelow};
 use crate::steps::answer;
@@ -20,22 +20,22 @@ pub fn count(answer: Answer) -> u64 {
     }
 }
 
-/// Two threads remove the same 64 keys: of each just one is told its value.
+/// Removes 64 keys. Of how many was the value told?
+fn remove<R: Wait>(rt: &R, map: &HashMap<u64, u64>) -> u64 {
+    count(answer(&mut Shared { rt, map }, RemoveBelow(64, 7)))
+}
+
+/// Stores them, or looks for them.
+fn make<R: Wait + Abort>(rt: &R, map: &HashMap<u64, u64>, case: Case) {
+    goes(rt, 0, case, &mut Shared { rt, map });
+}
+
+/// Two threads remove the same keys: of each just one is told its value.
 fn removes<R: Threads + Wait + Sync + Abort>(rt: &R, map: &HashMap<u64, u64>) {
-    let mut own = Shared { rt, map };
-    goes(rt, 0, &[(InsertBelow(64, 7), Number(64))], &mut own);
-    let (first, second) = join(
-        rt,
-        || count(answer(&mut Shared { rt, map }, RemoveBelow(64, 7))),
-        || count(answer(&mut Shared { rt, map }, RemoveBelow(64, 7))),
-    );
+    make(rt, map, &[(InsertBelow(64, 7), Number(64))]);
+    let (first, second) = join(rt, || remove(rt, map), || remove(rt, map));
     is(rt, first.wrapping_add(second), 64);
-    goes(
-        rt,
-        1,
-        &[(GetBelow(64, 7), Number(0)), (Len, Number(0))],
-        &mut own,
-    );
+    make(rt, map, &[(GetBelow(64, 7), Number(0)), (Len, Number(0))]);
 }
 
 #[test]

@@ -57,14 +57,24 @@ fn made(alloc: Global, mode: ResizeMode, pairs: &[(u64, u64)]) -> Result<Numbers
     Ok(map)
 }
 
+/// Of three pairs one is of a key that the map has.
+fn take(rt: &impl Abort, map: &mut Numbers, other: &Numbers) -> Result<(), Fail> {
+    walks(rt, other, 3, 96, 48)?;
+    map.extend_ref(other.iter())?;
+    walks(rt, map, 4, 97, 49)
+}
+
+/// A map of two pairs takes three.
+fn take_in(rt: &impl Abort, alloc: Global, mode: ResizeMode) -> Result<(), Fail> {
+    let other = made(alloc, mode, &[(42, 0), (16, 6), (38, 42)])?;
+    let mut map = made(alloc, mode, &[(1, 1), (16, 0)])?;
+    take(rt, &mut map, &other)
+}
+
 #[test]
 fn a_map_takes_further_pairs(rt: HostRuntime) -> Result<(), Fail> {
     for mode in MODES {
-        let other = made(rt.alloc(), mode, &[(42, 0), (16, 6), (38, 42)])?;
-        walks(&rt, &other, 3, 96, 48)?;
-        let mut map = made(rt.alloc(), mode, &[(1, 1), (16, 0)])?;
-        map.extend_ref(other.iter())?;
-        walks(&rt, &map, 4, 97, 49)?;
+        take_in(&rt, rt.alloc(), mode)?;
     }
     Ok(())
 }
