@@ -181,7 +181,7 @@ pub const CASES: [Case; 16] = [
 ];
 
 /// The calls of a case answer so.
-pub fn goes<C: Calls>(rt: &impl Abort, at: usize, case: Case, map: &mut C) {
+pub fn goes<C: Calls>(rt: &impl Abort, at: usize, case: &[(Step, Answer)], map: &mut C) {
     for (step, &(call, wanted)) in case.iter().enumerate() {
         answers(rt, at, step, answer(map, call), wanted);
     }

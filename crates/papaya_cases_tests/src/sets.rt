@@ -151,7 +151,7 @@ pub const CASES: [Case; 18] = [
 ];
 
 /// The calls of a case answer so.
-pub fn goes<C: Calls>(rt: &impl Abort, at: usize, case: Case, set: &mut C) {
+pub fn goes<C: Calls>(rt: &impl Abort, at: usize, case: &[(Step, Answer)], set: &mut C) {
     for (step, &(call, wanted)) in case.iter().enumerate() {
         answers(rt, at, step, answer(set, call), wanted);
     }

@@ -14,6 +14,7 @@ use std::sync::atomic::{AtomicBool, Ordering};
 use std::test::Fail;
 
 /// A map that threads share, and what may wait.
+#[derive(Drop)]
 pub struct Shared<'r, 'm, R, S: BuildHasher> {
     pub rt: &'r R,
     pub map: &'m HashMap<u64, u64, S>,

@@ -1,9 +1,9 @@
 // Threads that remove the same keys of a map.
 use crate::answers::Answer::{self, Number};
 use crate::expect::{MODES, is};
-use crate::maps::{Case, goes};
+use crate::maps::goes;
 use crate::shared::Shared;
-use crate::steps::Step::{GetBelow, InsertBelow, Len, RemoveBelow};
+use crate::steps::Step::{self, GetBelow, InsertBelow, Len, RemoveBelow};
 use crate::steps::answer;
 use papaya_map::map::HashMap;
 use std::hash::BuildHasherDefault;
@@ -26,7 +26,7 @@ fn remove<R: Wait>(rt: &R, map: &HashMap<u64, u64>) -> u64 {
 }
 
 /// Stores them, or looks for them.
-fn make<R: Wait + Abort>(rt: &R, map: &HashMap<u64, u64>, case: Case) {
+fn make<R: Wait + Abort>(rt: &R, map: &HashMap<u64, u64>, case: &[(Step, Answer)]) {
     goes(rt, 0, case, &mut Shared { rt, map });
 }
 

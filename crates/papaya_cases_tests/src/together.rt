@@ -57,18 +57,17 @@ fn made(alloc: Global, mode: ResizeMode, pairs: &[(u64, u64)]) -> Result<Numbers
     Ok(map)
 }
 
-/// Of three pairs one is of a key that the map has.
-fn take(rt: &impl Abort, map: &mut Numbers, other: &Numbers) -> Result<(), Fail> {
-    walks(rt, other, 3, 96, 48)?;
-    map.extend_ref(other.iter())?;
+/// Of three lent pairs one is of a key that the map has.
+fn take(rt: &impl Abort, map: &mut Numbers) -> Result<(), Fail> {
+    map.extend_ref([(&42, &0), (&16, &6), (&38, &42)])?;
     walks(rt, map, 4, 97, 49)
 }
 
-/// A map of two pairs takes three.
+/// A map of two pairs takes them.
 fn take_in(rt: &impl Abort, alloc: Global, mode: ResizeMode) -> Result<(), Fail> {
-    let other = made(alloc, mode, &[(42, 0), (16, 6), (38, 42)])?;
     let mut map = made(alloc, mode, &[(1, 1), (16, 0)])?;
-    take(rt, &mut map, &other)
+    walks(rt, &map, 2, 17, 1)?;
+    take(rt, &mut map)
 }
 
 #[test]
