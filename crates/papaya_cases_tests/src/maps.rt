@@ -151,7 +151,7 @@ const MIXED: Case = &[
     (GetBelow(240, 1), Number(240)),
 ];
 
-/// Of the two hashers the one whose hash is the greatest number is the one that matters here.
+/// By the hasher whose hash is the greatest number a path begins at a table's last slot.
 const TEST_MAX_HASHER: Case = &[
     (InsertBelow(100, 0), Number(100)),
     (Contains(u64::MAX), Is(false)),

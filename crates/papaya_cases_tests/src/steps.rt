@@ -56,12 +56,14 @@ pub enum Step {
     Walk,
     /// Keeps the values below this one.
     RetainBelow(u64),
-    /// For each key below the first number: inserts the key and the second number's sum, looks it up, adds the
-    /// second number to it, or removes it. Answered is how many were new, how many had that value, how many
-    /// were there, and how many had that value.
+    /// Inserts the keys below the first number, with the sum of key and second number as value.
+    /// How many were new?
     InsertBelow(u64, u64),
+    /// How many of these keys have that value?
     GetBelow(u64, u64),
+    /// Adds the second number to the value of each. How many were there?
     UpdateBelow(u64, u64),
+    /// Removes each. How many had that value?
     RemoveBelow(u64, u64),
 }
 
