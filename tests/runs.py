@@ -100,6 +100,8 @@ class Plain:
         if line == "clear":
             self.pairs = {}
             return "ok"
+        if line == "len":
+            return f"len {len(self.pairs)}"
         word, key, *value = line.split(" ")
         old = self.pairs.get(int(key))
         if word == "g":
@@ -119,8 +121,8 @@ class Plain:
 def by_lines(runs, args, calls):
     """The calls on a backend that does each line in turn, with the number of pairs after them."""
     plain = Plain()
-    printed = [plain.call(it) for it in calls]
-    runs.run(args, [*calls, "len"], [*printed, f"len {len(plain.pairs)}"])
+    calls = [*calls, "len"]
+    runs.run(args, calls, [plain.call(it) for it in calls])
 
 
 def by_callers(runs, args, calls):
@@ -173,6 +175,39 @@ def with_walks(seed, calls):
     drawn = random.Random(seed)
     others = drawn.choices(["", "walk", "clear"], [90, 9, 1], k=len(calls))
     return [it for pair in zip(calls, others) for it in pair if it]
+
+
+def upstream(keys):
+    """The cases of papaya's own tests of the map that these lines can say, by their names there, with so many
+    keys where a case has many. Each begins with a new map."""
+    stores = [f"i {key} {key + 1}" for key in range(keys)]
+    looks = [f"g {key}" for key in range(keys)]
+    return {
+        "new": ["len"],
+        "clear": [*[f"i {key} 1" for key in range(5)], "clear", "len"],
+        "insert": ["i 42 0"],
+        "get_empty": ["g 42"],
+        "remove_empty": ["r 42"],
+        "insert_and_remove": ["i 42 0", "r 42", "g 42"],
+        "insert_and_get": ["i 42 0", "g 42"],
+        "reinsert": ["i 42 0", "i 42 1", "g 42"],
+        "update": ["i 42 0", "len", "u 42", "len", "g 42"],
+        "update_empty": ["u 42", "g 42"],
+        "len": [*stores, "len"],
+        "iter": [*stores, "walk"],
+        "test_zero_hasher": [*stores, f"g {WRAP - 1}", *looks, f"g {keys}", f"g {WRAP // 2}"],
+    }
+
+
+def as_upstream(runs):
+    """These cases in both modes, on each backend, with keys that have paths of their own and keys on one path."""
+    for mode in ["inc:1", "inc:64", "block"]:
+        for hasher, keys in [("id", 10_000), ("zero", 100)]:
+            for case in upstream(keys).values():
+                for backend in ["seq", "shared"]:
+                    by_lines(runs, f"{backend} {mode} {hasher}", case)
+            for case in upstream(min(keys, 1000)).values():
+                by_callers(runs, f"core {mode} {hasher}", [it for it in case if it != "len"])
 
 
 def computed(runs):
@@ -462,6 +497,7 @@ def looking_up_beside_a_copy(runs):
 def main(program):
     runs = Runs(program)
     stored(runs, os.path.join(os.path.dirname(os.path.abspath(__file__)), "runs.txt"))
+    as_upstream(runs)
     computed(runs)
     walked(runs)
     full(runs)

@@ -32,10 +32,10 @@ mod room;
 #[cfg(test)]
 mod stored_keys;
 #[cfg(test)]
-mod storing;
-#[cfg(test)]
 mod sweeps;
 #[cfg(test)]
 mod texts;
 #[cfg(test)]
 mod threads;
+#[cfg(test)]
+mod updates;

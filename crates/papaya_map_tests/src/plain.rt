@@ -1,13 +1,8 @@
 // The calls of a pinned map that take no pass.
-ghost use Rattle.std.specs.Prelude.{◌≡◌};
-
 use crate::expect::is;
 use crate::numbers::numbers;
-use papaya_call::answers::Operation;
 use papaya_hashers::times::Times;
-use papaya_keys::compute::Compute;
 use papaya_map::map::HashMapRef;
-use papaya_words::probe::Refused;
 use std::process::Abort;
 use std::sync::Wait;
 
@@ -38,55 +33,11 @@ fn removes<R: Wait + Abort>(rt: &R, map: &Pinned<'_>) {
     is(rt, map.is_empty(), true);
 }
 
-/// Removes an even value, and stores the next of an odd one.
-fn by_parity(shown: Option<(&u64, &u64)>) -> Operation<u64, ()> {
-    match shown {
-        Some((_, value)) if *value % 2 == 0 => Operation::Remove,
-        Some((_, value)) => Operation::Insert(value.wrapping_add(1)),
-        None => Operation::Abort(()),
-    }
-}
-
-/// A compute of 1 by parity answers so.
-fn turns<R: Wait + Abort>(rt: &R, map: &Pinned<'_>, wanted: Compute<'_, u64, u64, ()>) {
-    is(rt, map.compute(rt, 1, |shown| by_parity(shown)), Ok(wanted));
-}
-
-/// 1 is absent, odd and even; then there is nothing to remove.
-fn computes<R: Wait + Abort>(rt: &R, map: &Pinned<'_>) {
-    turns(rt, map, Compute::Aborted(()));
-    is(rt, map.insert(rt, 1, 1), Ok(None));
-    let updated = Compute::Updated {
-        old: (&1, &1),
-        new: (&1, &2),
-    };
-    turns(rt, map, updated);
-    turns(rt, map, Compute::Removed(&1, &2));
-    is(rt, map.get(&1), None);
-    let removed = map.compute(rt, 1, |_| Operation::<u64, ()>::Remove);
-    is(rt, removed, Err(Refused::RemoveNothing));
-}
-
-/// 0 is absent; 1 is kept, goes, and is absent.
-fn asks<R: Wait + Abort>(rt: &R, map: &Pinned<'_>) {
-    is(rt, map.insert(rt, 1, 0), Ok(None));
-    is(rt, map.remove_if(rt, &0, |_, _| true), Ok(Ok(None)));
-    is(rt, map.remove_if(rt, &1, |_, _| false), Ok(Err((&1, &0))));
-    is(
-        rt,
-        map.remove_if(rt, &1, |_, value| *value == 0),
-        Ok(Ok(Some((&1, &0)))),
-    );
-    is(rt, map.remove_if(rt, &1, |_, _| true), Ok(Ok(None)));
-}
-
 #[test]
 fn a_pinned_map_takes_calls_without_a_pass(rt: HostRuntime) {
     let map = numbers(&rt, rt.alloc());
     let pinned = map.pin();
     stores(&rt, &pinned);
     removes(&rt, &pinned);
-    computes(&rt, &pinned);
-    asks(&rt, &pinned);
     is(&rt, pinned.map().len(), 0);
 }

@@ -3,11 +3,10 @@ ghost use Rattle.std.specs.Prelude.{◌≡◌, IfOk, IfErr, MatchBool, is_some};
 ghost use Rattle.papaya_seq.specs.Map.{Inserts, Removes, Unchanged};
 
 use crate::expect::is;
-use crate::numbers::{Usual, finds, has, inserts, provides, tries};
+use crate::numbers::{Usual, finds, has, inserts};
 use papaya_ask::call::{Call, Reply};
 use papaya_call::answers::Listed;
 use papaya_keys::guard::Equivalent;
-use papaya_keys::occupied::{NotInserted, OccupiedError};
 use papaya_seq::seq::HashMap;
 use papaya_words::probe::Refused;
 use std::alloc::Global;
@@ -30,20 +29,6 @@ fn replaces_twice(rt: &impl Abort, map: &mut Usual) {
     finds(rt, map, 37, Some(&3));
     is(rt, map.get_key_value(&37), Some((&37, &3)));
     has(rt, map, 1);
-}
-
-/// Key 37 keeps its first value, and key 38 gets one.
-fn keeps_the_first(rt: &impl Abort, map: &mut Usual) {
-    tries(rt, map, 37, 1, Ok(Ok(&1)));
-    let occupied = OccupiedError {
-        current: &1,
-        not_inserted: NotInserted::Value(2),
-    };
-    tries(rt, map, 37, 2, Ok(Err(occupied)));
-    finds(rt, map, 37, Some(&1));
-    provides(rt, map, 37, 4, Ok(&1));
-    provides(rt, map, 38, 4, Ok(&4));
-    has(rt, map, 2);
 }
 
 /// Stores a pair, and says whether it took the place of one. What the map is after it follows from
@@ -144,7 +129,6 @@ fn runs_in_turn(rt: &impl Abort, alloc: Global, map: &mut Usual) -> Result<(), F
 enum Case {
     StoresOne,
     ReplacesTwice,
-    KeepsTheFirst,
     StoresAndRemoves,
     RunsInTurn,
 }
@@ -154,7 +138,6 @@ fn calls_on_new_maps(rt: HostRuntime) -> Result<(), Fail> {
     for case in [
         Case::StoresOne,
         Case::ReplacesTwice,
-        Case::KeepsTheFirst,
         Case::StoresAndRemoves,
         Case::RunsInTurn,
     ] {
@@ -162,7 +145,6 @@ fn calls_on_new_maps(rt: HostRuntime) -> Result<(), Fail> {
         match case {
             Case::StoresOne => stores_one(&rt, &mut map),
             Case::ReplacesTwice => replaces_twice(&rt, &mut map),
-            Case::KeepsTheFirst => keeps_the_first(&rt, &mut map),
             Case::StoresAndRemoves => stores_and_removes(&rt, &mut map),
             Case::RunsInTurn => runs_in_turn(&rt, rt.alloc(), &mut map)?,
         }

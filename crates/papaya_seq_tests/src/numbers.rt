@@ -35,17 +35,6 @@ pub fn tries<S: BuildHasher>(
     is(rt, map.try_insert(key, value), wanted);
 }
 
-/// A lookup that inserts where there is none answers so.
-pub fn provides<S: BuildHasher>(
-    rt: &impl Abort,
-    map: &mut HashMap<u64, u64, S>,
-    key: u64,
-    value: u64,
-    wanted: Result<&u64, Refused>,
-) {
-    is(rt, map.get_or_insert(key, value), wanted);
-}
-
 /// A lookup answers so.
 pub fn finds<S: BuildHasher>(
     rt: &impl Abort,

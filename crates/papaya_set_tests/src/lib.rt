@@ -2,12 +2,8 @@
 #![tactic(auto)]
 
 #[cfg(test)]
-mod cases;
-#[cfg(test)]
 mod expect;
 #[cfg(test)]
 mod refused;
-#[cfg(test)]
-mod steps;
 #[cfg(test)]
 mod together;

@@ -1,0 +1,149 @@
+// Calls of sets as values, and what makes them.
+use crate::answers::{Answer, said};
+use papaya_words::probe::Refused;
+
+/// A call of a set, or some of one kind.
+#[derive(Clone, Copy)]
+pub enum Step {
+    Insert(u64),
+    Remove(u64),
+    Contains(u64),
+    Get(u64),
+    Len,
+    Walk,
+    Clear,
+    Reserve(usize),
+    /// Keeps the keys from this one on.
+    RetainFrom(u64),
+    /// Inserts, gets or removes each key below this one. Answered is how many were new, or were there.
+    InsertBelow(u64),
+    GetBelow(u64),
+    RemoveBelow(u64),
+    /// Takes keys that are owned, or lent.
+    Extend(u64, u64),
+    ExtendRef(&'static [u64]),
+}
+
+/// A set whose calls are made by these steps.
+pub trait Calls {
+    fn insert_one(&mut self, key: u64) -> Result<bool, Refused>;
+
+    fn remove_one(&mut self, key: u64) -> Result<bool, Refused>;
+
+    fn contains_one(&self, key: u64) -> bool;
+
+    fn get_one(&self, key: u64) -> Option<u64>;
+
+    fn keys(&self) -> usize;
+    /// How many keys a walk gives, and their sum.
+    fn walk(&self) -> Result<(u64, u64), Refused>;
+
+    fn clear_all(&mut self) -> Result<(), Refused>;
+
+    fn make_room(&mut self, more: usize) -> Result<(), Refused>;
+
+    fn retain_from(&mut self, least: u64) -> Result<(), Refused>;
+
+    fn take(&mut self, from: u64, end: u64) -> Result<(), Refused>;
+
+    fn take_lent(&mut self, keys: &[u64]) -> Result<(), Refused>;
+}
+
+/// How many keys were new.
+fn insert_below<C: Calls>(set: &mut C, end: u64) -> Result<Answer, Refused> {
+    let mut new = 0u64;
+    for key in 0..end {
+        if set.insert_one(key)? {
+            new = new.wrapping_add(1);
+        }
+    }
+    Ok(Answer::Number(new))
+}
+
+/// How many keys were there.
+fn remove_below<C: Calls>(set: &mut C, end: u64) -> Result<Answer, Refused> {
+    let mut went = 0u64;
+    for key in 0..end {
+        if set.remove_one(key)? {
+            went = went.wrapping_add(1);
+        }
+    }
+    Ok(Answer::Number(went))
+}
+
+/// How many keys are there.
+fn get_below<C: Calls>(set: &C, end: u64) -> Answer {
+    let mut found = 0u64;
+    for key in 0..end {
+        if set.get_one(key) == Some(key) {
+            found = found.wrapping_add(1);
+        }
+    }
+    Answer::Number(found)
+}
+
+/// The key that was found, if one was.
+fn key_of(found: Option<u64>) -> Answer {
+    match found {
+        Some(key) => Answer::Number(key),
+        None => Answer::Absent,
+    }
+}
+
+/// What a call answers that changes nothing.
+fn asked<C: Calls>(set: &C, step: Step) -> Result<Answer, Refused> {
+    match step {
+        Step::Contains(key) => Ok(Answer::Is(set.contains_one(key))),
+        Step::Get(key) => Ok(key_of(set.get_one(key))),
+        Step::GetBelow(end) => Ok(get_below(set, end)),
+        Step::Walk => {
+            let (keys, sum) = set.walk()?;
+            Ok(Answer::Walked(keys, sum, 0))
+        }
+        _ => Ok(Answer::Number(set.keys() as u64)),
+    }
+}
+
+/// Makes a call of all keys, or of many.
+fn made<C: Calls>(set: &mut C, step: Step) -> Result<(), Refused> {
+    match step {
+        Step::Clear => set.clear_all(),
+        Step::Reserve(more) => set.make_room(more),
+        Step::RetainFrom(least) => set.retain_from(least),
+        Step::Extend(from, end) => set.take(from, end),
+        Step::ExtendRef(keys) => set.take_lent(keys),
+        _ => Ok(()),
+    }
+}
+
+/// It is over, or was refused.
+fn over(made: Result<(), Refused>) -> Result<Answer, Refused> {
+    match made {
+        Ok(()) => Ok(Answer::Done),
+        Err(refused) => Err(refused),
+    }
+}
+
+/// Was it so, or was it refused?
+fn is(told: Result<bool, Refused>) -> Result<Answer, Refused> {
+    match told {
+        Ok(yes) => Ok(Answer::Is(yes)),
+        Err(refused) => Err(refused),
+    }
+}
+
+/// What a call answers.
+pub fn answer<C: Calls>(set: &mut C, step: Step) -> Answer {
+    said(match step {
+        Step::Insert(key) => is(set.insert_one(key)),
+        Step::Remove(key) => is(set.remove_one(key)),
+        Step::InsertBelow(end) => insert_below(set, end),
+        Step::RemoveBelow(end) => remove_below(set, end),
+        Step::Clear
+        | Step::Reserve(_)
+        | Step::RetainFrom(_)
+        | Step::Extend(_, _)
+        | Step::ExtendRef(_) => over(made(set, step)),
+        _ => asked(set, step),
+    })
+}
