@@ -1,11 +1,9 @@
 -- Of two changes of one history that put in an item and took out none, the item was taken out in between.
 use Rattle.std.proofs.Common.{◌≡◌, ◌==◌, ◌⊎◌, ℕ, Bool, true, false, Option, None, Some, List, [], ◌∷◌, ◌++◌, inl, inr, refl, sym, ap, ◌∙◌, append_assoc, subst}
 use Rattle.std.proofs.lemmas.Bool.{cond-true, eq-eqb, eqb-true}
-use Rattle.std.specs.Prelude.{cond, is_none}
-use Rattle.std.specs.Borrow.{Bor}
+use Rattle.std.specs.Prelude.{cond}
 use mathlib.Core.List.{IsPrefix}
 use Rattle.papaya_book.specs.Logs.{Stored}
-use Rattle.papaya_change.specs.Changes.{IsPut}
 use Rattle.papaya_lookup.specs.History.{AllLegalChanges, Change, IsLegalHistory, changed, key_of, replay, replay_from}
 use Rattle.papaya_uses.specs.Seen.{IsMet, Seen, WasForgotten}
 
@@ -24,6 +22,15 @@ module _ {A : Type 0} where
   one_first [] (w ∷ ys) rs ss x y e = inr (inl (ys, cc e))
   one_first (z ∷ xs) [] rs ss x y e = inr (inr (xs, cc e))
   one_first (z ∷ xs) (w ∷ ys) rs ss x y e = further z w xs ys x y (cc e) (one_first xs ys rs ss x y (cc e))
+
+  -- an element after the one place and before the other
+  spans : (xs b a s ys one other : List A) (x c y : A) → one ≡ xs ++ x ∷ [] → ys ≡ xs ++ x ∷ s → other ≡ ys ++ y ∷ [] → s ≡ b ++ c ∷ a → ((one ++ b) ++ c ∷ []) ++ (a ++ y ∷ []) ≡ other
+  spans xs b a s ys one other x c y is e is' at =
+      let t : List A = a ++ y ∷ [] in
+      let tail : b ++ c ∷ t ≡ s ++ y ∷ [] = sym (append_assoc b (c ∷ a) (y ∷ [])) ∙ ap (λ (z : List A). z ++ y ∷ []) (sym at) in
+      let from_one : one ++ (b ++ c ∷ t) ≡ xs ++ x ∷ (b ++ c ∷ t) = ap (λ (z : List A). z ++ (b ++ c ∷ t)) is ∙ append_assoc xs (x ∷ []) (b ++ c ∷ t) in
+      let to_other : xs ++ x ∷ (s ++ y ∷ []) ≡ other = sym (append_assoc xs (x ∷ s) (y ∷ [])) ∙ (ap (λ (z : List A). z ++ y ∷ []) (sym e) ∙ sym is') in
+      append_assoc (one ++ b) (c ∷ []) t ∙ (append_assoc one b (c ∷ t) ∙ (from_one ∙ (ap (λ (z : List A). xs ++ x ∷ z) tail ∙ to_other)))
 
 abbrev same : ℕ → ℕ → Bool
 same a b = a == b
@@ -54,18 +61,15 @@ module _ (item : ℕ) where
   -- where the item was there and is there no more, such a change was made
   lost : (m : ℕ → Option Item) (cs : Seen) (p : Item) → m item ≡ Some p → replay_from same m cs item ≡ None → Lost cs
   lost m [] p there gone = absurd (let e : None ≡ Some p = sym gone ∙ there in cc e)
-  lost m (c ∷ cs) p there gone = by (item == c.class) refl
+  lost m (c ∷ cs) p there gone = by (item == c.class) refl (λ q has. later c cs (lost (changed same m c) cs q has gone))
     where
-      on : (q : Item) → changed same m c item ≡ Some q → Lost (c ∷ cs)
-      on q has = later c cs (lost (changed same m c) cs q has gone)
+      by_put : (put : Option Item) → c.put ≡ put → (item == c.class) ≡ true → ((q : Item) → changed same m c item ≡ Some q → Lost (c ∷ cs)) → Lost (c ∷ cs)
+      by_put None none is on = ([], c, cs, refl, sym (eqb-true item c.class is), none)
+      by_put (Some q) some is on = on q (ap (λ (b : Bool). cond b c.put (m item)) is ∙ some)
 
-      by_put : (put : Option Item) → c.put ≡ put → (item == c.class) ≡ true → Lost (c ∷ cs)
-      by_put None none is = ([], c, cs, refl, sym (eqb-true item c.class is), none)
-      by_put (Some q) some is = on q (ap (λ (b : Bool). cond b c.put (m item)) is ∙ some)
-
-      by : (b : Bool) → (item == c.class) ≡ b → Lost (c ∷ cs)
-      by true is = by_put c.put refl is
-      by false is = on p (ap (λ (b : Bool). cond b c.put (m item)) is ∙ there)
+      by : (b : Bool) → (item == c.class) ≡ b → ((q : Item) → changed same m c item ≡ Some q → Lost (c ∷ cs)) → Lost (c ∷ cs)
+      by true is on = by_put c.put refl is on
+      by false is on = on p (ap (λ (b : Bool). cond b c.put (m item)) is ∙ there)
 
   module _ (all : Seen) where
     -- the item was put in at a place of the history, which ends the moment, and none was taken out
@@ -99,15 +103,11 @@ module _ (item : ℕ) where
           let gone : replay_from same (changed same (replay same f.before) f.change) s item ≡ None = sym (replay_on (λ k. None) f.before (f.change ∷ s) item) ∙ (ap (λ (z : Seen). replay same z item) (sym e) ∙ was) in
           let there : changed same (replay same f.before) f.change item ≡ Some f.put.0 = cond-true (item == f.change.class) f.change.put (replay same f.before item) (eq-eqb item f.change.class (sym f.of_item)) ∙ f.put.1 in
           let (b, c, a, at, class, put) : Lost s = lost (changed same (replay same f.before) f.change) s f.put.0 there gone in
-          let t : Seen = a ++ g.change ∷ [] in
-          let tail : b ++ c ∷ t ≡ s ++ g.change ∷ [] = sym (append_assoc b (c ∷ a) (g.change ∷ [])) ∙ ap (λ (z : Seen). z ++ g.change ∷ []) (sym at) in
-          let from_one : one ++ (b ++ c ∷ t) ≡ f.before ++ f.change ∷ (b ++ c ∷ t) = ap (λ (z : Seen). z ++ (b ++ c ∷ t)) f.is ∙ append_assoc f.before (f.change ∷ []) (b ++ c ∷ t) in
-          let to_other : f.before ++ f.change ∷ (s ++ g.change ∷ []) ≡ other = sym (append_assoc f.before (f.change ∷ s) (g.change ∷ [])) ∙ (ap (λ (z : Seen). z ++ g.change ∷ []) (sym e) ∙ sym g.is) in
           record {
             before = one ++ b;
             change = c;
             since = (b, refl);
-            until = (t, append_assoc (one ++ b) (c ∷ []) t ∙ (append_assoc one b (c ∷ t) ∙ (from_one ∙ (ap (λ (z : Seen). f.before ++ f.change ∷ z) tail ∙ to_other))));
+            until = (a ++ g.change ∷ [], spans f.before b a s g.before one other f.change c g.change f.is e g.is at);
             of_item = class;
             is = put;
           }
