@@ -25,7 +25,7 @@ impl<'a, K: Hash + Eq, S: BuildHasher> Model for Iter<'a, K, S> {
 impl<'a, K: Hash + Eq, S: BuildHasher> Iter<'a, K, S> {
     /// The walk of a set over the keys of its map.
     pub(crate) fn of(keys: Keys<'a, K, (), S>) -> Iter<'a, K, S>
-        ensures { result ≡ keys.pairs }
+        ensures { result ≡ keys.entry.pairs }
     {
         Iter { keys }
     }
