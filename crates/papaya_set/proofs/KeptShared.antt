@@ -11,17 +11,14 @@ use Rattle.papaya_sweep.specs.Leaving.{HasKept}
 use Rattle.papaya_set.specs.Shared.{JudgesKey}
 
 -- the closure of a map, `w`, asks the closure of keys that it holds
-module _ {F W K A : Type 0} (g : Mut F (Bor K × Unit {0}) Bool) (h : Mut W (Bor K × (Bor (Unit {0}) × Unit {0})) Bool) (of : W → F)
+module _ {F W K : Type 0} (g : Mut F (Bor K × Unit {0}) Bool) (h : Mut W (Bor K × (Bor (Unit {0}) × Unit {0})) Bool) (of : W → F)
     (asks : (w w' : W) (key : Bor K) (value : Bor (Unit {0})) (agrees : Bool) → Called h w (key, (value, tt)) agrees w' → Called g (of w) (key, tt) agrees (of w')) where
   -- what the one answered, the other did
   said_of : (first : W) (said : List (Stored K (Unit {0}) × Bool)) (left : W) → HasSaid (Judges h) first said left → HasSaid (JudgesKey g) (of first) said (of left)
   said_of first [] left is = ap of is
-  said_of first (last ∷ before) left (w, earlier, key, value, are, called) = (of w, said_of first before w earlier, key, are.0, asks w left key value last.1 called)
+  said_of first (last ∷ before) left (w, earlier, (key, value, are, called)) = (of w, said_of first before w earlier, (key, are.0, asks w left key value last.1 called))
 
-  abbrev Seen : Type 0
-  Seen = List (Change K (Stored K (Unit {0})))
-
-  kept : (eq : K → K → Bool) (old new made made' : Seen) (first : W) (result : Result A Refused) → HasKept eq old new made made' (Judges h) first result → HasKept eq old new made made' (JudgesKey g) (of first) result
+  kept : {A : Type 0} (eq : K → K → Bool) (old new made made' : List (Change K (Stored K (Unit {0})))) (first : W) (result : Result A Refused) → HasKept eq old new made made' (Judges h) first result → HasKept eq old new made made' (JudgesKey g) (of first) result
   kept eq old new made made' first result k = record {
     left = of k.left;
     said = k.said;
@@ -35,7 +32,7 @@ module _ {F W K A : Type 0} (g : Mut F (Bor K × Unit {0}) Bool) (h : Mut W (Bor
     leaves = k.leaves;
   }
 
-  pub kept_so : (eq : K → K → Bool) (first : W) (result : Result A Refused) → IsOfHistory eq (λ hs. (made : Seen) × HasKept eq [] hs [] made (Judges h) first result) → IsOfHistory eq (λ hs. (made : Seen) × HasKept eq [] hs [] made (JudgesKey g) (of first) result)
+  pub kept_so : {A : Type 0} (eq : K → K → Bool) (first : W) (result : Result A Refused) → IsOfHistory eq (λ hs. (made : List (Change K (Stored K (Unit {0})))) × HasKept eq [] hs [] made (Judges h) first result) → IsOfHistory eq (λ hs. (made : List (Change K (Stored K (Unit {0})))) × HasKept eq [] hs [] made (JudgesKey g) (of first) result)
   kept_so eq first result is = record {
     history = is.history;
     legal = is.legal;
