@@ -6,6 +6,7 @@
 //! - [`HashMap::pin`] gives a [`HashMapRef`], which has all calls, and [`HashMap::pass`] a [`Pass`], the
 //!   record of what one thread has seen.
 //! - [`HashMap::builder`] gives a [`HashMapBuilder`], by which a map's parts are asked for one by one.
+//! - [`HashSet`] is the set that threads share, with its [`HashSetRef`] and its [`HashSetBuilder`].
 //! - [`seq::HashMap`] is the map for one caller: changes take `&mut self`. [`seq::HashSet`] is the set.
 //! - [`schedule`] runs the calls of many callers step by step, in any order that a test gives.
 //! - [`raw`] has the words, tables and machines that all three are made of.
@@ -18,8 +19,15 @@ pub use papaya_keys::occupied::{NotInserted, OccupiedError};
 pub use papaya_map::builder::HashMapBuilder;
 pub use papaya_map::map::{HashMap, HashMapRef, Pass};
 pub use papaya_session::session::Session;
+pub use papaya_set::builder::HashSetBuilder;
+pub use papaya_set::set::{HashSet, HashSetRef};
 pub use papaya_sweep::walk::{Iter, Keys, Values};
 pub use papaya_words::probe::{Refused, ResizeMode};
+
+/// The walk of the set that threads share.
+pub mod set {
+    pub use papaya_set::iter::Iter;
+}
 
 /// The map and the set for one caller.
 pub mod seq {

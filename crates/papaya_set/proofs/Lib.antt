@@ -1,3 +1,4 @@
 pub mod Kept
+pub mod KeptShared
 pub mod Same
 pub mod Taken

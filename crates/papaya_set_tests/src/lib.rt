@@ -1,9 +1,15 @@
-//! The tests of the set for one caller.
+//! The tests of sets: of the one for one caller, and of the one that threads share.
 #![tactic(auto)]
 
 #[cfg(test)]
 mod expect;
 #[cfg(test)]
+mod labels;
+#[cfg(test)]
 mod refused;
+#[cfg(test)]
+mod shared;
+#[cfg(test)]
+mod threads;
 #[cfg(test)]
 mod together;

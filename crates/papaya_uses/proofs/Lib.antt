@@ -1,6 +1,7 @@
 mod CounterLemmas
 mod HitLemmas
 mod Said
+mod SeenLemmas
 mod SessionLemmas
 mod SettingLemmas
 mod WordLemmas

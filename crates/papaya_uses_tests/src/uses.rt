@@ -1,8 +1,9 @@
-// Each use, run once; threads share the tables.
+// Each use, run once; threads share the tables and the set.
 use papaya::seq::HashMap;
 use papaya::{Refused, Session};
 use papaya_uses::counters::{Counters, add};
 use papaya_uses::hits::{Hits, forget_below, hit, reads, total};
+use papaya_uses::seen::{Finder, Items};
 use papaya_uses::sessions::{Users, sign_in, sign_out, user_of};
 use papaya_uses::settings::{Settings, set_and_read};
 use papaya_uses::words::count_words;
@@ -139,5 +140,35 @@ fn counts_hits(rt: &(impl Threads + Wait + Sync + Abort), hits: &Hits) {
 fn threads_count_hits(rt: HostRuntime) -> Result<(), Fail> {
     let hits: Hits = Hits::new(&rt, rt.alloc())?;
     counts_hits(&rt, &hits);
+    Ok(())
+}
+
+/// Meets eight items by a finder: how many of them were new?
+fn meets(rt: &impl Wait, items: &Items) -> Result<u64, Refused> {
+    let mut finder = Finder::new(items);
+    let mut new = 0u64;
+    for item in 0..8u64 {
+        if finder.meet(rt, item)? {
+            new = new.wrapping_add(1);
+        }
+    }
+    Ok(new)
+}
+
+/// Two threads meet them, and then one is forgotten.
+fn finds(rt: &(impl Threads + Wait + Sync + Abort), items: &Items) -> Result<(), Refused> {
+    let (first, second) = join(rt, || meets(rt, items), || meets(rt, items));
+    assert!(rt; first?.wrapping_add(second?) == 8);
+    let mut finder = Finder::new(items);
+    assert!(rt; finder.forget(rt, 3) == Ok(true));
+    assert!(rt; finder.meet(rt, 3) == Ok(true));
+    assert!(rt; meets(rt, items) == Ok(0));
+    Ok(())
+}
+
+#[test]
+fn each_item_is_new_once(rt: HostRuntime) -> Result<(), Fail> {
+    let items: Items = Items::new(&rt, rt.alloc())?;
+    finds(&rt, &items)?;
     Ok(())
 }

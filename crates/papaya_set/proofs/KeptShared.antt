@@ -1,0 +1,40 @@
+-- What a retain of the map that threads share leaves whose closure asks one of keys.
+use Rattle.std.proofs.Common.{◌≡◌, Bool, List, [], ◌∷◌, Result, ap}
+use denote.Ref.{Bor}
+use Rattle.std.specs.Fn.{Called, Mut}
+use Rattle.papaya_words.specs.declared.probe.Refused.{Refused}
+use Rattle.papaya_book.specs.Logs.{Stored}
+use Rattle.papaya_change.specs.Showings.{HasSaid, Judges}
+use Rattle.papaya_lookup.specs.History.{Change}
+use Rattle.papaya_map.specs.Plain.{IsOfHistory}
+use Rattle.papaya_sweep.specs.Leaving.{HasKept}
+use Rattle.papaya_set.specs.Shared.{JudgesKey}
+
+-- the closure of a map, `w`, asks the closure of keys that it holds
+module _ {F W K : Type 0} (g : Mut F (Bor K × Unit {0}) Bool) (h : Mut W (Bor K × (Bor (Unit {0}) × Unit {0})) Bool) (of : W → F)
+    (asks : (w w' : W) (key : Bor K) (value : Bor (Unit {0})) (agrees : Bool) → Called h w (key, (value, tt)) agrees w' → Called g (of w) (key, tt) agrees (of w')) where
+  -- what the one answered, the other did
+  said_of : (first : W) (said : List (Stored K (Unit {0}) × Bool)) (left : W) → HasSaid (Judges h) first said left → HasSaid (JudgesKey g) (of first) said (of left)
+  said_of first [] left is = ap of is
+  said_of first (last ∷ before) left (w, earlier, (key, value, are, called)) = (of w, said_of first before w earlier, (key, are.0, asks w left key value last.1 called))
+
+  kept : {A : Type 0} (eq : K → K → Bool) (old new made made' : List (Change K (Stored K (Unit {0})))) (first : W) (result : Result A Refused) → HasKept eq old new made made' (Judges h) first result → HasKept eq old new made made' (JudgesKey g) (of first) result
+  kept eq old new made made' first result k = record {
+    left = of k.left;
+    said = k.said;
+    shown = record {
+      has_said = said_of first k.said k.left k.shown.has_said;
+      had = k.shown.had;
+      changes = k.shown.changes;
+      made_is = k.shown.made_is;
+      dropped = k.shown.dropped;
+    };
+    leaves = k.leaves;
+  }
+
+  pub kept_so : {A : Type 0} (eq : K → K → Bool) (first : W) (result : Result A Refused) → IsOfHistory eq (λ hs. (made : List (Change K (Stored K (Unit {0})))) × HasKept eq [] hs [] made (Judges h) first result) → IsOfHistory eq (λ hs. (made : List (Change K (Stored K (Unit {0})))) × HasKept eq [] hs [] made (JudgesKey g) (of first) result)
+  kept_so eq first result is = record {
+    history = is.history;
+    legal = is.legal;
+    told = (is.told.0, kept eq [] is.history [] is.told.0 first result is.told.1);
+  }

@@ -1,0 +1,225 @@
+//! The builder of a set, which asks for its parts one by one.
+ghost use Rattle.std.specs.Prelude.{◌≡◌, [], IfErr, IfOk};
+ghost use Rattle.std.specs.Arc.{arc_value};
+ghost use Rattle.papaya_words.specs.declared.limits.TheConstants.{DEFAULT_CHUNK, DEFAULT_SHARDS};
+ghost use Rattle.papaya_keys.specs.Sizes.{IsAllowed, IsSizeRefusal};
+ghost use Rattle.papaya_timeline.specs.Content.{content};
+ghost use Rattle.papaya_timeline.specs.New.{IsNew};
+ghost use Rattle.papaya_seq.specs.Map.{core_of};
+ghost use Rattle.papaya_map.specs.Asked.{IsMapRefusal};
+ghost use Rattle.papaya_map.specs.Fixed.{IsFor};
+
+use crate::seq;
+use crate::set::HashSet;
+use papaya_keys::guard::Collector;
+use papaya_map::map::HashMap;
+use papaya_words::limits::DEFAULT_SHARDS;
+use papaya_words::probe::{Refused, ResizeMode};
+use std::alloc::Global;
+use std::fmt;
+use std::hash::{BuildHasher, BuildHasherDefault, FoldHasher, Hash};
+use std::marker::{Model, PhantomData};
+use std::sync::{Arc, Wait};
+
+/// What a set is to be made of: `HashSetBuilder` of 0.2.5. Contracts see each part that was asked
+/// for. What cannot be had is refused when the set is built.
+#[derive(Drop)]
+pub struct HashSetBuilder<K, S = BuildHasherDefault<FoldHasher>> {
+    hasher: S,
+    collector: Collector,
+    capacity: usize,
+    mode: ResizeMode,
+    shards: usize,
+    keys: PhantomData<K>,
+}
+
+impl<K, S> Model for HashSetBuilder<K, S> {
+    ghost use Rattle.papaya_map.specs.Wanted.{Wanted};
+
+    ghost Value = { Wanted S };
+
+    ghost view = { λ b. record {
+      hasher = b.hasher;
+      collector = b.collector;
+      capacity = b.capacity;
+      mode = b.mode;
+      shards = b.shards;
+    } };
+}
+
+impl<K: Hash + Eq> HashSet<K, BuildHasherDefault<FoldHasher>> {
+    /// A builder of a set for no keys, which resizes as [`ResizeMode::default`] says, counts its keys
+    /// over [`DEFAULT_SHARDS`] shards, and has a collector of number 0: `builder` of 0.2.5.
+    pub fn builder() -> HashSetBuilder<K, BuildHasherDefault<FoldHasher>>
+        ensures collector { result.collector ≡ 0 }
+        ensures capacity { result.capacity ≡ 0 }
+        ensures mode { result.mode ≡ ResizeMode.Incremental DEFAULT_CHUNK }
+        ensures shards { result.shards ≡ DEFAULT_SHARDS }
+    {
+        HashSetBuilder {
+            hasher: BuildHasherDefault::new(),
+            collector: Collector::new(0),
+            capacity: 0,
+            mode: ResizeMode::default(),
+            shards: DEFAULT_SHARDS,
+            keys: PhantomData,
+        }
+    }
+}
+
+impl<K, S: Drop> HashSetBuilder<K, S> {
+    /// Asks for this hasher: `hasher` of 0.2.5.
+    pub fn hasher<T>(self, hasher: T) -> HashSetBuilder<K, T>
+        ensures { result ≡ record {
+          hasher = hasher;
+          collector = self.collector;
+          capacity = self.capacity;
+          mode = self.mode;
+          shards = self.shards;
+        } }
+    {
+        let HashSetBuilder {
+            hasher: _,
+            collector,
+            capacity,
+            mode,
+            shards,
+            keys,
+        } = self;
+        HashSetBuilder {
+            hasher,
+            collector,
+            capacity,
+            mode,
+            shards,
+            keys,
+        }
+    }
+}
+
+impl<K, S> HashSetBuilder<K, S> {
+    /// Asks for this collector: `collector` of 0.2.5. Guards of its number are the set's.
+    pub fn collector(self, collector: Collector) -> HashSetBuilder<K, S>
+        ensures { result ≡ record {
+          hasher = self.hasher;
+          collector = collector;
+          capacity = self.capacity;
+          mode = self.mode;
+          shards = self.shards;
+        } }
+    {
+        HashSetBuilder { collector, ..self }
+    }
+
+    /// Asks for a collector that other sets and maps may have too: `shared_collector` of 0.2.5. The
+    /// set keeps its number, as a map does by
+    /// [`papaya_map::builder::HashMapBuilder::shared_collector`].
+    pub fn shared_collector(self, collector: Arc<Collector>) -> HashSetBuilder<K, S>
+        ensures { result ≡ record {
+          hasher = self.hasher;
+          collector = arc_value collector;
+          capacity = self.capacity;
+          mode = self.mode;
+          shards = self.shards;
+        } }
+    {
+        let number = collector.number();
+        self.collector(Collector::new(number))
+    }
+
+    /// Asks for a first table for so many keys: `capacity` of 0.2.5.
+    pub fn capacity(self, capacity: usize) -> HashSetBuilder<K, S>
+        ensures { result ≡ record {
+          hasher = self.hasher;
+          collector = self.collector;
+          capacity = capacity;
+          mode = self.mode;
+          shards = self.shards;
+        } }
+    {
+        HashSetBuilder { capacity, ..self }
+    }
+
+    /// Asks for this way to resize: `resize_mode` of 0.2.5.
+    pub fn resize_mode(self, mode: ResizeMode) -> HashSetBuilder<K, S>
+        ensures { result ≡ record {
+          hasher = self.hasher;
+          collector = self.collector;
+          capacity = self.capacity;
+          mode = mode;
+          shards = self.shards;
+        } }
+    {
+        HashSetBuilder { mode, ..self }
+    }
+
+    /// Asks for so many shards of the count, which are rounded up to a power of two. 0.2.5 takes their
+    /// number from the machine's processors.
+    pub fn shards(self, shards: usize) -> HashSetBuilder<K, S>
+        ensures { result ≡ record {
+          hasher = self.hasher;
+          collector = self.collector;
+          capacity = self.capacity;
+          mode = self.mode;
+          shards = shards;
+        } }
+    {
+        HashSetBuilder { shards, ..self }
+    }
+}
+
+impl<K: Hash + Eq + Drop, S: BuildHasher + Drop> HashSetBuilder<K, S> {
+    /// The set: `build` of 0.2.5. Refused as [`HashSet::with_parts`].
+    pub fn build<R: Wait>(self, rt: &R, alloc: Global) -> Result<HashSet<K, S>, Refused>
+        ensures ok { IfOk result (λ set. IsAllowed self.mode self.capacity self.shards) }
+        ensures made { IfOk result (IsFor self.mode self.capacity) }
+        ensures collector { IfOk result (λ set. set.collector ≡ self.collector) }
+        ensures err { IfErr result (λ e. IsMapRefusal self.mode self.capacity self.shards e) }
+    {
+        let HashSetBuilder {
+            hasher,
+            collector,
+            capacity,
+            mode,
+            shards,
+            keys: _,
+        } = self;
+        let map = HashMap::builder()
+            .hasher(hasher)
+            .collector(collector)
+            .capacity(capacity)
+            .resize_mode(mode)
+            .shards(shards)
+            .build(rt, alloc)?;
+        Ok(HashSet { map })
+    }
+
+    /// A set of the same parts for one caller, which has no need of a collector; 0.2.5 has none such.
+    /// Refused as [`seq::HashSet::with_parts`].
+    pub fn build_seq(self, alloc: Global) -> Result<seq::HashSet<K, S>, Refused>
+        ensures ok { IfOk result (λ set. IsAllowed self.mode self.capacity self.shards
+            × IsNew {A = Unit {0}} self.mode self.capacity self.shards self.hasher
+            (core_of set)) }
+        ensures empty { IfOk result (λ set. content K.eq set.store ≡ []) }
+        ensures err { IfErr result (IsSizeRefusal self.mode self.capacity self.shards) }
+    {
+        let HashSetBuilder {
+            hasher,
+            capacity,
+            mode,
+            shards,
+            ..
+        } = self;
+        seq::HashSet::with_parts(alloc, mode, capacity, shards, hasher)
+    }
+}
+
+impl<K, S> fmt::Debug for HashSetBuilder<K, S> {
+    fn fmt<W: fmt::Write>(&self, f: &mut fmt::Formatter<W>) -> fmt::Result {
+        f.debug_struct("HashSetBuilder")
+            .field("capacity", &self.capacity)
+            .field("collector", &self.collector.number())
+            .field("resize_mode", &self.mode)
+            .finish()
+    }
+}

@@ -1,0 +1,103 @@
+//! Calls that put many keys into the set that threads share, one after the other.
+ghost use Rattle.std.specs.Prelude.{◌≡◌, IfErr, IfOk};
+ghost use Rattle.std.specs.Iterator.{IsFiniteIterable};
+ghost use Rattle.papaya_words.specs.declared.limits.TheConstants.{DEFAULT_CHUNK};
+ghost use Rattle.papaya_change.specs.Writing.{IsMemoryOrCapacity};
+ghost use Rattle.papaya_map.specs.Fixed.{IsFor};
+
+use crate::set::HashSet;
+use papaya_words::probe::{Refused, ResizeMode};
+use std::alloc::Global;
+use std::hash::{BuildHasher, BuildHasherDefault, FoldHasher, Hash};
+use std::sync::Wait;
+
+impl<K: Hash + Eq + Drop, S: BuildHasher> HashSet<K, S> {
+    /// Stores keys in the order in which they come: what the trait `Extend` does in 0.2.5. Of two
+    /// equal keys the later one stays. No room is made ahead, so for no keys nothing is done at all.
+    ///
+    /// Refused as [`HashSetRef::insert`](crate::set::HashSetRef::insert) is for a key. The keys before
+    /// it are in the set then, and those after it were not asked for.
+    pub fn extend<R: Wait, U: IntoIterator<Item = K>>(&self, rt: &R, iter: U) -> Result<(), Refused>
+    where
+        U::IntoIter: Drop,
+        requires { IsFiniteIterable U.into_iter_gives U.IntoIter.can_next U.IntoIter.remaining
+            iter }
+        ensures { IfErr result IsMemoryOrCapacity }
+    {
+        for key in iter {
+            match self.pin().insert(rt, key) {
+                Ok(_) => {}
+                Err(refused) => return Err(refused),
+            }
+        }
+        Ok(())
+    }
+}
+
+impl<K: Hash + Eq + Copy + Drop, S: BuildHasher> HashSet<K, S> {
+    /// [`HashSet::extend`] by keys that are lent and copied: what the trait `Extend` of such keys
+    /// does in 0.2.5.
+    pub fn extend_ref<'a, R: Wait, U: IntoIterator<Item = &'a K>>(
+        &self,
+        rt: &R,
+        iter: U,
+    ) -> Result<(), Refused>
+    where
+        K: 'a,
+        U::IntoIter: Drop,
+        requires { IsFiniteIterable U.into_iter_gives U.IntoIter.can_next U.IntoIter.remaining
+            iter }
+        ensures { IfErr result IsMemoryOrCapacity }
+    {
+        for key in iter {
+            match self.pin().insert(rt, *key) {
+                Ok(_) => {}
+                Err(refused) => return Err(refused),
+            }
+        }
+        Ok(())
+    }
+}
+
+impl<K: Hash + Eq + Drop, S: BuildHasher + Default + Drop> HashSet<K, S> {
+    /// A set of these keys: what the trait `FromIterator` makes in 0.2.5. Of two equal keys it has
+    /// the later one, and of no keys it has no table. Refused as [`HashSet::extend`].
+    pub fn from_iter<R: Wait, U: IntoIterator<Item = K>>(
+        rt: &R,
+        alloc: Global,
+        iter: U,
+    ) -> Result<HashSet<K, S>, Refused>
+    where
+        U: Drop,
+        U::IntoIter: Drop,
+        requires { IsFiniteIterable U.into_iter_gives U.IntoIter.can_next U.IntoIter.remaining
+            iter }
+        ensures made { IfOk result (IsFor (ResizeMode.Incremental DEFAULT_CHUNK) 0) }
+        ensures err { IfErr result IsMemoryOrCapacity }
+    {
+        let set = HashSet::with_hasher(rt, alloc, S::default())?;
+        match set.extend(rt, iter) {
+            Ok(()) => Ok(set),
+            Err(refused) => Err(refused),
+        }
+    }
+}
+
+impl<K: Hash + Eq + Drop> HashSet<K, BuildHasherDefault<FoldHasher>> {
+    /// A set of the keys of an array: what `From<[K; N]>` makes in 0.2.5. Of two equal keys it has
+    /// the later one. `Refused::Memory` where the array had no room in memory; else refused as
+    /// [`HashSet::extend`].
+    pub fn from_array<R: Wait, const N: usize>(
+        rt: &R,
+        alloc: Global,
+        keys: [K; N],
+    ) -> Result<HashSet<K, BuildHasherDefault<FoldHasher>>, Refused>
+        ensures made { IfOk result (IsFor (ResizeMode.Incremental DEFAULT_CHUNK) 0) }
+        ensures err { IfErr result IsMemoryOrCapacity }
+    {
+        match Vec::from_array(alloc, keys) {
+            Ok(keys) => HashSet::from_iter(rt, alloc, keys),
+            Err(_) => Err(Refused::Memory),
+        }
+    }
+}

@@ -1,0 +1,45 @@
+//! Walks of the set that threads share.
+ghost use Rattle.std.specs.Prelude.{◌≡◌};
+ghost use Rattle.std.specs.Iterator.{at_most};
+ghost use Rattle.papaya_sweep.specs.Walked.{GivesKey};
+
+use papaya_sweep::walk::Keys;
+use std::hash::{BuildHasher, Hash};
+use std::marker::Model;
+
+/// The keys of a set, slot by slot of the root as it was taken: `set::Iter` of 0.2.5. Contracts see
+/// the history that was seen as the walk began, and the one that is seen by now.
+#[derive(Drop)]
+pub struct Iter<'a, K: Hash + Eq, S: BuildHasher> {
+    keys: Keys<'a, K, (), S>,
+}
+
+impl<'a, K: Hash + Eq, S: BuildHasher> Model for Iter<'a, K, S> {
+    ghost use Rattle.papaya_sweep.specs.Walked.{Walked};
+
+    ghost Value = { Walked K (Unit {0}) };
+
+    ghost view = { λ it. it.keys.pairs };
+}
+
+impl<'a, K: Hash + Eq, S: BuildHasher> Iter<'a, K, S> {
+    /// The walk of a set over the keys of its map.
+    pub(crate) fn of(keys: Keys<'a, K, (), S>) -> Iter<'a, K, S>
+        ensures { result ≡ keys.entry.pairs }
+    {
+        Iter { keys }
+    }
+}
+
+impl<'a, K: Hash + Eq, S: BuildHasher> Iterator for Iter<'a, K, S> {
+    type Item = &'a K;
+
+    ghost next_gives = { GivesKey K.eq };
+
+    ghost remaining = { λ it. at_most it.left };
+
+    /// It loads words and nothing else: it waits for nobody, and takes no lock and no memory.
+    fn next(&mut self) -> Option<&'a K> {
+        self.keys.next()
+    }
+}

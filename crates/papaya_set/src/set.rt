@@ -1,0 +1,188 @@
+//! The set that threads share.
+ghost use Rattle.std.specs.Prelude.{◌≡◌, IfErr, IfOk};
+ghost use Rattle.papaya_words.specs.declared.limits.TheConstants.{DEFAULT_CHUNK, DEFAULT_SHARDS};
+ghost use Rattle.papaya_keys.specs.Sizes.{IsAllowed};
+ghost use Rattle.papaya_map.specs.Asked.{IsMapRefusal};
+ghost use Rattle.papaya_map.specs.Fixed.{IsFor};
+
+use papaya_map::map::{HashMap, HashMapRef};
+use papaya_words::probe::{Refused, ResizeMode};
+use std::alloc::Global;
+use std::hash::{BuildHasher, BuildHasherDefault, FoldHasher, Hash};
+use std::marker::Model;
+use std::sync::Wait;
+
+/// A set that threads share: `HashSet` of 0.2.5.
+///
+/// Contracts see it as the map of its keys to unit values, and of that what is fixed when it is
+/// made, so its clauses are the map's. Keys that were removed or replaced stay in the log, until the
+/// set is dropped.
+#[derive(Drop)]
+pub struct HashSet<K: Hash + Eq, S: BuildHasher = BuildHasherDefault<FoldHasher>> {
+    pub(crate) map: HashMap<K, (), S>,
+}
+
+impl<K: Hash + Eq, S: BuildHasher> Model for HashSet<K, S> {
+    ghost use Rattle.papaya_map.specs.Fixed.{Fixed};
+
+    ghost Value = { Fixed K (Unit {0}) S };
+
+    ghost view = { λ s. s.map };
+}
+
+/// A set, as calls take it: `HashSetRef` of 0.2.5, but for the guard, which it needs none of. What it
+/// answers stays for as long as the set does. Contracts see what they see of the set.
+#[derive(Drop)]
+pub struct HashSetRef<'a, K: Hash + Eq, S: BuildHasher> {
+    pub(crate) set: &'a HashSet<K, S>,
+    pub(crate) keys: HashMapRef<'a, K, (), S>,
+}
+
+impl<'a, K: Hash + Eq, S: BuildHasher> Model for HashSetRef<'a, K, S> {
+    ghost use Rattle.papaya_map.specs.Fixed.{Fixed};
+
+    ghost Value = { Fixed K (Unit {0}) S };
+
+    ghost view = { λ r. r.set.now };
+}
+
+impl<K: Hash + Eq + Drop, S: BuildHasher + Drop> HashSet<K, S> {
+    /// A set of all its parts, as [`HashMap::with_parts`] makes a map, and refused as that is. Its
+    /// collector has number 0.
+    pub fn with_parts<R: Wait>(
+        rt: &R,
+        alloc: Global,
+        mode: ResizeMode,
+        capacity: usize,
+        shards: usize,
+        hasher: S,
+    ) -> Result<HashSet<K, S>, Refused>
+        ensures ok { IfOk result (λ set. IsAllowed mode capacity shards) }
+        ensures made { IfOk result (IsFor mode capacity) }
+        ensures collector { IfOk result (λ set. set.collector ≡ 0) }
+        ensures err { IfErr result (λ e. IsMapRefusal mode capacity shards e) }
+    {
+        Ok(HashSet {
+            map: HashMap::with_parts(rt, alloc, mode, capacity, shards, hasher)?,
+        })
+    }
+
+    /// A set for so many keys, with this hasher: `with_capacity_and_hasher` of 0.2.5. It resizes as
+    /// [`ResizeMode::default`] says, and counts its keys over
+    /// [`papaya_words::limits::DEFAULT_SHARDS`] shards. Refused as [`HashSet::with_parts`].
+    pub fn with_capacity_and_hasher<R: Wait>(
+        rt: &R,
+        alloc: Global,
+        capacity: usize,
+        hasher: S,
+    ) -> Result<HashSet<K, S>, Refused>
+        ensures ok { IfOk result (λ set. IsAllowed (ResizeMode.Incremental DEFAULT_CHUNK) capacity
+            DEFAULT_SHARDS) }
+        ensures made { IfOk result (IsFor (ResizeMode.Incremental DEFAULT_CHUNK) capacity) }
+        ensures err { IfErr result (λ e. IsMapRefusal (ResizeMode.Incremental DEFAULT_CHUNK)
+            capacity
+            DEFAULT_SHARDS e) }
+    {
+        Ok(HashSet {
+            map: HashMap::with_capacity_and_hasher(rt, alloc, capacity, hasher)?,
+        })
+    }
+
+    /// A set with this hasher: `with_hasher` of 0.2.5. The first change makes its first table.
+    pub fn with_hasher<R: Wait>(rt: &R, alloc: Global, hasher: S) -> Result<HashSet<K, S>, Refused>
+        ensures made { IfOk result (IsFor (ResizeMode.Incremental DEFAULT_CHUNK) 0) }
+        ensures err { IfErr result (λ e. e ≡ Refused.Memory) }
+    {
+        Ok(HashSet {
+            map: HashMap::with_hasher(rt, alloc, hasher)?,
+        })
+    }
+}
+
+impl<K: Hash + Eq + Drop> HashSet<K, BuildHasherDefault<FoldHasher>> {
+    /// A set that makes its first table at its first change: `new` of 0.2.5, but for the hasher,
+    /// which is the same in each run.
+    pub fn new<R: Wait>(
+        rt: &R,
+        alloc: Global,
+    ) -> Result<HashSet<K, BuildHasherDefault<FoldHasher>>, Refused>
+        ensures made { IfOk result (IsFor (ResizeMode.Incremental DEFAULT_CHUNK) 0) }
+        ensures err { IfErr result (λ e. e ≡ Refused.Memory) }
+    {
+        Ok(HashSet {
+            map: HashMap::new(rt, alloc)?,
+        })
+    }
+
+    /// A set for so many keys: `with_capacity` of 0.2.5. Refused as [`HashSet::with_parts`].
+    pub fn with_capacity<R: Wait>(
+        rt: &R,
+        alloc: Global,
+        capacity: usize,
+    ) -> Result<HashSet<K, BuildHasherDefault<FoldHasher>>, Refused>
+        ensures ok { IfOk result (λ set. IsAllowed (ResizeMode.Incremental DEFAULT_CHUNK) capacity
+            DEFAULT_SHARDS) }
+        ensures made { IfOk result (IsFor (ResizeMode.Incremental DEFAULT_CHUNK) capacity) }
+        ensures err { IfErr result (λ e. IsMapRefusal (ResizeMode.Incremental DEFAULT_CHUNK)
+            capacity
+            DEFAULT_SHARDS e) }
+    {
+        Ok(HashSet {
+            map: HashMap::with_capacity(rt, alloc, capacity)?,
+        })
+    }
+
+    /// The same as [`HashSet::new`]: what the trait `Default` gives in 0.2.5.
+    pub fn default<R: Wait>(
+        rt: &R,
+        alloc: Global,
+    ) -> Result<HashSet<K, BuildHasherDefault<FoldHasher>>, Refused>
+        ensures made { IfOk result (IsFor (ResizeMode.Incremental DEFAULT_CHUNK) 0) }
+        ensures err { IfErr result (λ e. e ≡ Refused.Memory) }
+    {
+        HashSet::new(rt, alloc)
+    }
+}
+
+impl<K: Hash + Eq, S: BuildHasher> HashSet<K, S> {
+    /// The map of the set's keys to unit values. It has what a set has not: passes and the calls by
+    /// them, computes, and removals that ask a closure.
+    ///
+    /// ```
+    /// let before = set.map().pin().insert_as(rt, key, (), &mut pass)?;
+    /// ```
+    pub fn map(&self) -> &HashMap<K, (), S>
+        ensures { result.now ≡ self.now }
+    {
+        &self.map
+    }
+
+    /// The set, as calls take it: `pin` of 0.2.5. It writes no word.
+    #[inline]
+    pub fn pin(&self) -> HashSetRef<'_, K, S>
+        ensures { result ≡ self.now }
+    {
+        HashSetRef {
+            set: self,
+            keys: self.map.pin(),
+        }
+    }
+
+    /// The same as [`HashSet::pin`]: `pin_owned` of 0.2.5, whose reference may go to another thread.
+    /// Here each may, as it holds no guard.
+    pub fn pin_owned(&self) -> HashSetRef<'_, K, S>
+        ensures { result ≡ self.now }
+    {
+        self.pin()
+    }
+
+    /// How many keys were counted: `len` of 0.2.5. A change is counted a step after it was made.
+    pub fn len(&self) -> usize {
+        self.map.len()
+    }
+
+    /// Were no keys counted?
+    pub fn is_empty(&self) -> bool {
+        self.map.is_empty()
+    }
+}

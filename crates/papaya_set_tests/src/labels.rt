@@ -1,0 +1,54 @@
+// Keys that are equal where their numbers are. A label tells which of them is stored.
+ghost use Rattle.std.specs.Prelude.{◌≡◌, ◌==◌};
+ghost use Rattle.std.proofs.Common.{ap};
+ghost use Rattle.std.specs.Cmp.{nat_eq_equiv, on_equiv, partial_equiv_from_equiv, unsigned_Decides};
+ghost use Rattle.std.specs.Hash as fed;
+
+use papaya_set::set::{HashSet, HashSetRef};
+use std::hash::{BuildHasherDefault, FoldHasher, Hash, Hasher};
+
+/// A number with a label that no comparison looks at.
+#[derive(Clone, Copy, Debug)]
+pub struct Labelled {
+    pub number: u64,
+    pub label: char,
+}
+
+impl PartialEq for Labelled {
+    ghost eq = { λ x y. x.number == y.number };
+
+    ghost laws = { partial_equiv_from_equiv (on_equiv (λ key. key.number) nat_eq_equiv) };
+
+    fn eq(&self, other: &Labelled) -> bool {
+        self.number == other.number
+    }
+}
+
+impl Eq for Labelled {
+    ghost laws = { on_equiv (λ key. key.number) nat_eq_equiv };
+}
+
+impl Hash for Labelled {
+    ghost hash_input = { λ key. fed.u64 key.number };
+
+    ghost respects_eq = { λ x y same. ap fed.u64 ((unsigned_Decides x.number y.number).0 same) };
+
+    fn hash<H: Hasher>(&self, state: &mut H) {
+        self.number.hash(state);
+    }
+}
+
+/// A set of such keys that threads share, and one that is pinned.
+pub type Keys = HashSet<Labelled>;
+
+pub type Pinned<'a> = HashSetRef<'a, Labelled, BuildHasherDefault<FoldHasher>>;
+
+/// A key of this number and label.
+pub fn key(number: u64, label: char) -> Labelled {
+    Labelled { number, label }
+}
+
+/// The same with no label to speak of.
+pub fn any(number: u64) -> Labelled {
+    key(number, '?')
+}

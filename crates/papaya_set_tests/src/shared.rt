@@ -1,0 +1,174 @@
+// Each call of the set that threads share, once and with ample memory: what it answers by one caller.
+use crate::expect::is;
+use crate::labels::{Keys, Labelled, Pinned, any, key};
+use papaya_keys::guard::{Collector, Guard};
+use papaya_set::set::HashSet;
+use papaya_words::probe::{Refused, ResizeMode};
+use std::alloc::Global;
+use std::hash::BuildHasherDefault;
+use std::process::Abort;
+use std::sync::Wait;
+use std::test::Fail;
+
+/// Which key is stored, by its label.
+fn label_of(key: Option<&Labelled>) -> Option<char> {
+    match key {
+        Some(key) => Some(key.label),
+        None => None,
+    }
+}
+
+/// An equal key takes the place of the one that was stored.
+fn stores<R: Wait + Abort>(rt: &R, set: &Pinned<'_>) {
+    is(rt, set.insert(rt, key(7, 'x')), Ok(true));
+    is(rt, set.insert(rt, key(7, 'y')), Ok(false));
+    is(rt, label_of(set.get(&any(7))), Some('y'));
+    is(
+        rt,
+        (set.contains(&any(7)), set.contains(&any(8))),
+        (true, false),
+    );
+    is(rt, (set.len(), set.is_empty()), (1, false));
+}
+
+/// A key goes once.
+fn removes<R: Wait + Abort>(rt: &R, set: &Pinned<'_>) {
+    is(rt, set.remove(rt, &any(7)), Ok(true));
+    is(rt, set.remove(rt, &any(7)), Ok(false));
+    is(rt, label_of(set.get(&any(7))), None);
+    is(rt, set.set().is_empty(), true);
+}
+
+/// The sum of the numbers that a walk gives.
+fn sum<R: Wait>(rt: &R, set: &Keys) -> Result<u64, Refused> {
+    let mut sum = 0u64;
+    for key in set.pin().iter(rt)? {
+        sum = sum.wrapping_add(key.number);
+    }
+    Ok(sum)
+}
+
+/// Many keys come, some go, and then all.
+fn sweeps<R: Wait + Abort>(rt: &R, set: &Keys) {
+    let pinned = set.pin_owned();
+    is(rt, pinned.reserve(rt, 5), Ok(()));
+    is(rt, set.extend_ref(rt, &[any(1), any(2), any(4)]), Ok(()));
+    is(rt, set.extend(rt, [any(4), any(8)]), Ok(()));
+    is(rt, sum(rt, set), Ok(15));
+    is(rt, pinned.retain(rt, |key| key.number < 3), Ok(()));
+    is(rt, sum(rt, set), Ok(3));
+    is(rt, pinned.clear(rt), Ok(()));
+    is(rt, sum(rt, set), Ok(0));
+}
+
+#[test]
+fn a_pinned_set_answers(rt: HostRuntime) -> Result<(), Fail> {
+    let set: Keys = HashSet::new(&rt, rt.alloc())?;
+    stores(&rt, &set.pin());
+    removes(&rt, &set.pin());
+    sweeps(&rt, &set);
+    Ok(())
+}
+
+/// What each call that is made with a guard answers, in turn: for true 1, for false 0, else what a
+/// lookup or a walk found.
+fn answers<R: Wait, G: Guard>(rt: &R, set: &Keys, guard: &G, call: u64) -> Result<u64, Refused> {
+    match call {
+        0 => set.insert(rt, any(6), guard).map(|new| new as u64),
+        1 => set.contains(&any(6), guard).map(|has| has as u64),
+        2 => set
+            .get(&any(6), guard)
+            .map(|found| found.map_or(0, |key| key.number)),
+        3 => set.reserve(rt, 9, guard).map(|_| 0),
+        4 => set.retain(rt, |key| key.number == 6, guard).map(|_| 0),
+        5 => set.remove(rt, &any(6), guard).map(|was| was as u64),
+        6 => set.clear(rt, guard).map(|_| 0),
+        7 => set.iter(rt, guard).map(|keys| keys.count() as u64),
+        _ => set.verify(guard).map(|_| 0),
+    }
+}
+
+/// Each call answers so with this guard.
+fn answer<R: Wait + Abort, G: Guard>(
+    rt: &R,
+    set: &Keys,
+    guard: &G,
+    wanted: [Result<u64, Refused>; 9],
+) {
+    for call in 0..9u64 {
+        is(
+            rt,
+            Some(&answers(rt, set, guard, call)),
+            wanted.get(call as usize),
+        );
+    }
+}
+
+/// With a guard of the set each call answers as by one that is pinned.
+const RIGHT: [Result<u64, Refused>; 9] = [
+    Ok(1),
+    Ok(1),
+    Ok(6),
+    Ok(0),
+    Ok(0),
+    Ok(1),
+    Ok(0),
+    Ok(0),
+    Ok(0),
+];
+
+#[test]
+fn a_set_with_a_guard_answers(rt: HostRuntime) -> Result<(), Fail> {
+    let other = Collector::new(7);
+    let set: Keys = HashSet::new(&rt, rt.alloc())?;
+    answer(&rt, &set, &other.enter(), [Err(Refused::WrongGuard); 9]);
+    is(&rt, set.is_empty(), true);
+    answer(&rt, &set, &set.guard(), RIGHT);
+    answer(&rt, &set, &set.owned_guard(), RIGHT);
+    Ok(())
+}
+
+/// How many keys a set has that was made, or why none was made.
+fn len(made: Result<Keys, Refused>) -> Result<usize, Refused> {
+    match made {
+        Ok(set) => Ok(set.len()),
+        Err(refused) => Err(refused),
+    }
+}
+
+/// A set that its constructor makes empty.
+fn made<R: Wait>(rt: &R, alloc: Global, by: u64) -> Result<Keys, Refused> {
+    let mode = ResizeMode::Blocking;
+    match by {
+        0 => HashSet::default(rt, alloc),
+        1 => HashSet::with_capacity(rt, alloc, 3),
+        2 => HashSet::with_hasher(rt, alloc, BuildHasherDefault::new()),
+        3 => HashSet::with_capacity_and_hasher(rt, alloc, 3, BuildHasherDefault::new()),
+        4 => HashSet::with_parts(rt, alloc, mode, 3, 2, BuildHasherDefault::new()),
+        _ => HashSet::builder()
+            .capacity(3)
+            .resize_mode(mode)
+            .build(rt, alloc),
+    }
+}
+
+#[test]
+fn sets_are_made(rt: HostRuntime) {
+    let alloc = rt.alloc();
+    for by in 0..6u64 {
+        is(&rt, len(made(&rt, alloc, by)), Ok(0));
+    }
+    let keys = [any(1), any(2), any(1)];
+    is(&rt, len(HashSet::from_iter(&rt, alloc, keys)), Ok(2));
+    is(&rt, len(HashSet::from_array(&rt, alloc, keys)), Ok(2));
+}
+
+/// A builder shows its capacity, its collector's number and its mode.
+#[test]
+fn a_builder_of_sets_prints(rt: HostRuntime) -> Result<(), Fail> {
+    let builder = Keys::builder().capacity(6).collector(Collector::new(2));
+    let text = format!(in rt.alloc(); "{builder:?}")?;
+    let wanted = "HashSetBuilder { capacity: 6, collector: 2, resize_mode: Incremental(64) }";
+    is(&rt, text.as_str(), wanted);
+    Ok(())
+}
