@@ -11,7 +11,7 @@ use std::marker::Model;
 /// the history that was seen as the walk began, and the one that is seen by now.
 #[derive(Drop)]
 pub struct Iter<'a, K: Hash + Eq, S: BuildHasher> {
-    keys: Keys<'a, K, (), S>,
+    pub(crate) keys: Keys<'a, K, (), S>,
 }
 
 impl<'a, K: Hash + Eq, S: BuildHasher> Model for Iter<'a, K, S> {

@@ -7,6 +7,7 @@
 
 pub mod builder;
 mod collecting;
+mod copies;
 mod filling;
 pub mod guarded;
 pub mod iter;

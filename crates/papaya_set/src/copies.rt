@@ -1,0 +1,89 @@
+//! Sets of clones, and sets that are compared.
+ghost use Rattle.std.specs.Prelude.{◌≡◌, ℕ, true, IfErr, IfOk, OnOk, length};
+ghost use Rattle.papaya_words.specs.Probe.{IsEntriesFor};
+ghost use Rattle.papaya_words.specs.declared.limits.TheConstants.{DEFAULT_CHUNK};
+ghost use Rattle.papaya_timeline.specs.Content.{content};
+ghost use Rattle.papaya_seq.specs.Clones.{HasParts, IsCloneRefusal, IsRebuildRefusal, IsRebuilt};
+ghost use Rattle.papaya_change.specs.Writing.{IsMemoryOrCapacity};
+ghost use Rattle.papaya_map.specs.Fixed.{HasSettingsOf, IsFor};
+
+use crate::seq;
+use crate::set::HashSet;
+use papaya_words::probe::{Refused, ResizeMode};
+use std::alloc::Global;
+use std::hash::{BuildHasher, Hash};
+use std::sync::Wait;
+
+impl<K: Hash + Eq + Clone + Drop, S: BuildHasher + Clone + Drop> seq::HashSet<K, S> {
+    /// A set of clones: what `Clone` makes in 0.2.5. It is made and refused as a map of clones by
+    /// [`papaya_seq::seq::HashMap::try_clone`]. A clone of a key has to be equal to it.
+    pub fn try_clone(&self, alloc: Global) -> Result<seq::HashSet<K, S>, Refused>
+        requires { (k l : K) → K.is_clone k l → K.eq k l ≡ true }
+        ensures clones { IfOk result (λ made. IsRebuilt K.eq K.is_clone (λ v w. w ≡ v) S.is_clone
+            self.now made) }
+        ensures parts { IfOk result (λ made. (made.mode ≡ ResizeMode.Incremental DEFAULT_CHUNK)
+            × IsEntriesFor (length (content K.eq self.now.store)) made.initial
+            × (made.store.count.shards ≡ 1)) }
+        ensures err { IfErr result (λ e. IsCloneRefusal K.eq K.is_clone (λ v w. w ≡ v)
+            self.now.store e) }
+    {
+        match self.map.try_clone(alloc) {
+            Ok(map) => Ok(seq::HashSet { map }),
+            Err(refused) => Err(refused),
+        }
+    }
+
+    /// Builds the set anew from clones of its keys, and gives back the memory of those that were
+    /// replaced or removed, as [`papaya_seq::seq::HashMap::reclaim`] does for a map. A clone of a key
+    /// has to be equal to it. Refused, the set is as it was.
+    pub fn reclaim(&mut self) -> Result<(), Refused>
+        requires { (k l : K) → K.is_clone k l → K.eq k l ≡ true }
+        ensures clones { OnOk result (IsRebuilt K.eq K.is_clone (λ v w. w ≡ v) S.is_clone self.old
+            self.new) }
+        ensures parts { OnOk result (HasParts self.old self.new) }
+        ensures err { IfErr result (λ e. (self.new ≡ self.old)
+            × IsRebuildRefusal K.eq K.is_clone (λ v w. w ≡ v) self.old e) }
+    {
+        self.map.reclaim()
+    }
+}
+
+impl<K: Hash + Eq, S: BuildHasher> HashSet<K, S> {
+    /// Have both sets the same keys? It is what `PartialEq` answers in 0.2.5. Where others change one
+    /// of the sets meanwhile, it may say either. Refused as
+    /// [`HashSetRef::iter`](crate::set::HashSetRef::iter) is.
+    pub fn eq<R: Wait>(&self, rt: &R, other: &HashSet<K, S>) -> Result<bool, Refused>
+        ensures { IfErr result IsMemoryOrCapacity }
+    {
+        self.map.eq(rt, &other.map)
+    }
+}
+
+impl<K: Hash + Eq + Clone + Drop, S: BuildHasher + Clone + Drop> HashSet<K, S> {
+    /// A set of clones of this one's keys: what the trait `Clone` makes in 0.2.5. It is made and
+    /// refused as a map of clones by [`papaya_map::map::HashMap::try_clone`]. A key that is stored or
+    /// removed meanwhile may be copied or not.
+    pub fn try_clone<R: Wait>(&self, rt: &R, alloc: Global) -> Result<HashSet<K, S>, Refused>
+        ensures made { IfOk result (λ set. (keys : ℕ)
+            × IsFor (ResizeMode.Incremental DEFAULT_CHUNK) keys set) }
+        ensures refused { IfErr result IsMemoryOrCapacity }
+    {
+        match self.map.try_clone(rt, alloc) {
+            Ok(map) => Ok(HashSet { map }),
+            Err(refused) => Err(refused),
+        }
+    }
+
+    /// Makes the set anew of clones of its keys, and gives back the memory of all that it had before,
+    /// as [`papaya_map::map::HashMap::reclaim`] does for a map. A pass or a session of before is of no
+    /// use after it. Refused, the set is as it was, and they go on.
+    pub fn reclaim<R: Wait>(&mut self, rt: &R) -> Result<(), Refused>
+        ensures ok { IfOk result (λ _. HasSettingsOf self.old self.new) }
+        ensures hasher { IfOk result (λ _. S.is_clone self.old.begun.hasher
+            self.new.begun.hasher) }
+        ensures err { IfErr result (λ refused. IsMemoryOrCapacity refused
+            × (self.new ≡ self.old)) }
+    {
+        self.map.reclaim(rt)
+    }
+}
