@@ -4,19 +4,16 @@ use Rattle.papaya_call.specs.declared.answers.Operation.TheVariants.{Insert}
 use Rattle.papaya_uses.specs.Counters.{HasAdded, next_count}
 use Rattle.papaya_uses.proofs.CounterLemmas.{added, begun, not_aborted, not_removed}
 use Rattle.papaya_uses.proofs.counters.add.Goals as goal
-use Rattle.papaya_uses.proofs.counters.add.Goals.{in-Ok-Inserted, in-Ok-Updated, in-Err}
 
-pub returns-clause-added : goal.returns-clause-added
-returns-clause-added g c =
-    elim c.match-computed.branch [
-      | in-Ok-Inserted w ↦
-          let is : c.compute-computed.result ≡ Ok (Inserted w.in-Ok-Inserted.field-0-0 w.in-Ok-Inserted.count) = search rules in
-          subst (λ r. IfOk r (HasAdded c.args.counter c.args.by c.args.counters.now.history c.compute-computed.new.self.history)) (sym w.result-is) (begun _ c.args.counter c.args.by c.args.counters.now.history c.compute-computed.new.self.history _ c.compute-computed.result c.compute-computed.ensures.computed (λ f. f.0.now ≡ c.args.by) refl (λ f shown done g is called. (ap (λ z. z.now) called.met.1.0 ∙ is, called.met.1.1 ∙ ap (λ b. Insert (next_count b (option_map (λ p. p.1.now) shown))) is)) w.in-Ok-Inserted.field-0-0 w.in-Ok-Inserted.count is)
-      | in-Ok-Updated w ↦
-          let is : c.compute-computed.result ≡ Ok (Updated w.in-Ok-Updated.field-0-0 (w.in-Ok-Updated.field-0-1-0, w.in-Ok-Updated.count)) = search rules in
-          subst (λ r. IfOk r (HasAdded c.args.counter c.args.by c.args.counters.now.history c.compute-computed.new.self.history)) (sym w.result-is) (added _ c.args.counter c.args.by c.args.counters.now.history c.compute-computed.new.self.history _ c.compute-computed.result c.compute-computed.ensures.computed (λ f. f.0.now ≡ c.args.by) refl (λ f shown done g is called. (ap (λ z. z.now) called.met.1.0 ∙ is, called.met.1.1 ∙ ap (λ b. Insert (next_count b (option_map (λ p. p.1.now) shown))) is)) w.in-Ok-Updated.field-0-0 (w.in-Ok-Updated.field-0-1-0, w.in-Ok-Updated.count) is)
-      | in-Err w ↦ subst (λ r. IfOk r (HasAdded c.args.counter c.args.by c.args.counters.now.history c.compute-computed.new.self.history)) (sym w.result-is) tt
-    ]
+pub returns-in-Ok-Inserted-clause-added : goal.returns-in-Ok-Inserted-clause-added
+returns-in-Ok-Inserted-clause-added g c =
+    let is : c.compute-computed.result ≡ Ok (Inserted c.in-Ok-Inserted.field-0-0 c.in-Ok-Inserted.count) = search rules in
+    begun _ c.args.counter c.args.by c.args.counters.now.history c.compute-computed.new.self.history _ c.compute-computed.result c.compute-computed.ensures.computed (λ f. f.0.now ≡ c.args.by) refl (λ f shown done g is called. (ap (λ z. z.now) called.met.1.0 ∙ is, called.met.1.1 ∙ ap (λ b. Insert (next_count b (option_map (λ p. p.1.now) shown))) is)) c.in-Ok-Inserted.field-0-0 c.in-Ok-Inserted.count is
+
+pub returns-in-Ok-Updated-clause-added : goal.returns-in-Ok-Updated-clause-added
+returns-in-Ok-Updated-clause-added g c =
+    let is : c.compute-computed.result ≡ Ok (Updated c.in-Ok-Updated.field-0-0 (c.in-Ok-Updated.field-0-1-0, c.in-Ok-Updated.count)) = search rules in
+    added _ c.args.counter c.args.by c.args.counters.now.history c.compute-computed.new.self.history _ c.compute-computed.result c.compute-computed.ensures.computed (λ f. f.0.now ≡ c.args.by) refl (λ f shown done g is called. (ap (λ z. z.now) called.met.1.0 ∙ is, called.met.1.1 ∙ ap (λ b. Insert (next_count b (option_map (λ p. p.1.now) shown))) is)) c.in-Ok-Updated.field-0-0 (c.in-Ok-Updated.field-0-1-0, c.in-Ok-Updated.count) is
 
 pub unreachable-requires : goal.unreachable-requires
 unreachable-requires g c =
