@@ -1,7 +1,7 @@
-use Rattle.std.proofs.Common.{◌≡◌, ◌∙◌, Ok, IfOk, option_map, rules, refl, ap, sym, subst}
+use Rattle.std.proofs.Common.{◌≡◌, ◌∙◌, Ok, option_map, rules, refl, ap}
 use Rattle.papaya_keys.specs.declared.compute.Compute.TheVariants.{Inserted, Updated, Removed, Aborted}
 use Rattle.papaya_call.specs.declared.answers.Operation.TheVariants.{Insert}
-use Rattle.papaya_uses.specs.Counters.{HasAdded, next_count}
+use Rattle.papaya_uses.specs.Counters.{next_count}
 use Rattle.papaya_uses.proofs.CounterLemmas.{added, begun, not_aborted, not_removed}
 use Rattle.papaya_uses.proofs.counters.add.Goals as goal
 

@@ -1,5 +1,4 @@
-use Rattle.std.proofs.Common.{◌≡◌, ◌==◌, ◌∙◌, Ok, Some, IfOk, rules, refl, ap, sym, subst}
-use Rattle.papaya_uses.specs.Sessions.{IsSignedOut}
+use Rattle.std.proofs.Common.{◌≡◌, ◌==◌, ◌∙◌, Ok, Some, rules, refl, ap}
 use Rattle.papaya_uses.proofs.SessionLemmas.{signed_out}
 use Rattle.papaya_uses.proofs.sessions.sign_out.Goals as goal
 
