@@ -3,6 +3,7 @@ use crate::expect::is;
 use papaya_map::map;
 use papaya_seq::seq;
 use papaya_set::seq::HashSet;
+use papaya_set::set;
 use std::alloc::Global;
 use std::process::Abort;
 use std::sync::{Arc, Wait};
@@ -38,10 +39,18 @@ fn shared<R: Wait + Abort>(rt: &R, alloc: Global, key: &Key) -> Result<(), Fail>
     Ok(())
 }
 
-/// A set has it as a key.
+/// A set for one caller has it as a key.
 fn in_a_set(rt: &impl Abort, alloc: Global, key: &Key) -> Result<(), Fail> {
     let mut set: HashSet<Key> = HashSet::default(alloc)?;
     is(rt, set.insert(Arc::try_clone(key)?), Ok(true));
+    are_alive(rt, key, 2);
+    Ok(())
+}
+
+/// So has a set that threads share.
+fn in_a_shared_set<R: Wait + Abort>(rt: &R, alloc: Global, key: &Key) -> Result<(), Fail> {
+    let set: set::HashSet<Key> = set::HashSet::default(rt, alloc)?;
+    is(rt, set.pin().insert(rt, Arc::try_clone(key)?), Ok(true));
     are_alive(rt, key, 2);
     Ok(())
 }
@@ -55,6 +64,8 @@ fn keys_and_values_end_with_their_map(rt: HostRuntime) -> Result<(), Fail> {
     shared(&rt, alloc, &key)?;
     are_alive(&rt, &key, 1);
     in_a_set(&rt, alloc, &key)?;
+    are_alive(&rt, &key, 1);
+    in_a_shared_set(&rt, alloc, &key)?;
     are_alive(&rt, &key, 1);
     Ok(())
 }

@@ -18,9 +18,13 @@ mod key_steps;
 #[cfg(test)]
 mod maps;
 #[cfg(test)]
+mod set_threads;
+#[cfg(test)]
 mod sets;
 #[cfg(test)]
 mod shared;
+#[cfg(test)]
+mod shared_sets;
 #[cfg(test)]
 mod steps;
 #[cfg(test)]

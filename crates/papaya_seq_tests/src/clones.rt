@@ -28,6 +28,14 @@ fn clone_is_equal_and_apart(rt: HostRuntime) -> Result<(), Fail> {
 }
 
 #[test]
+fn clone_of_an_empty_map_is_empty(rt: HostRuntime) -> Result<(), Fail> {
+    let map = stored_twice(rt.alloc(), 0)?;
+    let clone = map.try_clone(rt.alloc())?;
+    is(&rt, (clone.len(), map.eq(&clone)), (0, true));
+    Ok(())
+}
+
+#[test]
 fn reclaimed_map_is_as_before(rt: HostRuntime) -> Result<(), Fail> {
     let mut map = stored_twice(rt.alloc(), 100)?;
     let clone = map.try_clone(rt.alloc())?;

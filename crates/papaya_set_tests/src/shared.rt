@@ -158,6 +158,8 @@ fn sets_are_made(rt: HostRuntime) {
     for by in 0..6u64 {
         is(&rt, len(made(&rt, alloc, by)), Ok(0));
     }
+    let none: [Labelled; 0] = [];
+    is(&rt, len(HashSet::from_iter(&rt, alloc, none)), Ok(0));
     let keys = [any(1), any(2), any(1)];
     is(&rt, len(HashSet::from_iter(&rt, alloc, keys)), Ok(2));
     is(&rt, len(HashSet::from_array(&rt, alloc, keys)), Ok(2));
