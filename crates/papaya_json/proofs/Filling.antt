@@ -1,5 +1,5 @@
 -- A map of what is read of a list, one item on.
-use Rattle.std.proofs.Common.{◌≡◌, Bool, List, [], ◌∷◌, ◌++◌, Result, Ok, Err, ◌∙◌}
+use Rattle.std.proofs.Common.{◌≡◌, Bool, List, [], ◌∷◌, ◌++◌, Ok, Err, ◌∙◌}
 use Rattle.std.specs.List.{AllZip}
 use Rattle.papaya_words.specs.declared.limits.TheConstants.{DEFAULT_CHUNK}
 use Rattle.papaya_words.specs.declared.probe.Refused.{Refused}

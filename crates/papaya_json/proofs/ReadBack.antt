@@ -1,17 +1,17 @@
 -- Maps and sets that were written and read again.
-use Rattle.std.proofs.Common.{◌≡◌, ◌∙◌, ℕ, Bool, true, List, [], length, map, Option, Some, String, Vec, Global, BTreeMap, string_bytes, sym, ap, subst, rules}
+use Rattle.std.proofs.Common.{◌≡◌, ◌∙◌, ℕ, Bool, true, List, [], length, Option, Some, String, Vec, Global, string_bytes, sym, ap, subst, rules}
 use Rattle.std.proofs.lemmas.Slice.Zip.{AllZip-long}
 use Rattle.std.specs.Cmp.{IsEquivalence}
 use Rattle.std.specs.List.{AllZip}
-use Rattle.serde_json.specs.Data.{Data, object}
+use Rattle.serde_json.specs.Data.{object}
 use Rattle.serde_json.specs.Events.{members_len}
 use Rattle.serde_json.specs.View.{members_view, view}
-use Rattle.serde_json.specs.declared.value.Value.{Value, Array, Object, out-Value, the_lemmas}
+use Rattle.serde_json.specs.declared.value.Value.{Value, Array, out-Value, the_lemmas}
 use Rattle.serde_json.specs.declared.value.Value.TheOpen.{Value-F}
 use Rattle.serde_json.proofs.Views.{view-Object}
 use Rattle.papaya_law.specs.Content.{AreApart}
 use Rattle.papaya_timeline.specs.Content.{content}
-use Rattle.papaya_store.specs.Store.{StoreState, Stored}
+use Rattle.papaya_store.specs.Store.{Stored}
 use Rattle.papaya_seq.specs.Clones.{AreEqual}
 use Rattle.papaya_seq.specs.Map.{MapState, entry_of}
 use Rattle.papaya_set.specs.Sets.{HaveSameKeys, entry_of_key, keys_of}

@@ -1,23 +1,26 @@
-//! Maps that threads share as JSON objects, and back.
+//! Maps that threads share as JSON objects, sets that they share as JSON arrays, and back.
 ghost use Rattle.std.specs.Prelude.{◌≡◌, ◌⊎◌, IfErr, IfOk, List};
 ghost use Rattle.std.specs.Fn.{FnReturnsAt};
 ghost use Rattle.papaya_words.specs.declared.limits.TheConstants.{DEFAULT_CHUNK};
 ghost use Rattle.papaya_map.specs.Fixed.{IsFor};
+ghost use Rattle.papaya_json.specs.Arrays.{HasNoKey, IsArray, IsArrayWith, IsKey};
+ghost use Rattle.papaya_json.specs.Arrays.{IsListRefusal, IsNoArrayOr};
 ghost use Rattle.papaya_json.specs.Objects.{HasNoPair, IsNoObjectOr, IsObject, IsObjectWith};
 ghost use Rattle.papaya_json.specs.Objects.{IsPair, IsWriteRefusal};
 ghost use Rattle.papaya_json.specs.Shared.{IsEachRead, IsUnread, IsUnwritten};
 
-use crate::writing::object_from;
+use crate::writing::{array_from, object_from};
 use papaya_map::map::HashMap;
+use papaya_set::set::HashSet;
 use papaya_words::probe::{Refused, ResizeMode};
 use serde_json::{Map, Value};
 use std::alloc::Global;
 use std::hash::{BuildHasher, Hash};
 use std::sync::Wait;
 
-/// [`crate::writing::map_to_value`] of a map that threads share: the object of the pairs that a walk
-/// gives. Where others change the map meanwhile, those are as [`papaya_map::map::HashMapRef::iter`]
-/// gives them.
+/// [`crate::writing::map_to_value`] of a map that threads share: the object of the pairs that a
+/// walk gives. Where others change the map meanwhile, those are as
+/// [`papaya_map::map::HashMapRef::iter`] gives them.
 ///
 /// Refused as that is, and as the walk is, so also `Refused::Capacity`.
 pub fn shared_map_to_value<R: Wait, K: Hash + Eq, V, S: BuildHasher, T, W>(
@@ -131,4 +134,97 @@ where
         return Err(Refused::Shape);
     };
     shared_map_of(rt, alloc, members, hasher, key, value)
+}
+
+/// [`crate::writing::set_to_value`] of a set that threads share: the array of the keys that a walk
+/// gives. Where others change the set meanwhile, those are as [`papaya_set::set::HashSetRef::iter`]
+/// gives them.
+///
+/// Refused as that is, and as the walk is, so also `Refused::Capacity`.
+pub fn shared_set_to_value<R: Wait, K: Hash + Eq, S: BuildHasher, T: Fn(&K) -> Option<Value>>(
+    rt: &R,
+    alloc: Global,
+    set: &HashSet<K, S>,
+    key: T,
+) -> Result<Value, Refused>
+    requires { T.IsAlwaysCallable key }
+    ensures ok { IfOk result (λ v. (keys : List K) × IsArray (FnReturnsAt T.Fn key) keys v) }
+    ensures err { IfErr result (IsUnwritten (IsListRefusal (FnReturnsAt T.Fn key))) }
+{
+    let keys = set.pin().iter(rt)?;
+    array_from(alloc, keys, key)
+}
+
+/// Stores the keys of an array's items.
+fn fill_set<R: Wait, K: Hash + Eq + Drop, S: BuildHasher, T: Fn(&Value) -> Option<K>>(
+    rt: &R,
+    set: &HashSet<K, S>,
+    items: &Vec<Value>,
+    key: T,
+) -> Result<(), Refused>
+    requires { T.IsAlwaysCallable key }
+    ensures ok { IfOk result (λ _. IsEachRead (IsKey (FnReturnsAt T.Fn key)) items.now.items) }
+    ensures err { IfErr result (λ e. IsUnread (HasNoKey (FnReturnsAt T.Fn key)) e
+        items.now.items) }
+{
+    for item in items {
+        let Some(k) = key(item) else {
+            return Err(Refused::Item);
+        };
+        match set.pin().insert(rt, k) {
+            Ok(_) => {}
+            Err(why) => return Err(why),
+        }
+    }
+    Ok(())
+}
+
+/// The set of an array's items.
+fn shared_set_of<R: Wait, K: Hash + Eq + Drop, S: BuildHasher + Drop, T>(
+    rt: &R,
+    alloc: Global,
+    items: &Vec<Value>,
+    hasher: S,
+    key: T,
+) -> Result<HashSet<K, S>, Refused>
+where
+    T: Fn(&Value) -> Option<K>,
+    requires { T.IsAlwaysCallable key }
+    ensures ok { IfOk result (λ set. IsEachRead (IsKey (FnReturnsAt T.Fn key)) items.now.items) }
+    ensures made { IfOk result (IsFor (ResizeMode.Incremental DEFAULT_CHUNK) 0) }
+    ensures err { IfErr result (λ e. IsUnread (HasNoKey (FnReturnsAt T.Fn key)) e
+        items.now.items) }
+{
+    let set = HashSet::with_hasher(rt, alloc, hasher)?;
+    match fill_set(rt, &set, items, key) {
+        Ok(()) => Ok(set),
+        Err(why) => Err(why),
+    }
+}
+
+/// [`crate::reading::set_from_value`] of a set that threads share: of each item a key, which the
+/// function answers, in their order.
+///
+/// `Refused::Shape` where the value is no array, before the set is made. `Refused::Item` at the
+/// first item for which the function answered none. Else refused as
+/// [`papaya_set::set::HashSet::with_hasher`] and an insertion are.
+pub fn shared_set_from_value<R: Wait, K: Hash + Eq + Drop, S: BuildHasher + Drop, T>(
+    rt: &R,
+    alloc: Global,
+    v: &Value,
+    hasher: S,
+    key: T,
+) -> Result<HashSet<K, S>, Refused>
+where
+    T: Fn(&Value) -> Option<K>,
+    requires { T.IsAlwaysCallable key }
+    ensures ok { IfOk result (λ set. IsArrayWith v.now (IsEachRead
+        (IsKey (FnReturnsAt T.Fn key)))) }
+    ensures made { IfOk result (IsFor (ResizeMode.Incremental DEFAULT_CHUNK) 0) }
+    ensures err { IfErr result (IsNoArrayOr v.now (IsUnread (HasNoKey (FnReturnsAt T.Fn key)))) }
+{
+    let Value::Array(items) = v else {
+        return Err(Refused::Shape);
+    };
+    shared_set_of(rt, alloc, items, hasher, key)
 }

@@ -12,4 +12,6 @@ mod sets;
 #[cfg(test)]
 mod shared;
 #[cfg(test)]
+mod shared_sets;
+#[cfg(test)]
 mod writes;
