@@ -19,9 +19,9 @@ pub enum Step {
     InsertBelow(u64),
     GetBelow(u64),
     RemoveBelow(u64),
-    /// Takes keys that are owned, or lent.
+    /// Takes the keys from one to another, which are owned, or these three, which are lent.
     Extend(u64, u64),
-    ExtendRef(&'static [u64]),
+    ExtendRef([u64; 3]),
 }
 
 /// A set whose calls are made by these steps.
@@ -111,7 +111,7 @@ fn made<C: Calls>(set: &mut C, step: Step) -> Result<(), Refused> {
         Step::Reserve(more) => set.make_room(more),
         Step::RetainFrom(least) => set.retain_from(least),
         Step::Extend(from, end) => set.take(from, end),
-        Step::ExtendRef(keys) => set.take_lent(keys),
+        Step::ExtendRef(keys) => set.take_lent(&keys),
         _ => Ok(()),
     }
 }

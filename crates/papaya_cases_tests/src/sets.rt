@@ -56,10 +56,9 @@ const EXTEND: Case = &[
 ];
 
 const EXTEND_REF: Case = &[
-    (ExtendRef(&[42, 36, 18]), Done),
+    (ExtendRef([42, 36, 18]), Done),
     (Walk, Walked(3, 96, 0)),
-    (ExtendRef(&[]), Done),
-    (ExtendRef(&[18, 18]), Done),
+    (ExtendRef([18, 18, 42]), Done),
     (Len, Number(3)),
 ];
 
