@@ -1,3 +1,4 @@
+pub mod RunLemmas
 pub mod SeqLemmas
 pub mod SharedLemmas
 pub mod WalkLemmas

@@ -1,3 +1,4 @@
 pub mod Replied
+pub mod Runs
 pub mod Seq
 pub mod Shared

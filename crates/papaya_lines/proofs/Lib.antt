@@ -1,4 +1,6 @@
 pub mod CommandLemmas
+pub mod LineLemmas
 pub mod NumberLemmas
 pub mod PartLemmas
+pub mod ScriptLemmas
 pub mod TurnLemmas

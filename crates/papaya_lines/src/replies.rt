@@ -1,6 +1,8 @@
 //! What the program prints of a core's trace.
-ghost use Rattle.std.specs.Prelude.{◌≡◌};
+ghost use Rattle.std.specs.Prelude.{◌≡◌, IfErr, IfOk, reverse};
 ghost use Rattle.papaya_lines.specs.Replies.{printed_of, value_in};
+ghost use Rattle.papaya_lines.specs.Told.{Replies, behind, call_of, gave_to, own_of, pairs_in, reply_among, with_call};
+ghost use Rattle.papaya_shell.specs.Failure.{without_memory};
 
 use crate::closures::Answering;
 use crate::printed::Printed;
@@ -51,7 +53,10 @@ struct Calls([Part; CALLERS as usize]);
 
 impl Calls {
     /// Notes what a line begins, and answers what its caller's call is.
-    fn note(&mut self, line: Line) -> Part {
+    fn note(&mut self, line: Line) -> Part
+        ensures calls { self.new.0 ≡ with_call self.old.0 line }
+        ensures call { result ≡ call_of self.old.0 line }
+    {
         let Some(begun) = self.0.get_mut(line.caller) else {
             return line.part;
         };
@@ -70,9 +75,15 @@ fn given<S: BuildHasher + Drop>(
     caller: usize,
     turn: usize,
     entries: &[Entry],
-) -> Result<Vec<(u64, u64)>, Failure> {
+) -> Result<Vec<(u64, u64)>, Failure>
+    ensures given { IfOk result (λ pairs. pairs.items
+        ≡ pairs_in core.now.store (gave_to caller turn (reverse entries.now))) }
+    ensures failed { IfErr result (λ failure. failure ≡ without_memory) }
+{
     let mut pairs = Vec::new(alloc);
-    for entry in entries.iter().rev() {
+    let mut left = entries;
+    while let [before @ .., entry] = left {
+        left = before;
         if entry.turn > turn || entry.caller != caller {
             continue;
         }
@@ -90,13 +101,51 @@ fn given<S: BuildHasher + Drop>(
 }
 
 /// The reply among these entries.
-fn reply_of(entries: &[Entry]) -> Option<Reply> {
+fn reply_of(entries: &[Entry]) -> Option<Reply>
+    ensures { result ≡ reply_among entries.now }
+{
     for entry in entries {
         if let Event::Replied(reply) = entry.event {
             return Some(reply);
         }
     }
     None
+}
+
+/// The entries at the front that are of this turn, and those behind them.
+fn split_turn(entries: &[Entry], turn: usize) -> (&[Entry], &[Entry])
+    ensures own { result.0.now ≡ own_of turn entries.now }
+    ensures behind { result.1.now ≡ behind turn entries.now }
+{
+    let mut count = 0;
+    while count < entries.len() && entries[count].turn == turn {
+        count += 1;
+    }
+    entries.split_at(count)
+}
+
+/// What is printed of the reply of a caller's call of this kind, in this turn.
+fn replied<S: BuildHasher + Drop>(
+    alloc: Global,
+    core: &Core<u64, u64, S, Answering>,
+    call: Part,
+    place: (usize, usize),
+    entries: &[Entry],
+    reply: Reply,
+) -> Result<Option<Printed>, Failure>
+    ensures replied { IfOk result (Replies core.now.store call
+        (gave_to place.0 place.1 (reverse entries.now)) reply) }
+    ensures failed { IfErr result (λ failure. failure ≡ without_memory) }
+{
+    let (caller, turn) = place;
+    match (call, reply) {
+        (Part::Walk, Reply::Done) => {
+            let pairs = given(alloc, core, caller, turn, entries)?;
+            Ok(Some(Printed::Walk(Walk::new(pairs))))
+        }
+        (Part::Update, reply) => Ok(printed_of(core, true, reply)),
+        (_, reply) => Ok(printed_of(core, false, reply)),
+    }
 }
 
 /// Prints what the lines print, and answers the number of the first line whose turn was passed
