@@ -1,5 +1,5 @@
 -- A line read through its end, and the lines that are left.
-use Rattle.std.proofs.Common.{◌≡◌, ◌≢◌, ℕ, zero, suc, ◌+◌, ◌-◌, ◌<◌, Bool, true, false, cond, eqb, None, Some, IfSome, List, [], ◌∷◌, ◌++◌, length, take, slice_index, Ok, Err, refl, sym, ap, subst, ◌∙◌, arith, not, eq-eqb, ne_eqb, ⊎_elim}
+use Rattle.std.proofs.Common.{◌≡◌, ℕ, zero, suc, ◌+◌, ◌-◌, Bool, true, false, cond, eqb, None, Some, IfSome, List, [], ◌∷◌, ◌++◌, length, take, slice_index, Ok, Err, refl, sym, ap, subst, ◌∙◌, arith, not, eq-eqb, ne_eqb, ⊎_elim}
 use Rattle.std.specs.Prelude.{IfOk, MatchResult, OnOk, Option, Result, nat_lt, ◌&&◌}
 use Rattle.std.proofs.lemmas.Bool.{cond-true, cond-false, cases_eq, lt-ltb}
 use Rattle.std.proofs.lemmas.List.{append-nil}

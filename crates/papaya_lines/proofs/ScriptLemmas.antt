@@ -1,6 +1,6 @@
 -- A script that is read line by line.
 use Rattle.std.proofs.Common.{◌≡◌, ◌≢◌, ℕ, ◌+◌, Bool, true, false, None, Some, IfSome, List, [], ◌∷◌, ◌++◌, inl, inr, refl, sym, ap, subst, ◌∙◌, append_assoc}
-use Rattle.std.specs.Prelude.{◌⊎◌, IsSome, Option}
+use Rattle.std.specs.Prelude.{IsSome, Option}
 use Rattle.std.proofs.lemmas.Bool.{false≢true}
 use Rattle.std.proofs.lemmas.List.{append-nil}
 use Rattle.papaya_timeline.specs.declared.trace.Turn.{Turn}
@@ -31,11 +31,11 @@ pub record SoFar (script : Script) (number : ℕ) (left : Option (List ℕ)) (te
 pub none_read : (script : Script) (known : Option (List ℕ)) → script.turns.items ≡ [] → script.lines.items ≡ [] → script.bad_line ≡ None → IfSome known (SoFar script 1 known)
 none_read script None turns rows bad = tt
 none_read script (Some text) no_turns no_rows bad = record {
-    rest = text;
-    left_is = refl;
-    reads = subst (Reads text script 1 text) (sym bad) (λ turns rows b is. subst (λ l. IsScript (lines_of text) 1 (l ++ turns) (script.lines.items ++ rows) b) (sym no_turns)
-        (subst (λ l. IsScript (lines_of text) 1 turns (l ++ rows) b) (sym no_rows) is));
-  }
+  rest = text;
+  left_is = refl;
+  reads = subst (Reads text script 1 text) (sym bad) (λ turns rows b is. subst (λ l. IsScript (lines_of text) 1 (l ++ turns) (script.lines.items ++ rows) b) (sym no_turns)
+      (subst (λ l. IsScript (lines_of text) 1 turns (l ++ rows) b) (sym no_rows) is));
+}
 
 -- a line that is not empty, in front of others
 put_turn : (line : List ℕ) (lines : List (List ℕ)) (number : ℕ) (turn : Turn ℕ ℕ Answering) (turns : Turns) (rows : List Line) (bad : Option ℕ) → line ≢ [] → WritesTurn line turn → IsScript lines (number + 1) turns rows bad
@@ -62,17 +62,17 @@ adds text old new number here rest line split (Some k) bad reads (inr (none, som
 adds text old new number here rest line split None bad reads (inl (inl was, same)) = absurd (false≢true (subst IsSome bad was))
 adds text old new number here rest line split None bad reads (inl (inr empty, same)) =
     subst (λ z. Reads text z (number + 1) rest z.bad_line) (sym same) (subst (Reads text old (number + 1) rest) (sym bad)
-        (λ turns rows b is. reads turns rows b (subst (λ l. IsScript l number turns rows b) (sym (split ∙ ap (λ l. l ∷ lines_of rest) empty)) is)))
+    (λ turns rows b is. reads turns rows b (subst (λ l. IsScript l number turns rows b) (sym (split ∙ ap (λ l. l ∷ lines_of rest) empty)) is)))
 adds text old new number here rest line split None bad reads (inr (none, some, inl (turn, (writes, new_turns, new_rows, same)))) =
     subst (Reads text new (number + 1) rest) (sym (same ∙ bad))
-        (λ turns rows b is. subst (λ l. IsScript (lines_of text) 1 l (new.lines.items ++ rows) b) (sym (ap (λ l. l ++ turns) new_turns ∙ append_assoc old.turns.items (turn ∷ []) turns))
-            (subst (λ l. IsScript (lines_of text) 1 (old.turns.items ++ turn ∷ turns) l b) (sym (ap (λ l. l ++ rows) new_rows ∙ append_assoc old.lines.items (line_of number turn ∷ []) rows))
-                (reads (turn ∷ turns) (line_of number turn ∷ rows) b (subst (λ l. IsScript l number (turn ∷ turns) (line_of number turn ∷ rows) b) (sym split) (put_turn line (lines_of rest) number turn turns rows b some writes is)))))
+    (λ turns rows b is. subst (λ l. IsScript (lines_of text) 1 l (new.lines.items ++ rows) b) (sym (ap (λ l. l ++ turns) new_turns ∙ append_assoc old.turns.items (turn ∷ []) turns))
+    (subst (λ l. IsScript (lines_of text) 1 (old.turns.items ++ turn ∷ turns) l b) (sym (ap (λ l. l ++ rows) new_rows ∙ append_assoc old.lines.items (line_of number turn ∷ []) rows))
+    (reads (turn ∷ turns) (line_of number turn ∷ rows) b (subst (λ l. IsScript l number (turn ∷ turns) (line_of number turn ∷ rows) b) (sym split) (put_turn line (lines_of rest) number turn turns rows b some writes is)))))
 adds text old new number here rest line split None bad reads (inr (none, some, inr (asks, new_turns, new_rows, noted))) =
     subst (Reads text new (number + 1) rest) (sym noted)
-        (subst (λ l. IsScript (lines_of text) 1 l new.lines.items (Some number)) (append-nil old.turns.items ∙ sym new_turns)
-            (subst (λ l. IsScript (lines_of text) 1 (old.turns.items ++ []) l (Some number)) (append-nil old.lines.items ∙ sym new_rows)
-                (reads [] [] (Some number) (subst (λ l. IsScript l number [] [] (Some number)) (sym split) (put_bad line (lines_of rest) number some asks)))))
+    (subst (λ l. IsScript (lines_of text) 1 l new.lines.items (Some number)) (append-nil old.turns.items ∙ sym new_turns)
+    (subst (λ l. IsScript (lines_of text) 1 (old.turns.items ++ []) l (Some number)) (append-nil old.lines.items ∙ sym new_rows)
+    (reads [] [] (Some number) (subst (λ l. IsScript l number [] [] (Some number)) (sym split) (put_bad line (lines_of rest) number some asks)))))
 
 -- a line was read, and added
 pub one_read : (old new : Script) (number : ℕ) (known left left' : Option (List ℕ)) (line : List ℕ) (more : Bool) → IfSome known (SoFar old number left) → IfSome left (λ text. IsNextLine text more line left') → more ≡ true
@@ -87,8 +87,8 @@ ends : (text : List ℕ) (script : Script) (number : ℕ) (rest : List ℕ) → 
 ends text script number rest none (Some k) reads = reads
 ends text script number rest none None reads =
     subst (λ l. IsScript (lines_of text) 1 l script.lines.items None) (append-nil script.turns.items)
-        (subst (λ l. IsScript (lines_of text) 1 (script.turns.items ++ []) l None) (append-nil script.lines.items)
-            (reads [] [] None (subst (λ l. IsScript l number [] [] None) (sym none) (refl, refl, refl))))
+    (subst (λ l. IsScript (lines_of text) 1 (script.turns.items ++ []) l None) (append-nil script.lines.items)
+    (reads [] [] None (subst (λ l. IsScript l number [] [] None) (sym none) (refl, refl, refl))))
 
 pub all_read : (script : Script) (number : ℕ) (known left left' : Option (List ℕ)) (line : List ℕ) (more : Bool) → IfSome known (SoFar script number left) → IfSome left (λ text. IsNextLine text more line left') → more ≡ false
     → IfSome known (λ text. IsScript (lines_of text) 1 script.turns.items script.lines.items script.bad_line)

@@ -1,5 +1,5 @@
 -- What the lines of a script print of the trace of its run.
-use Rattle.std.specs.Prelude.{◌≡◌, ◌≢◌, ℕ, ◌+◌, ◌==◌, nat_lt, Bool, true, false, ◌||◌, not, if◌then◌else◌, List, [], ◌∷◌, ◌++◌, filter_map, reverse, set, get_or, Option, Some, None, option_map, ◌⊎◌, codes}
+use Rattle.std.specs.Prelude.{◌≡◌, ◌≢◌, ℕ, ◌+◌, ◌==◌, nat_lt, Bool, true, false, ◌||◌, not, if◌then◌else◌, List, [], ◌∷◌, ◌++◌, filter_map, replicate, reverse, set, get_or, Option, Some, None, option_map, ◌⊎◌, codes}
 use Rattle.std.specs.Fmt.{decimal}
 use Rattle.papaya_ask.specs.declared.call.Reply.{Reply}
 use Rattle.papaya_ask.specs.declared.call.Reply.TheVariants.{Done}
@@ -7,6 +7,9 @@ use Rattle.papaya_store.specs.Store.{StoreState, pair_of}
 use Rattle.papaya_timeline.specs.declared.trace.Entry.{Entry}
 use Rattle.papaya_timeline.specs.declared.trace.Event.{Event}
 use Rattle.papaya_timeline.specs.declared.trace.Event.TheVariants.{Begun, Gave, Replied}
+use Rattle.papaya_shell.specs.Failure.{without_memory}
+use Rattle.papaya_shell.specs.declared.failure.Failure.{Failure}
+use Rattle.papaya_shell.specs.declared.failure.Failure.TheVariants.{Output}
 use Rattle.papaya_lines.specs.Printed.{text_of}
 use Rattle.papaya_lines.specs.Replies.{printed_of}
 use Rattle.papaya_lines.specs.Walk.{IsByKey}
@@ -66,6 +69,14 @@ with_call calls line =
 abbrev pub call_of : List Part → Line → Part
 call_of calls line = get_or (with_call calls line) line.caller line.part
 
+-- before the first line no caller has begun a call
+abbrev pub no_calls : List Part
+no_calls = replicate 64 part.Call
+
+-- the writer failed, or there was no memory for the pairs of a walk
+abbrev pub IsPrintFailure : Failure → Type 0
+IsPrintFailure why = (why ≡ Output) ⊎ (why ≡ without_memory)
+
 -- a line that is printed for a caller
 abbrev pub told_text : ℕ → List ℕ → List ℕ
 told_text caller text = decimal caller ++ codes ": " ++ text ++ 10 ∷ []
@@ -94,9 +105,9 @@ module _ {S : Type 0} (store : StoreState ℕ ℕ S) where
 
   -- what a line prints, by the reply of its turn
   abbrev pub IsTold : Part → Line → (given : List ℕ) → Option Reply → List ℕ → Type 0
-  IsTold call line given None text = text ≡ unended_text line.caller line.part
-  IsTold call line given (Some reply) text = (p : Option Printed)
-      × Replies call given reply p × (text ≡ reply_text line.caller p)
+  IsTold kind line given None text = text ≡ unended_text line.caller line.part
+  IsTold kind line given (Some reply) text = (p : Option Printed)
+      × Replies kind given reply p × (text ≡ reply_text line.caller p)
 
   -- What the lines print one after the other, of which the first has this turn, and whose entries
   -- these are. A turn that has no entry was passed over: then its line and those behind it print

@@ -2,6 +2,7 @@
 ghost use Rattle.std.specs.Prelude.{◌≡◌, IfErr, IfOk, IfSome, OnOk};
 ghost use Rattle.papaya_lines.specs.Lines.{IsReadFailure, lines_of};
 ghost use Rattle.papaya_lines.specs.Script.{Adds, IsScript, line_of};
+ghost use Rattle.papaya_lines.specs.Told.{begins_call};
 ghost use Rattle.papaya_shell.specs.Failure.{without_memory};
 
 use crate::closures::Answering;
@@ -25,6 +26,18 @@ pub enum Part {
     Step,
     /// It says so where its call is still running.
     Finish,
+}
+
+impl Part {
+    /// Does it begin a call?
+    pub(crate) fn begins(self) -> bool
+        ensures { result ≡ begins_call self }
+    {
+        match self {
+            Part::Update | Part::Walk | Part::Call => true,
+            Part::Step | Part::Finish => false,
+        }
+    }
 }
 
 /// The line that a turn was read from.

@@ -1,5 +1,4 @@
-use Rattle.std.proofs.Common.{IfSome, refl, subst, sym}
-use Rattle.papaya_lines.specs.Lines.{IsNextLine}
+use Rattle.std.proofs.Common.{refl, subst}
 use Rattle.papaya_lines.specs.Script.{Adds}
 use Rattle.papaya_lines.proofs.ScriptLemmas.{all_read, none_read, one_read}
 use Rattle.papaya_lines.proofs.script.Script.read.Goals as goal
