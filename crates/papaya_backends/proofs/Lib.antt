@@ -1,3 +1,4 @@
+pub mod ProgramLemmas
 pub mod RunLemmas
 pub mod SeqLemmas
 pub mod SharedLemmas

@@ -2,7 +2,7 @@
 use Rattle.std.proofs.Common.{◌≡◌, ◌≢◌, ℕ, ◌+◌, ◌<◌, Bool, true, false, cond, eqb, None, Some, IfSome, Ok, Err, List, [], ◌∷◌, ◌++◌, length, inl, inr, refl, sym, ap, subst, ◌∙◌, arith, append_assoc, length-append}
 use Rattle.std.specs.Prelude.{◌⊎◌, IfOk, IsErrAnd, MatchResult, Option, Result}
 use Rattle.std.proofs.lemmas.List.{append-nil}
-use Rattle.std.specs.Io.KnownBytes.{Appends, Keeps, prepend_known}
+use Rattle.std.specs.Io.KnownBytes.{prepend_known}
 use Rattle.papaya_shell.specs.Failure.{without_memory}
 use Rattle.papaya_shell.specs.declared.failure.Failure.{Failure}
 use Rattle.papaya_shell.specs.declared.failure.Failure.TheVariants as failure
@@ -120,3 +120,30 @@ ok_kept (Err e) told x P Q is was never h = absurd (never e was)
 pub behind_buffer : (capacity : ℕ) (buffer : List ℕ) (known left : Option (List ℕ)) → capacity ≡ 8192 → buffer ≡ [] → left ≡ known → cond (eqb capacity 0) None (prepend_known buffer left) ≡ known
 behind_buffer capacity buffer None left some none is = ap (λ n. cond (eqb n 0) None (prepend_known buffer left)) some ∙ ap (prepend_known buffer) is
 behind_buffer capacity buffer (Some xs) left some none is = ap (λ n. cond (eqb n 0) None (prepend_known buffer left)) some ∙ ap (λ l. prepend_known l left) none ∙ ap (prepend_known []) is
+
+-- lines that are done, seen in another way
+module _ {S T : Type 0} (see : S → T) (does : S → List ℕ → Printed → S → Type 0) (shows : T → List ℕ → Printed → T → Type 0)
+    (each : (s : S) (line : List ℕ) (reply : Printed) (s' : S) → does s line reply s' → shows (see s) line reply (see s')) where
+  prints_as : (s : S) (lines : List (List ℕ)) (text : List ℕ) (s' : S) → Prints does s lines text s' → Prints shows (see s) lines text (see s')
+  prints_as s [] text s' (none, same) = (none, ap see same)
+  prints_as s ([] ∷ lines) text s' h = prints_as s lines text s' h
+  prints_as s ((b ∷ bs) ∷ lines) text s' (reply, middle, rest, done, later, is) = (reply, see middle, rest, each s (b ∷ bs) reply middle done, prints_as middle lines rest s' later, is)
+
+  module _ (first : S → Type 0) (begins : T → Type 0) (begun : (s : S) → first s → begins (see s)) where
+    wrote_as : (lines : List (List ℕ)) (wrote : List ℕ → Type 0) → Wrote first does lines wrote → Wrote begins shows lines wrote
+    wrote_as lines wrote (s, s', text, at_first, prints, written) = (see s, see s', text, begun s at_first, prints_as s lines text s' prints, written)
+
+    run_as : (is_bad : List ℕ → Type 0) (lines : List (List ℕ)) (wrote : List ℕ → Type 0) (ended : Result (Unit {0}) Failure) → IsRun first does is_bad lines wrote ended → IsRun begins shows is_bad lines wrote ended
+    run_as is_bad lines wrote (Ok done) run = wrote_as lines wrote run
+    run_as is_bad lines wrote (Err (failure.Line n)) (before, here, run) = (before, here, wrote_as before wrote run)
+    run_as is_bad lines wrote (Err failure.Arguments) run = run
+    run_as is_bad lines wrote (Err (failure.Refused why)) run = run
+    run_as is_bad lines wrote (Err failure.Disagreement) run = run
+    run_as is_bad lines wrote (Err failure.Clock) run = run
+    run_as is_bad lines wrote (Err failure.Input) run = run
+    run_as is_bad lines wrote (Err failure.Output) run = run
+
+    pub known_as : (is_bad : List ℕ → Type 0) (wrote : List ℕ → Type 0) (ended : Result (Unit {0}) Failure) (known : Option (List ℕ))
+        → IfSome known (λ text. IsRun first does is_bad (lines_of text) wrote ended) → IfSome known (λ text. IsRun begins shows is_bad (lines_of text) wrote ended)
+    known_as is_bad wrote ended None run = tt
+    known_as is_bad wrote ended (Some text) run = run_as is_bad (lines_of text) wrote ended run

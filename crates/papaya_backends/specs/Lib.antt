@@ -1,3 +1,5 @@
+pub mod Core
+pub mod Program
 pub mod Replied
 pub mod Runs
 pub mod Seq

@@ -1,5 +1,9 @@
 //! The lines on a map for one caller: each is read, done and printed before the next is read.
-ghost use Rattle.std.specs.Prelude.{◌≡◌, IfErr, IfOk};
+ghost use Rattle.std.specs.Prelude.{◌≡◌, IfErr, IfOk, IfSome};
+ghost use Rattle.std.specs.Io.KnownBytes.{Appends};
+ghost use Rattle.papaya_lines.specs.Lines.{lines_of};
+ghost use Rattle.papaya_backends.specs.Program.{DoesLine, IsNewMap};
+ghost use Rattle.papaya_backends.specs.Runs.{IsRun};
 ghost use Rattle.papaya_lines.specs.Closures.{follower};
 ghost use Rattle.papaya_lines.specs.Commands.{WritesNone};
 ghost use Rattle.papaya_lines.specs.Walk.{IsByKey};
@@ -98,7 +102,12 @@ pub(crate) fn run_seq<S: BuildHasher + Drop, R: Read, W: Write>(
     hasher: S,
     input: &mut R,
     output: &mut W,
-) -> Result<(), Failure> {
-    let mut map: HashMap<u64, u64, S> = HashMap::with_parts(alloc, mode, 0, 1, hasher)?;
+) -> Result<(), Failure>
+    ensures { IfSome (R.remaining input.old) (λ text.
+        IsRun (IsNewMap mode hasher) DoesLine WritesNone (lines_of text)
+        (Appends (W.contents output.old) (W.contents output.new)) result) }
+{
+    let mut map: HashMap<u64, u64, S> =
+        HashMap::with_parts(alloc, mode, 0, 1, hasher).map_err(Failure::Refused)?;
     run_lines(alloc, &mut map, input, output)
 }

@@ -3,7 +3,8 @@ use Rattle.std.proofs.Common.{[], ◌∷◌, IfSome, subst, sym}
 use Rattle.papaya_lines.specs.Lines.{IsNextLine}
 use Rattle.std.specs.Io.Buffered.{reader_remaining}
 use Rattle.std.specs.Io.KnownBytes.{Appends}
-use Rattle.papaya_backends.proofs.RunLemmas.{all_done, appends_both, appends_none, keeps_same, keeps_then, none_done, one_done, one_failed, why_failed}
+use Rattle.papaya_lines.proofs.WriteLemmas.{appends_both, appends_none, keeps_same, keeps_then}
+use Rattle.papaya_backends.proofs.RunLemmas.{all_done, none_done, one_done, one_failed, why_failed}
 use Rattle.papaya_backends.proofs.line_by_line.obey_lines.Goals as goal
 
 pub loop-number-init : goal.loop-number-init

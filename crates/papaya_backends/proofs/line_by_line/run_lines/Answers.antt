@@ -3,7 +3,8 @@ use Rattle.std.specs.Io.Buffered.{reader_buffer, reader_capacity, reader_inner, 
 use Rattle.std.specs.Io.KnownBytes.{Appends}
 use Rattle.papaya_lines.specs.Lines.{lines_of}
 use Rattle.papaya_backends.specs.Runs.{IsRun}
-use Rattle.papaya_backends.proofs.RunLemmas.{behind_buffer, keeps_then, ok_kept, run_known}
+use Rattle.papaya_lines.proofs.WriteLemmas.{keeps_then}
+use Rattle.papaya_backends.proofs.RunLemmas.{behind_buffer, ok_kept, run_known}
 use Rattle.papaya_backends.proofs.line_by_line.run_lines.Goals as goal
 
 pub returns : goal.returns
