@@ -42,8 +42,9 @@ pub(crate) fn run_core<S: BuildHasher + Drop, R: Read, W: Write>(
         (IsNew mode 0 1 hasher) (lines_of text)
         (Appends (W.contents output.old) (W.contents output.new)) result) }
 {
-    let mut core: Core<u64, u64, S, Answering> =
-        Core::new(alloc, mode, 0, 1, hasher).map_err(Failure::Refused)?;
+    let mut core: Core<u64, u64, S, Answering> = Core::new(alloc, mode, 0, 1, hasher).map_err(
+        Failure::Refused,
+    )?;
     let Script {
         turns,
         lines,

@@ -17,7 +17,7 @@ pub returns-in-Some : goal.returns-in-Some
 returns-in-Some g c =
     let hash = hash_of u64 g.S.BuildHasher.build_hasher g.S.Hasher.Hasher.write g.S.Hasher.Hasher.finish in
     let core = c.in_ok-core.core in
-    let script = c.in_ok-script_of.field-0 in
+    let script = c.in_ok-turns.field-0 in
     let trace = c.in_ok-trace.trace in
     let after = c.run.new.self in
     let passed = c.in_ok-passed_over.passed_over in
@@ -28,13 +28,13 @@ returns-in-Some g c =
     let runs = ok_kept c.run.result _ trace (λ t. TurnsRun (λ a b. a == b) script_says hash script.turns.items (length script.turns.items) core after (reverse t.entries.items)) _ refl c.in_ok-trace.ensures.cases (λ e no. no) c.run.ensures.ok in
     let told = c.in_ok-passed_over.ensures.told in
     let tells = subst (λ (rows : List Line). Tells after.store trace.entries.items no_calls rows 0 trace.entries.items told.0 passed) c.as_slice.ensures.value told.1 in
-    ran_to hash (IsNew c.args.mode 0 1 c.args.hasher) (Appends first last) script.turns.items script.lines.items script.bad_line passed core after trace.entries.items new.1 runs (told.0, tells, keeps_then first printed last told.0 told.2 c.flush.ensures.bytes) (g.R.Read.remaining c.args.input.now) c.in-Some.number c.in_ok-script_of.ensures.read (sym c.in-Some.is ∙ c.or.ensures)
+    ran_to hash (IsNew c.args.mode 0 1 c.args.hasher) (Appends first last) script.turns.items script.lines.items script.bad_line passed core after trace.entries.items new.1 runs (told.0, tells, keeps_then first printed last told.0 told.2 c.flush.ensures.bytes) (g.R.Read.remaining c.args.input.now) c.in-Some.number c.in_ok-turns.ensures.read (sym c.in-Some.is ∙ c.or.ensures)
 
-pub returns-in-None : goal.returns-in-None
-returns-in-None g c =
+pub returns : goal.returns
+returns g c =
     let hash = hash_of u64 g.S.BuildHasher.build_hasher g.S.Hasher.Hasher.write g.S.Hasher.Hasher.finish in
     let core = c.in_ok-core.core in
-    let script = c.in_ok-script_of.field-0 in
+    let script = c.in_ok-turns.field-0 in
     let trace = c.in_ok-trace.trace in
     let after = c.run.new.self in
     let passed = c.in_ok-passed_over.passed_over in
@@ -45,4 +45,4 @@ returns-in-None g c =
     let runs = ok_kept c.run.result _ trace (λ t. TurnsRun (λ a b. a == b) script_says hash script.turns.items (length script.turns.items) core after (reverse t.entries.items)) _ refl c.in_ok-trace.ensures.cases (λ e no. no) c.run.ensures.ok in
     let told = c.in_ok-passed_over.ensures.told in
     let tells = subst (λ (rows : List Line). Tells after.store trace.entries.items no_calls rows 0 trace.entries.items told.0 passed) c.as_slice.ensures.value told.1 in
-    ran_all hash (IsNew c.args.mode 0 1 c.args.hasher) (Appends first last) script.turns.items script.lines.items script.bad_line passed core after trace.entries.items new.1 runs (told.0, tells, keeps_then first printed last told.0 told.2 c.flush.ensures.bytes) (g.R.Read.remaining c.args.input.now) c.in_ok-script_of.ensures.read (sym c.in-None.is ∙ c.or.ensures)
+    ran_all hash (IsNew c.args.mode 0 1 c.args.hasher) (Appends first last) script.turns.items script.lines.items script.bad_line passed core after trace.entries.items new.1 runs (told.0, tells, keeps_then first printed last told.0 told.2 c.flush.ensures.bytes) (g.R.Read.remaining c.args.input.now) c.in_ok-turns.ensures.read (sym c.in-None.is ∙ c.or.ensures)
