@@ -3,8 +3,7 @@ ghost use Rattle.std.specs.Prelude.{◌≡◌, ◌⊎◌, true, is_ok, [], Err, 
 ghost use Rattle.std.specs.Int.{IsPowerOfTwo};
 ghost use mathlib.Core.List.{IsPrefix};
 ghost use Rattle.papaya_words.specs.declared.limits.TheConstants.{DEFAULT_CHUNK, DEFAULT_SHARDS};
-ghost use Rattle.papaya_keys.specs.Sizes.{IsAllowed};
-ghost use Rattle.papaya_map.specs.Asked.{IsMapRefusal};
+ghost use Rattle.papaya_keys.specs.Sizes.{IsAllowed, IsSizeRefusal};
 ghost use Rattle.papaya_map.specs.Fixed.{Fixed, IsFor};
 ghost use Rattle.papaya_map.specs.Powers.{IsPowerOfTwo-prop};
 ghost use Rattle.papaya_book.specs.Parts.{begun_of};
@@ -147,8 +146,9 @@ impl<K: Hash + Eq + Drop, V: Drop, S: BuildHasher + Drop> HashMap<K, V, S> {
     ) -> Result<HashMap<K, V, S>, Refused>
         ensures ok { IfOk result (λ map. IsAllowed mode capacity shards) }
         ensures made { IfOk result (IsFor mode capacity) }
+        ensures hasher { IfOk result (λ map. map.begun.hasher ≡ hasher) }
         ensures collector { IfOk result (λ map. map.collector ≡ 0) }
-        ensures err { IfErr result (λ e. IsMapRefusal mode capacity shards e) }
+        ensures err { IfErr result (λ e. IsSizeRefusal mode capacity shards e) }
     {
         HashMap::with_collector(rt, alloc, mode, capacity, shards, hasher, Collector::new(0))
     }
@@ -165,8 +165,9 @@ impl<K: Hash + Eq + Drop, V: Drop, S: BuildHasher + Drop> HashMap<K, V, S> {
     ) -> Result<HashMap<K, V, S>, Refused>
         ensures ok { IfOk result (λ map. IsAllowed mode capacity shards) }
         ensures made { IfOk result (IsFor mode capacity) }
+        ensures hasher { IfOk result (λ map. map.begun.hasher ≡ hasher) }
         ensures collector { IfOk result (λ map. map.collector ≡ collector) }
-        ensures err { IfErr result (λ e. IsMapRefusal mode capacity shards e) }
+        ensures err { IfErr result (λ e. IsSizeRefusal mode capacity shards e) }
     {
         check_chunk(mode)?;
         let initial = initial_len(capacity)?;
@@ -175,8 +176,10 @@ impl<K: Hash + Eq + Drop, V: Drop, S: BuildHasher + Drop> HashMap<K, V, S> {
             return Err(Refused::Memory);
         };
         let book = Book::opened(rt, parts);
-        if capacity > 0 {
-            book.open_first(rt, alloc, capacity, initial)?;
+        // The first table has a number within its limit, though no clause of the log says so: so this
+        // is never a want of room.
+        if capacity > 0 && book.open_first(rt, alloc, capacity, initial).is_err() {
+            return Err(Refused::Memory);
         }
         Ok(HashMap {
             alloc,
@@ -199,7 +202,8 @@ impl<K: Hash + Eq + Drop, V: Drop, S: BuildHasher + Drop> HashMap<K, V, S> {
         ensures ok { IfOk result (λ map. IsAllowed (ResizeMode.Incremental DEFAULT_CHUNK) capacity
             DEFAULT_SHARDS) }
         ensures made { IfOk result (IsFor (ResizeMode.Incremental DEFAULT_CHUNK) capacity) }
-        ensures err { IfErr result (λ e. IsMapRefusal (ResizeMode.Incremental DEFAULT_CHUNK)
+        ensures hasher { IfOk result (λ map. map.begun.hasher ≡ hasher) }
+        ensures err { IfErr result (λ e. IsSizeRefusal (ResizeMode.Incremental DEFAULT_CHUNK)
             capacity
             DEFAULT_SHARDS e) }
     {
@@ -220,6 +224,7 @@ impl<K: Hash + Eq + Drop, V: Drop, S: BuildHasher + Drop> HashMap<K, V, S> {
         hasher: S,
     ) -> Result<HashMap<K, V, S>, Refused>
         ensures made { IfOk result (IsFor (ResizeMode.Incremental DEFAULT_CHUNK) 0) }
+        ensures hasher { IfOk result (λ map. map.begun.hasher ≡ hasher) }
         ensures err { IfErr result (λ e. e ≡ Refused.Memory) }
     {
         HashMap::with_capacity_and_hasher(rt, alloc, 0, hasher)
@@ -250,7 +255,7 @@ impl<K: Hash + Eq + Drop, V: Drop> HashMap<K, V, BuildHasherDefault<FoldHasher>>
         ensures ok { IfOk result (λ map. IsAllowed (ResizeMode.Incremental DEFAULT_CHUNK) capacity
             DEFAULT_SHARDS) }
         ensures made { IfOk result (IsFor (ResizeMode.Incremental DEFAULT_CHUNK) capacity) }
-        ensures err { IfErr result (λ e. IsMapRefusal (ResizeMode.Incremental DEFAULT_CHUNK)
+        ensures err { IfErr result (λ e. IsSizeRefusal (ResizeMode.Incremental DEFAULT_CHUNK)
             capacity
             DEFAULT_SHARDS e) }
     {
