@@ -51,31 +51,6 @@ fn a_copy_stands_alone(rt: HostRuntime) -> Result<(), Fail> {
     copies_shared(&rt, alloc, &[any(1), any(2)])
 }
 
-/// Sets of these keys are equal or not, each to the other.
-fn compare<R: Wait + Abort>(
-    rt: &R,
-    alloc: Global,
-    keys: (&[Labelled], &[Labelled]),
-    wanted: bool,
-) -> Result<(), Refused> {
-    let one = made(rt, alloc, keys.0)?;
-    let other = made(rt, alloc, keys.1)?;
-    is(rt, one.eq(rt, &other), Ok(wanted));
-    is(rt, other.eq(rt, &one), Ok(wanted));
-    Ok(())
-}
-
-#[test]
-fn shared_sets_of_equal_keys_are_equal(rt: HostRuntime) -> Result<(), Fail> {
-    let alloc = rt.alloc();
-    compare(&rt, alloc, (&[], &[]), true)?;
-    compare(&rt, alloc, (&[any(1), any(2)], &[any(1)]), false)?;
-    compare(&rt, alloc, (&[any(1)], &[key(1, 'x')]), true)?;
-    compare(&rt, alloc, (&[any(1)], &[any(2)]), false)?;
-    compare(&rt, alloc, (&[any(1), any(2)], &[any(2), any(1)]), true)?;
-    Ok(())
-}
-
 #[test]
 fn a_shared_set_prints_its_keys(rt: HostRuntime) -> Result<(), Fail> {
     let alloc = rt.alloc();

@@ -1,7 +1,7 @@
 // Each call of the set that threads share, once and with ample memory: what it answers by one caller.
 use crate::expect::is;
 use crate::labels::{Keys, Labelled, Pinned, any, key};
-use papaya_keys::guard::{Collector, Guard};
+use papaya_keys::guard::Collector;
 use papaya_set::set::HashSet;
 use papaya_words::probe::{Refused, ResizeMode};
 use std::alloc::Global;
@@ -67,64 +67,6 @@ fn a_pinned_set_answers(rt: HostRuntime) -> Result<(), Fail> {
     stores(&rt, &set.pin());
     removes(&rt, &set.pin());
     sweeps(&rt, &set);
-    Ok(())
-}
-
-/// What each call that is made with a guard answers, in turn: for true 1, for false 0, else what a
-/// lookup or a walk found.
-fn answers<R: Wait, G: Guard>(rt: &R, set: &Keys, guard: &G, call: u64) -> Result<u64, Refused> {
-    match call {
-        0 => set.insert(rt, any(6), guard).map(|new| new as u64),
-        1 => set.contains(&any(6), guard).map(|has| has as u64),
-        2 => set
-            .get(&any(6), guard)
-            .map(|found| found.map_or(0, |key| key.number)),
-        3 => set.reserve(rt, 9, guard).map(|_| 0),
-        4 => set.retain(rt, |key| key.number == 6, guard).map(|_| 0),
-        5 => set.remove(rt, &any(6), guard).map(|was| was as u64),
-        6 => set.clear(rt, guard).map(|_| 0),
-        7 => set.iter(rt, guard).map(|keys| keys.count() as u64),
-        _ => set.verify(guard).map(|_| 0),
-    }
-}
-
-/// Each call answers so with this guard.
-fn answer<R: Wait + Abort, G: Guard>(
-    rt: &R,
-    set: &Keys,
-    guard: &G,
-    wanted: [Result<u64, Refused>; 9],
-) {
-    for call in 0..9u64 {
-        is(
-            rt,
-            Some(&answers(rt, set, guard, call)),
-            wanted.get(call as usize),
-        );
-    }
-}
-
-/// With a guard of the set each call answers as by one that is pinned.
-const RIGHT: [Result<u64, Refused>; 9] = [
-    Ok(1),
-    Ok(1),
-    Ok(6),
-    Ok(0),
-    Ok(0),
-    Ok(1),
-    Ok(0),
-    Ok(0),
-    Ok(0),
-];
-
-#[test]
-fn a_set_with_a_guard_answers(rt: HostRuntime) -> Result<(), Fail> {
-    let other = Collector::new(7);
-    let set: Keys = HashSet::new(&rt, rt.alloc())?;
-    answer(&rt, &set, &other.enter(), [Err(Refused::WrongGuard); 9]);
-    is(&rt, set.is_empty(), true);
-    answer(&rt, &set, &set.guard(), RIGHT);
-    answer(&rt, &set, &set.owned_guard(), RIGHT);
     Ok(())
 }
 
