@@ -17,6 +17,13 @@ touch "$made"/crates/papaya_{low,mid,run}/src/lib.rt
 
 cat >"$folder/bin/rt" <<'END'
 #!/usr/bin/env bash
+if [[ "$1" == try ]]; then
+    echo "tried ${*:3}"
+    [[ "$*" != *inc:0* ]] || echo 'papaya-run: refused 5 ZeroChunk' >&2
+    printf 'checked: ended status=0\nraces: not looked for\nrun=ended status=0 proved=no\n' >&2
+    [[ "$*" != *inc:0* ]] || exit 1
+    exit 0
+fi
 for name in papaya_low papaya_mid papaya_run; do
     echo "rt: chose --jobs 2 for $name"
     [[ -z "${SLOW-}" ]] || sleep 30
@@ -44,11 +51,32 @@ run() {
 # Help is answered with no build, and begins with the form of the arguments.
 for flag in --help -h; do
     same "$flag ends well" 0 "$(run "$flag")"
-    same "$flag prints the form" 'papaya-run <seq|shared|core> <inc:N|block> <id|zero>' \
+    same "$flag prints the form" 'papaya-run [--unproved] <seq|shared|core> <inc:N|block> <id|zero>' \
         "$(head -1 "$folder/output")"
     same "$flag says nothing else" '' "$(cat "$folder/errors")"
 done
 same 'help builds nothing' 'none' "$([[ -e "$made/crates/papaya_run/out" ]] && echo some || echo none)"
+
+# Arguments are looked at before anything is built.
+for arguments in '' 'core inc:64' 'core inc:64 id more' 'map block id' 'seq inc: id' 'seq block one' \
+    'core inc:18446744073709551616 id' 'core inc:99999999999999999999 id'; do
+    # (each word is an argument)
+    # shellcheck disable=SC2086
+    same "bad arguments have status 2: $arguments" 2 "$(run $arguments)"
+    same "bad arguments are named: $arguments" 'papaya-run: bad arguments
+papaya-run: for what it takes: papaya-run --help' "$(cat "$folder/errors")"
+done
+same 'bad arguments build nothing' 'none' "$([[ -e "$made/crates/papaya_run/out" ]] && echo some || echo none)"
+
+# A run without the proof says so, prints what the program prints, and builds nothing.
+same 'a run without the proof ends as the program' 0 "$(run --unproved core inc:18446744073709551615 id)"
+same 'its output is the program'\''s' 'tried core inc:18446744073709551615 id' "$(cat "$folder/output")"
+unproved='papaya-run: nothing is proved in this run: a first look, which takes one to two minutes'
+same 'it says that nothing is proved' "$unproved" "$(cat "$folder/errors")"
+same 'its errors are the program'\''s' 1 "$(run --unproved core inc:0 id)"
+same 'they are passed on' "$unproved
+papaya-run: refused 5 ZeroChunk" "$(cat "$folder/errors")"
+same 'it builds nothing' 'none' "$([[ -e "$made/crates/papaya_run/out" ]] && echo some || echo none)"
 
 # A failed build shows what rt printed, and leaves no program.
 export BROKEN=papaya_mid
@@ -73,9 +101,13 @@ same 'a stopped build leaves no program' 'none' \
 # A first build says what it does, then each crate.
 same 'a first build ends as the program' 0 "$(run core block id)"
 same 'standard output is the program'\''s' 'ran core block id' "$(cat "$folder/output")"
-same 'a first build names each crate' 'papaya-run: first run: proving and building 3 crates, about a quarter of an hour, once
+same 'a first build names each crate, as it begins and as it ends' 'papaya-run: first run: proving and building 3 crates, about half an hour, once
+papaya-run: for a first look without the proof: papaya-run --unproved core block id
+papaya-run: proving papaya_low, 1 of 3
 papaya-run: papaya_low proved, 1 of 3
+papaya-run: proving papaya_mid, 2 of 3
 papaya-run: papaya_mid proved, 2 of 3
+papaya-run: proving papaya_run, 3 of 3
 papaya-run: papaya_run proved, 3 of 3' "$(cat "$folder/errors")"
 
 # A program that is fresh runs with no word.
