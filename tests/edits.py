@@ -7,6 +7,7 @@ An edit has the lines of those in must-fail/, and two before them: `fn:`, the fu
 check names it below its crate, and `copy:`, the number of the copy in which it is made. No function of a
 copy may call another one that is spoiled there. A copy's check looks at these functions and at what they
 call, and at nothing else. Each of them has to be refused at a goal of its own, and all others be proved.
+The copies of a crate are tried one after the other, so that what they call alike is proved once.
 """
 
 import os
@@ -54,7 +55,7 @@ def is_of(function, name):
     return name == function or name.replace("::fn::", "::").startswith(f"{function}::")
 
 
-def try_copy(room, crate, edits):
+def try_copy(room, kept, crate, edits):
     """Makes these edits in one copy of the crate, checks their functions, and says how each was refused."""
     functions = [it.words["fn"] for it in edits]
     if len({*functions}) < len(edits):
@@ -63,7 +64,7 @@ def try_copy(room, crate, edits):
     for edit in edits:
         edit.apply(f"{room}/{crate}")
     places = [place_of(it, f"{room}/{crate}") for it in edits]
-    said = check(room, crate, [], functions)
+    said = check(room, crate, [], functions, kept)
     verdicts = verdicts_of(said)
     refused = [it for it, verdict in verdicts.items() if verdict != "proved"]
     others = [it for it in refused if not any(is_of(f"{crate}::{function}", it) for function in functions)]
@@ -78,6 +79,20 @@ def try_copy(room, crate, edits):
     return told
 
 
+def try_crate(room, crate, copies):
+    """Tries the copies of a crate, one after the other, over what the ones before proved."""
+    os.mkdir(f"{room}/kept")
+    told, why = [], []
+    for number, edits in enumerate(copies):
+        try:
+            told += try_copy(f"{room}/{number}", f"{room}/kept", crate, edits)
+        except Bad as it:
+            why.append(str(it))
+    if why:
+        raise Bad("\n".join(why))
+    return told
+
+
 def copies_of(crate):
     """The edits of a crate, by their copies."""
     folder, copies = f"{TOP}/crates/{crate}/{TOGETHER}", {}
@@ -86,18 +101,18 @@ def copies_of(crate):
         if not {"fn", "copy"} <= edit.words.keys():
             raise Bad(f"{crate}/{edit.name}: it has no `fn:` and `copy:`")
         copies.setdefault(edit.words["copy"], []).append(edit)
-    return [(crate, edits) for edits in copies.values()]
+    return [*copies.values()]
 
 
 def main(names):
     # (as `rt ci` builds them: the lowest first)
     every = sorted((it for it in NAMED if os.path.isdir(f"{TOP}/crates/{it}/{TOGETHER}")), key=lambda it: len(below(it)))
     try:
-        tries = [it for crate in names or every for it in copies_of(crate)]
+        tries = [(crate, copies_of(crate)) for crate in names or every]
     except Bad as why:
         print(f"edits: {why}", file=sys.stderr)
         return 1
-    return 0 if try_all("edits", tries, try_copy) else 1
+    return 0 if try_all("edits", tries, try_crate) else 1
 
 
 sys.exit(main(sys.argv[1:]))

@@ -116,9 +116,10 @@ def copy_of(crate, to):
             shutil.copytree(f"{TOP}/crates/{crate}/{part}", f"{to}/{part}")
 
 
-def check(folder, crate, changed, functions):
+def check(folder, crate, changed, functions, kept=None):
     """What a check of these functions of the crate says. The crate and those in `changed`, on which it
-    stands, are read from their copies below the folder."""
+    stands, are read from their copies below the folder. What is proved goes to the folder `kept`, and
+    what a check before this one left there is not proved again."""
     words = [f"{KIT}/bin/rattle", "check", "--crate-name", crate, "src/lib.rt", "--links", f"{crate}=", "--jobs", "1"]
     ours = below(crate)
     wait_for(it for it in ours if it not in changed)
@@ -134,6 +135,7 @@ def check(folder, crate, changed, functions):
     words += [word for it in folders for word in ("-L", f"dependency={it}")]
     words += ["--antt-project", f"{KIT}/rattle/logic/antt-project.json", "--logic-built", f"{KIT}/logic_built"]
     words += [word for it in functions for word in ("--only", it)]
+    words += ["--incremental", kept] if kept else []
     how = {"stdin": subprocess.DEVNULL, "stdout": subprocess.PIPE, "stderr": subprocess.STDOUT, "text": True}
     return subprocess.run(words, cwd=f"{folder}/{crate}", **how).stdout
 
@@ -197,5 +199,5 @@ def try_all(what, tries, call):
         results = list(pool.map(one, tries))
     lost = results.count(None)
     refused = sum(len(it) for it in results if it is not None)
-    print(f"{what}: {refused} refused, in {len(results) - lost} copies; {lost} copies failed", flush=True)
+    print(f"{what}: {refused} refused; {lost} of {len(results)} tries failed", flush=True)
     return bool(results) and not lost
