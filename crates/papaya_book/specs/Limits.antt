@@ -33,6 +33,10 @@ tables_by (e ∷ es) = slots_brought (comes e) ++ tables_by es
 abbrev pub tables_of : {K V S : Type 0} → List (Event K V S) → List ℕ
 tables_of log = tables_by (steps_of log)
 
+-- one of the tables has at least so many slots
+abbrev pub HasTableFrom : (least : ℕ) → (tables : List ℕ) → Type 0
+HasTableFrom least tables = (len : ℕ) × (least ≤ len) × Member len tables
+
 -- A next table would be longer than a table may be: it would follow one of these, by this sum of the
 -- count and the map's initial capacity.
 pub record IsTooLong (initial : ℕ) (tables : List ℕ) (given : List Given) : Type 0 where

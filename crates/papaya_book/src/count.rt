@@ -1,5 +1,6 @@
 //! The count of a map's pairs, in shards, so that callers seldom meet at one word.
-ghost use Rattle.std.specs.Prelude.{◌≡◌, ◌<◌, ◌≤◌, [], ◌∷◌, Err, IfErr, length};
+ghost use Rattle.std.specs.Prelude.{◌≡◌, ◌<◌, ◌≤◌, [], ◌∷◌, Err, IfErr, IfOk, IfSome, length};
+ghost use Rattle.std.specs.Int.{IsNextPowerOfTwo, IsPowerOfTwo};
 ghost use Rattle.papaya_book.specs.declared.rule.own.Given.TheVariants as numbers;
 
 use crate::rule::own::{Given, Own};
@@ -7,10 +8,11 @@ use crossbeam_utils::CachePadded;
 use papaya_words::limits::MAX_SHARDS;
 use papaya_words::probe::Refused;
 use std::alloc::Global;
+use std::marker::Model;
 use std::sync::atomic::{AtomicI64, Ordering};
 
-/// A signed number in shards. Its additions are steps apart from the changes that they count, so a
-/// sum may lag behind them, and no contract says what it is.
+/// A signed number in shards. Contracts see how many shards there are. Its additions are steps apart
+/// from the changes that they count, so a sum may lag behind them, and no contract says what it is.
 ///
 /// As in 0.2.5 each shard has cache lines of its own. There their number is taken from the
 /// machine's processors.
@@ -19,11 +21,23 @@ pub struct Count {
     shards: Vec<CachePadded<AtomicI64>>,
 }
 
+impl Model for Count {
+    ghost use Rattle.std.specs.Prelude.{ℕ, length};
+    ghost use Rattle.std.specs.Int.{IsPowerOfTwo};
+
+    ghost Value = { ℕ };
+
+    ghost view = { λ c. length c.shards.items };
+
+    ghost invariant = { λ c. IsPowerOfTwo (length c.shards.items) };
+}
+
 impl Count {
     /// A count of 0 over at least so many shards: rounded up to a power of two.
     pub fn new(alloc: Global, shards: usize) -> Result<Count, Refused>
         ensures many { MAX_SHARDS < shards → result ≡ Err Refused.Capacity }
         ensures few { shards ≤ MAX_SHARDS → IfErr result (λ refused. refused ≡ Refused.Memory) }
+        ensures shards { IfOk result (λ count. IsNextPowerOfTwo shards count) }
     {
         if shards > MAX_SHARDS {
             return Err(Refused::Capacity);
@@ -32,6 +46,14 @@ impl Count {
             Some(shards) => Ok(Count { shards }),
             None => Err(Refused::Memory),
         }
+    }
+
+    /// How many shards there are.
+    pub fn shards(&self) -> usize
+        ensures count { result ≡ self.now }
+        ensures power { IsPowerOfTwo result }
+    {
+        self.shards.len()
     }
 
     /// What the caller adds to who has this number.
@@ -63,7 +85,9 @@ impl Count {
 }
 
 /// So many shards of 0, or none where there is no memory.
-fn row(alloc: Global, len: usize) -> Option<Vec<CachePadded<AtomicI64>>> {
+fn row(alloc: Global, len: usize) -> Option<Vec<CachePadded<AtomicI64>>>
+    ensures { IfSome result (λ shards. length shards.items ≡ len) }
+{
     let mut shards = Vec::with_capacity(alloc, len).ok()?;
     for _ in 0..len {
         shards.push(CachePadded::new(AtomicI64::new(0))).ok()?;
@@ -88,7 +112,8 @@ impl Shard<'_> {
     /// Adds to the shard. It wraps.
     #[inline(always)]
     pub fn add(&self, by: i64) {
-        if let Some(shard) = self.count.shards.get(self.place as usize) {
+        let count: &Count = self.count;
+        if let Some(shard) = count.shards.get(self.place as usize) {
             shard.fetch_add(by, Ordering::SeqCst);
         }
     }

@@ -1,7 +1,7 @@
 //! Maps that threads share as JSON objects, sets that they share as JSON arrays, and back.
 ghost use Rattle.std.specs.Prelude.{◌≡◌, ◌⊎◌, IfErr, IfOk, List};
 ghost use Rattle.std.specs.Fn.{FnReturnsAt};
-ghost use Rattle.papaya_words.specs.declared.limits.TheConstants.{DEFAULT_CHUNK};
+ghost use Rattle.papaya_words.specs.declared.limits.TheConstants.{DEFAULT_CHUNK, DEFAULT_SHARDS};
 ghost use Rattle.papaya_map.specs.Fixed.{IsFor};
 ghost use Rattle.papaya_json.specs.Arrays.{HasNoKey, IsArray, IsArrayWith, IsKey};
 ghost use Rattle.papaya_json.specs.Arrays.{IsListRefusal, IsNoArrayOr};
@@ -94,7 +94,8 @@ where
     requires value { W.IsAlwaysCallable value }
     ensures ok { IfOk result (λ map. IsEachRead (IsPair (FnReturnsAt T.Fn key)
         (FnReturnsAt W.Fn value)) members.now.entries) }
-    ensures made { IfOk result (IsFor (ResizeMode.Incremental DEFAULT_CHUNK) 0) }
+    ensures made { IfOk result (IsFor (ResizeMode.Incremental DEFAULT_CHUNK) 0 DEFAULT_SHARDS) }
+    ensures hasher { IfOk result (λ made. made.begun.hasher ≡ hasher) }
     ensures err { IfErr result (λ e. IsUnread (HasNoPair (FnReturnsAt T.Fn key)
         (FnReturnsAt W.Fn value)) e members.now.entries) }
 {
@@ -126,7 +127,8 @@ where
     requires value { W.IsAlwaysCallable value }
     ensures ok { IfOk result (λ map. IsObjectWith v.now (IsEachRead (IsPair (FnReturnsAt T.Fn key)
         (FnReturnsAt W.Fn value)))) }
-    ensures made { IfOk result (IsFor (ResizeMode.Incremental DEFAULT_CHUNK) 0) }
+    ensures made { IfOk result (IsFor (ResizeMode.Incremental DEFAULT_CHUNK) 0 DEFAULT_SHARDS) }
+    ensures hasher { IfOk result (λ made. made.begun.hasher ≡ hasher) }
     ensures err { IfErr result (IsNoObjectOr v.now (IsUnread (HasNoPair (FnReturnsAt T.Fn key)
         (FnReturnsAt W.Fn value)))) }
 {
@@ -191,7 +193,8 @@ where
     T: Fn(&Value) -> Option<K>,
     requires { T.IsAlwaysCallable key }
     ensures ok { IfOk result (λ set. IsEachRead (IsKey (FnReturnsAt T.Fn key)) items.now.items) }
-    ensures made { IfOk result (IsFor (ResizeMode.Incremental DEFAULT_CHUNK) 0) }
+    ensures made { IfOk result (IsFor (ResizeMode.Incremental DEFAULT_CHUNK) 0 DEFAULT_SHARDS) }
+    ensures hasher { IfOk result (λ made. made.begun.hasher ≡ hasher) }
     ensures err { IfErr result (λ e. IsUnread (HasNoKey (FnReturnsAt T.Fn key)) e
         items.now.items) }
 {
@@ -220,7 +223,8 @@ where
     requires { T.IsAlwaysCallable key }
     ensures ok { IfOk result (λ set. IsArrayWith v.now (IsEachRead
         (IsKey (FnReturnsAt T.Fn key)))) }
-    ensures made { IfOk result (IsFor (ResizeMode.Incremental DEFAULT_CHUNK) 0) }
+    ensures made { IfOk result (IsFor (ResizeMode.Incremental DEFAULT_CHUNK) 0 DEFAULT_SHARDS) }
+    ensures hasher { IfOk result (λ made. made.begun.hasher ≡ hasher) }
     ensures err { IfErr result (IsNoArrayOr v.now (IsUnread (HasNoKey (FnReturnsAt T.Fn key)))) }
 {
     let Value::Array(items) = v else {

@@ -1,24 +1,32 @@
 -- What of a map is fixed when it is made.
-use Rattle.std.specs.Prelude.{◌≡◌, ℕ}
+use Rattle.std.specs.Prelude.{◌≡◌, ℕ, ◌<◌, List}
+use Rattle.std.specs.Int.{IsNextPowerOfTwo}
 use Rattle.logbook.specs.Pages.{Book}
 use Rattle.papaya_words.specs.Probe.{IsEntriesFor}
 use Rattle.papaya_words.specs.declared.probe.ResizeMode.{ResizeMode}
+use Rattle.papaya_book.specs.Limits.{HasTableFrom}
 use Rattle.papaya_book.specs.declared.rule.entry.Begun.{Begun}
 
 -- Which book it has; what that was opened with: the hasher, how the map resizes, and the logs of
--- pairs and of tables; the initial capacity, in slots, by which its first table is sized; and the
--- number of the collector whose guards its calls take.
+-- pairs and of tables; the initial capacity, in slots, by which its first table is sized; over how
+-- many shards it counts; the number of the collector whose guards its calls take; and how many slots
+-- each table has that had come when it was made, oldest first.
 pub record Fixed (K V S : Type 0) : Type 0 where
   pub book : Book
   pub begun : Begun K V S
   pub initial : ℕ
+  pub shards : ℕ
   pub collector : ℕ
+  pub opened : List ℕ
 
--- it resizes so, and is made for so many pairs
-abbrev pub IsFor : {K V S : Type 0} → ResizeMode → (capacity : ℕ) → Fixed K V S → Type 0
-IsFor mode capacity map = (map.begun.mode ≡ mode) × IsEntriesFor capacity map.initial
+-- It resizes so, is made for so many pairs, and counts over the next power of two shards. Where there
+-- are to be pairs, it had a table for them when it was made.
+abbrev pub IsFor : {K V S : Type 0} → ResizeMode → (capacity shards : ℕ) → Fixed K V S → Type 0
+IsFor mode capacity shards map = (map.begun.mode ≡ mode) × IsEntriesFor capacity map.initial
+    × IsNextPowerOfTwo shards map.shards × (0 < capacity → HasTableFrom map.initial map.opened)
 
--- the second resizes as the first, has its initial capacity, and takes the same guards
+-- the second resizes as the first, has its initial capacity, counts over as many shards, and takes the
+-- same guards
 abbrev pub HasSettingsOf : {K V S : Type 0} → (old new : Fixed K V S) → Type 0
 HasSettingsOf old new = (new.begun.mode ≡ old.begun.mode) × (new.initial ≡ old.initial)
-    × (new.collector ≡ old.collector)
+    × (new.shards ≡ old.shards) × (new.collector ≡ old.collector)

@@ -1,5 +1,3 @@
--- why a map is not made
-pub mod Asked
 -- what of a map is fixed when it is made, and of its initial capacity
 pub mod Fixed
 pub mod Powers

@@ -6,7 +6,6 @@ ghost use Rattle.papaya_keys.specs.Sizes.{IsAllowed, IsSizeRefusal};
 ghost use Rattle.papaya_timeline.specs.Content.{content};
 ghost use Rattle.papaya_timeline.specs.New.{IsNew};
 ghost use Rattle.papaya_seq.specs.Map.{core_of};
-ghost use Rattle.papaya_map.specs.Asked.{IsMapRefusal};
 ghost use Rattle.papaya_map.specs.Fixed.{IsFor};
 
 use crate::map::HashMap;
@@ -172,9 +171,10 @@ impl<K: Hash + Eq + Drop, V: Drop, S: BuildHasher + Drop> HashMapBuilder<K, V, S
     /// The map: `build` of 0.2.5. Refused as [`HashMap::with_parts`].
     pub fn build<R: Wait>(self, rt: &R, alloc: Global) -> Result<HashMap<K, V, S>, Refused>
         ensures ok { IfOk result (λ map. IsAllowed self.mode self.capacity self.shards) }
-        ensures made { IfOk result (IsFor self.mode self.capacity) }
+        ensures made { IfOk result (IsFor self.mode self.capacity self.shards) }
+        ensures hasher { IfOk result (λ map. map.begun.hasher ≡ self.hasher) }
         ensures collector { IfOk result (λ map. map.collector ≡ self.collector) }
-        ensures err { IfErr result (λ e. IsMapRefusal self.mode self.capacity self.shards e) }
+        ensures err { IfErr result (λ e. IsSizeRefusal self.mode self.capacity self.shards e) }
     {
         let HashMapBuilder {
             hasher,

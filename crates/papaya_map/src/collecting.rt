@@ -4,7 +4,7 @@
 //! have then is no clause of theirs.
 ghost use Rattle.std.specs.Prelude.{◌≡◌, ℕ, IfOk, IfErr};
 ghost use Rattle.std.specs.Iterator.{IsFiniteIterable};
-ghost use Rattle.papaya_words.specs.declared.limits.TheConstants.{DEFAULT_CHUNK};
+ghost use Rattle.papaya_words.specs.declared.limits.TheConstants.{DEFAULT_CHUNK, DEFAULT_SHARDS};
 ghost use Rattle.papaya_change.specs.Writing.{IsMemoryOrCapacity};
 ghost use Rattle.papaya_map.specs.Fixed.{HasSettingsOf, IsFor};
 
@@ -84,7 +84,8 @@ impl<K: Hash + Eq + Drop, V: Drop, S: BuildHasher + Default + Drop> HashMap<K, V
         U::IntoIter: Drop,
         requires { IsFiniteIterable U.into_iter_gives U.IntoIter.can_next U.IntoIter.remaining
             iter }
-        ensures made { IfOk result (IsFor (ResizeMode.Incremental DEFAULT_CHUNK) 0) }
+        ensures made { IfOk result (IsFor (ResizeMode.Incremental DEFAULT_CHUNK) 0
+            DEFAULT_SHARDS) }
         ensures refused { IfErr result IsMemoryOrCapacity }
     {
         let map = HashMap::with_hasher(rt, alloc, S::default())?;
@@ -104,7 +105,8 @@ impl<K: Hash + Eq + Drop, V: Drop> HashMap<K, V, BuildHasherDefault<FoldHasher>>
         alloc: Global,
         pairs: [(K, V); N],
     ) -> Result<HashMap<K, V, BuildHasherDefault<FoldHasher>>, Refused>
-        ensures made { IfOk result (IsFor (ResizeMode.Incremental DEFAULT_CHUNK) 0) }
+        ensures made { IfOk result (IsFor (ResizeMode.Incremental DEFAULT_CHUNK) 0
+            DEFAULT_SHARDS) }
         ensures refused { IfErr result IsMemoryOrCapacity }
     {
         match Vec::from_array(alloc, pairs) {
@@ -180,7 +182,8 @@ impl<K: Hash + Eq + Clone + Drop, V: Clone + Drop, S: BuildHasher + Clone + Drop
     /// its pairs then.
     pub fn try_clone<R: Wait>(&self, rt: &R, alloc: Global) -> Result<HashMap<K, V, S>, Refused>
         ensures made { IfOk result (λ map. (pairs : ℕ)
-            × IsFor (ResizeMode.Incremental DEFAULT_CHUNK) pairs map) }
+            × IsFor (ResizeMode.Incremental DEFAULT_CHUNK) pairs DEFAULT_SHARDS map) }
+        ensures hasher { IfOk result (λ map. S.is_clone self.now.begun.hasher map.begun.hasher) }
         ensures refused { IfErr result IsMemoryOrCapacity }
     {
         let Ok(hasher) = self.book.parts.hasher.clone() else {

@@ -2,10 +2,7 @@
 ghost use Rattle.std.specs.Prelude.{◌≡◌, ◌⊎◌, true, is_ok, [], Err, IfErr, IfOk};
 ghost use Rattle.std.specs.Int.{IsPowerOfTwo};
 ghost use mathlib.Core.List.{IsPrefix};
-ghost use Rattle.papaya_words.specs.declared.limits.TheConstants.{DEFAULT_CHUNK, DEFAULT_SHARDS};
-ghost use Rattle.papaya_keys.specs.Sizes.{IsAllowed};
-ghost use Rattle.papaya_map.specs.Asked.{IsMapRefusal};
-ghost use Rattle.papaya_map.specs.Fixed.{Fixed, HasSettingsOf, IsFor};
+ghost use Rattle.papaya_map.specs.Fixed.{Fixed};
 ghost use Rattle.papaya_map.specs.Powers.{IsPowerOfTwo-prop};
 ghost use Rattle.papaya_book.specs.Parts.{begun_of};
 ghost use Rattle.papaya_book.specs.Limits.{HasNoRoom, tables_of};
@@ -20,10 +17,11 @@ ghost use Rattle.papaya_change.specs.RemovalAnswers.{IsRemovalBy, IsRemoved, too
 ghost use Rattle.papaya_change.specs.Showings.{Judges, Operates};
 ghost use Rattle.papaya_sweep.specs.Leaving.{HasKept};
 
+pub mod making;
+
 use crate::computing::compute;
 use papaya_book::book::Book;
 use papaya_book::book::kept::KeptRoot;
-use papaya_book::book::parts::Parts;
 use papaya_book::count::Count;
 use papaya_book::rule::entry::Step;
 use papaya_book::rule::own::{Given, Own};
@@ -38,30 +36,29 @@ use papaya_compute::deciding::{Outcome, Rule, decide};
 use papaya_compute::lending::compute_lent;
 use papaya_keys::compute::Compute;
 use papaya_keys::guard::{Collector, Equivalent, Guard};
-use papaya_keys::sizes::{check_chunk, initial_len};
 use papaya_lookup::lookup::{look_up, look_up_pair};
 use papaya_sweep::retain::retain;
 use papaya_sweep::root::take_root;
 use papaya_sweep::walk::Iter;
-use papaya_words::limits::DEFAULT_SHARDS;
-use papaya_words::probe::{Refused, ResizeMode};
+use papaya_words::probe::Refused;
 use std::alloc::Global;
 use std::hash::{BuildHasher, BuildHasherDefault, FoldHasher, Hash};
 use std::marker::Model;
 use std::sync::Wait;
 
 /// A map that threads share. Contracts see what of it is fixed when it is made: which book it has,
-/// the hasher, how it resizes, its logs, and the initial capacity by which its first table is
-/// sized.
+/// the hasher, how it resizes, its logs, the initial capacity by which its first table is sized, over
+/// how many shards it counts, and which tables it had at once.
 #[derive(Drop)]
 pub struct HashMap<K: Hash + Eq, V, S: BuildHasher = BuildHasherDefault<FoldHasher>> {
     alloc: Global,
     initial: usize,
-    shards: usize,
     count: Count,
     pub(crate) collector: Collector,
     pub(crate) book: Book<K, V, S>,
+    opened: Sight<K, V, S>,
     ghost power: { IsPowerOfTwo initial } by { IsPowerOfTwo-prop initial },
+    ghost opened_book: { opened.book ≡ book.begun.book },
 }
 
 impl<K: Hash + Eq, V, S: BuildHasher> Model for HashMap<K, V, S> {
@@ -71,7 +68,9 @@ impl<K: Hash + Eq, V, S: BuildHasher> Model for HashMap<K, V, S> {
       book = m.book.begun.book;
       begun = begun_of m.book.parts;
       initial = m.initial;
+      shards = m.count;
       collector = m.collector;
+      opened = tables_of m.opened.log;
     } };
 }
 
@@ -131,183 +130,6 @@ impl<'a, K: Hash + Eq, V, S: BuildHasher> Drop for HashMapRef<'a, K, V, S> {
     }
 }
 
-impl<K: Hash + Eq + Drop, V: Drop, S: BuildHasher + Drop> HashMap<K, V, S> {
-    /// A map of all its parts. `capacity` is for how many pairs its first table is made at once;
-    /// with 0 the first change makes one. `shards` is rounded up to a power of two. Its collector has
-    /// number 0.
-    ///
-    /// `Refused::ZeroChunk` for chunks of no slots. `Refused::Capacity` for more shards than
-    /// [`papaya_words::limits::MAX_SHARDS`], and for a table past
-    /// [`papaya_words::limits::MAX_TABLE_LEN`]. `Refused::Memory` where a growth was refused.
-    pub fn with_parts<R: Wait>(
-        rt: &R,
-        alloc: Global,
-        mode: ResizeMode,
-        capacity: usize,
-        shards: usize,
-        hasher: S,
-    ) -> Result<HashMap<K, V, S>, Refused>
-        ensures ok { IfOk result (λ map. IsAllowed mode capacity shards) }
-        ensures made { IfOk result (IsFor mode capacity) }
-        ensures collector { IfOk result (λ map. map.collector ≡ 0) }
-        ensures err { IfErr result (λ e. IsMapRefusal mode capacity shards e) }
-    {
-        HashMap::with_collector(rt, alloc, mode, capacity, shards, hasher, Collector::new(0))
-    }
-
-    /// The same with this collector.
-    pub(crate) fn with_collector<R: Wait>(
-        rt: &R,
-        alloc: Global,
-        mode: ResizeMode,
-        capacity: usize,
-        shards: usize,
-        hasher: S,
-        collector: Collector,
-    ) -> Result<HashMap<K, V, S>, Refused>
-        ensures ok { IfOk result (λ map. IsAllowed mode capacity shards) }
-        ensures made { IfOk result (IsFor mode capacity) }
-        ensures collector { IfOk result (λ map. map.collector ≡ collector) }
-        ensures err { IfErr result (λ e. IsMapRefusal mode capacity shards e) }
-    {
-        check_chunk(mode)?;
-        let initial = initial_len(capacity)?;
-        let count = Count::new(alloc, shards)?;
-        let Ok(parts) = Parts::new(alloc, mode, capacity, hasher) else {
-            return Err(Refused::Memory);
-        };
-        let book = Book::opened(rt, parts);
-        if capacity > 0 {
-            book.open_first(rt, alloc, capacity, initial)?;
-        }
-        Ok(HashMap {
-            alloc,
-            initial,
-            shards,
-            count,
-            collector,
-            book,
-        })
-    }
-
-    /// A map for so many pairs, with this hasher: `with_capacity_and_hasher` of 0.2.5. It resizes as
-    /// [`ResizeMode::default`] says, and counts its pairs over [`DEFAULT_SHARDS`] shards. Refused as
-    /// [`HashMap::with_parts`].
-    pub fn with_capacity_and_hasher<R: Wait>(
-        rt: &R,
-        alloc: Global,
-        capacity: usize,
-        hasher: S,
-    ) -> Result<HashMap<K, V, S>, Refused>
-        ensures ok { IfOk result (λ map. IsAllowed (ResizeMode.Incremental DEFAULT_CHUNK) capacity
-            DEFAULT_SHARDS) }
-        ensures made { IfOk result (IsFor (ResizeMode.Incremental DEFAULT_CHUNK) capacity) }
-        ensures err { IfErr result (λ e. IsMapRefusal (ResizeMode.Incremental DEFAULT_CHUNK)
-            capacity
-            DEFAULT_SHARDS e) }
-    {
-        HashMap::with_parts(
-            rt,
-            alloc,
-            ResizeMode::default(),
-            capacity,
-            DEFAULT_SHARDS,
-            hasher,
-        )
-    }
-
-    /// A map with this hasher: `with_hasher` of 0.2.5. The first change makes its first table.
-    pub fn with_hasher<R: Wait>(
-        rt: &R,
-        alloc: Global,
-        hasher: S,
-    ) -> Result<HashMap<K, V, S>, Refused>
-        ensures made { IfOk result (IsFor (ResizeMode.Incremental DEFAULT_CHUNK) 0) }
-        ensures err { IfErr result (λ e. e ≡ Refused.Memory) }
-    {
-        HashMap::with_capacity_and_hasher(rt, alloc, 0, hasher)
-    }
-}
-
-impl<K: Hash + Eq + Drop, V: Drop, S: BuildHasher + Clone + Drop> HashMap<K, V, S> {
-    /// A map of no pairs with the settings of this one: its mode, its initial capacity, the number of its
-    /// collector, a clone of its hasher, and as many shards. It has room for as many pairs as this one
-    /// counts.
-    pub(crate) fn anew<R: Wait>(&self, rt: &R) -> Result<HashMap<K, V, S>, Refused>
-        ensures settings { IfOk result (HasSettingsOf self.now) }
-        ensures hasher { IfOk result (λ map. S.is_clone self.now.begun.hasher map.begun.hasher) }
-        ensures refused { IfErr result IsMemoryOrCapacity }
-    {
-        let pairs = self.len();
-        let Ok(hasher) = self.book.parts.hasher.clone() else {
-            return Err(Refused::Memory);
-        };
-        let count = Count::new(self.alloc, self.shards)?;
-        let Ok(parts) = Parts::new(self.alloc, self.book.parts.mode, pairs, hasher) else {
-            return Err(Refused::Memory);
-        };
-        let map = HashMap {
-            alloc: self.alloc,
-            initial: self.initial,
-            shards: self.shards,
-            count,
-            collector: Collector::new(self.collector.number()),
-            book: Book::opened(rt, parts),
-        };
-        map.pin().reserve(rt, pairs)?;
-        Ok(map)
-    }
-}
-
-impl<K: Hash + Eq + Drop, V: Drop> HashMap<K, V, BuildHasherDefault<FoldHasher>> {
-    /// A map that makes its first table at its first change: `new` of 0.2.5, but for the hasher,
-    /// which is the same in each run.
-    pub fn new<R: Wait>(
-        rt: &R,
-        alloc: Global,
-    ) -> Result<HashMap<K, V, BuildHasherDefault<FoldHasher>>, Refused>
-        ensures made { IfOk result (IsFor (ResizeMode.Incremental DEFAULT_CHUNK) 0) }
-        ensures err { IfErr result (λ e. e ≡ Refused.Memory) }
-    {
-        HashMap::with_capacity(rt, alloc, 0)
-    }
-
-    /// A map for so many pairs: `with_capacity` of 0.2.5. It resizes as [`ResizeMode::default`]
-    /// says,
-    /// and counts its pairs over [`DEFAULT_SHARDS`] shards. Refused as [`HashMap::with_parts`].
-    pub fn with_capacity<R: Wait>(
-        rt: &R,
-        alloc: Global,
-        capacity: usize,
-    ) -> Result<HashMap<K, V, BuildHasherDefault<FoldHasher>>, Refused>
-        ensures ok { IfOk result (λ map. IsAllowed (ResizeMode.Incremental DEFAULT_CHUNK) capacity
-            DEFAULT_SHARDS) }
-        ensures made { IfOk result (IsFor (ResizeMode.Incremental DEFAULT_CHUNK) capacity) }
-        ensures err { IfErr result (λ e. IsMapRefusal (ResizeMode.Incremental DEFAULT_CHUNK)
-            capacity
-            DEFAULT_SHARDS e) }
-    {
-        HashMap::with_parts(
-            rt,
-            alloc,
-            ResizeMode::default(),
-            capacity,
-            DEFAULT_SHARDS,
-            BuildHasherDefault::new(),
-        )
-    }
-    /// The same as [`HashMap::new`]: what the trait `Default` gives in 0.2.5.
-    pub fn default<R: Wait>(
-        rt: &R,
-        alloc: Global,
-    ) -> Result<HashMap<K, V, BuildHasherDefault<FoldHasher>>, Refused>
-        ensures made { IfOk result (IsFor (ResizeMode.Incremental DEFAULT_CHUNK) 0) }
-        ensures err { IfErr result (λ e. e ≡ Refused.Memory) }
-    {
-        HashMap::new(rt, alloc)
-    }
-}
-
 impl<K: Hash + Eq, V, S: BuildHasher> HashMap<K, V, S> {
     /// The map, as calls take it. It writes no word.
     #[inline]
@@ -348,6 +170,20 @@ impl<K: Hash + Eq, V, S: BuildHasher> HashMap<K, V, S> {
         ensures given { result.given ≡ [] }
     {
         self.numbered(self.collector.enter().number())
+    }
+
+    /// Tells a pass which tables the map had when it was made: one of at least the initial capacity,
+    /// where it was made for pairs. Nothing is done when the program runs.
+    pub fn learn_opened(&self, pass: &mut Pass<K, V, S>)
+        requires { pass.old.book ≡ self.now.book }
+        ensures book { pass.new.book ≡ pass.old.book }
+        ensures seen { IsPrefix pass.old.history pass.new.history }
+        ensures opened { IsPrefix self.now.opened pass.new.tables }
+        ensures tables { IsPrefix pass.old.tables pass.new.tables }
+        ensures made { pass.new.made ≡ pass.old.made }
+        ensures given { pass.new.given ≡ pass.old.given }
+    {
+        pass.sight.learn(&self.opened);
     }
 
     /// A new pass of this map, whose calls pick the count's shard by this number.

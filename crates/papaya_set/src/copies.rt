@@ -1,7 +1,7 @@
 //! Sets of clones, and sets that are compared.
 ghost use Rattle.std.specs.Prelude.{◌≡◌, ℕ, true, IfErr, IfOk, OnOk, length};
 ghost use Rattle.papaya_words.specs.Probe.{IsEntriesFor};
-ghost use Rattle.papaya_words.specs.declared.limits.TheConstants.{DEFAULT_CHUNK};
+ghost use Rattle.papaya_words.specs.declared.limits.TheConstants.{DEFAULT_CHUNK, DEFAULT_SHARDS};
 ghost use Rattle.papaya_timeline.specs.Content.{content};
 ghost use Rattle.papaya_seq.specs.Clones.{HasParts, IsCloneRefusal, IsRebuildRefusal, IsRebuilt};
 ghost use Rattle.papaya_change.specs.Writing.{IsMemoryOrCapacity};
@@ -65,7 +65,8 @@ impl<K: Hash + Eq + Clone + Drop, S: BuildHasher + Clone + Drop> HashSet<K, S> {
     /// removed meanwhile may be copied or not.
     pub fn try_clone<R: Wait>(&self, rt: &R, alloc: Global) -> Result<HashSet<K, S>, Refused>
         ensures made { IfOk result (λ set. (keys : ℕ)
-            × IsFor (ResizeMode.Incremental DEFAULT_CHUNK) keys set) }
+            × IsFor (ResizeMode.Incremental DEFAULT_CHUNK) keys DEFAULT_SHARDS set) }
+        ensures hasher { IfOk result (λ set. S.is_clone self.now.begun.hasher set.begun.hasher) }
         ensures refused { IfErr result IsMemoryOrCapacity }
     {
         match self.map.try_clone(rt, alloc) {

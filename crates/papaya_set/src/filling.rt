@@ -1,7 +1,7 @@
 //! Calls that put many keys into the set that threads share, one after the other.
 ghost use Rattle.std.specs.Prelude.{◌≡◌, IfErr, IfOk};
 ghost use Rattle.std.specs.Iterator.{IsFiniteIterable};
-ghost use Rattle.papaya_words.specs.declared.limits.TheConstants.{DEFAULT_CHUNK};
+ghost use Rattle.papaya_words.specs.declared.limits.TheConstants.{DEFAULT_CHUNK, DEFAULT_SHARDS};
 ghost use Rattle.papaya_change.specs.Writing.{IsMemoryOrCapacity};
 ghost use Rattle.papaya_map.specs.Fixed.{IsFor};
 
@@ -72,7 +72,8 @@ impl<K: Hash + Eq + Drop, S: BuildHasher + Default + Drop> HashSet<K, S> {
         U::IntoIter: Drop,
         requires { IsFiniteIterable U.into_iter_gives U.IntoIter.can_next U.IntoIter.remaining
             iter }
-        ensures made { IfOk result (IsFor (ResizeMode.Incremental DEFAULT_CHUNK) 0) }
+        ensures made { IfOk result (IsFor (ResizeMode.Incremental DEFAULT_CHUNK) 0
+            DEFAULT_SHARDS) }
         ensures err { IfErr result IsMemoryOrCapacity }
     {
         let set = HashSet::with_hasher(rt, alloc, S::default())?;
@@ -92,7 +93,8 @@ impl<K: Hash + Eq + Drop> HashSet<K, BuildHasherDefault<FoldHasher>> {
         alloc: Global,
         keys: [K; N],
     ) -> Result<HashSet<K, BuildHasherDefault<FoldHasher>>, Refused>
-        ensures made { IfOk result (IsFor (ResizeMode.Incremental DEFAULT_CHUNK) 0) }
+        ensures made { IfOk result (IsFor (ResizeMode.Incremental DEFAULT_CHUNK) 0
+            DEFAULT_SHARDS) }
         ensures err { IfErr result IsMemoryOrCapacity }
     {
         match Vec::from_array(alloc, keys) {

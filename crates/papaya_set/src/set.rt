@@ -1,8 +1,7 @@
 //! The set that threads share.
 ghost use Rattle.std.specs.Prelude.{◌≡◌, IfErr, IfOk};
 ghost use Rattle.papaya_words.specs.declared.limits.TheConstants.{DEFAULT_CHUNK, DEFAULT_SHARDS};
-ghost use Rattle.papaya_keys.specs.Sizes.{IsAllowed};
-ghost use Rattle.papaya_map.specs.Asked.{IsMapRefusal};
+ghost use Rattle.papaya_keys.specs.Sizes.{IsAllowed, IsSizeRefusal};
 ghost use Rattle.papaya_map.specs.Fixed.{IsFor};
 
 use papaya_map::map::{HashMap, HashMapRef};
@@ -58,9 +57,10 @@ impl<K: Hash + Eq + Drop, S: BuildHasher + Drop> HashSet<K, S> {
         hasher: S,
     ) -> Result<HashSet<K, S>, Refused>
         ensures ok { IfOk result (λ set. IsAllowed mode capacity shards) }
-        ensures made { IfOk result (IsFor mode capacity) }
+        ensures made { IfOk result (IsFor mode capacity shards) }
+        ensures hasher { IfOk result (λ set. set.begun.hasher ≡ hasher) }
         ensures collector { IfOk result (λ set. set.collector ≡ 0) }
-        ensures err { IfErr result (λ e. IsMapRefusal mode capacity shards e) }
+        ensures err { IfErr result (λ e. IsSizeRefusal mode capacity shards e) }
     {
         Ok(HashSet {
             map: HashMap::with_parts(rt, alloc, mode, capacity, shards, hasher)?,
@@ -78,8 +78,10 @@ impl<K: Hash + Eq + Drop, S: BuildHasher + Drop> HashSet<K, S> {
     ) -> Result<HashSet<K, S>, Refused>
         ensures ok { IfOk result (λ set. IsAllowed (ResizeMode.Incremental DEFAULT_CHUNK) capacity
             DEFAULT_SHARDS) }
-        ensures made { IfOk result (IsFor (ResizeMode.Incremental DEFAULT_CHUNK) capacity) }
-        ensures err { IfErr result (λ e. IsMapRefusal (ResizeMode.Incremental DEFAULT_CHUNK)
+        ensures made { IfOk result (IsFor (ResizeMode.Incremental DEFAULT_CHUNK) capacity
+            DEFAULT_SHARDS) }
+        ensures hasher { IfOk result (λ set. set.begun.hasher ≡ hasher) }
+        ensures err { IfErr result (λ e. IsSizeRefusal (ResizeMode.Incremental DEFAULT_CHUNK)
             capacity
             DEFAULT_SHARDS e) }
     {
@@ -90,7 +92,9 @@ impl<K: Hash + Eq + Drop, S: BuildHasher + Drop> HashSet<K, S> {
 
     /// A set with this hasher: `with_hasher` of 0.2.5. The first change makes its first table.
     pub fn with_hasher<R: Wait>(rt: &R, alloc: Global, hasher: S) -> Result<HashSet<K, S>, Refused>
-        ensures made { IfOk result (IsFor (ResizeMode.Incremental DEFAULT_CHUNK) 0) }
+        ensures made { IfOk result (IsFor (ResizeMode.Incremental DEFAULT_CHUNK) 0
+            DEFAULT_SHARDS) }
+        ensures hasher { IfOk result (λ set. set.begun.hasher ≡ hasher) }
         ensures err { IfErr result (λ e. e ≡ Refused.Memory) }
     {
         Ok(HashSet {
@@ -106,7 +110,8 @@ impl<K: Hash + Eq + Drop> HashSet<K, BuildHasherDefault<FoldHasher>> {
         rt: &R,
         alloc: Global,
     ) -> Result<HashSet<K, BuildHasherDefault<FoldHasher>>, Refused>
-        ensures made { IfOk result (IsFor (ResizeMode.Incremental DEFAULT_CHUNK) 0) }
+        ensures made { IfOk result (IsFor (ResizeMode.Incremental DEFAULT_CHUNK) 0
+            DEFAULT_SHARDS) }
         ensures err { IfErr result (λ e. e ≡ Refused.Memory) }
     {
         Ok(HashSet {
@@ -122,8 +127,9 @@ impl<K: Hash + Eq + Drop> HashSet<K, BuildHasherDefault<FoldHasher>> {
     ) -> Result<HashSet<K, BuildHasherDefault<FoldHasher>>, Refused>
         ensures ok { IfOk result (λ set. IsAllowed (ResizeMode.Incremental DEFAULT_CHUNK) capacity
             DEFAULT_SHARDS) }
-        ensures made { IfOk result (IsFor (ResizeMode.Incremental DEFAULT_CHUNK) capacity) }
-        ensures err { IfErr result (λ e. IsMapRefusal (ResizeMode.Incremental DEFAULT_CHUNK)
+        ensures made { IfOk result (IsFor (ResizeMode.Incremental DEFAULT_CHUNK) capacity
+            DEFAULT_SHARDS) }
+        ensures err { IfErr result (λ e. IsSizeRefusal (ResizeMode.Incremental DEFAULT_CHUNK)
             capacity
             DEFAULT_SHARDS e) }
     {
@@ -137,7 +143,8 @@ impl<K: Hash + Eq + Drop> HashSet<K, BuildHasherDefault<FoldHasher>> {
         rt: &R,
         alloc: Global,
     ) -> Result<HashSet<K, BuildHasherDefault<FoldHasher>>, Refused>
-        ensures made { IfOk result (IsFor (ResizeMode.Incremental DEFAULT_CHUNK) 0) }
+        ensures made { IfOk result (IsFor (ResizeMode.Incremental DEFAULT_CHUNK) 0
+            DEFAULT_SHARDS) }
         ensures err { IfErr result (λ e. e ≡ Refused.Memory) }
     {
         HashSet::new(rt, alloc)

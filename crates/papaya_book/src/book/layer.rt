@@ -6,7 +6,7 @@ ghost use Rattle.papaya_ask.specs.Search.{IsSize};
 ghost use Rattle.papaya_book.specs.Calls.{IsTable};
 ghost use Rattle.papaya_book.specs.Makers.{AreMade, IsMade};
 ghost use Rattle.boxcar.specs.Table.{Shows};
-ghost use Rattle.papaya_book.specs.Limits.{IsFull};
+ghost use Rattle.papaya_book.specs.Limits.{HasTableFrom, IsFull, tables_of};
 ghost use Rattle.papaya_book.specs.Logs.{seals_of};
 ghost use Rattle.papaya_book.specs.Sheets.{AllOf};
 ghost use Rattle.papaya_book.specs.declared.rule.entry.Named.TheVariants.{Table as TableNamed};
@@ -25,9 +25,9 @@ use crate::table::{Cell, Table};
 use boxcar::Pushed;
 use logbook::Pen;
 use papaya_ask::ask::{At, StepKind};
-use papaya_keys::sizes::first_size;
 use papaya_words::limits::MAX_TABLES;
-use papaya_words::probe::Refused;
+use papaya_words::probe::{Refused, limit};
+use papaya_words::table::table_len;
 use std::alloc::{AllocError, Global};
 use std::hash::{BuildHasher, Hash};
 use std::sync::{Mutex, Wait};
@@ -171,22 +171,36 @@ impl<K: Hash + Eq, V, S: BuildHasher> Book<K, V, S> {
         (found, self.parts.tables.value(&token))
     }
 
-    /// Makes the first table of a new map, for so many pairs, and opens it.
+    /// Makes the first table of a new map, for so many pairs, and opens it. What is seen then: the
+    /// table has come.
+    ///
+    /// `Refused::Memory` where a growth was refused. The same where the table got a number past its
+    /// limit, or another one was opened first: a new map's is neither so, though no clause of its logs
+    /// tells it.
     pub fn open_first<R: Wait>(
         &self,
         rt: &R,
         alloc: Global,
         capacity: usize,
         initial: usize,
-    ) -> Result<(), Refused>
+    ) -> Result<Sight<K, V, S>, Refused>
         requires { IsEntriesFor capacity initial × (initial ≤ MAX_TABLE_LEN) }
-        ensures { IfErr result (λ e. (e ≡ Refused.Memory) ⊎ (e ≡ Refused.Capacity)) }
+        ensures book { IfOk result (λ sight. sight.book ≡ self.now.begun.book) }
+        ensures came { IfOk result (λ sight. HasTableFrom initial (tables_of sight.log)) }
+        ensures err { IfErr result (λ e. e ≡ Refused.Memory) }
     {
-        let (len, limit) = first_size(capacity, initial);
+        let len = table_len(initial);
         let mut sight = self.pass();
         let mut given = Own::nothing();
-        let (table, mut seal) = self.make_table(rt, alloc, len, limit, &mut sight, &mut given)?;
-        self.open(&table, &mut seal, &mut sight);
-        Ok(())
+        let Ok((table, mut seal)) = self.make_table(
+            rt, alloc, len, limit(len), &mut sight, &mut given,
+        ) else {
+            return Err(Refused::Memory);
+        };
+        let (found, _) = self.open(&table, &mut seal, &mut sight);
+        if found != 0 {
+            return Err(Refused::Memory);
+        }
+        Ok(sight)
     }
 }

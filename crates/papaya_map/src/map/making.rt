@@ -1,0 +1,228 @@
+//! Making a map that threads share.
+ghost use Rattle.std.specs.Prelude.{◌≡◌, ◌<◌, ◌≤◌, IfErr, IfOk};
+ghost use Rattle.papaya_words.specs.Probe.{IsEntriesFor};
+ghost use Rattle.papaya_words.specs.declared.limits.TheConstants.{DEFAULT_CHUNK, DEFAULT_SHARDS, MAX_TABLE_LEN};
+ghost use Rattle.papaya_keys.specs.Sizes.{IsAllowed, IsSizeRefusal};
+ghost use Rattle.papaya_book.specs.Limits.{HasTableFrom, tables_of};
+ghost use Rattle.papaya_change.specs.Writing.{IsMemoryOrCapacity};
+ghost use Rattle.papaya_map.specs.Fixed.{HasSettingsOf, IsFor};
+
+use crate::map::HashMap;
+use papaya_book::book::Book;
+use papaya_book::book::parts::Parts;
+use papaya_book::count::Count;
+use papaya_book::rule::trade::Sight;
+use papaya_keys::guard::Collector;
+use papaya_keys::sizes::{check_chunk, initial_len};
+use papaya_words::limits::DEFAULT_SHARDS;
+use papaya_words::probe::{Refused, ResizeMode};
+use std::alloc::Global;
+use std::hash::{BuildHasher, BuildHasherDefault, FoldHasher, Hash};
+use std::sync::Wait;
+
+/// What is seen of the book of a new map, which has its first table then, where pairs are asked for.
+fn first_table<R: Wait, K: Hash + Eq, V, S: BuildHasher>(
+    rt: &R,
+    alloc: Global,
+    book: &Book<K, V, S>,
+    capacity: usize,
+    initial: usize,
+) -> Result<Sight<K, V, S>, Refused>
+    requires { IsEntriesFor capacity initial × (initial ≤ MAX_TABLE_LEN) }
+    ensures book { IfOk result (λ sight. sight.book ≡ book.now.begun.book) }
+    ensures came { IfOk result (λ sight. 0 < capacity → HasTableFrom initial
+        (tables_of sight.log)) }
+    ensures err { IfErr result (λ e. e ≡ Refused.Memory) }
+{
+    if capacity == 0 {
+        return Ok(book.unseen());
+    }
+    book.open_first(rt, alloc, capacity, initial)
+}
+
+impl<K: Hash + Eq + Drop, V: Drop, S: BuildHasher + Drop> HashMap<K, V, S> {
+    /// A map of all its parts. `capacity` is for how many pairs its first table is made at once;
+    /// with 0 the first change makes one. `shards` is rounded up to a power of two. Its collector has
+    /// number 0.
+    ///
+    /// `Refused::ZeroChunk` for chunks of no slots. `Refused::Capacity` for more shards than
+    /// [`papaya_words::limits::MAX_SHARDS`], and for a table past
+    /// [`papaya_words::limits::MAX_TABLE_LEN`]. `Refused::Memory` where a growth was refused.
+    pub fn with_parts<R: Wait>(
+        rt: &R,
+        alloc: Global,
+        mode: ResizeMode,
+        capacity: usize,
+        shards: usize,
+        hasher: S,
+    ) -> Result<HashMap<K, V, S>, Refused>
+        ensures ok { IfOk result (λ map. IsAllowed mode capacity shards) }
+        ensures made { IfOk result (IsFor mode capacity shards) }
+        ensures hasher { IfOk result (λ map. map.begun.hasher ≡ hasher) }
+        ensures collector { IfOk result (λ map. map.collector ≡ 0) }
+        ensures err { IfErr result (λ e. IsSizeRefusal mode capacity shards e) }
+    {
+        HashMap::with_collector(rt, alloc, mode, capacity, shards, hasher, Collector::new(0))
+    }
+
+    /// The same with this collector.
+    pub(crate) fn with_collector<R: Wait>(
+        rt: &R,
+        alloc: Global,
+        mode: ResizeMode,
+        capacity: usize,
+        shards: usize,
+        hasher: S,
+        collector: Collector,
+    ) -> Result<HashMap<K, V, S>, Refused>
+        ensures ok { IfOk result (λ map. IsAllowed mode capacity shards) }
+        ensures made { IfOk result (IsFor mode capacity shards) }
+        ensures hasher { IfOk result (λ map. map.begun.hasher ≡ hasher) }
+        ensures collector { IfOk result (λ map. map.collector ≡ collector) }
+        ensures err { IfErr result (λ e. IsSizeRefusal mode capacity shards e) }
+    {
+        check_chunk(mode)?;
+        let initial = initial_len(capacity)?;
+        let count = Count::new(alloc, shards)?;
+        let Ok(parts) = Parts::new(alloc, mode, capacity, hasher) else {
+            return Err(Refused::Memory);
+        };
+        let book = Book::opened(rt, parts);
+        let opened = first_table(rt, alloc, &book, capacity, initial)?;
+        Ok(HashMap {
+            alloc,
+            initial,
+            count,
+            collector,
+            book,
+            opened,
+        })
+    }
+
+    /// A map for so many pairs, with this hasher: `with_capacity_and_hasher` of 0.2.5. It resizes as
+    /// [`ResizeMode::default`] says, and counts its pairs over [`DEFAULT_SHARDS`] shards. Refused as
+    /// [`HashMap::with_parts`].
+    pub fn with_capacity_and_hasher<R: Wait>(
+        rt: &R,
+        alloc: Global,
+        capacity: usize,
+        hasher: S,
+    ) -> Result<HashMap<K, V, S>, Refused>
+        ensures ok { IfOk result (λ map. IsAllowed (ResizeMode.Incremental DEFAULT_CHUNK) capacity
+            DEFAULT_SHARDS) }
+        ensures made { IfOk result (IsFor (ResizeMode.Incremental DEFAULT_CHUNK) capacity
+            DEFAULT_SHARDS) }
+        ensures hasher { IfOk result (λ map. map.begun.hasher ≡ hasher) }
+        ensures err { IfErr result (λ e. IsSizeRefusal (ResizeMode.Incremental DEFAULT_CHUNK)
+            capacity
+            DEFAULT_SHARDS e) }
+    {
+        HashMap::with_parts(
+            rt,
+            alloc,
+            ResizeMode::default(),
+            capacity,
+            DEFAULT_SHARDS,
+            hasher,
+        )
+    }
+
+    /// A map with this hasher: `with_hasher` of 0.2.5. The first change makes its first table.
+    pub fn with_hasher<R: Wait>(
+        rt: &R,
+        alloc: Global,
+        hasher: S,
+    ) -> Result<HashMap<K, V, S>, Refused>
+        ensures made { IfOk result (IsFor (ResizeMode.Incremental DEFAULT_CHUNK) 0
+            DEFAULT_SHARDS) }
+        ensures hasher { IfOk result (λ map. map.begun.hasher ≡ hasher) }
+        ensures err { IfErr result (λ e. e ≡ Refused.Memory) }
+    {
+        HashMap::with_capacity_and_hasher(rt, alloc, 0, hasher)
+    }
+}
+
+impl<K: Hash + Eq + Drop, V: Drop, S: BuildHasher + Clone + Drop> HashMap<K, V, S> {
+    /// A map of no pairs with the settings of this one: its mode, its initial capacity, the number of its
+    /// collector, a clone of its hasher, and as many shards. It has room for as many pairs as this one
+    /// counts.
+    pub(crate) fn anew<R: Wait>(&self, rt: &R) -> Result<HashMap<K, V, S>, Refused>
+        ensures settings { IfOk result (HasSettingsOf self.now) }
+        ensures hasher { IfOk result (λ map. S.is_clone self.now.begun.hasher map.begun.hasher) }
+        ensures refused { IfErr result IsMemoryOrCapacity }
+    {
+        let pairs = self.len();
+        let Ok(hasher) = self.book.parts.hasher.clone() else {
+            return Err(Refused::Memory);
+        };
+        let count = Count::new(self.alloc, self.count.shards())?;
+        let Ok(parts) = Parts::new(self.alloc, self.book.parts.mode, pairs, hasher) else {
+            return Err(Refused::Memory);
+        };
+        let book = Book::opened(rt, parts);
+        let opened = book.unseen();
+        let map = HashMap {
+            alloc: self.alloc,
+            initial: self.initial,
+            count,
+            collector: Collector::new(self.collector.number()),
+            book,
+            opened,
+        };
+        map.pin().reserve(rt, pairs)?;
+        Ok(map)
+    }
+}
+
+impl<K: Hash + Eq + Drop, V: Drop> HashMap<K, V, BuildHasherDefault<FoldHasher>> {
+    /// A map that makes its first table at its first change: `new` of 0.2.5, but for the hasher,
+    /// which is the same in each run.
+    pub fn new<R: Wait>(
+        rt: &R,
+        alloc: Global,
+    ) -> Result<HashMap<K, V, BuildHasherDefault<FoldHasher>>, Refused>
+        ensures made { IfOk result (IsFor (ResizeMode.Incremental DEFAULT_CHUNK) 0
+            DEFAULT_SHARDS) }
+        ensures err { IfErr result (λ e. e ≡ Refused.Memory) }
+    {
+        HashMap::with_capacity(rt, alloc, 0)
+    }
+
+    /// A map for so many pairs: `with_capacity` of 0.2.5. It resizes as [`ResizeMode::default`]
+    /// says,
+    /// and counts its pairs over [`DEFAULT_SHARDS`] shards. Refused as [`HashMap::with_parts`].
+    pub fn with_capacity<R: Wait>(
+        rt: &R,
+        alloc: Global,
+        capacity: usize,
+    ) -> Result<HashMap<K, V, BuildHasherDefault<FoldHasher>>, Refused>
+        ensures ok { IfOk result (λ map. IsAllowed (ResizeMode.Incremental DEFAULT_CHUNK) capacity
+            DEFAULT_SHARDS) }
+        ensures made { IfOk result (IsFor (ResizeMode.Incremental DEFAULT_CHUNK) capacity
+            DEFAULT_SHARDS) }
+        ensures err { IfErr result (λ e. IsSizeRefusal (ResizeMode.Incremental DEFAULT_CHUNK)
+            capacity
+            DEFAULT_SHARDS e) }
+    {
+        HashMap::with_parts(
+            rt,
+            alloc,
+            ResizeMode::default(),
+            capacity,
+            DEFAULT_SHARDS,
+            BuildHasherDefault::new(),
+        )
+    }
+
+    /// The same as [`HashMap::new`]: what the trait `Default` gives in 0.2.5.
+    pub fn default<R: Wait>(
+        rt: &R,
+        alloc: Global,
+    ) -> Result<HashMap<K, V, BuildHasherDefault<FoldHasher>>, Refused>
+        ensures made { IfOk result (IsFor (ResizeMode.Incremental DEFAULT_CHUNK) 0
+            DEFAULT_SHARDS) }
+        ensures err { IfErr result (λ e. e ≡ Refused.Memory) }
+    {
+        HashMap::new(rt, alloc)
+    }
+}
