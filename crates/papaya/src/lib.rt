@@ -32,6 +32,7 @@ pub mod set {
 /// The map and the set for one caller.
 pub mod seq {
     pub use papaya_keys::compute::Computed;
+    pub use papaya_seq::outcome::Outcome;
     pub use papaya_seq::seq::HashMap;
     pub use papaya_seq::walks::{Iter, Keys, Values};
     pub use papaya_set::seq::HashSet;

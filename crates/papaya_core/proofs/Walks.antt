@@ -10,7 +10,7 @@ use Rattle.papaya_chain.specs.declared.visit_ask.VisitAsk.{VisitAsk}
 use Rattle.papaya_chain.specs.declared.visit_ask.VisitAsk.TheVariants.{AddToShard, Copy, Give, Show}
 use Rattle.papaya_store.specs.declared.visits.Visiting.{Visiting}
 use Rattle.papaya_store.specs.Visits.{PerformsVisit}
-use Rattle.papaya_core.specs.Outcomes.{given_by}
+use Rattle.papaya_timeline.specs.Outcomes.{given_by}
 
 -- where its list could grow, what it gave before and what its ask gave
 module _ {K V S A : Type 0} (eq : K → K → Bool) (says : Says K V A) (hash : S → K → ℕ) (refuse : Bool) (store : StoreState K V S) (v : Visiting A) (a : Answer) (store' : StoreState K V S) (v' : Visiting A) where

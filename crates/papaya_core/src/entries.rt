@@ -1,6 +1,7 @@
 //! The entries of a trace.
 ghost use Rattle.std.specs.Prelude.{◌≡◌, ◌+◌, ◌<◌, ◌≤◌, ◌∷◌, reverse, OnOk, IfErr, vec_len, vec_capacity};
 ghost use Rattle.papaya_timeline.specs.Advances.{answered_event, call_event, copy_event, event_of, exchange_event, shown_event};
+ghost use Rattle.papaya_timeline.specs.Outcomes.{as_reply};
 ghost use Rattle.papaya_timeline.specs.Runs.{with_step};
 ghost use Rattle.papaya_timeline.specs.VisitGoes.{event_of_visit};
 
@@ -9,6 +10,7 @@ use papaya_ask::call::Reply;
 use papaya_ask::copy_ask::CopyAsk;
 use papaya_chain::ask::{Answer, Ask};
 use papaya_chain::visit_ask::VisitAsk;
+use papaya_timeline::outcome::Outcome;
 use papaya_timeline::trace::{Entry, Event};
 use papaya_words::probe::Refused;
 use papaya_words::word::Word;
@@ -150,5 +152,15 @@ pub(crate) fn push_step(
                 event,
             },
         );
+    }
+}
+
+/// The reply of a call, if it has ended.
+pub(crate) fn reply_of(outcome: &Option<Outcome>) -> Option<Reply>
+    ensures { result ≡ as_reply outcome.now }
+{
+    match outcome {
+        Some(outcome) => Some(outcome.reply()),
+        None => None,
     }
 }

@@ -2,10 +2,9 @@
 #![tactic(auto)]
 
 pub use papaya_store::{pairs, store};
-pub use papaya_timeline::{solo, trace};
+pub use papaya_timeline::{outcome, solo, trace};
 
 pub mod callers;
 mod entries;
-pub mod outcome;
 pub mod schedule;
 mod visits;

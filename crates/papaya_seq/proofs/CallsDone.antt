@@ -13,10 +13,12 @@ use Rattle.papaya_ask.specs.declared.call.Reply.{Reply}
 use Rattle.papaya_ask.specs.declared.call.Reply.TheVariants.{Absent, Found, Inserted, Replaced, Occupied, Removed, Kept, Aborted, Done, Refused}
 use Rattle.papaya_timeline.specs.Content.{content, map_in}
 use Rattle.papaya_timeline.specs.Maps.{IsUpdate, Map, key_of}
+use Rattle.papaya_timeline.specs.Outcomes.{reply_told}
 use Rattle.papaya_timeline.specs.Solo.{IsAnswered, IsDoneBy, IsLeftBy, IsNewIn}
+use Rattle.papaya_timeline.specs.declared.outcome.Outcome.{Outcome}
 use Rattle.papaya_store.specs.Store.{StoreState, Stored}
 use Rattle.papaya_timeline.proofs.SoloTimeline.{lookup_alike}
-use Rattle.papaya_seq.specs.Calls.{AreCalled, IsCalled, IsDone, IsJudged, IsSaid, MayRefuse}
+use Rattle.papaya_seq.specs.Calls.{AreCalled, IsCalled, IsDone, IsJudged, IsListed, IsSaid, MayRefuse}
 use Rattle.papaya_seq.specs.Map.{HasNone, Holds, IsMakeRefusal, Keeps, MapState, Unchanged}
 use Rattle.papaya_seq.specs.Removes.{IsRemoval, IsRemovalBy}
 use Rattle.papaya_seq.specs.Resizes.{IsCopyCause, IsReserveCause}
@@ -153,13 +155,13 @@ module _ {K V S A : Type 0} (eq : K → K → Bool) (classes : IsEquivalence eq)
     keeps = keeps;
   }
 
-module _ {K V S A : Type 0} (eq : K → K → Bool) (says : Says K V A) (reply : Reply) (call : Call K V A) (now s' : MapState K V S) (called : IsCalled eq says now call reply s') where
+module _ {K V S A : Type 0} (eq : K → K → Bool) (says : Says K V A) (outcome : Outcome) (call : Call K V A) (now s' : MapState K V S) (called : IsCalled eq says now call (reply_told outcome) s') (lists : IsListed eq call now.store outcome) where
   -- one more call is made
-  pub called_more : (s : MapState K V S) (calls : List (Call K V A)) (replies : List Reply) → AreCalled eq says s calls replies now → AreCalled eq says s (calls ++ call ∷ []) (replies ++ reply ∷ []) s'
-  called_more s [] [] e = (s', subst (λ (y : MapState K V S). IsCalled eq says y call reply s') e called, refl)
-  called_more s [] (r ∷ replies) e = absurd e
+  pub called_more : (s : MapState K V S) (calls : List (Call K V A)) (outcomes : List Outcome) → AreCalled eq says s calls outcomes now → AreCalled eq says s (calls ++ call ∷ []) (outcomes ++ outcome ∷ []) s'
+  called_more s [] [] e = (s', subst (λ (y : MapState K V S). IsCalled eq says y call (reply_told outcome) s') e called, subst (λ (y : MapState K V S). IsListed eq call y.store outcome) e lists, refl)
+  called_more s [] (o ∷ outcomes) e = absurd e
   called_more s (c ∷ calls) [] e = absurd e
-  called_more s (c ∷ calls) (r ∷ replies) (middle, first, rest) = (middle, first, called_more middle calls replies rest)
+  called_more s (c ∷ calls) (o ∷ outcomes) (middle, first, listed, rest) = (middle, first, listed, called_more middle calls outcomes rest)
 
 module _ {K V S A : Type 0} (eq : K → K → Bool) (says : Says K V A) (call : Call K V A) (no_key : key_of call ≡ None) (s s' : MapState K V S) (keeps : Keeps s s') (said : (reply : Reply) → IsSaid eq says call s reply s'.store) (makes : (refused : words.Refused) → MayRefuse eq s call refused s' → IsMakeRefusal refused) where
   -- what is done on no key is a call

@@ -24,6 +24,7 @@ pub mod InsertingRun
 pub mod InsertingSteps
 pub mod KeyCalls
 pub mod Lawful
+pub mod Listed
 pub mod Logs
 pub mod LookFinds
 pub mod LookResults

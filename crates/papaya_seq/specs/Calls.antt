@@ -1,5 +1,5 @@
 -- Calls that are handed in as values, one after the other.
-use Rattle.std.specs.Prelude.{◌≡◌, ◌⊎◌, ℕ, cond, Bool, true, false, Option, Some, List, [], ◌∷◌, option_map}
+use Rattle.std.specs.Prelude.{◌≡◌, ◌⊎◌, ℕ, cond, Bool, true, false, Option, Some, List, [], ◌∷◌, map, option_map}
 use Rattle.papaya_words.specs.declared.probe.Refused as words
 use Rattle.papaya_words.specs.declared.probe.Refused.TheVariants as refusals
 use Rattle.papaya_call.specs.Answers.{Says}
@@ -11,7 +11,10 @@ use Rattle.papaya_ask.specs.declared.call.Reply.{Reply}
 use Rattle.papaya_ask.specs.declared.call.Reply.TheVariants.{Inserted, Replaced, Removed, Kept, Aborted, Done, Refused}
 use Rattle.papaya_law.specs.Content.{AreApart, lookup}
 use Rattle.papaya_timeline.specs.Content.{content, map_in}
+use Rattle.papaya_timeline.specs.Outcomes.{reply_told}
 use Rattle.papaya_timeline.specs.Solo.{IsAnswered, IsNewIn}
+use Rattle.papaya_timeline.specs.declared.outcome.Outcome.{Outcome}
+use Rattle.papaya_timeline.specs.declared.outcome.Outcome.TheVariants.{Replied, Walked}
 use Rattle.papaya_store.specs.Store.{StoreState, Stored, pair_of}
 use Rattle.papaya_seq.specs.Map.{IsResizing, IsTryCause, IsWriteCauseAt, Keeps, MapState, entry_of, next_of}
 use Rattle.papaya_seq.specs.Resizes.{HasRoomFor, IsCopyCause, IsReserveCause}
@@ -57,10 +60,10 @@ IsSaid eq says (RemoveIf k a) s reply s' = IsJudged says a reply s.store
 IsSaid eq says (Compute k a) s reply s' = IsOperated says a s (map_in eq s.store k) s' reply
 IsSaid eq says _ s reply s' = Unit {0}
 
--- A lookup and a walk are never refused, an insertion for a cause, and a compute for a cause, or where
--- its closure would remove what isn't there. Room is refused for a cause, and the end of a resize for
--- one while pairs are being moved: so is a removal then, and so are a clear and a retain, which end it
--- first.
+-- A lookup is never refused, an insertion for a cause, and a compute for a cause, or where its closure
+-- would remove what isn't there. Room is refused for a cause, and the end of a resize for one while
+-- pairs are being moved: so is a removal then, and so are a clear and a retain, which end it first. A
+-- walk is refused where there is no memory for its list.
 abbrev pub MayRefuse : {K V S A : Type 0} → (K → K → Bool) → MapState K V S → Call K V A
     → words.Refused → MapState K V S → Type 0
 MayRefuse eq s (Get k) refused s' = ⊥
@@ -73,7 +76,7 @@ MayRefuse eq s (Reserve more) refused s' = IsReserveCause eq s more refused s'
 MayRefuse eq s CopyAll refused s' = IsCopyCause s refused s'
 MayRefuse eq s Clear refused s' = IsCopyCause s refused s'
 MayRefuse eq s (Retain a) refused s' = IsCopyCause s refused s'
-MayRefuse eq s Walk refused s' = ⊥
+MayRefuse eq s Walk refused s' = (refused ≡ refusals.Memory) × (s' ≡ s)
 
 -- each pair of the first list is shown once, in order, and the second has those that stay
 abbrev pub Sifts : {K V A : Type 0} → Says K V A → A → (shown left : List (Stored K V)) → A → Type 0
@@ -104,6 +107,15 @@ IsDone eq says (Retain a) s s' = IsSifted eq says a s s'
 IsDone eq says Walk s s' = s' ≡ s
 IsDone eq says _ s s' = ⊥
 
+-- A walk lists the numbers of the map's pairs, in the order of its content, or is refused. No other
+-- call lists anything.
+abbrev pub IsListed : {K V S A : Type 0} → (K → K → Bool) → Call K V A → StoreState K V S → Outcome
+    → Type 0
+IsListed eq Walk s (Walked list) = list.items ≡ map (λ p. p.number) (content eq s)
+IsListed eq call s (Walked list) = ⊥
+IsListed eq Walk s (Replied reply) = reply ≡ Refused refusals.Memory
+IsListed eq call s (Replied reply) = Unit {0}
+
 module _ {K V S A : Type 0} (eq : K → K → Bool) (says : Says K V A) where
   -- a call does what the finite map does, or is refused where it may be
   pub record IsCalled (s : MapState K V S) (call : Call K V A) (reply : Reply)
@@ -116,10 +128,11 @@ module _ {K V S A : Type 0} (eq : K → K → Bool) (says : Says K V A) where
     pub done : reply ≡ Done → IsDone eq says call s.store s'.store
     pub keeps : Keeps s s'
 
-  -- one reply a call
-  abbrev pub AreCalled : MapState K V S → List (Call K V A) → List Reply → MapState K V S → Type 0
+  -- one outcome a call
+  abbrev pub AreCalled : MapState K V S → List (Call K V A) → List Outcome → MapState K V S → Type 0
   AreCalled s [] [] s' = s' ≡ s
-  AreCalled s [] (reply ∷ replies) s' = ⊥
+  AreCalled s [] (outcome ∷ outcomes) s' = ⊥
   AreCalled s (call ∷ calls) [] s' = ⊥
-  AreCalled s (call ∷ calls) (reply ∷ replies) s' = (middle : MapState K V S)
-      × IsCalled s call reply middle × AreCalled middle calls replies s'
+  AreCalled s (call ∷ calls) (outcome ∷ outcomes) s' = (middle : MapState K V S)
+      × IsCalled s call (reply_told outcome) middle × IsListed eq call s.store outcome
+      × AreCalled middle calls outcomes s'

@@ -10,12 +10,13 @@ ghost use Rattle.papaya_ask.specs.declared.call.Task.TheVariants.{Get};
 ghost use Rattle.papaya_law.specs.Content.{AreApart};
 ghost use Rattle.papaya_timeline.specs.Content.{content, map_in};
 ghost use Rattle.papaya_timeline.specs.New.{IsNew};
+ghost use Rattle.papaya_timeline.specs.Outcomes.{reply_told};
 ghost use Rattle.papaya_keys.specs.Sizes.{IsSizeRefusal};
 ghost use Rattle.papaya_keys.specs.Sizes.{IsAllowed};
 ghost use Rattle.papaya_store.specs.Store.{pair_of};
 ghost use Rattle.papaya_keys.specs.Hashes.{hash_of};
 ghost use Rattle.papaya_seq.specs.Answered.{entry_answered, judged_answered, old_answered, value_answered};
-ghost use Rattle.papaya_seq.specs.Calls.{AreCalled, IsCalled};
+ghost use Rattle.papaya_seq.specs.Calls.{AreCalled, IsCalled, IsListed};
 ghost use Rattle.papaya_seq.specs.Computes.{tried_answered};
 ghost use Rattle.papaya_seq.specs.Computing.{reply_of};
 ghost use Rattle.papaya_seq.specs.Looks.{LooksUp};
@@ -31,18 +32,19 @@ use papaya_keys::compute::Computed;
 use papaya_keys::guard::Equivalent;
 use papaya_keys::occupied::{NotInserted, OccupiedError};
 use papaya_store::store::Store;
+use papaya_timeline::outcome::Outcome;
 use papaya_words::probe::{Refused, ResizeMode};
 use std::alloc::Global;
 use std::hash::{BuildHasher, BuildHasherDefault, FoldHasher, Hash};
 use std::marker::Model;
 
-/// Adds a reply, for which there is room.
-fn push_within(replies: &mut Vec<Reply>, reply: Reply)
-    requires { vec_len replies.old < vec_capacity replies.old }
-    ensures items { replies.new.items ≡ replies.old.items ++ reply ∷ [] }
-    ensures capacity { vec_capacity replies.old ≤ vec_capacity replies.new }
+/// Adds an outcome, for which there is room.
+fn push_within(outcomes: &mut Vec<Outcome>, outcome: Outcome)
+    requires { vec_len outcomes.old < vec_capacity outcomes.old }
+    ensures items { outcomes.new.items ≡ outcomes.old.items ++ outcome ∷ [] }
+    ensures capacity { vec_capacity outcomes.old ≤ vec_capacity outcomes.new }
 {
-    let _ = replies.push(reply);
+    let _ = outcomes.push(outcome);
 }
 
 /// What a compute did, as a reply.
@@ -513,54 +515,60 @@ impl<K: Hash + Eq + Drop, V: Drop, S: BuildHasher> HashMap<K, V, S> {
     }
 
     /// Makes one call that was handed in as a value.
-    fn call<A: Answers<K, V> + Drop>(&mut self, call: Call<K, V, A>) -> Reply
-        ensures { IsCalled K.eq (record { op = A.op_gives; yes = A.yes_gives }) self.old call result
-            self.new }
+    fn call<A: Answers<K, V> + Drop>(&mut self, call: Call<K, V, A>) -> Outcome
+        ensures called { IsCalled K.eq (record { op = A.op_gives; yes = A.yes_gives }) self.old call
+            (reply_told result) self.new }
+        ensures lists { IsListed K.eq call self.old.store result }
     {
         // The proof reads the map's invariant here.
         let _ = &self.store;
         match call {
             Call::Get(key) => match self.look_up(&key) {
-                Some(pair) => Reply::Found(pair),
-                None => Reply::Absent,
+                Some(pair) => Outcome::Replied(Reply::Found(pair)),
+                None => Outcome::Replied(Reply::Absent),
             },
-            Call::Insert(key, value) => self.insert_by(key, value, true).0,
-            Call::TryInsert(key, value) => self.insert_by(key, value, false).0,
+            Call::Insert(key, value) => Outcome::Replied(self.insert_by(key, value, true).0),
+            Call::TryInsert(key, value) => Outcome::Replied(self.insert_by(key, value, false).0),
             Call::RemoveIf(key, mut answers) => {
-                self.remove_by(&key, |key, value| answers.yes(key, value))
+                Outcome::Replied(self.remove_by(&key, |key, value| answers.yes(key, value)))
             }
             Call::Compute(key, mut answers) => {
-                replied(self.compute_by(key, |shown| answers.op(shown)).1)
+                Outcome::Replied(replied(self.compute_by(key, |shown| answers.op(shown)).1))
             }
-            Call::Reserve(more) => resized(self.reserve(more)),
-            Call::CopyAll => resized(self.copy_all()),
-            Call::Clear => resized(self.clear()),
+            Call::Reserve(more) => Outcome::Replied(resized(self.reserve(more))),
+            Call::CopyAll => Outcome::Replied(resized(self.copy_all())),
+            Call::Clear => Outcome::Replied(resized(self.clear())),
             Call::Retain(mut answers) => {
-                resized(self.retain(|key, value| answers.yes(key, value)))
+                Outcome::Replied(resized(self.retain(|key, value| answers.yes(key, value))))
             }
-            // What a walk gives has no place in a reply.
-            Call::Walk => Reply::Done,
+            Call::Walk => match self.numbers() {
+                Ok(list) => Outcome::Walked(list),
+                Err(refused) => Outcome::Replied(Reply::Refused(refused)),
+            },
         }
     }
 
-    /// Makes calls, one after the other, and answers their replies, one a call. A call that is
-    /// refused has its refusal for a reply, and the next one is made.
+    /// Makes calls, one after the other, and answers what they come to, one outcome a call: its
+    /// reply, or of a walk the numbers of the map's pairs, as [`HashMap::iter`] gives these. A call
+    /// that is refused has its refusal for a reply, and the next one is made.
     ///
-    /// `Refused::Memory` where there is no room for the replies: no call is made then.
+    /// `Refused::Memory` where there is no room for the outcomes: no call is made then.
     pub fn run<A: Answers<K, V> + Drop>(
         &mut self,
         calls: Vec<Call<K, V, A>>,
-    ) -> Result<Vec<Reply>, Refused>
-        ensures ok { IfOk result (λ replies. AreCalled K.eq
-            (record { op = A.op_gives; yes = A.yes_gives }) self.old calls.items replies.items
+    ) -> Result<Vec<Outcome>, Refused>
+        ensures ok { IfOk result (λ outcomes. AreCalled K.eq
+            (record { op = A.op_gives; yes = A.yes_gives }) self.old calls.items outcomes.items
             self.new) }
         ensures err { IfErr result (λ e. (e ≡ Refused.Memory) × (self.new ≡ self.old)) }
     {
-        let mut replies = Vec::with_capacity(self.alloc, calls.len()).map_err(|_| Refused::Memory)?;
+        let mut outcomes = Vec::with_capacity(self.alloc, calls.len()).map_err(
+            |_| Refused::Memory,
+        )?;
         for call in calls {
-            let reply = self.call(call);
-            push_within(&mut replies, reply);
+            let outcome = self.call(call);
+            push_within(&mut outcomes, outcome);
         }
-        Ok(replies)
+        Ok(outcomes)
     }
 }

@@ -1,5 +1,5 @@
 //! Walks of the map: each pair once, by tables from the root on, and by slots in each.
-ghost use Rattle.std.specs.Prelude.{◌≡◌, ◌<◌, MatchBool, Some, length, map};
+ghost use Rattle.std.specs.Prelude.{◌≡◌, ◌<◌, IfErr, IfOk, MatchBool, Some, length, map};
 ghost use Rattle.std.specs.Iterator.{YieldsFirstBy, YieldsFirstRef, item_count};
 ghost use Rattle.papaya_ask.specs.Search.{IsSize};
 ghost use Rattle.papaya_store.specs.Store.{pair_of};
@@ -7,13 +7,13 @@ ghost use Rattle.papaya_store.specs.Tables.{table_of};
 ghost use Rattle.papaya_timeline.specs.Content.{content};
 ghost use Rattle.papaya_seq.specs.Map.{deref_pair, entry_of, slots_in};
 ghost use Rattle.papaya_seq.specs.Walks.{HasMark, HasNoMark, IsNext, IsNextHere, IsStand};
-ghost use Rattle.papaya_seq.specs.Walks.{IsStepped, IsWord, has_in};
+ghost use Rattle.papaya_seq.specs.Walks.{IsStepped, IsWord, has_in, left_to};
 
 use crate::seq::HashMap;
 use crate::stand::Stand;
 use papaya_ask::ask::{Answer, At};
 use papaya_store::store::Store;
-use papaya_words::probe::{Probe, ResizeMode};
+use papaya_words::probe::{Probe, Refused, ResizeMode};
 use papaya_words::word::{Kind, Word, h1};
 use std::hash::{BuildHasher, Hash};
 use std::marker::Model;
@@ -141,16 +141,44 @@ impl<K: Hash + Eq, V, S: BuildHasher> HashMap<K, V, S> {
         }
     }
 
+    /// Where a walk begins.
+    #[inline]
+    fn first(&self) -> Stand
+        ensures stands { IsStand self.now result }
+        ensures whole { left_to K.eq self.now.store result ≡ content K.eq self.now.store }
+    {
+        Stand {
+            table: self.store.word(At::Root),
+            slot: 0,
+            passed: 0,
+        }
+    }
+
+    /// The numbers of the map's pairs, in the order in which [`HashMap::iter`] gives these.
+    ///
+    /// `Refused::Memory` where the list could not grow.
+    pub(crate) fn numbers(&self) -> Result<Vec<u64>, Refused>
+        ensures ok { IfOk result (λ list. list.items
+            ≡ map (λ p. p.number) (content K.eq self.now.store)) }
+        ensures err { IfErr result (λ e. e ≡ Refused.Memory) }
+    {
+        let mut list = Vec::new(self.alloc);
+        let mut at = self.first();
+        while let Some(pair) = self.next_pair(&mut at) {
+            match list.push(pair) {
+                Ok(()) => {}
+                Err(_) => return Err(Refused::Memory),
+            }
+        }
+        Ok(list)
+    }
+
     /// The pairs of the map, each once. It takes no memory, copies nothing and is never refused.
     pub fn iter(&self) -> Iter<'_, K, V, S>
         ensures { result ≡ map entry_of (content K.eq self.now.store) }
     {
         Iter {
-            at: Stand {
-                table: self.store.word(At::Root),
-                slot: 0,
-                passed: 0,
-            },
+            at: self.first(),
             map: self,
         }
     }

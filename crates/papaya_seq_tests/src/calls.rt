@@ -7,6 +7,7 @@ use crate::numbers::{Usual, finds, has, inserts};
 use papaya_ask::call::{Call, Reply};
 use papaya_call::answers::Listed;
 use papaya_keys::guard::Equivalent;
+use papaya_seq::outcome::Outcome;
 use papaya_seq::seq::HashMap;
 use papaya_words::probe::Refused;
 use std::alloc::Global;
@@ -78,7 +79,7 @@ fn answers(alloc: Global, yes: bool) -> Result<Listed<u64>, Fail> {
     })
 }
 
-/// Ten calls, all but one of them on key 7.
+/// Ten calls, all but one of them on key 7, and a walk.
 fn ten_calls(alloc: Global) -> Result<Vec<Call<u64, u64, Listed<u64>>>, Fail> {
     let keeps = answers(alloc, false)?;
     let absent = answers(alloc, true)?;
@@ -94,29 +95,31 @@ fn ten_calls(alloc: Global) -> Result<Vec<Call<u64, u64, Listed<u64>>>, Fail> {
         Call::RemoveIf(7, removes),
         Call::Get(7),
         Call::TryInsert(7, 4),
+        Call::Walk,
     ]?)
 }
 
-/// What they reply.
-fn ten_replies(alloc: Global) -> Result<Vec<Reply>, Fail> {
+/// What they come to.
+fn ten_outcomes(alloc: Global) -> Result<Vec<Outcome>, Fail> {
     Ok(vec![in alloc;
-        Reply::Absent,
-        Reply::Inserted(0),
-        Reply::Occupied(0),
-        Reply::Replaced { old: 0, new: 1 },
-        Reply::Found(1),
-        Reply::Kept(1),
-        Reply::Absent,
-        Reply::Removed(1),
-        Reply::Absent,
-        Reply::Inserted(2),
+        Outcome::Replied(Reply::Absent),
+        Outcome::Replied(Reply::Inserted(0)),
+        Outcome::Replied(Reply::Occupied(0)),
+        Outcome::Replied(Reply::Replaced { old: 0, new: 1 }),
+        Outcome::Replied(Reply::Found(1)),
+        Outcome::Replied(Reply::Kept(1)),
+        Outcome::Replied(Reply::Absent),
+        Outcome::Replied(Reply::Removed(1)),
+        Outcome::Replied(Reply::Absent),
+        Outcome::Replied(Reply::Inserted(2)),
+        Outcome::Walked(vec![in alloc; 2]?),
     ]?)
 }
 
-/// They reply so, and have logged these pairs.
+/// They come to that, and have logged these pairs.
 fn runs_in_turn(rt: &impl Abort, alloc: Global, map: &mut Usual) -> Result<(), Fail> {
-    let replies = map.run(ten_calls(alloc)?)?;
-    is(rt, replies, ten_replies(alloc)?);
+    let outcomes = map.run(ten_calls(alloc)?)?;
+    is(rt, outcomes, ten_outcomes(alloc)?);
     is(rt, map.pair(1), Some((&7, &3)));
     is(rt, map.pair(2), Some((&7, &4)));
     is(rt, map.pair(3).is_none(), true);

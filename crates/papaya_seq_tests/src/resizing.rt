@@ -6,6 +6,7 @@ use crate::numbers::{Numbers, Usual, finds, has, inserts};
 use papaya_ask::call::{Call, Reply};
 use papaya_call::answers::Listed;
 use papaya_hashers::times::APART;
+use papaya_seq::outcome::Outcome;
 use papaya_seq::seq::HashMap;
 use papaya_words::probe::{Refused, ResizeMode};
 use std::alloc::Global;
@@ -155,22 +156,22 @@ fn six_calls(alloc: Global) -> Result<Vec<Call<u64, u64, Listed<u64>>>, Fail> {
     ]?)
 }
 
-/// What they reply where nine pairs were logged before.
-fn six_replies(alloc: Global) -> Result<Vec<Reply>, Fail> {
+/// What they come to where nine pairs were logged before.
+fn six_outcomes(alloc: Global) -> Result<Vec<Outcome>, Fail> {
     Ok(vec![in alloc;
-        Reply::Done,
-        Reply::Inserted(9),
-        Reply::Refused(Refused::Capacity),
-        Reply::Done,
-        Reply::Found(9),
-        Reply::Absent,
+        Outcome::Replied(Reply::Done),
+        Outcome::Replied(Reply::Inserted(9)),
+        Outcome::Replied(Reply::Refused(Refused::Capacity)),
+        Outcome::Replied(Reply::Done),
+        Outcome::Replied(Reply::Found(9)),
+        Outcome::Replied(Reply::Absent),
     ]?)
 }
 
 /// While nine pairs are being moved there is room made for nine more: eighteen want 24 slots.
 fn runs_in_turn(rt: &impl Abort, alloc: Global, map: &mut Numbers) -> Result<(), Fail> {
-    let replies = map.run(six_calls(alloc)?)?;
-    is(rt, replies, six_replies(alloc)?);
+    let outcomes = map.run(six_calls(alloc)?)?;
+    is(rt, outcomes, six_outcomes(alloc)?);
     looks_so(rt, map, 10, 32, false);
     has_below(rt, map, 10);
     Ok(())

@@ -13,6 +13,8 @@ pub mod Kept
 pub mod Maps
 pub mod Moves
 pub mod New
+-- what a call comes to
+pub mod Outcomes
 pub mod Resized
 pub mod Resizes
 pub mod Runs

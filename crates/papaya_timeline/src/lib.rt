@@ -3,6 +3,7 @@
 #![tactic(auto)]
 
 pub mod once;
+pub mod outcome;
 pub mod seat;
 pub mod solo;
 pub mod trace;

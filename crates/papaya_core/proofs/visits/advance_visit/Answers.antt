@@ -5,7 +5,7 @@ use Rattle.papaya_timeline.specs.VisitGoes.{event_of_visit, reply_or}
 use Rattle.papaya_keys.specs.Hashes.{hash_of}
 use Rattle.papaya_timeline.specs.Core.{IsCore}
 use Rattle.papaya_timeline.proofs.VisitStands.{visit_core}
-use Rattle.papaya_core.specs.Outcomes.{ListsGiven, all_given, given_by}
+use Rattle.papaya_timeline.specs.Outcomes.{ListsGiven, all_given, given_by}
 use Rattle.papaya_core.proofs.Walks.{given_is}
 use Rattle.papaya_core.proofs.visits.advance_visit.Goals as goal
 

@@ -4,7 +4,7 @@ use Rattle.papaya_timeline.specs.declared.seat.Seat.{Seat}
 use Rattle.papaya_timeline.specs.Callers.{visiting, visitor_in, with_work}
 use Rattle.papaya_timeline.specs.Core.{CoreState}
 use Rattle.papaya_timeline.proofs.CallersLemmas.{with_work-twice}
-use Rattle.papaya_core.specs.Outcomes.{AnswersWalk, as_reply}
+use Rattle.papaya_timeline.specs.Outcomes.{AnswersWalk, as_reply}
 use Rattle.papaya_core.proofs.Steps.{IsSound, work_sound, work_stands}
 use Rattle.papaya_core.proofs.schedule.Core.advance.Goals as goal
 use Rattle.papaya_core.proofs.schedule.Core.advance.Goals.{After-put}

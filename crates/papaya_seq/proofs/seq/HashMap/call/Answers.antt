@@ -31,8 +31,8 @@ looked_none : {K V S : Type 0} (eq : K → K → Bool) (s : StoreState K V S) (k
 looked_none eq s k None is e = is
 looked_none eq s k (Some p) is e = let f : Some p.number ≡ None = e in absurd cc
 
-pub returns-in-Some : goal.returns-in-Some
-returns-in-Some g c =
+pub returns-in-Some-clause-called : goal.returns-in-Some-clause-called
+returns-in-Some-clause-called g c =
     let lawful = subst (λ s. IsLawfulMap g.K.PartialEq.eq (hash g s.store.hasher) s.store s.mode s.initial) c.self.view_is c.self.invariant in
     let apart : AreApart g.K.PartialEq.eq (λ p. p.key) (content g.K.PartialEq.eq c.args.self.now.store) =
     lawful_apart g.K.PartialEq.eq g.K.Hash.hash_input g.S.BuildHasher.build_hasher g.S.Hasher.Hasher.write g.S.Hasher.Hasher.finish g.met.K.Eq.laws g.met.K.Hash.respects_eq (core_of c.args.self.now) lawful.lawful in
@@ -46,8 +46,8 @@ returns-in-Some g c =
       keeps = record { hasher = refl; mode = refl; initial = refl; pairs = λ n p e. e };
     })
 
-pub returns-in-Get : goal.returns-in-Get
-returns-in-Get g c =
+pub returns-in-Get-clause-called : goal.returns-in-Get-clause-called
+returns-in-Get-clause-called g c =
     let lawful = subst (λ s. IsLawfulMap g.K.PartialEq.eq (hash g s.store.hasher) s.store s.mode s.initial) c.self.view_is c.self.invariant in
     let apart : AreApart g.K.PartialEq.eq (λ p. p.key) (content g.K.PartialEq.eq c.args.self.now.store) =
     lawful_apart g.K.PartialEq.eq g.K.Hash.hash_input g.S.BuildHasher.build_hasher g.S.Hasher.Hasher.write g.S.Hasher.Hasher.finish g.met.K.Eq.laws g.met.K.Hash.respects_eq (core_of c.args.self.now) lawful.lawful in
@@ -61,16 +61,16 @@ returns-in-Get g c =
       keeps = record { hasher = refl; mode = refl; initial = refl; pairs = λ n p e. e };
     })
 
-pub returns-in-RemoveIf : goal.returns-in-RemoveIf
-returns-in-RemoveIf g c =
+pub returns-in-RemoveIf-clause-called : goal.returns-in-RemoveIf-clause-called
+returns-in-RemoveIf-clause-called g c =
     let lawful = subst (λ s. IsLawfulMap g.K.PartialEq.eq (hash g s.store.hasher) s.store s.mode s.initial) c.self.view_is c.self.invariant in
     let apart : AreApart g.K.PartialEq.eq (λ p. p.key) (content g.K.PartialEq.eq c.args.self.now.store) =
     lawful_apart g.K.PartialEq.eq g.K.Hash.hash_input g.S.BuildHasher.build_hasher g.S.Hasher.Hasher.write g.S.Hasher.Hasher.finish g.met.K.Eq.laws g.met.K.Hash.respects_eq (core_of c.args.self.now) lawful.lawful in
     subst (λ call. IsCalled g.K.PartialEq.eq (record { op = g.A.Answers.op_gives; yes = g.A.Answers.yes_gives }) c.args.self.now call c.remove_by.result c.remove_by.new.self) (sym c.in-RemoveIf.is)
     (remove_called g.K.PartialEq.eq g.met.K.Eq.laws c.args.self.now apart c.in-RemoveIf.key c.in-RemoveIf.answers (record { op = g.A.Answers.op_gives; yes = g.A.Answers.yes_gives }) c.remove_by.result c.remove_by.new.self c.remove_by.ensures.whole c.remove_by.ensures.cause c.remove_by.ensures.keeps.0 (λ p agrees judges. (judges.2.0.now, subst (λ k. g.A.Answers.yes_gives c.in-RemoveIf.answers k p.value agrees judges.2.0.now) judges.3 (subst (λ v. g.A.Answers.yes_gives c.in-RemoveIf.answers judges.0.now v agrees judges.2.0.now) judges.4 (let met = judges.5.met in search rules)))))
 
-pub returns-in-Insert : goal.returns-in-Insert
-returns-in-Insert g c =
+pub returns-in-Insert-clause-called : goal.returns-in-Insert-clause-called
+returns-in-Insert-clause-called g c =
     let inserted = c.insert_by.ensures in
     subst (λ call. IsCalled g.K.PartialEq.eq (record { op = g.A.Answers.op_gives; yes = g.A.Answers.yes_gives }) c.args.self.now call c.insert_by.result.0 c.insert_by.new.self) (sym c.in-Insert.is) (record {
       answered = insert_answered g.row.A.Denot c.in-Insert.key c.in-Insert.value g.K.PartialEq.eq (map_in g.K.PartialEq.eq c.args.self.now.store) (map_in g.K.PartialEq.eq c.insert_by.new.self.store) c.insert_by.result.0 inserted.answers;
@@ -81,8 +81,8 @@ returns-in-Insert g c =
       keeps = inserted.keeps;
     })
 
-pub returns-in-TryInsert : goal.returns-in-TryInsert
-returns-in-TryInsert g c =
+pub returns-in-TryInsert-clause-called : goal.returns-in-TryInsert-clause-called
+returns-in-TryInsert-clause-called g c =
     let tried = c.insert_by-in-TryInsert.ensures in
     subst (λ call. IsCalled g.K.PartialEq.eq (record { op = g.A.Answers.op_gives; yes = g.A.Answers.yes_gives }) c.args.self.now call c.insert_by-in-TryInsert.result.0 c.insert_by-in-TryInsert.new.self) (sym c.in-TryInsert.is) (record {
       answered = try_answered g.row.A.Denot c.in-TryInsert.key c.in-TryInsert.value g.K.PartialEq.eq (map_in g.K.PartialEq.eq c.args.self.now.store) (map_in g.K.PartialEq.eq c.insert_by-in-TryInsert.new.self.store) c.insert_by-in-TryInsert.result.0 tried.answers;
@@ -93,31 +93,31 @@ returns-in-TryInsert g c =
       keeps = tried.keeps;
     })
 
-pub returns-in-Compute : goal.returns-in-Compute
-returns-in-Compute g c =
+pub returns-in-Compute-clause-called : goal.returns-in-Compute-clause-called
+returns-in-Compute-clause-called g c =
     subst (λ call. IsCalled g.K.PartialEq.eq (record { op = g.A.Answers.op_gives; yes = g.A.Answers.yes_gives }) c.args.self.now call c.replied.result c.compute_by.new.self) (sym c.in-Compute.is)
     (compute_called g.K.PartialEq.eq g.met.K.Eq.laws c.args.self.now c.compute_by.new.self c.in-Compute.key c.in-Compute.answers (record { op = g.A.Answers.op_gives; yes = g.A.Answers.yes_gives }) (λ shown operation said. search rules) c.compute_by.result.1 c.replied.result c.replied.ensures c.compute_by.ensures.computes)
 
-pub returns-in-Reserve : goal.returns-in-Reserve
-returns-in-Reserve g c =
+pub returns-in-Reserve-clause-called : goal.returns-in-Reserve-clause-called
+returns-in-Reserve-clause-called g c =
     subst (λ call. IsCalled g.K.PartialEq.eq (record { op = g.A.Answers.op_gives; yes = g.A.Answers.yes_gives }) c.args.self.now call c.resized.result c.reserve.new.self) (sym c.in-Reserve.is)
     (resized_called g.K.PartialEq.eq (record { op = g.A.Answers.op_gives; yes = g.A.Answers.yes_gives }) (Reserve c.in-Reserve.more) refl c.args.self.now c.reserve.new.self c.reserve.ensures.keeps (λ reply. tt) (λ refused. reserve_makes g.K.PartialEq.eq c.args.self.now c.in-Reserve.more refused c.reserve.new.self) c.reserve.result c.resized.result c.resized.ensures c.reserve.ensures.ok c.reserve.ensures.err (on_ok c.reserve.result c.reserve.ensures.map) (on_err c.reserve.result c.reserve.ensures.map))
 
-pub returns-in-CopyAll : goal.returns-in-CopyAll
-returns-in-CopyAll g c =
+pub returns-in-CopyAll-clause-called : goal.returns-in-CopyAll-clause-called
+returns-in-CopyAll-clause-called g c =
     subst (λ call. IsCalled g.K.PartialEq.eq (record { op = g.A.Answers.op_gives; yes = g.A.Answers.yes_gives }) c.args.self.now call c.resized-in-CopyAll.result c.copy_all.new.self) (sym c.in-CopyAll.is)
     (resized_called g.K.PartialEq.eq (record { op = g.A.Answers.op_gives; yes = g.A.Answers.yes_gives }) CopyAll refl c.args.self.now c.copy_all.new.self c.copy_all.ensures.keeps (λ reply. tt) (λ refused. copy_makes c.args.self.now refused c.copy_all.new.self) c.copy_all.result c.resized-in-CopyAll.result c.resized-in-CopyAll.ensures c.copy_all.ensures.ok c.copy_all.ensures.err (on_ok c.copy_all.result c.copy_all.ensures.map) (on_err c.copy_all.result c.copy_all.ensures.map))
 
-pub returns-in-Clear : goal.returns-in-Clear
-returns-in-Clear g c =
+pub returns-in-Clear-clause-called : goal.returns-in-Clear-clause-called
+returns-in-Clear-clause-called g c =
     subst (λ call. IsCalled g.K.PartialEq.eq (record { op = g.A.Answers.op_gives; yes = g.A.Answers.yes_gives }) c.args.self.now call c.resized-in-Clear.result c.clear.new.self) (sym c.in-Clear.is)
     (resized_called g.K.PartialEq.eq (record { op = g.A.Answers.op_gives; yes = g.A.Answers.yes_gives }) Clear refl c.args.self.now c.clear.new.self c.clear.ensures.keeps (λ reply. tt) (λ refused. copy_makes c.args.self.now refused c.clear.new.self) c.clear.result c.resized-in-Clear.result c.resized-in-Clear.ensures
     c.clear.ensures.ok (err_only c.clear.result c.clear.ensures.err (λ e cause. cause.0))
     (ok_then c.clear.result c.clear.ensures.ok (λ none j. ap (λ (l : List (Stored g.row.K.Denot g.row.V.Denot)). lookup g.K.PartialEq.eq (λ p. p.key) l j) none))
     (err_then c.clear.result c.clear.ensures.err (λ e cause j. inl (cause.1 j))))
 
-pub returns-in-Retain : goal.returns-in-Retain
-returns-in-Retain g c =
+pub returns-in-Retain-clause-called : goal.returns-in-Retain-clause-called
+returns-in-Retain-clause-called g c =
     let says : Says g.row.K.Denot g.row.V.Denot g.row.A.Denot = record { op = g.A.Answers.op_gives; yes = g.A.Answers.yes_gives } in
     let sifted : OnOk c.retain.result (IsSifted g.K.PartialEq.eq says c.in-Retain.answers c.args.self.now.store c.retain.new.self.store) =
     ok_then c.retain.result c.retain.ensures.ok (λ x. record {
@@ -132,13 +132,3 @@ returns-in-Retain g c =
     sifted (err_only c.retain.result c.retain.ensures.err (λ e cause. cause.0))
     (ok_then c.retain.result sifted (sifted_left g.K.PartialEq.eq g.met.K.Eq.laws says c.in-Retain.answers c.args.self.now.store c.retain.new.self.store))
     (err_then c.retain.result c.retain.ensures.err (λ e cause. λ j. inl (cause.1 j))))
-
-pub returns : goal.returns
-returns g c = subst (λ call. IsCalled g.K.PartialEq.eq (record { op = g.A.Answers.op_gives; yes = g.A.Answers.yes_gives }) c.args.self.now call Done c.args.self.now) (sym c.in-Walk.is) (record {
-  answered = (refl, λ j. refl);
-  fresh = tt;
-  said = tt;
-  cause = λ refused e. let f : Done ≡ Refused refused = e in absurd cc;
-  done = λ e. refl;
-  keeps = record { hasher = refl; mode = refl; initial = refl; pairs = λ n p e. e };
-})

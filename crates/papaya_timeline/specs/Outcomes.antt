@@ -1,9 +1,9 @@
--- What a step answers: the reply of a call that has ended, or the list of a walk that is done.
+-- What a call comes to: its reply where it has ended, or the list of a walk that is done.
 use Rattle.std.specs.Prelude.{◌≡◌, ℕ, List, [], ◌∷◌, ◌++◌, Option, None, Some}
 use Rattle.papaya_ask.specs.declared.call.Reply.{Reply}
 use Rattle.papaya_ask.specs.declared.call.Reply.TheVariants.{Done}
-use Rattle.papaya_core.specs.declared.outcome.Outcome.{Outcome}
-use Rattle.papaya_core.specs.declared.outcome.Outcome.TheVariants.{Replied, Walked}
+use Rattle.papaya_timeline.specs.declared.outcome.Outcome.{Outcome}
+use Rattle.papaya_timeline.specs.declared.outcome.Outcome.TheVariants.{Replied, Walked}
 use Rattle.papaya_chain.specs.declared.visit_ask.VisitAsk.{VisitAsk}
 use Rattle.papaya_chain.specs.declared.visit_ask.VisitAsk.TheVariants.{Give}
 use Rattle.papaya_chain.specs.declared.visitor.Visit.{Visit}

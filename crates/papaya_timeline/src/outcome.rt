@@ -1,6 +1,6 @@
 //! What a call comes to.
 ghost use Rattle.std.specs.Prelude.{◌≡◌};
-ghost use Rattle.papaya_core.specs.Outcomes.{as_reply, reply_told};
+ghost use Rattle.papaya_timeline.specs.Outcomes.{reply_told};
 
 use papaya_ask::call::Reply;
 
@@ -22,15 +22,5 @@ impl Outcome {
             Outcome::Replied(reply) => *reply,
             Outcome::Walked(_) => Reply::Done,
         }
-    }
-}
-
-/// The reply of a call, if it has ended.
-pub(crate) fn reply_of(outcome: &Option<Outcome>) -> Option<Reply>
-    ensures { result ≡ as_reply outcome.now }
-{
-    match outcome {
-        Some(outcome) => Some(outcome.reply()),
-        None => None,
     }
 }
