@@ -1,6 +1,10 @@
 //! The lines on the map that threads share, by one pass: each is read, done and printed before the
 //! next is read.
-ghost use Rattle.std.specs.Prelude.{◌≡◌, ◌⊎◌, IfErr, IfOk, option_map};
+ghost use Rattle.std.specs.Prelude.{◌≡◌, ◌⊎◌, [], IfErr, IfOk, IfSome, option_map};
+ghost use Rattle.std.specs.Io.KnownBytes.{Appends};
+ghost use Rattle.papaya_lines.specs.Lines.{lines_of};
+ghost use Rattle.papaya_backends.specs.Program.{ShowsLine};
+ghost use Rattle.papaya_backends.specs.Runs.{IsRun};
 ghost use mathlib.Core.List.{IsPrefix};
 ghost use Rattle.papaya_lines.specs.Closures.{operation_of};
 ghost use Rattle.papaya_lines.specs.declared.commands.Command.TheVariants as asked;
@@ -56,7 +60,8 @@ struct Caller<'a, H: Wait, S: BuildHasher> {
 impl<'a, H: Wait, S: BuildHasher + Drop> Caller<'a, H, S> {
     /// A caller with a new pass.
     fn new(rt: &'a H, map: &'a HashMap<u64, u64, S>) -> Caller<'a, H, S>
-        ensures { result.pinned ≡ map.now }
+        ensures map { result.pinned ≡ map.now }
+        ensures unseen { result.pass.history ≡ [] }
     {
         Caller {
             rt,
@@ -222,8 +227,14 @@ pub(crate) fn run_shared<H: Wait, S: BuildHasher + Drop, R: Read, W: Write>(
     hasher: S,
     input: &mut R,
     output: &mut W,
-) -> Result<(), Failure> {
-    let map: HashMap<u64, u64, S> = HashMap::with_parts(rt, alloc, mode, 0, SHARDS, hasher)?;
+) -> Result<(), Failure>
+    ensures { IfSome (R.remaining input.old) (λ text.
+        IsRun (λ seen. seen ≡ []) ShowsLine IsBad (lines_of text)
+        (Appends (W.contents output.old) (W.contents output.new)) result) }
+{
+    let map: HashMap<u64, u64, S> = HashMap::with_parts(rt, alloc, mode, 0, SHARDS, hasher).map_err(
+        Failure::Refused,
+    )?;
     let mut caller = Caller::new(rt, &map);
     run_lines(alloc, &mut caller, input, output)
 }

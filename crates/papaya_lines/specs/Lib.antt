@@ -2,9 +2,11 @@ pub mod Arguments
 pub mod Closures
 pub mod Commands
 pub mod Hashers
+pub mod Lines
 pub mod Numbers
 pub mod Printed
 pub mod Replies
 pub mod Script
+pub mod Told
 pub mod Turns
 pub mod Walk

@@ -1,5 +1,5 @@
 -- What a script keeps of its lines.
-use Rattle.std.specs.Prelude.{◌≡◌, ℕ, List, [], ◌∷◌, ◌++◌, Some, ◌⊎◌}
+use Rattle.std.specs.Prelude.{◌≡◌, ◌≢◌, ℕ, ◌+◌, List, [], ◌∷◌, ◌++◌, IsSome, Option, None, Some, ◌⊎◌}
 use Rattle.papaya_timeline.specs.declared.trace.Turn.{Turn}
 use Rattle.papaya_timeline.specs.declared.trace.Turn.TheVariants.{Begin, Step, Finish}
 use Rattle.papaya_lines.specs.declared.closures.Answering.{Answering}
@@ -23,7 +23,11 @@ line_of number (Begin c what) = record { number = number; caller = c; part = par
 line_of number (Step c refused) = record { number = number; caller = c; part = part.Step }
 line_of number (Finish c most) = record { number = number; caller = c; part = part.Finish }
 
--- the turn that the line asks for is the script's last
+-- no turn is what this line asks for
+abbrev pub AsksNone : List ℕ → Type 0
+AsksNone line = (turn : Turn ℕ ℕ Answering) → ¬ (WritesTurn line turn)
+
+-- the line asks for the turn, which is the script's last
 abbrev pub AddsTurn : Script → ℕ → List ℕ → Script → Turn ℕ ℕ Answering → Type 0
 AddsTurn old number line new turn = WritesTurn line turn
     × (new.turns.items ≡ old.turns.items ++ turn ∷ [])
@@ -32,11 +36,29 @@ AddsTurn old number line new turn = WritesTurn line turn
 
 -- the line asks for no turn, and the script says so by its number
 abbrev pub NotesBad : Script → ℕ → List ℕ → Script → Type 0
-NotesBad old number line new = ((turn : Turn ℕ ℕ Answering) → ¬ (WritesTurn line turn))
+NotesBad old number line new = AsksNone line
     × (new.turns.items ≡ old.turns.items) × (new.lines.items ≡ old.lines.items)
     × (new.bad_line ≡ Some number)
 
--- the script is added the line of this number
-abbrev pub Adds : Script → ℕ → List ℕ → Script → Type 0
-Adds old number line new = ((turn : Turn ℕ ℕ Answering) × AddsTurn old number line new turn)
+-- the script is added the line of this number, which is not empty
+abbrev pub AddsLine : Script → ℕ → List ℕ → Script → Type 0
+AddsLine old number line new = ((turn : Turn ℕ ℕ Answering) × AddsTurn old number line new turn)
     ⊎ NotesBad old number line new
+
+-- the script is handed the line of this number: an empty one, and one behind a bad one, is passed
+-- over
+abbrev pub Adds : Script → ℕ → List ℕ → Script → Type 0
+Adds old number line new = ((IsSome old.bad_line ⊎ (line ≡ [])) × (new ≡ old))
+    ⊎ ((old.bad_line ≡ None) × (line ≢ []) × AddsLine old number line new)
+
+-- The script of these lines, of which the first has this number: the turns that they ask for, up
+-- to the first line that is not empty and asks for none; the line of each turn; the number of that
+-- bad line, if there is one.
+abbrev pub IsScript : List (List ℕ) → ℕ → List (Turn ℕ ℕ Answering) → List Line → Option ℕ → Type 0
+IsScript [] number turns rows bad = (turns ≡ []) × (rows ≡ []) × (bad ≡ None)
+IsScript ([] ∷ lines) number turns rows bad = IsScript lines (number + 1) turns rows bad
+IsScript ((byte ∷ bytes) ∷ lines) number turns rows bad =
+    ((turn : Turn ℕ ℕ Answering) × (turns' : List (Turn ℕ ℕ Answering)) × (rows' : List Line)
+    × WritesTurn (byte ∷ bytes) turn × (turns ≡ turn ∷ turns')
+    × (rows ≡ line_of number turn ∷ rows') × IsScript lines (number + 1) turns' rows' bad)
+    ⊎ (AsksNone (byte ∷ bytes) × (turns ≡ []) × (rows ≡ []) × (bad ≡ Some number))

@@ -1,13 +1,19 @@
 //! What the closures of a script's calls answer.
 ghost use Rattle.std.specs.Prelude.{◌≡◌, ℕ, Option, Bool, true, option_map};
 ghost use Rattle.papaya_call.specs.declared.answers.Operation.{Operation};
-ghost use Rattle.papaya_lines.specs.Closures.{operation_of};
+ghost use Rattle.papaya_lines.specs.Closures.{follower, operation_of};
 
 use papaya_call::answers::{Answers, Operation};
 
-/// The closures of a script: a removal agrees to what it is shown, and an update adds 1 to the
-/// value
-/// that it is shown, where 0 follows the greatest.
+/// The number after this one; 0 follows the greatest.
+pub fn follower(value: &u64) -> u64
+    ensures { result ≡ follower value.now }
+{
+    value.wrapping_add(1)
+}
+
+/// The closures of a script: a removal agrees to what it is shown, and an update puts the number
+/// after a value in its place.
 #[derive(Clone, Copy)]
 pub struct Answering;
 
@@ -18,7 +24,7 @@ impl Answers<u64, u64> for Answering {
 
     fn op(&mut self, shown: Option<(&u64, &u64)>) -> Operation<u64, u64> {
         match shown {
-            Some((_, value)) => Operation::Insert(value.wrapping_add(1)),
+            Some((_, value)) => Operation::Insert(follower(value)),
             None => Operation::Abort(0),
         }
     }

@@ -1,6 +1,9 @@
 //! What the program prints of a core's trace.
-ghost use Rattle.std.specs.Prelude.{◌≡◌};
+ghost use Rattle.std.specs.Prelude.{◌≡◌, ℕ, List, [], ◌∷◌, ◌++◌, IfErr, IfOk, OnOk, reverse};
+ghost use Rattle.std.specs.Io.KnownBytes.{Appends};
 ghost use Rattle.papaya_lines.specs.Replies.{printed_of, value_in};
+ghost use Rattle.papaya_lines.specs.Told.{IsPrintFailure, IsTold, Replies, Tells, behind, call_of, gave_to, no_calls, own_of, pairs_in, reply_among, reply_text, unended_text, with_call};
+ghost use Rattle.papaya_shell.specs.Failure.{without_memory};
 
 use crate::closures::Answering;
 use crate::printed::Printed;
@@ -51,16 +54,34 @@ struct Calls([Part; CALLERS as usize]);
 
 impl Calls {
     /// Notes what a line begins, and answers what its caller's call is.
-    fn note(&mut self, line: Line) -> Part {
-        let Some(begun) = self.0.get_mut(line.caller) else {
+    fn note(&mut self, line: Line) -> Part
+        ensures calls { self.new.0 ≡ with_call self.old.0 line }
+        ensures call { result ≡ call_of self.old.0 line }
+    {
+        if line.caller >= self.0.len() {
             return line.part;
-        };
-        match line.part {
-            Part::Update | Part::Walk | Part::Call => *begun = line.part,
-            Part::Step | Part::Finish => {}
         }
-        *begun
+        if line.part.begins() {
+            self.0[line.caller] = line.part;
+        }
+        self.0[line.caller]
     }
+}
+
+/// Adds the pair of this number, which the core has stored.
+fn push_pair<S: BuildHasher + Drop>(
+    core: &Core<u64, u64, S, Answering>,
+    pair: u64,
+    pairs: &mut Vec<(u64, u64)>,
+) -> Result<(), Failure>
+    ensures pushed { OnOk result (pairs.new.items
+        ≡ pairs.old.items ++ pairs_in core.now.store (pair ∷ [])) }
+    ensures failed { IfErr result (λ failure. failure ≡ without_memory) }
+{
+    if let Some((key, value)) = core.pair(pair) {
+        pairs.push((*key, *value))?;
+    }
+    Ok(())
 }
 
 /// The pairs that a caller's last call gave up to this turn, of which these entries tell.
@@ -70,19 +91,21 @@ fn given<S: BuildHasher + Drop>(
     caller: usize,
     turn: usize,
     entries: &[Entry],
-) -> Result<Vec<(u64, u64)>, Failure> {
+) -> Result<Vec<(u64, u64)>, Failure>
+    ensures given { IfOk result (λ pairs. pairs.items
+        ≡ pairs_in core.now.store (gave_to caller turn (reverse entries.now))) }
+    ensures failed { IfErr result (λ failure. failure ≡ without_memory) }
+{
     let mut pairs = Vec::new(alloc);
-    for entry in entries.iter().rev() {
+    let mut left = entries;
+    while let [before @ .., entry] = left {
+        left = before;
         if entry.turn > turn || entry.caller != caller {
             continue;
         }
         match entry.event {
-            Event::Begun => break,
-            Event::Gave(pair) => {
-                if let Some((key, value)) = core.pair(pair) {
-                    pairs.push((*key, *value))?;
-                }
-            }
+            Event::Begun => return Ok(pairs),
+            Event::Gave(pair) => push_pair(core, pair, &mut pairs)?,
             _ => {}
         }
     }
@@ -90,13 +113,110 @@ fn given<S: BuildHasher + Drop>(
 }
 
 /// The reply among these entries.
-fn reply_of(entries: &[Entry]) -> Option<Reply> {
+fn reply_of(entries: &[Entry]) -> Option<Reply>
+    ensures { result ≡ reply_among entries.now }
+{
     for entry in entries {
         if let Event::Replied(reply) = entry.event {
             return Some(reply);
         }
     }
     None
+}
+
+/// The entries at the front that are of this turn, and those behind them.
+fn split_turn(entries: &[Entry], turn: usize) -> (&[Entry], &[Entry])
+    ensures own { result.0.now ≡ own_of turn entries.now }
+    ensures behind { result.1.now ≡ behind turn entries.now }
+{
+    let mut count = 0;
+    while count < entries.len() && entries[count].turn == turn {
+        count += 1;
+    }
+    entries.split_at(count)
+}
+
+/// A line as its turn comes: what its caller's call is, and the turn's place in the schedule.
+#[derive(Clone, Copy)]
+struct Here {
+    line: Line,
+    call: Part,
+    turn: usize,
+}
+
+/// What is printed of the reply that a line's turn gave.
+fn replied<S: BuildHasher + Drop>(
+    alloc: Global,
+    core: &Core<u64, u64, S, Answering>,
+    here: Here,
+    entries: &[Entry],
+    reply: Reply,
+) -> Result<Option<Printed>, Failure>
+    ensures replied { IfOk result (Replies core.now.store here.call
+        (gave_to here.line.caller here.turn (reverse entries.now)) reply) }
+    ensures failed { IfErr result (λ failure. failure ≡ without_memory) }
+{
+    match (here.call, reply) {
+        (Part::Walk, Reply::Done) => {
+            let pairs = given(alloc, core, here.line.caller, here.turn, entries)?;
+            Ok(Some(Printed::Walk(Walk::new(pairs))))
+        }
+        (Part::Update, reply) => Ok(printed_of(core, true, reply)),
+        (_, reply) => Ok(printed_of(core, false, reply)),
+    }
+}
+
+/// Prints the text of a reply to a caller. A reply names pairs that the core has stored, so there
+/// always is one.
+fn print_reply<W: Write>(
+    caller: usize,
+    printed: Option<Printed>,
+    output: &mut W,
+) -> Result<(), Failure>
+    ensures printed { OnOk result (Appends (W.contents output.old) (W.contents output.new)
+        (reply_text caller printed)) }
+    ensures failed { IfErr result (λ failure. failure ≡ Failure.Output) }
+{
+    match printed {
+        Some(printed) => { writeln!(output, "{caller}: {printed}").map_err(|_| Failure::Output) }
+        None => Ok(()),
+    }
+}
+
+/// Prints what a line says whose turn gave no reply.
+fn print_unended<W: Write>(line: Line, output: &mut W) -> Result<(), Failure>
+    ensures printed { OnOk result (Appends (W.contents output.old) (W.contents output.new)
+        (unended_text line.caller line.part)) }
+    ensures failed { IfErr result (λ failure. failure ≡ Failure.Output) }
+{
+    let caller = line.caller;
+    match line.part {
+        Part::Finish => writeln!(output, "{caller}: running").map_err(|_| Failure::Output),
+        _ => Ok(()),
+    }
+}
+
+/// Prints what a line tells, by the reply of its turn.
+fn print_line<S: BuildHasher + Drop, W: Write>(
+    alloc: Global,
+    core: &Core<u64, u64, S, Answering>,
+    here: Here,
+    entries: &[Entry],
+    reply: Option<Reply>,
+    output: &mut W,
+) -> Result<(), Failure>
+    ensures told { OnOk result ((text : List ℕ) × IsTold core.now.store here.call here.line
+        (gave_to here.line.caller here.turn (reverse entries.now)) reply text
+        × Appends (W.contents output.old) (W.contents output.new) text) }
+    ensures failed { IfErr result IsPrintFailure }
+{
+    match reply {
+        Some(reply) => {
+            let printed = replied(alloc, core, here, entries, reply)?;
+            print_reply(here.line.caller, printed, output)
+        }
+        None => print_unended(here.line, output),
+    }
 }
 
 /// Prints what the lines print, and answers the number of the first line whose turn was passed
@@ -107,34 +227,25 @@ pub fn print_trace<S: BuildHasher + Drop, W: Write>(
     lines: &[Line],
     trace: &Trace,
     output: &mut W,
-) -> Result<Option<u64>, Failure> {
+) -> Result<Option<u64>, Failure>
+    ensures told { IfOk result (λ passed_over. (text : List ℕ)
+        × Tells core.now.store trace.now.entries.items no_calls lines.now 0
+        trace.now.entries.items text passed_over
+        × Appends (W.contents output.old) (W.contents output.new) text) }
+    ensures failed { IfErr result IsPrintFailure }
+{
     let entries = trace.entries.as_slice();
     let mut left = entries;
     let mut calls = Calls([Part::Call; CALLERS as usize]);
-    for (turn, line) in lines.iter().enumerate() {
-        let count = left.iter().take_while(|entry| entry.turn == turn).count();
-        if count == 0 {
+    for turn in 0..lines.len() {
+        let line = lines[turn];
+        let (own, rest) = split_turn(left, turn);
+        if own.is_empty() {
             return Ok(Some(line.number));
         }
-        let (own, rest) = left.split_at(count);
-        let call = calls.note(*line);
-        let caller = line.caller;
-        match reply_of(own) {
-            Some(reply) => {
-                let printed = if call == Part::Walk && reply == Reply::Done {
-                    Some(Printed::Walk(Walk::new(given(alloc, core, caller, turn, entries)?)))
-                } else {
-                    printed_of(core, call == Part::Update, reply)
-                };
-                if let Some(printed) = printed {
-                    writeln!(output, "{caller}: {printed}").map_err(|_| Failure::Output)?;
-                }
-            }
-            None if line.part == Part::Finish => {
-                writeln!(output, "{caller}: running").map_err(|_| Failure::Output)?;
-            }
-            None => {}
-        }
+        let call = calls.note(line);
+        let here = Here { line, call, turn };
+        print_line(alloc, core, here, entries, reply_of(own), output)?;
         left = rest;
     }
     Ok(None)

@@ -1,6 +1,9 @@
 //! A whole script: the turns that its lines ask for.
-ghost use Rattle.std.specs.Prelude.{◌≡◌, OnOk};
-ghost use Rattle.papaya_lines.specs.Script.{Adds, line_of};
+ghost use Rattle.std.specs.Prelude.{◌≡◌, IfErr, IfOk, IfSome, OnOk};
+ghost use Rattle.papaya_lines.specs.Lines.{IsReadFailure, lines_of};
+ghost use Rattle.papaya_lines.specs.Script.{Adds, IsScript, line_of};
+ghost use Rattle.papaya_lines.specs.Told.{begins_call};
+ghost use Rattle.papaya_shell.specs.Failure.{without_memory};
 
 use crate::closures::Answering;
 use crate::lines::next_line;
@@ -23,6 +26,18 @@ pub enum Part {
     Step,
     /// It says so where its call is still running.
     Finish,
+}
+
+impl Part {
+    /// Does it begin a call?
+    pub(crate) fn begins(self) -> bool
+        ensures { result ≡ begins_call self }
+    {
+        match self {
+            Part::Update | Part::Walk | Part::Call => true,
+            Part::Step | Part::Finish => false,
+        }
+    }
 }
 
 /// The line that a turn was read from.
@@ -64,7 +79,12 @@ pub struct Script {
 
 impl Script {
     /// Reads the whole input, also behind a bad line, since a fault there counts too.
-    pub fn read<R: BufRead>(alloc: Global, input: &mut R) -> Result<Script, Failure> {
+    pub fn read<R: BufRead>(alloc: Global, input: &mut R) -> Result<Script, Failure>
+        ensures read { IfOk result (λ script. IfSome (R.Read.remaining input.old)
+            (λ text. IsScript (lines_of text) 1 script.turns.items script.lines.items
+            script.bad_line)) }
+        ensures failed { IfErr result IsReadFailure }
+    {
         let mut script = Script {
             turns: Vec::new(alloc),
             lines: Vec::new(alloc),
@@ -75,17 +95,20 @@ impl Script {
             if !next_line(input, &mut line)? {
                 return Ok(script);
             }
-            if script.bad_line.is_none() && !line.is_empty() {
-                script.add(number, &line)?;
-            }
+            script.add(number, &line)?;
         }
         Err(Failure::Input)
     }
 
-    /// Adds a line that is not empty, or notes that it is of bad form.
+    /// Adds a line, or notes that it is of bad form. An empty line, and one behind a bad line, is
+    /// passed over.
     fn add(&mut self, number: u64, line: &[u8]) -> Result<(), Failure>
-        ensures { OnOk result (Adds self.old number line.now self.new) }
+        ensures added { OnOk result (Adds self.old number line.now self.new) }
+        ensures failed { IfErr result (λ failure. failure ≡ without_memory) }
     {
+        if self.bad_line.is_some() || line.is_empty() {
+            return Ok(());
+        }
         let Some(turn) = turn_of(line) else {
             self.bad_line = Some(number);
             return Ok(());
