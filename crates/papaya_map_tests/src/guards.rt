@@ -156,6 +156,7 @@ fn walks<R: Wait + Abort, G: Guard>(rt: &R, map: &Numbers, guard: &G) {
 fn removes<R: Wait + Abort, G: Guard>(rt: &R, map: &Numbers, guard: &G) {
     is(rt, map.remove(rt, &1, guard), Ok(Some(&10)));
     is(rt, map.remove_entry(rt, &2, guard), Ok(Some((&2, &20))));
+    is(rt, map.len(), 1);
     let removed = map.remove_if(rt, &3, |_, value| *value > 31, guard);
     is(rt, removed, Ok(Err((&3, &31))));
     is(rt, map.retain(rt, |_, value| *value > 30, guard), Ok(()));
