@@ -56,7 +56,7 @@ use Rattle.papaya_seq.specs.Map.{HasNoTable, IsLogFull, IsWriteCause, MapState}
 use Rattle.papaya_seq.proofs.KeyCalls.{KeyCall, first_of}
 use Rattle.papaya_seq.proofs.Logs.{IsFirst, SameLogs, copy_logs, first_before, own_logs, unmade_before}
 use Rattle.papaya_seq.proofs.OwnSteps.{own_performs}
-use Rattle.papaya_seq.proofs.Sizes.{is_sized, machine_sized, sized_is}
+use Rattle.papaya_seq.proofs.Sizes.{is_sized, link_asked, machine_sized, sized_as, sized_is}
 use Rattle.papaya_seq.proofs.Steps.{HasCome, made_caused, made_goes, seated, stepped}
 
 -- a call asks for a table: it is set aside, or makes its first one
@@ -94,20 +94,6 @@ write_cause s refused m s' (inr (table, inr (capacity, none))) = inr (capacity, 
 -- a table is there, of so many slots
 abbrev pub HasSlots : {K V S : Type 0} → StoreState K V S → ℕ → ℕ → Type 0
 HasSlots store behind slots = (t : TableWords) × (table_of store.words.tables behind ≡ Some t) × (length t.slots ≡ slots)
-
--- what a machine asks that makes a table for a copy
-pub link_asked : (m : Machine) (made : Link) → link_in m.phase ≡ Some made → ask_of m ≡ asks.Copy (link_ask made)
-link_asked m made e = by_phase m.phase e
-  where
-    by_phase : (phase : Phase) → link_in phase ≡ Some made → asks_in m.call phase ≡ asks.Copy (link_ask made)
-    by_phase Calling e = absurd cc
-    by_phase (Linking link) e = let same : link ≡ made = cc e in ap (λ y. asks.Copy (link_ask y)) same
-    by_phase (Copying_root goes) e = ap asks.Copy (copying_asks goes made e)
-
--- a size that is answered is that of a table
-pub sized_as : (o : Option TableWords) (slots limit : ℕ) → size_of o ≡ Size slots limit → (t : TableWords) × (o ≡ Some t) × (length t.slots ≡ slots)
-sized_as None slots limit e = absurd cc
-sized_as (Some t) slots limit e = let same : length t.slots ≡ slots = cc e in (t, refl, same)
 
 -- a compute that makes a pair of what its closure answered remembers no other
 abbrev pub PairsFirst : Call_machine → Type 0

@@ -4,6 +4,7 @@ pub mod Answering
 pub mod Burying
 pub mod CallsDone
 pub mod AtOnce
+pub mod CallLengths
 pub mod Causes
 pub mod ComputeAsked
 pub mod ComputeCalled
@@ -69,6 +70,11 @@ mod LeftBy
 mod Cloned
 mod Equal
 pub mod Filled
+pub mod LinkLeads
+pub mod LinkLengths
+pub mod ResizerLengths
+pub mod RootStays
+pub mod TableLengths
 mod Grown
 mod Rebuilt
 pub mod Walked

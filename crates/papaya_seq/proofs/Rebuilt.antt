@@ -8,12 +8,20 @@ use Rattle.std.proofs.Math.Pow.{pow_mono}
 use Rattle.std.specs.Prelude.{max, ◌/◌, is_some}
 use Rattle.std.specs.Cmp.{IsEquivalence}
 use Rattle.std.specs.Int.{IsNextPowerOfTwo, IsPowerOfTwo}
+use Rattle.std.specs.List.{All}
+use Rattle.std.proofs.lemmas.List.Elements.{All-nil}
+use Rattle.papaya_words.specs.Mode.{IsChunked}
 use Rattle.papaya_words.specs.Probe.{IsEntriesFor}
-use Rattle.papaya_words.specs.declared.limits.TheConstants.{DEFAULT_CHUNK}
+use Rattle.papaya_keys.specs.Sizes.{IsSizeRefusal, IsTooMuch}
+use Rattle.papaya_store.specs.New.{HasCapacity}
+use Rattle.papaya_store.specs.Tables.{Tables}
+use Rattle.papaya_seq.specs.Lengths.{IsAskedFor, IsLongEnough, lengths_of}
+use Rattle.papaya_seq.proofs.TableLengths.{new_long}
+use Rattle.papaya_words.specs.declared.limits.TheConstants.{DEFAULT_CHUNK, MAX_SHARDS}
 use Rattle.papaya_words.specs.declared.probe.Refused.{Refused}
 use Rattle.papaya_words.specs.declared.probe.Refused.TheVariants.{Memory}
 use Rattle.papaya_words.specs.declared.probe.ResizeMode.{ResizeMode}
-use Rattle.papaya_words.specs.declared.probe.ResizeMode.TheVariants.{Incremental}
+use Rattle.papaya_words.specs.declared.probe.ResizeMode.TheVariants.{Blocking, Incremental}
 use Rattle.papaya_law.specs.Content.{AreApart, lookup}
 use Rattle.papaya_timeline.specs.Content.{content, map_in}
 use Rattle.papaya_timeline.specs.New.{IsNew}
@@ -41,6 +49,33 @@ same_power n m (a, is) ((b, is'), least, below) = ⊎_elim
     let most : 2 ^ b ≤ 2 ^ a = pow_mono few in
     omega (arith, most, least, is, is'))
     (cases_lt a b)
+
+-- a table for three quarters of so many slots has them
+four_thirds : (n : ℕ) → IsPowerOfTwo n → 8 < n → n / 4 * 3 * 8 / 6 ≡ n
+four_thirds n (zero, is) more = absurd (omega (arith, is, more))
+four_thirds n (suc zero, is) more = absurd (omega (arith, is, more))
+four_thirds n (suc (suc k), is) more =
+    let once : 2 ^ suc (suc k) ≡ 2 * 2 ^ suc k = pow-succ' 2 (suc k) in
+    let twice : 2 ^ suc k ≡ 2 * 2 ^ k = pow-succ' 2 k in
+    let four : n ≡ 4 * 2 ^ k = omega (arith, is, once, twice) in
+    omega (arith, four)
+
+pub asks_for : (initial : ℕ) → IsPowerOfTwo initial → 8 < initial → IsAskedFor initial (initial / 4 * 3)
+asks_for initial power more = inr (omega arith, λ entries is. same_power initial entries power (subst (λ n. IsNextPowerOfTwo n entries) (four_thirds initial power more) is))
+
+-- so the first table of the map that is built anew is long enough
+pub asked_long : (initial capacity entries : ℕ) (words : Tables) → IsAskedFor initial capacity → IsEntriesFor capacity entries → HasCapacity capacity entries words → IsLongEnough initial words
+asked_long initial capacity entries words (inl (none, few)) is has =
+    let empty : words ≡ record { root = 0; tables = [] } = subst (λ n. HasCapacity n entries words) none has in
+    record { tables = subst (λ (w : Tables). All (λ len. initial ≤ len) (lengths_of w)) (sym empty) (All-nil (λ len. initial ≤ len)); first = λ _. few }
+asked_long initial capacity entries words (inr (low, same)) is has = subst (λ n. IsLongEnough n words) (same entries is) (new_long capacity entries words is has)
+
+-- and there may be such a one
+asked_fits : (initial capacity : ℕ) → initial ≤ 2 ^ 32 → IsAskedFor initial capacity → IsTooMuch capacity → ⊥
+asked_fits initial capacity most (inl (none, few)) (inl over) = absurd (omega (arith, none, over))
+asked_fits initial capacity most (inl (none, few)) (inr (entries, (power, least, below), over)) = let half : entries / 2 < max 1 (capacity * 8 / 6) = below in absurd (omega (arith, none, half, over))
+asked_fits initial capacity most (inr (low, same)) (inl over) = absurd (omega (arith, most, low, over))
+asked_fits initial capacity most (inr (low, same)) (inr (entries, is, over)) = let e = same entries is in absurd (omega (arith, most, e, over))
 
 module _ {K V S : Type 0} (eq : K → K → Bool) (law : IsEquivalence eq) where
   -- a map that is unchanged from one without pairs has none
@@ -151,8 +186,8 @@ module _ {K V S : Type 0} (eq : K → K → Bool) (law : IsEquivalence eq) (CK :
   }))
 
   -- a new map that gets the initial capacity of this one
-  pub fresh_parts : (s fresh : MapState K V S) (mode : ResizeMode) (shards : ℕ) (hasher : S) → mode ≡ s.mode → shards ≡ s.store.count.shards → IsPowerOfTwo shards → IsNew {A = Unit {0}} mode 0 shards hasher (core_of fresh) → (initial : ℕ) → initial ≡ s.initial → HasParts s (record fresh { initial = initial })
-  fresh_parts s fresh mode shards hasher mode_is shards_is power new initial initial_is = record {
+  pub fresh_parts : (s fresh : MapState K V S) (mode : ResizeMode) (capacity shards : ℕ) (hasher : S) → mode ≡ s.mode → shards ≡ s.store.count.shards → IsPowerOfTwo shards → IsNew {A = Unit {0}} mode capacity shards hasher (core_of fresh) → (initial : ℕ) → initial ≡ s.initial → HasParts s (record fresh { initial = initial })
+  fresh_parts s fresh mode capacity shards hasher mode_is shards_is power new initial initial_is = record {
     mode = new.mode_is ∙ mode_is;
     initial = initial_is;
     shards = same_power shards fresh.store.count.shards power new.store_is.count ∙ shards_is;
@@ -165,6 +200,14 @@ module _ {K V S : Type 0} (eq : K → K → Bool) (law : IsEquivalence eq) (CK :
     initial = keeps.initial ∙ parts.initial;
     shards = ap (λ (y : StoreState K V S). y.count.shards) words ∙ parts.shards;
   }
+
+  -- a new map that was refused
+  pub fresh_refused : (s : MapState K V S) (mode : ResizeMode) (capacity shards : ℕ) (initial : ℕ) → IsChunked mode → initial ≤ 2 ^ 32 → IsAskedFor initial capacity → shards ≡ s.store.count.shards → (e : Refused) → IsSizeRefusal mode capacity shards e → IsRebuildRefusal eq CK CV s e
+  fresh_refused s (Incremental chunk) capacity shards initial chunked most asked shards_is e (inl (zero_chunk, is)) = let some : 1 ≤ chunk = chunked in let none : chunk ≡ 0 = cc is in absurd (omega (arith, some, none))
+  fresh_refused s Blocking capacity shards initial chunked most asked shards_is e (inl (zero_chunk, is)) = absurd cc
+  fresh_refused s mode capacity shards initial chunked most asked shards_is e (inr (inl (is, also, inl much))) = absurd (asked_fits initial capacity most asked much)
+  fresh_refused s mode capacity shards initial chunked most asked shards_is e (inr (inl (is, also, inr many))) = inr (inl (is, subst (λ n. MAX_SHARDS < n) shards_is many))
+  fresh_refused s mode capacity shards initial chunked most asked shards_is e (inr (inr (memory, allowed))) = inl memory
 
   -- room for its pairs that was refused
   pub room_refused : (s fresh left : MapState K V S) → HasParts s fresh → content eq fresh.store ≡ [] → (n : ℕ) → n ≡ length (content eq s.store) → (e : Refused) → IsReserveCause eq fresh n e left → IsRebuildRefusal eq CK CV s e

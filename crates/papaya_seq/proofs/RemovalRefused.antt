@@ -33,10 +33,10 @@ use Rattle.papaya_timeline.proofs.KeptTables.{HasMoreTables, grown-same, made-gr
 use Rattle.papaya_timeline.proofs.StoreLemmas.{matched}
 use Rattle.papaya_seq.specs.Map.{MapState}
 use Rattle.papaya_seq.specs.Removes.{IsRemovalAnswer}
-use Rattle.papaya_seq.proofs.Causes.{HasSlots, IsNoTableRefusal, link_asked, sized_as, table_long, table_refused}
+use Rattle.papaya_seq.proofs.Causes.{HasSlots, IsNoTableRefusal, table_long, table_refused}
 use Rattle.papaya_seq.proofs.Initial.{chain_initial}
 use Rattle.papaya_seq.proofs.SeekTurns.{IsAnswered}
-use Rattle.papaya_seq.proofs.Sizes.{is_sized, machine_sized, sized_is}
+use Rattle.papaya_seq.proofs.Sizes.{is_sized, link_asked, machine_sized, sized_as, sized_is}
 
 -- each table is as long after a write as before it, also where none has the place
 put_at_grown : (w : Tables) (at : At) (n word : ℕ) → HasMoreTables w.tables (put_at at n w word).tables

@@ -33,8 +33,9 @@ use Rattle.papaya_timeline.proofs.KeptTables.{HasMoreTables}
 use Rattle.papaya_timeline.proofs.SoloResizes.{counts}
 use Rattle.papaya_seq.specs.Map.{MapState, next_of}
 use Rattle.papaya_seq.specs.Resizes.{IsPastLimit, IsReserveCause}
-use Rattle.papaya_seq.proofs.Causes.{HasSlots, IsNoTableRefusal, sized_as, table_long, table_refused}
+use Rattle.papaya_seq.proofs.Causes.{HasSlots, IsNoTableRefusal, table_long, table_refused}
 use Rattle.papaya_seq.proofs.ResizerSizes.{IsSizedStage, stage_has, stage_is, stage_sized}
+use Rattle.papaya_seq.proofs.Sizes.{sized_as}
 use Rattle.papaya_seq.proofs.Rooms.{much_is, much_more, much_none}
 use Rattle.papaya_seq.proofs.Unmarked.{last_next}
 

@@ -33,7 +33,7 @@ use Rattle.papaya_timeline.specs.Begins.{begun_work}
 use Rattle.papaya_timeline.specs.Callers.{resizing}
 use Rattle.papaya_timeline.specs.Core.{CoreState}
 use Rattle.papaya_timeline.specs.Ends.{budget_of}
-use Rattle.papaya_timeline.specs.Kept.{coding_of, low, setting_of}
+use Rattle.papaya_timeline.specs.Kept.{coding_of, low, setting_of, told_tales}
 use Rattle.papaya_timeline.specs.Maps.{key_of}
 use Rattle.papaya_timeline.specs.Resized.{IsLoneResizer, IsLoneWork, IsNearerResized, IsResized, lone_resizer_measure}
 use Rattle.papaya_timeline.specs.Resizes.{Resizes}
@@ -41,7 +41,8 @@ use Rattle.papaya_timeline.specs.Runs.{History, StepsRun, with_event, with_step}
 use Rattle.papaya_timeline.specs.Solo.{whatever}
 use Rattle.papaya_timeline.proofs.CallersLemmas.{same_item}
 use Rattle.papaya_timeline.proofs.KeptCore.{keys_lawful}
-use Rattle.papaya_timeline.proofs.KeptResized.{stage_left}
+use Rattle.papaya_timeline.proofs.HeadlineLemmas.{resize-core}
+use Rattle.papaya_timeline.proofs.KeptResized.{left as resize_left, resize_kept, stage_left}
 use Rattle.papaya_timeline.proofs.KeptSettings.{IsLawfulKeys}
 use Rattle.papaya_timeline.proofs.KeptTables.{HasMoreTables}
 use Rattle.papaya_timeline.proofs.ResizerLaws.{resizer_refused}
@@ -49,6 +50,8 @@ use Rattle.papaya_timeline.proofs.SoloEnds.{lone_begin}
 use Rattle.papaya_timeline.proofs.SoloResizes.{resizer_done, resizer_nears}
 use Rattle.papaya_seq.specs.Map.{IsLawfulMap, MapState, core_of}
 use Rattle.papaya_seq.proofs.Ending.{left_to}
+use Rattle.papaya_seq.proofs.ResizerLengths.{IsLongResize, resize_long_begun, resize_long_left, resize_long_more}
+use Rattle.papaya_seq.proofs.RootStays.{root_stays}
 use Rattle.papaya_seq.proofs.SeekTurns.{turn_words}
 use Rattle.papaya_seq.proofs.Turns.{IsOver, begins_so, last_entry, made_over, seated_work, start}
 
@@ -96,6 +99,8 @@ module _ {K V S : Type 0} (eq : K → K → Bool) (hash : S → K → ℕ) (s : 
     pub initial_is : z.initial ≡ s.initial
     -- nothing but the words is another
     pub logs : store ≡ record s.store { words = store.words }
+    -- no table is shorter than the initial capacity
+    pub long : IsLongResize s store z
 
 module _ {K V S H : Type 0} (eq : K → K → Bool) (input : K → List (List ℕ)) (build : S → H) (write : H → List ℕ → H) (finish : H → ℕ) (classes : IsEquivalence eq) (respects : (x y : K) → eq x y ≡ true → input x ≡ input y) (s : MapState K V S) (resize : Resize) (call : ResizeCall K V resize) where
   -- the hash of a key
@@ -126,6 +131,7 @@ module _ {K V S H : Type 0} (eq : K → K → Bool) (input : K → List (List �
       resize_is = refl;
       initial_is = refl;
       logs = refl;
+      long = resize_long_begun s lawful.long (begun resize s.mode s.initial) call.at_root;
     }
 
     -- it has replied: it was made alone
@@ -134,7 +140,7 @@ module _ {K V S H : Type 0} (eq : K → K → Bool) (input : K → List (List �
         let ends = came.replied reply told in
         made_over eq hash s call.call hashed lawful.power came.steps store came.history
         (subst (λ (o : Option Reply). StepsRun eq whatever hash 1 0 came.steps (start eq hash s call.call) (with_event 0 0 Begun []) (seated_work store (goes_on o (works.Resize z)) s.mode s.initial) came.history) told came.runs)
-        reply ends.0 ends.1 ends.2 ends.3
+        reply ends.0 ends.1 ends.2 ends.3 (resize_long_left s store z came.long)
 
     module _ (store : StoreState K V S) (z : Resizer) (ask : CopyAsk) (answer : Answer) (store' : StoreState K V S) (asked : ask_of z ≡ Some ask) (performs : PerformsCopy eq hash false ask store answer store') (came : HasCome store z) where
       going : reply_of z ≡ None
@@ -194,6 +200,17 @@ module _ {K V S H : Type 0} (eq : K → K → Bool) (input : K → List (List �
         cause = resize_caused;
       }
 
+      -- a root stays
+      root_kept : 0 < store.words.root → 0 < store'.words.root
+      unfolding made_step
+      root_kept =
+          let (es, (tales, kept)) = lone.lawful.law in
+          let then : CoreState K V S (Unit {0}) = seated_work store' (goes_on reply (works.Resize next)) s.mode s.initial in
+          let left = resize_left eq (hash store.hasher) keys_now false now 0 then event reply made_step refl es tales lone.lawful.core kept in
+          root_stays eq (hash store.hasher) keys_now s.mode store store' now.callers then.callers es left.made tales (told_tales tales 0 left.made left.hands') kept
+          (resize-core eq hash false now 0 then event reply made_step lone.lawful.core)
+          (resize_kept eq (hash store.hasher) keys_now false now 0 then event reply made_step refl es tales lone.lawful.core kept)
+
       -- which comes nearer its end
       stepped_to : (o : Option Reply) → reply ≡ o → Resizes eq hash false now 0 (seated_work store' (goes_on o (works.Resize next)) s.mode s.initial) event o
       stepped_to o e = subst (λ p. Resizes eq hash false now 0 (seated_work store' (goes_on p (works.Resize next)) s.mode s.initial) event p) e made_step
@@ -235,4 +252,5 @@ module _ {K V S H : Type 0} (eq : K → K → Bool) (input : K → List (List �
         resize_is = came.resize_is;
         initial_is = came.initial_is;
         logs = turn_words eq hash store (asks.Copy ask) answer store' performs ∙ ap (λ (y : StoreState K V S). record y { words = store'.words }) came.logs;
+        long = resize_long_more s eq hash store z ask answer store' asked performs came.initial_is root_kept came.long;
       }

@@ -2,6 +2,7 @@
 use Rattle.std.proofs.Common.{◌≡◌, ◌⊎◌, inl, inr, ⊎_elim, ℕ, zero, suc, ◌<◌, ◌≤◌, ◌^◌, Bool, cond, pos, ◌+ℤ◌, List, [], ◌∷◌, ◌++◌, length, slice_index, slice_set, Option, Some, None, FitsSigned, append-nil, refl, sym, ◌∙◌, ap, subst, arith, lt-ltb}
 use Rattle.std.specs.Prelude.{negsuc}
 use Rattle.std.specs.Int.{w64, int_wrap}
+use Rattle.std.specs.List.{All}
 use Rattle.std.proofs.lemmas.Bool.{cases_lt}
 use Rattle.std.proofs.lemmas.Int.{fits_signed_from_abs, ints, int_wrap_fits}
 use Rattle.papaya_words.specs.Counter.{added}
@@ -40,6 +41,7 @@ use Rattle.papaya_seq.specs.Map.{IsLawfulMap, MapState, core_of, next_in, next_o
 use Rattle.papaya_seq.specs.Retains.{slot_words}
 use Rattle.papaya_seq.proofs.Counting.{counted_sum}
 use Rattle.papaya_seq.proofs.RetainLists.{live_pairs, set_long, slots_count, slots_same}
+use Rattle.papaya_seq.proofs.TableLengths.{put_lengths}
 use Rattle.papaya_seq.proofs.WalkLists.{pairs_of_word}
 
 module _ {K V S : Type 0} (s : StoreState K V S) (i : ℕ) where
@@ -283,4 +285,13 @@ module _ {K V S : Type 0} (eq : K → K → Bool) (hash : K → ℕ) (s : MapSta
 
     -- the map is in order after it
     pub buried_lawful : IsLawfulMap eq hash store' s.mode s.initial
-    buried_lawful = record { lawful = lawful_core; counted = counted'; power = lawful.power }
+    buried_lawful = record {
+      lawful = lawful_core;
+      counted = counted';
+      power = lawful.power;
+      most = lawful.most;
+      long = record {
+        tables = subst (All (λ len. s.initial ≤ len)) (sym (put_lengths s.store.words (Slot root i) grave)) lawful.long.tables;
+        first = λ none. lawful.long.first (sym root_same ∙ none);
+      };
+    }

@@ -31,6 +31,7 @@ use Rattle.papaya_seq.proofs.Seeking.{IsSeeking, Seeks, own_hashed, own_setting}
 use Rattle.papaya_seq.proofs.SeekTurns.{IsAnswered, IsTurn, turn_caused, turned}
 use Rattle.papaya_chain_rests.specs.Goes.{IsCause}
 use Rattle.papaya_seq.proofs.SeekSteps as steps
+use Rattle.papaya_seq.proofs.CallLengths.{long_left}
 use Rattle.papaya_seq.proofs.SeekSteps.{turn_nears}
 
 -- what such a call replies
@@ -93,4 +94,6 @@ seek_lawful {K = K} {V = V} {S = S} eq hash s h keys fits lawful store m seeking
       lawful = seek_core eq hash s h store m seeking;
       counted = ap (λ (y : StoreState K V S). int_wrap w64 (y.count.sum +ℤ pos 0)) seeking.logs ∙ lawful.counted ∙ ap pos (sym same);
       power = lawful.power;
+      most = lawful.most;
+      long = long_left s store m seeking.long;
     }

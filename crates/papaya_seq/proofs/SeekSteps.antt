@@ -57,7 +57,7 @@ use Rattle.papaya_store.specs.Copies.{PerformsCopy}
 use Rattle.papaya_timeline.proofs.KeptAnswer.{IsAnswered as IsLeft}
 use Rattle.papaya_timeline.specs.Advances.{reply_in}
 use Rattle.papaya_timeline.specs.Core.{IsCore}
-use Rattle.papaya_timeline.specs.Kept.{IsMade, Tale, slots_in}
+use Rattle.papaya_timeline.specs.Kept.{IsKept, IsMade, Tale, slots_in}
 use Rattle.papaya_timeline.specs.Solo.{whatever}
 use Rattle.papaya_timeline.proofs.BudgetSpends.{kept_bounded, budget_bounded}
 use Rattle.papaya_timeline.proofs.KeptSettings.{IsLawfulKeys}
@@ -71,7 +71,11 @@ use Rattle.papaya_timeline.proofs.KeptMade.{refusal}
 use Rattle.papaya_timeline.proofs.KeptTables.{IsPlaced, placed-many, table_low}
 use Rattle.papaya_timeline.proofs.KeptWritten.{asked_copy, placed_copy}
 use Rattle.papaya_seq.specs.Map.{MapState}
+use Rattle.papaya_seq.specs.Lengths.{lengths_of}
+use Rattle.papaya_seq.proofs.CallLengths.{IsCallStep, long_more}
+use Rattle.papaya_seq.proofs.RootStays.{root_stays}
 use Rattle.papaya_seq.proofs.Seeking.{IsSeeking, Seeks}
+use Rattle.papaya_seq.proofs.TableLengths.{IsCountedBy}
 use Rattle.papaya_seq.proofs.SeekTurns.{IsLook, IsTurn, Looks, asked_look, turn_words}
 use Rattle.papaya_seq.proofs.Ending.{left_of, left_to}
 use Rattle.papaya_seq.proofs.SeekTurns as turns
@@ -244,6 +248,26 @@ module _ {K V S : Type 0} (eq : K → K → Bool) (hash : S → K → ℕ) (s : 
       (made_is (IsMade store') (link_in m.phase) (λ behind t linking. turns.still_there eq hash s h keys fits store m answer store' seeking going turn t (seeking.links behind t linking))))
       behind t
 
+  -- what the step did to the lengths of tables: a lookup leaves them
+  stepped : IsCallStep eq hash store store' m answer
+  stepped = record {
+    own = λ calling. let (told, is, looks, same) = own_turn calling in inl (ap (λ (y : StoreState K V S). lengths_of y.words) same);
+    counted = λ calling. let (told, is, looks, same) = own_turn calling in (told, is, looks_count (calls.ask_of m.call) told looks (ap (λ (y : StoreState K V S). y.count) same));
+    copy = λ ask e. subst (λ a. IsTurn eq hash store a answer store') e turn;
+    first = λ calling making. absurd (subst Seeks making seeking.seeks);
+    stays = root_stays {A = Unit {0}} eq (hash s.store.hasher) keys s.mode store store' [] [] es left.made (λ d. tale) (λ d. turns.tale' eq hash s h keys fits store m answer store' seeking going turn) seeking.kept core'
+        (subst (λ l. IsKept {A = Unit {0}} eq (hash s.store.hasher) s.mode store' [] l (λ d. turns.tale' eq hash s h keys fits store m answer store' seeking going turn)) (sym (append_assoc tale.begun tale.since left.made)) (turns.kept' eq hash s h keys fits store m answer store' seeking going turn));
+  }
+    where
+      own_turn : m.phase ≡ Calling → IsTurn eq hash store (asks.Call (calls.ask_of m.call)) answer store'
+      own_turn calling = subst (λ phase. IsTurn eq hash store (asks_in m.call phase) answer store') calling turn
+
+      looks_count : (ask : Call_ask) (told : Call_answer) → Looks store ask told → store'.count ≡ store.count → IsCountedBy ask store told store'
+      looks_count (Load at) told looks same = same
+      looks_count (SameKey n) told looks same = same
+      looks_count (SizeOf n) told looks same = same
+      looks_count ask told looks same = absurd looks
+
   -- so it is in order after the answer
   pub seek_turn : IsSeeking eq hash s h store' (after m answer)
   seek_turn = record {
@@ -262,6 +286,7 @@ module _ {K V S : Type 0} (eq : K → K → Bool) (hash : S → K → ℕ) (s : 
     seeks = seeks';
     logs = turn_words eq hash store (ask_of m) answer store' turn ∙ ap (λ (y : StoreState K V S). record y { words = store'.words }) seeking.logs;
     same = λ k. turns.map_stays eq hash s h keys fits store m answer store' seeking going turn core' k ∙ seeking.same k;
+    long = long_more s eq hash store store' m answer going stepped seeking.long;
   }
 
   abbrev now : Words (Stored K V)

@@ -32,6 +32,7 @@ use Rattle.papaya_timeline.specs.Core.{IsCore}
 use Rattle.papaya_chain_rests.specs.VisitTold as visits
 use Rattle.papaya_timeline.specs.Kept.{IsKept, IsLogged, IsMade, Tale, coding_of, is_blocking, low, setting_of, slots_in}
 use Rattle.papaya_timeline.proofs.KeptSettings.{IsLawfulKeys, tables_hashed}
+use Rattle.papaya_seq.proofs.CallLengths.{IsLong, long_begun}
 use Rattle.papaya_seq.specs.Map.{IsLawfulMap, MapState, Unchanged}
 
 -- the call looks for its key and has met no pair with it, or ended so, or was refused a table
@@ -83,6 +84,7 @@ module _ {K V S : Type 0} (eq : K → K → Bool) (hash : S → K → ℕ) (s : 
     pub seeks : Seeks m.call.state
     pub logs : store ≡ record s.store { words = store.words }
     pub same : Unchanged eq s.store store
+    pub long : IsLong s store m
 
   -- a word has the number that it had
   pub sought_word : (tables : List TableWords) (z : Words (Stored K V)) (at : At) → word_of (sought_setting tables) sought_coding z at ≡ word_of (own_setting tables) own_coding z at
@@ -132,4 +134,5 @@ module _ {K V S : Type 0} (eq : K → K → Bool) (hash : S → K → ℕ) (s : 
           seeks = tt;
           logs = refl;
           same = λ k. refl;
+          long = long_begun s lawful.long (started RemoveIf h s.mode s.initial) refl refl;
         }

@@ -1,7 +1,7 @@
--- By how many slots a next table is counted: by those of the table that it is to follow.
-use Rattle.std.proofs.Common.{◌≡◌, ℕ, ◌^◌, nat_le, Bool, Option, None, Some, refl, ap, subst}
+-- By how many slots a next table is counted: by those of the table that it is to follow, which is asked for its size.
+use Rattle.std.proofs.Common.{◌≡◌, ℕ, ◌^◌, nat_le, Bool, Option, None, Some, length, refl, ap, subst}
 use Rattle.std.proofs.lemmas.Bool.{cond_both}
-use Rattle.papaya_words.specs.Table.{length_after}
+use Rattle.papaya_words.specs.Table.{TableWords, length_after}
 use Rattle.papaya_words.specs.declared.probe.Refused.{Refused}
 use Rattle.papaya_words.specs.declared.probe.Refused.TheVariants.{Capacity}
 use Rattle.papaya_ask.specs.declared.ask.Answer.TheVariants.{Size}
@@ -9,12 +9,19 @@ use Rattle.papaya_copy.specs.declared.link.Link.{Link}
 use Rattle.papaya_copy.specs.declared.link.Link.TheVariants as links
 use Rattle.papaya_copy.specs.declared.link.Linked.TheVariants as linked
 use Rattle.papaya_copy.specs.Link as link
+use Rattle.papaya_copy.specs.Link.{link_ask}
 use Rattle.papaya_chain.specs.declared.ask.Answer.{Answer}
 use Rattle.papaya_chain.specs.declared.ask.Answer.TheVariants as answers
 use Rattle.papaya_chain.specs.declared.machine.Machine.{Machine}
+use Rattle.papaya_chain.specs.declared.ask.Ask.TheVariants as asks
+use Rattle.papaya_chain.specs.declared.machine.Phase.{Phase}
+use Rattle.papaya_chain.specs.declared.machine.Phase.TheVariants.{Calling, Linking, Copying as Copying_root}
 use Rattle.papaya_chain.specs.Machine as machine
+use Rattle.papaya_chain.specs.Machine.{ask_of, asks_in}
 use Rattle.papaya_chain_rests.specs.Goes.{link_in}
+use Rattle.papaya_chain_rests.proofs.CopyRefusals.{copying_asks}
 use Rattle.papaya_chain_rests.proofs.LinkStates.{In, IsStable, Linked_in, Of, machine_holds}
+use Rattle.papaya_store.specs.Performs.{size_of}
 
 -- `Sized` is what the number of a table and that of its slots are.
 module _ (Sized : ℕ → ℕ → Type 0) where
@@ -89,3 +96,17 @@ module _ (Sized : ℕ → ℕ → Type 0) where
       new_in : (o : Option Link) (n : ℕ) → Of New o n
       new_in None n = tt
       new_in (Some made) n = tt
+
+-- what a machine asks that makes a table for a copy
+pub link_asked : (m : Machine) (made : Link) → link_in m.phase ≡ Some made → ask_of m ≡ asks.Copy (link_ask made)
+link_asked m made e = by_phase m.phase e
+  where
+    by_phase : (phase : Phase) → link_in phase ≡ Some made → asks_in m.call phase ≡ asks.Copy (link_ask made)
+    by_phase Calling e = absurd cc
+    by_phase (Linking link) e = let same : link ≡ made = cc e in ap (λ y. asks.Copy (link_ask y)) same
+    by_phase (Copying_root goes) e = ap asks.Copy (copying_asks goes made e)
+
+-- a size that is answered is that of a table
+pub sized_as : (o : Option TableWords) (slots limit : ℕ) → size_of o ≡ Size slots limit → (t : TableWords) × (o ≡ Some t) × (length t.slots ≡ slots)
+sized_as None slots limit e = absurd cc
+sized_as (Some t) slots limit e = let same : length t.slots ≡ slots = cc e in (t, refl, same)

@@ -40,8 +40,10 @@ use Rattle.papaya_timeline.proofs.KeptLemmas.{IsLawfulKeys, IsStep, kept_step}
 use Rattle.papaya_timeline.proofs.KeptStep as kept_steps
 use Rattle.papaya_timeline.proofs.SoloEnds.{lone_begin, lone_step}
 use Rattle.papaya_seq.specs.Map.{IsLawfulMap, MapState, Unchanged, core_of}
+use Rattle.papaya_seq.proofs.CallLengths.{IsLong, long_begun, long_left, long_more, performed_so}
 use Rattle.papaya_seq.proofs.Ending.{left_of, left_to}
 use Rattle.papaya_seq.proofs.KeyCalls.{KeyCall, first_of, key_fits}
+use Rattle.papaya_seq.proofs.RootStays.{root_stays}
 use Rattle.papaya_seq.proofs.Turns.{IsOver, begins_so, last_entry, made_over, seated_work, start, turns_made}
 
 -- a core whose one seat has this call on a key
@@ -72,6 +74,8 @@ module _ {K V S : Type 0} (eq : K → K → Bool) (hash : S → K → ℕ) (s : 
     pub hash_is : r.machine.call.hash ≡ hash s.store.hasher call.key
     pub shows : ShowsPairs r.machine.call.state
     pub hasher : store.hasher ≡ s.store.hasher
+    -- no table is shorter than the initial capacity, and each that it makes follows another
+    pub long : IsLong s store r.machine
 
   -- so from a map that is in order
   abbrev pub IsMade : StoreState K V S → Running K V (Unit {0}) → Type 0
@@ -96,6 +100,7 @@ module _ {K V S : Type 0} (eq : K → K → Bool) (hash : S → K → ℕ) (s : 
         hash_is = refl;
         shows = tt;
         hasher = refl;
+        long = long_begun s lawful.long first.machine refl refl;
       }
 
   module _ (store : StoreState K V S) (r : Running K V (Unit {0})) (answer : Answer) (store' : StoreState K V S) (later : Running K V (Unit {0})) (going : reply_in (ask_of r.machine) ≡ None) (performs : PerformsAsk eq whatever hash false (ask_of r.machine) store r answer store' later) (same : later.machine ≡ r.machine) (keys : IsLawfulKeys eq (hash s.store.hasher)) (came : HasCome store r) where
@@ -220,6 +225,9 @@ module _ {K V S : Type 0} (eq : K → K → Bool) (hash : S → K → ℕ) (s : 
           hash_is = told.1 ∙ came.hash_is;
           shows = chain_shows r.machine answer made_ordered came.shows;
           hasher = performs-hasher eq whatever hash false (ask_of r.machine) store r answer store' later performs ∙ came.hasher;
+          long = long_more s eq hash store store' r.machine answer going
+              (performed_so eq hash store store' r.machine answer r later refl performs (came.lone going).current
+              (root_stays eq (hash s.store.hasher) keys s.mode store store' now.callers (seated store' (goes_on reply next) s.mode s.initial).callers es step.made tales (told_tales tales 0 step.made step.hands) kept core step.kept)) came.long;
         }
 
   -- one more ask is answered
@@ -245,4 +253,4 @@ module _ {K V S : Type 0} (eq : K → K → Bool) (hash : S → K → ℕ) (s : 
       let ends = came.replied reply told in
       made_over eq hash s call.call (key_fits (hash s.store.hasher) call fits) lawful.power came.steps store came.history
       (subst (λ (o : Option Reply). StepsRun eq whatever hash 1 0 came.steps (start eq hash s call.call) (with_event 0 0 Begun []) (seated store (goes_on o r) s.mode s.initial) came.history) told came.runs)
-      reply ends.0 ends.1 ends.2 ends.3
+      reply ends.0 ends.1 ends.2 ends.3 (long_left s store r.machine came.long)

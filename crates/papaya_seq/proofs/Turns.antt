@@ -15,6 +15,7 @@ use Rattle.papaya_timeline.specs.Core.{CoreState}
 use Rattle.papaya_timeline.specs.Maps.{key_of}
 use Rattle.papaya_timeline.specs.Runs.{History, StepsRun, TurnsRun, with_event, with_step}
 use Rattle.papaya_timeline.specs.Solo.{RunsAlone, whatever}
+use Rattle.papaya_seq.specs.Lengths.{IsLongEnough}
 use Rattle.papaya_seq.specs.Map.{MapState, core_of}
 
 -- a core whose one seat has this
@@ -52,13 +53,15 @@ module _ {K V S : Type 0} (eq : K → K → Bool) (hash : S → K → ℕ) (s : 
     runs,
   )
 
-  -- The call has replied: it was made alone.
+  -- The call has replied: it was made alone, and left no table shorter than the initial capacity.
   pub record IsOver (store : StoreState K V S) (reply : Reply) : Type 0 where
     pub ran : RunsAlone eq hash (core_of s) call reply (seated_work store None s.mode s.initial)
+    pub long : IsLongEnough s.initial store.words
 
   pub made_over : IsHashed → IsPowerOfTwo s.initial → (steps : ℕ) (store : StoreState K V S) (history : History) → StepsRun eq whatever hash 1 0 steps start (with_event 0 0 Begun []) (seated_work store None s.mode s.initial) history
-      → (reply : Reply) (last : Entry) (before : History) → history ≡ last ∷ before → last.event ≡ Replied reply → IsOver store reply
-  made_over fits power steps store history runs reply last before ends replied = record {
+      → (reply : Reply) (last : Entry) (before : History) → history ≡ last ∷ before → last.event ≡ Replied reply → IsLongEnough s.initial store.words → IsOver store reply
+  made_over fits power steps store history runs reply last before ends replied long = record {
+    long = long;
     ran = record {
       idle = refl;
       steps = steps;

@@ -7,6 +7,7 @@ pub mod Computing
 pub mod Drives
 pub mod Ends
 pub mod Entries
+pub mod Lengths
 pub mod Looks
 pub mod MadeAlone
 pub mod Map

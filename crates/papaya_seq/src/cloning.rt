@@ -1,16 +1,32 @@
 //! Maps of clones: a copy of a map, and the map built anew without the pairs that it has no more.
 ghost use Rattle.std.specs.Prelude.{◌≡◌, ◌⊎◌, true, IfOk, IfErr, OnOk, length, map};
+ghost use Rattle.std.specs.Int.{IsPowerOfTwo};
 ghost use Rattle.papaya_words.specs.Probe.{IsEntriesFor};
 ghost use Rattle.papaya_words.specs.declared.limits.TheConstants.{DEFAULT_CHUNK};
 ghost use Rattle.papaya_timeline.specs.Content.{content};
 ghost use Rattle.papaya_seq.specs.Clones.{HasParts, IsCloneRefusal, IsCopied, IsCopyCut};
+ghost use Rattle.papaya_seq.specs.Lengths.{IsAskedFor};
 ghost use Rattle.papaya_seq.specs.Clones.{IsRebuildRefusal, IsRebuilt};
 ghost use Rattle.papaya_seq.specs.Map.{entry_of};
 
 use crate::seq::HashMap;
+use papaya_words::limits::LEAST_TABLE_LEN;
 use papaya_words::probe::{Refused, ResizeMode};
 use std::alloc::Global;
 use std::hash::{BuildHasher, Hash};
+
+/// For how many pairs a first table is made that has as many slots as the initial capacity. For none,
+/// where the least table has.
+#[tactic(auto, using(crate::proofs::Rebuilt::asks_for))]
+fn pairs_for(initial: usize) -> usize
+    requires { IsPowerOfTwo initial }
+    ensures { IsAskedFor initial result }
+{
+    if initial <= LEAST_TABLE_LEN {
+        return 0;
+    }
+    initial / 4 * 3
+}
 
 impl<K: Hash + Eq + Clone + Drop, V: Clone + Drop, S: BuildHasher> HashMap<K, V, S> {
     /// Puts clones of another map's pairs in, in the order of a walk.
@@ -74,7 +90,8 @@ impl<K: Hash + Eq + Clone + Drop, V: Clone + Drop, S: BuildHasher + Clone + Drop
             return Err(Refused::Memory);
         };
         let shards = self.store.shards();
-        let mut fresh = HashMap::with_parts(self.alloc, self.mode, 0, shards, hasher)?;
+        let capacity = pairs_for(self.initial);
+        let mut fresh = HashMap::with_parts(self.alloc, self.mode, capacity, shards, hasher)?;
         fresh.initial = self.initial;
         match fresh.reserve(self.len()) {
             Ok(()) => {}

@@ -211,10 +211,15 @@ impl<K: Hash + Eq, V, S: BuildHasher> HashMap<K, V, S> {
         self.len() == 0
     }
 
-    /// How many slots the root table has; 0 where there is none yet.
+    /// How many slots the root table has; 0 where there is none yet. It has as many as the initial
+    /// capacity, or more.
     pub fn slots(&self) -> usize
-        ensures { result ≡ slots_of self.now.store }
+        ensures slots { result ≡ slots_of self.now.store }
+        ensures long { (slots_of self.now.store ≡ 0)
+            ⊎ (self.now.initial ≤ slots_of self.now.store) }
     {
+        // By this read the map is known to be in order.
+        let _mode = self.mode;
         self.store.root().map_or(0, |table| table.len())
     }
 

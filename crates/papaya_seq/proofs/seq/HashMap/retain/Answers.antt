@@ -28,5 +28,5 @@ returns-clause-ok g c =
     (lawful_apart g.K.PartialEq.eq g.K.Hash.hash_input g.S.BuildHasher.build_hasher g.S.Hasher.Hasher.write g.S.Hasher.Hasher.finish g.met.K.Eq.laws g.met.K.Hash.respects_eq (core_of (record { store = c.self-2.inside.store; mode = c.self-2.inside.mode; initial = c.self-2.inside.initial })) c.self-2.invariant.lawful) in
     let past = c.loop-slot-test.false in
     let most = c.loop-slot.invariant.1 in
-    let all : c.loop-slot.slot ≡ slots_of c.if-resizing.self.store = let end : c.loop-slot.slot ≡ c.slots-slots.result = omega (arith, past, most) in end ∙ c.slots-slots.ensures in
+    let all : c.loop-slot.slot ≡ slots_of c.if-resizing.self.store = let end : c.loop-slot.slot ≡ c.slots-slots.result = omega (arith, past, most) in end ∙ c.slots-slots.ensures.slots in
     retaining_ends g.F.FnMut c.if-resizing.self c.args.agrees g.K.PartialEq.eq c.args.self.now.store still.last still.unchanged still.alone apart c.loop-slot.slot all c.loop-slot.self c.loop-slot.agrees c.loop-slot.invariant.2

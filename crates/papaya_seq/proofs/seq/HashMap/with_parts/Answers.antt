@@ -5,6 +5,7 @@ use Rattle.papaya_timeline.proofs.CoreLemmas.{new-core}
 use Rattle.papaya_timeline.proofs.CountedLemmas.{counted_new}
 use Rattle.papaya_timeline.proofs.KeptCore.{new_lawful}
 use Rattle.papaya_seq.proofs.Counting.{counted_none}
+use Rattle.papaya_seq.proofs.TableLengths.{new_long}
 use Rattle.papaya_seq.proofs.seq.HashMap.with_parts.Goals as goal
 use Rattle.papaya_seq.proofs.seq.HashMap.with_parts.Goals.{In_ok-store}
 use Rattle.papaya_seq.proofs.seq.HashMap.with_parts.Given.{Over}
@@ -22,6 +23,8 @@ invariant_of-result g c =
           c.args.mode c.args.capacity c.in_ok-store.initial c.in_ok-store.store [] core ok.1.words ok.1.pairs refl;
       counted = new_counted g c;
       power = ok.1.initial.0;
+      most = ok.2;
+      long = new_long c.args.capacity c.in_ok-store.initial c.in_ok-store.store.words ok.1.initial ok.1.words;
     }
 
 pub returns-clause-empty : goal.returns-clause-empty

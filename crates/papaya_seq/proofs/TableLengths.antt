@@ -1,0 +1,169 @@
+-- What an answered ask leaves of the lengths of tables: one that is made has the slots that were asked for, and each other one stays as long as it was.
+use Rattle.std.proofs.Common.{◌≡◌, ◌⊎◌, inl, inr, ℕ, zero, suc, ◌+◌, ◌-◌, ◌==◌, ◌<◌, ◌≤◌, nat_lt, Bool, true, false, cond, List, [], ◌∷◌, ◌++◌, length, length-set, map, max, replicate, slice_get, slice_set, Option, None, Some, refl, sym, ◌∙◌, ap, subst, arith}
+use Rattle.std.proofs.lemmas.List.{length-replicate, map-append}
+use Rattle.std.proofs.lemmas.List.Elements.{All-cons, All-nil}
+use Rattle.std.specs.List.{All}
+use Rattle.std.specs.Prelude.{◌/◌}
+use Rattle.papaya_words.specs.Probe.{IsEntriesFor}
+use Rattle.papaya_words.specs.Table.{TableWords, new_table}
+use Rattle.papaya_ask.specs.declared.ask.Answer.{Answer as Call_answer}
+use Rattle.papaya_ask.specs.declared.ask.At.{At}
+use Rattle.papaya_ask.specs.declared.ask.At.TheVariants.{Root, Next, Aborted, Done, Slot}
+use Rattle.papaya_ask.specs.declared.ask.Ask.{Ask as Call_ask}
+use Rattle.papaya_ask.specs.declared.ask.Ask.TheVariants.{Load, Exchange, SameKey, ShowNone, ShowPair, SizeOf, MakeKey, MakePair, MakeTable, AddToShard, Done as Ask_done}
+use Rattle.papaya_ask.specs.declared.ask.Answer.TheVariants.{Ok as Ok_done}
+use Rattle.papaya_ask.specs.declared.copy_ask.CopyAsk.{CopyAsk}
+use Rattle.papaya_ask.specs.declared.copy_ask.CopyAsk.TheVariants as copies
+use Rattle.papaya_call.specs.Answers.{Says}
+use Rattle.papaya_chain.specs.declared.ask.Answer.{Answer}
+use Rattle.papaya_store.specs.declared.pairs.Running.{Running}
+use Rattle.papaya_store.specs.Copies.{PerformsCopy}
+use Rattle.papaya_store.specs.New.{HasCapacity}
+use Rattle.papaya_store.specs.Performs.{Exchanges, HasKey, HasNoPair, LogsKey, LogsPair, MakesTable, Performs, Refuses, Stays}
+use Rattle.papaya_store.specs.Store.{StoreState}
+use Rattle.papaya_store.specs.Tables.{Tables, put, put_at, put_in, word_at, written}
+use Rattle.papaya_timeline.proofs.ShowLemmas.{none_shown, pair_shown}
+use Rattle.papaya_timeline.proofs.StoreLemmas.{matched}
+use Rattle.papaya_seq.specs.Lengths.{IsLongEnough, lengths_of}
+
+-- how long a table is
+abbrev long : TableWords → ℕ
+long t = length t.slots
+
+-- a write leaves that
+written_long : (at : At) (t : TableWords) (word : ℕ) → long (written at t word) ≡ long t
+written_long Root t word = refl
+written_long (Next n) t word = refl
+written_long (Aborted n) t word = refl
+written_long (Done n) t word = refl
+written_long (Slot n i) t word = elim (nat_lt i (length t.slots)) as (λ b. long (cond b (record t { slots = slice_set t.slots i word }) t) ≡ long t) [ true ↦ length-set t.slots i word | false ↦ refl ]
+
+set_lengths : (tables : List TableWords) (k : ℕ) (t u : TableWords) → slice_get tables k ≡ Some t → long u ≡ long t → map long (slice_set tables k u) ≡ map long tables
+set_lengths [] k t u e same = refl
+set_lengths (x ∷ xs) zero t u e same = let is : x ≡ t = cc e in ap (λ n. n ∷ map long xs) (same ∙ ap long (sym is))
+set_lengths (x ∷ xs) (suc k) t u e same = ap (λ l. long x ∷ l) (set_lengths xs k t u e same)
+
+put_in_lengths : (at : At) (o : Option TableWords) (tables : List TableWords) (k word : ℕ) → o ≡ slice_get tables k → map long (put_in at o tables k word) ≡ map long tables
+put_in_lengths at None tables k word is = refl
+put_in_lengths at (Some t) tables k word is = set_lengths tables k t (written at t word) (sym is) (written_long at t word)
+
+put_at_lengths : (at : At) (n : ℕ) (w : Tables) (word : ℕ) → lengths_of (put_at at n w word) ≡ lengths_of w
+put_at_lengths at n w word = go (n == 0)
+  where
+    go : (b : Bool) → lengths_of (cond b w (record w { tables = put_in at (slice_get w.tables (n - 1)) w.tables (n - 1) word })) ≡ lengths_of w
+    go true = refl
+    go false = put_in_lengths at (slice_get w.tables (n - 1)) w.tables (n - 1) word refl
+
+-- of the words of all tables
+pub put_lengths : (w : Tables) (at : At) (word : ℕ) → lengths_of (put w at word) ≡ lengths_of w
+put_lengths w Root word = refl
+put_lengths w (Next n) word = put_at_lengths (Next n) n w word
+put_lengths w (Aborted n) word = put_at_lengths (Aborted n) n w word
+put_lengths w (Done n) word = put_at_lengths (Done n) n w word
+put_lengths w (Slot n i) word = put_at_lengths (Slot n i) n w word
+
+module _ {K V S : Type 0} (Asked : ℕ → Type 0) (s s' : StoreState K V S) where
+  -- the tables stay as long as they were, or one is made that was asked for so long
+  abbrev pub IsLengthened : Type 0
+  IsLengthened = (lengths_of s'.words ≡ lengths_of s.words) ⊎ ((slots : ℕ) × Asked slots × (lengths_of s'.words ≡ lengths_of s.words ++ slots ∷ []))
+
+  as_long : s' ≡ s → IsLengthened
+  as_long same = inl (ap (λ (y : StoreState K V S). lengths_of y.words) same)
+
+  -- an exchange
+  exchanged_long : (at : At) (found old new : ℕ) (told : Call_answer) → Exchanges found old (put s.words at new) told s s' → IsLengthened
+  exchanged_long at found old new told h =
+      matched IsLengthened (found == old) _ _ h
+      (λ _ done. inl (ap (λ (y : StoreState K V S). lengths_of y.words) done.1 ∙ put_lengths s.words at new)) (λ _ lost. as_long lost.1)
+
+  -- a table
+  made_long : (slots limit : ℕ) (told : Call_answer) → Asked slots → MakesTable told slots limit s s' → IsLengthened
+  made_long slots limit told asked (is, few, more) =
+      let n : ℕ = length s.words.tables + 1 in
+      inr (slots, asked, ap (λ (y : StoreState K V S). lengths_of y.words) more ∙ map-append long s.words.tables (new_table n slots limit ∷ []) ∙ ap (λ m. lengths_of s.words ++ m ∷ []) (length-replicate slots 0))
+
+module _ {K V S : Type 0} (eq : K → K → Bool) (refuse : Bool) where
+  -- an ask of a copy
+  pub copy_long : (hash : S → K → ℕ) (ask : CopyAsk) (s : StoreState K V S) (a : Answer) (s' : StoreState K V S) → PerformsCopy eq hash refuse ask s a s' → IsLengthened (λ slots. (limit : ℕ) × (ask ≡ copies.MakeTable slots limit)) s s'
+  copy_long hash (copies.Load at) s a s' (is, same) = as_long _ s s' same
+  copy_long hash (copies.Exchange at old new) s a s' (told, is, h) = exchanged_long _ s s' at (word_at s.words at) old new told h
+  copy_long hash (copies.SizeOf n) s a s' (is, same) = as_long _ s s' same
+  copy_long hash (copies.HashOf n) s a s' (is, hashed, same) = as_long _ s s' same
+  copy_long hash (copies.SamePair m n) s a s' (is, same) = as_long _ s s' same
+  copy_long hash copies.Count s a s' (is, same) = as_long _ s s' same
+  copy_long hash (copies.MakeTable slots limit) s a s' (told, is, h) =
+      matched (IsLengthened (λ n. (l : ℕ) × (copies.MakeTable slots limit ≡ copies.MakeTable n l)) s s') refuse _ _ h (λ _ none. as_long _ s s' none.1)
+      (λ _ makes. elim makes [ inl refused ↦ as_long _ s s' refused.1 | inr made ↦ made_long _ s s' slots limit told (limit, refl) made ])
+
+  -- it counts nothing
+  pub copy_counts : (hash : S → K → ℕ) (ask : CopyAsk) (s : StoreState K V S) (a : Answer) (s' : StoreState K V S) → PerformsCopy eq hash refuse ask s a s' → s'.count ≡ s.count
+  copy_counts hash (copies.Load at) s a s' (is, same) = ap (λ (y : StoreState K V S). y.count) same
+  copy_counts hash (copies.Exchange at old new) s a s' (told, is, h) =
+      matched (s'.count ≡ s.count) (word_at s.words at == old) _ _ h (λ _ done. ap (λ (y : StoreState K V S). y.count) done.1) (λ _ lost. ap (λ (y : StoreState K V S). y.count) lost.1)
+  copy_counts hash (copies.SizeOf n) s a s' (is, same) = ap (λ (y : StoreState K V S). y.count) same
+  copy_counts hash (copies.HashOf n) s a s' (is, hashed, same) = ap (λ (y : StoreState K V S). y.count) same
+  copy_counts hash (copies.SamePair m n) s a s' (is, same) = ap (λ (y : StoreState K V S). y.count) same
+  copy_counts hash copies.Count s a s' (is, same) = ap (λ (y : StoreState K V S). y.count) same
+  copy_counts hash (copies.MakeTable slots limit) s a s' (told, is, h) =
+      matched (s'.count ≡ s.count) refuse _ _ h (λ _ none. ap (λ (y : StoreState K V S). y.count) none.1)
+      (λ _ makes. elim makes [ inl refused ↦ ap (λ (y : StoreState K V S). y.count) refused.1 | inr (e, few, made) ↦ ap (λ (y : StoreState K V S). y.count) made ])
+
+-- an ask of a call counts where it adds to the count
+abbrev pub IsCountedBy : {K V S : Type 0} → Call_ask → StoreState K V S → Call_answer → StoreState K V S → Type 0
+IsCountedBy (AddToShard by) s a s' = a ≡ Ok_done
+IsCountedBy ask s a s' = s'.count ≡ s.count
+
+module _ {K V S A : Type 0} (eq : K → K → Bool) (says : Says K V A) (refuse : Bool) where
+  -- an ask of a call for itself
+  pub own_long : (ask : Call_ask) (s : StoreState K V S) (r : Running K V A) (a : Call_answer) (s' : StoreState K V S) (r' : Running K V A) → Performs eq says refuse ask s r a s' r' → IsLengthened (λ slots. (limit : ℕ) × (ask ≡ MakeTable slots limit)) s s'
+  own_long (Load at) s r a s' r' (e, stays) = as_long _ s s' stays.0
+  own_long (Exchange at old new) s r a s' r' (h, moved) = exchanged_long _ s s' at (word_at s.words at) old new a h
+  own_long (SameKey n) s r a s' r' (e, stays) = as_long _ s s' stays.0
+  own_long ShowNone s r a s' r' h = as_long _ s s' (none_shown says s r a s' r' h).store
+  own_long (ShowPair n) s r a s' r' h = as_long _ s s' (pair_shown says r.machine.call.task n s r a s' r' h).store
+  own_long (SizeOf n) s r a s' r' (e, stays) = as_long _ s s' stays.0
+  own_long MakeKey s r a s' r' h =
+      matched (IsLengthened (λ slots. (limit : ℕ) × (MakeKey ≡ MakeTable slots limit)) s s') refuse _ _ h (λ _ none. as_long _ s s' none.1.0)
+      (λ _ makes. elim makes [ inl refused ↦ as_long _ s s' refused.1.0 | inr (inl has) ↦ as_long _ s s' has.1.0 | inr (inr (k, has, made, few, more, moved)) ↦ inl (ap (λ (y : StoreState K V S). lengths_of y.words) more) ])
+  own_long MakePair s r a s' r' h =
+      matched (IsLengthened (λ slots. (limit : ℕ) × (MakePair ≡ MakeTable slots limit)) s s') refuse _ _ h (λ _ none. as_long _ s s' none.1.0)
+      (λ _ makes. elim makes [ inl refused ↦ as_long _ s s' refused.1.0 | inr (inl has) ↦ as_long _ s s' has.1.0 | inr (inr (n, v, logged, value, made, few, more, moved)) ↦ inl (ap (λ (y : StoreState K V S). lengths_of y.words) more) ])
+  own_long (MakeTable slots limit) s r a s' r' h =
+      matched (IsLengthened (λ n. (l : ℕ) × (MakeTable slots limit ≡ MakeTable n l)) s s') refuse _ _ h (λ _ none. as_long _ s s' none.1.0)
+      (λ _ makes. elim makes.0 [ inl refused ↦ as_long _ s s' refused.1 | inr made ↦ made_long _ s s' slots limit a (limit, refl) made ])
+  own_long (AddToShard by) s r a s' r' (e, (number, same), moved) = inl (ap (λ (y : StoreState K V S). lengths_of y.words) same)
+  own_long (Ask_done reply) s r a s' r' (e, stays) = as_long _ s s' stays.0
+
+  pub own_counts : (ask : Call_ask) (s : StoreState K V S) (r : Running K V A) (a : Call_answer) (s' : StoreState K V S) (r' : Running K V A) → Performs eq says refuse ask s r a s' r' → IsCountedBy ask s a s'
+  own_counts (Load at) s r a s' r' (e, stays) = ap (λ (y : StoreState K V S). y.count) stays.0
+  own_counts (Exchange at old new) s r a s' r' (h, moved) =
+      matched (s'.count ≡ s.count) (word_at s.words at == old) _ _ h (λ _ done. ap (λ (y : StoreState K V S). y.count) done.1) (λ _ lost. ap (λ (y : StoreState K V S). y.count) lost.1)
+  own_counts (SameKey n) s r a s' r' (e, stays) = ap (λ (y : StoreState K V S). y.count) stays.0
+  own_counts ShowNone s r a s' r' h = ap (λ (y : StoreState K V S). y.count) (none_shown says s r a s' r' h).store
+  own_counts (ShowPair n) s r a s' r' h = ap (λ (y : StoreState K V S). y.count) (pair_shown says r.machine.call.task n s r a s' r' h).store
+  own_counts (SizeOf n) s r a s' r' (e, stays) = ap (λ (y : StoreState K V S). y.count) stays.0
+  own_counts MakeKey s r a s' r' h =
+      matched (s'.count ≡ s.count) refuse _ _ h (λ _ none. ap (λ (y : StoreState K V S). y.count) none.1.0)
+      (λ _ makes. elim makes [ inl refused ↦ ap (λ (y : StoreState K V S). y.count) refused.1.0 | inr (inl has) ↦ ap (λ (y : StoreState K V S). y.count) has.1.0 | inr (inr (k, has, made, few, more, moved)) ↦ ap (λ (y : StoreState K V S). y.count) more ])
+  own_counts MakePair s r a s' r' h =
+      matched (s'.count ≡ s.count) refuse _ _ h (λ _ none. ap (λ (y : StoreState K V S). y.count) none.1.0)
+      (λ _ makes. elim makes [ inl refused ↦ ap (λ (y : StoreState K V S). y.count) refused.1.0 | inr (inl has) ↦ ap (λ (y : StoreState K V S). y.count) has.1.0 | inr (inr (n, v, logged, value, made, few, more, moved)) ↦ ap (λ (y : StoreState K V S). y.count) more ])
+  own_counts (MakeTable slots limit) s r a s' r' h =
+      matched (s'.count ≡ s.count) refuse _ _ h (λ _ none. ap (λ (y : StoreState K V S). y.count) none.1.0)
+      (λ _ makes. elim makes.0 [ inl refused ↦ ap (λ (y : StoreState K V S). y.count) refused.1 | inr (e, few, made) ↦ ap (λ (y : StoreState K V S). y.count) made ])
+  own_counts (AddToShard by) s r a s' r' (e, (number, same), moved) = e
+  own_counts (Ask_done reply) s r a s' r' (e, stays) = ap (λ (y : StoreState K V S). y.count) stays.0
+
+-- the words of a new map
+pub new_long : (capacity initial : ℕ) (words : Tables) → IsEntriesFor capacity initial → HasCapacity capacity initial words → IsLongEnough initial words
+new_long zero initial words (power, least, below) is = record {
+  tables = subst (λ (w : Tables). All (λ len. initial ≤ len) (lengths_of w)) (sym is) (All-nil _);
+  first = λ none. let half : initial / 2 < 1 = below in omega (arith, half);
+}
+new_long (suc n) initial words entries (limit, size, is) =
+    let slots : List ℕ = replicate (max initial 8) 0 in
+    let long_is : length slots ≡ max initial 8 = length-replicate (max initial 8) 0 in
+    record {
+      tables = subst (λ (w : Tables). All (λ len. initial ≤ len) (lengths_of w)) (sym is) (All-cons (λ len. initial ≤ len) (length slots) [] (omega (arith, long_is)) (All-nil (λ len. initial ≤ len)));
+      first = λ none. let root : words.root ≡ 1 = ap (λ (w : Tables). w.root) is in absurd (omega (arith, root, none));
+    }
