@@ -1,7 +1,6 @@
 -- What a run of the program prints.
 use Rattle.std.specs.Prelude.{◌≡◌, ℕ, List, [], ◌⊎◌, Result, Err}
 use Rattle.std.specs.Hash.{u64}
-use mathlib.Core.List.{IsPrefix}
 use Rattle.papaya_words.specs.declared.probe.ResizeMode.{ResizeMode}
 use Rattle.papaya_keys.specs.Hashes.{hash_of}
 use Rattle.papaya_timeline.specs.New.{IsNew}
@@ -40,9 +39,13 @@ IsNewMap mode hasher s = IsNew {A = Unit {0}} mode 0 1 hasher (core_of s)
 abbrev pub DoesLine : {S : Type 0} → MapState ℕ ℕ S → List ℕ → Printed → MapState ℕ ℕ S → Type 0
 DoesLine old line text new = ObeysLine line old text new
 
--- a line that is done by a pass, which then has seen no less
-abbrev pub ShowsLine : shared.Seen → List ℕ → Printed → shared.Seen → Type 0
-ShowsLine old line text new = IsPrefix old new × shared.ObeysLine line old text new
+-- A line that is done on a map that threads share. Its plain calls are of no state: one line says
+-- nothing of the next.
+abbrev pub ShowsLine : Unit {0} → List ℕ → Printed → Unit {0} → Type 0
+ShowsLine before line text after = shared.ObeysLine line text
+
+abbrev pub AnyTime : Unit {0} → Type 0
+AnyTime before = Unit {0}
 
 -- The run of these lines on a new map ends so.
 abbrev pub RunsOn : {S : Type 0} → (hash : S → ℕ → ℕ) → Backend → ResizeMode → S
@@ -52,7 +55,7 @@ RunsOn hash backend.Core mode hasher lines wrote ended =
 RunsOn hash backend.Seq mode hasher lines wrote ended =
     IsRun (IsNewMap mode hasher) DoesLine WritesNone lines wrote ended
 RunsOn hash backend.Shared mode hasher lines wrote ended =
-    IsRun (λ seen. seen ≡ []) ShowsLine shared.IsBad lines wrote ended
+    IsRun AnyTime ShowsLine shared.IsBad lines wrote ended
 
 -- the same with the hasher that is asked for
 abbrev pub RunsBy : Backend → ResizeMode → Hashing → List (List ℕ) → (wrote : List ℕ → Type 0)
