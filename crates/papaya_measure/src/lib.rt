@@ -5,7 +5,11 @@
 mod backends;
 pub mod growth;
 mod one_caller;
+mod plain;
+pub mod reclaim;
 mod rivals;
 pub mod run;
+mod sets;
 mod shared;
 pub mod shared_growth;
+mod steps;

@@ -1,6 +1,7 @@
 //! The locks that a map is put behind.
 use crate::rivals::map::Map;
-use crate::rivals::steps::Target;
+use crate::steps::Target;
+use papaya_plan::answers::weight;
 use papaya_shell::failure::Failure;
 use std::sync::{Mutex, RwLock, Wait};
 
@@ -10,26 +11,26 @@ pub trait Lock {
 
     fn put_in<R: Wait>(&self, rt: &R, key: u64, value: u64) -> Result<u64, Failure>;
 
-    fn take_out<R: Wait>(&self, rt: &R, key: u64) -> u64;
+    fn take_out<R: Wait>(&self, rt: &R, key: u64) -> Result<u64, Failure>;
 }
 
 impl Lock for RwLock<Map> {
     #[inline(always)]
     fn look_up<R: Wait>(&self, rt: &R, key: u64) -> u64 {
         let map = self.read(rt);
-        Target::look_up(&*map, key)
+        weight(map.get(&key))
     }
 
     #[inline(always)]
     fn put_in<R: Wait>(&self, rt: &R, key: u64, value: u64) -> Result<u64, Failure> {
         let mut map = self.write(rt);
-        Target::put_in(&mut *map, key, value)
+        Target::put_in(&mut *map, rt, key, value)
     }
 
     #[inline(always)]
-    fn take_out<R: Wait>(&self, rt: &R, key: u64) -> u64 {
+    fn take_out<R: Wait>(&self, rt: &R, key: u64) -> Result<u64, Failure> {
         let mut map = self.write(rt);
-        Target::take_out(&mut *map, key)
+        Target::take_out(&mut *map, rt, key)
     }
 }
 
@@ -37,18 +38,18 @@ impl Lock for Mutex<Map> {
     #[inline(always)]
     fn look_up<R: Wait>(&self, rt: &R, key: u64) -> u64 {
         let map = self.lock(rt);
-        Target::look_up(&*map, key)
+        weight(map.get(&key))
     }
 
     #[inline(always)]
     fn put_in<R: Wait>(&self, rt: &R, key: u64, value: u64) -> Result<u64, Failure> {
         let mut map = self.lock(rt);
-        Target::put_in(&mut *map, key, value)
+        Target::put_in(&mut *map, rt, key, value)
     }
 
     #[inline(always)]
-    fn take_out<R: Wait>(&self, rt: &R, key: u64) -> u64 {
+    fn take_out<R: Wait>(&self, rt: &R, key: u64) -> Result<u64, Failure> {
         let mut map = self.lock(rt);
-        Target::take_out(&mut *map, key)
+        Target::take_out(&mut *map, rt, key)
     }
 }
