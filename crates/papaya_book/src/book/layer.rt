@@ -193,7 +193,12 @@ impl<K: Hash + Eq, V, S: BuildHasher> Book<K, V, S> {
         let mut sight = self.pass();
         let mut given = Own::nothing();
         let Ok((table, mut seal)) = self.make_table(
-            rt, alloc, len, limit(len), &mut sight, &mut given,
+            rt,
+            alloc,
+            len,
+            limit(len),
+            &mut sight,
+            &mut given,
         ) else {
             return Err(Refused::Memory);
         };
