@@ -1,6 +1,6 @@
 //! The count of a map's pairs, in shards, so that callers seldom meet at one word.
 ghost use Rattle.std.specs.Prelude.{◌≡◌, ◌<◌, ◌≤◌, [], ◌∷◌, Err, IfErr, IfOk, IfSome, length};
-ghost use Rattle.std.specs.Int.{IsNextPowerOfTwo, IsPowerOfTwo};
+ghost use Rattle.std.specs.Int.{IsNextPowerOfTwo};
 ghost use Rattle.papaya_book.specs.declared.rule.own.Given.TheVariants as numbers;
 
 use crate::rule::own::{Given, Own};
@@ -48,12 +48,15 @@ impl Count {
         }
     }
 
-    /// How many shards there are.
-    pub fn shards(&self) -> usize
-        ensures count { result ≡ self.now }
-        ensures power { IsPowerOfTwo result }
+    /// A count of 0 over as many shards.
+    pub fn anew(&self, alloc: Global) -> Result<Count, Refused>
+        ensures ok { IfOk result (λ count. count ≡ self.now) }
+        ensures err { IfErr result (λ refused. refused ≡ Refused.Memory) }
     {
-        self.shards.len()
+        match row(alloc, self.shards.len()) {
+            Some(shards) => Ok(Count { shards }),
+            None => Err(Refused::Memory),
+        }
     }
 
     /// What the caller adds to who has this number.

@@ -155,7 +155,7 @@ impl<K: Hash + Eq + Drop, V: Drop, S: BuildHasher + Clone + Drop> HashMap<K, V, 
         let Ok(hasher) = self.book.parts.hasher.clone() else {
             return Err(Refused::Memory);
         };
-        let count = Count::new(self.alloc, self.count.shards())?;
+        let count = self.count.anew(self.alloc)?;
         let Ok(parts) = Parts::new(self.alloc, self.book.parts.mode, pairs, hasher) else {
             return Err(Refused::Memory);
         };
