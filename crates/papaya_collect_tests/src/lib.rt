@@ -1,0 +1,22 @@
+//! The tests of calls that take many keys, copy, compare, or make a map or a set anew: on maps and
+//! sets, for one caller and shared by threads.
+#![tactic(auto)]
+
+#[cfg(test)]
+mod calls;
+#[cfg(test)]
+mod collection;
+#[cfg(test)]
+mod expect;
+#[cfg(test)]
+mod keys;
+#[cfg(test)]
+mod maps;
+#[cfg(test)]
+mod rows;
+#[cfg(test)]
+mod sets;
+#[cfg(test)]
+mod shared_maps;
+#[cfg(test)]
+mod shared_sets;
