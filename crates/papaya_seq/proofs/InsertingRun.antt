@@ -35,6 +35,8 @@ use Rattle.papaya_timeline.specs.Content.{map_in}
 use Rattle.papaya_timeline.specs.Solo.{whatever}
 use Rattle.papaya_timeline.proofs.KeptSettings.{IsLawfulKeys}
 use Rattle.papaya_timeline.proofs.StoreLemmas.{performed_ask, unnumbered}
+use Rattle.papaya_seq.specs.Lengths.{MakesTables}
+use Rattle.papaya_seq.proofs.CallLengths.{pairs}
 use Rattle.papaya_seq.specs.Map.{IsLawfulMap, IsResizing, LogsOne, IsTryCause, IsWriteCause, IsWriteCauseAt, MapState, insertion, next_of}
 use Rattle.papaya_seq.proofs.Answering.{answering, silent_performs}
 use Rattle.papaya_seq.proofs.Causes.{IsLogRefusal, IsNoTableRefusal, IsRemoveNothing, IsTableAsk, IsUnlogged, insert_pairs, refused_so, unlogged_more, unlogged_none, write_cause}
@@ -200,6 +202,10 @@ module _ {K V S A : Type 0} (eq : K → K → Bool) (hash : S → K → ℕ) (s 
       -- it has replied: it was made alone
       pub inserting_alone : IsOver eq hash s (insertion replace k value) store reply
       inserting_alone = made_alone eq hash s (keyed_insertion replace k value) keys lawful fits store (answering None r) reply (sym (ap reply_in e)) now.steps
+
+      -- the tables that it made
+      pub inserting_tables : MakesTables s.initial (pairs s) s.store.words store.words
+      inserting_tables = (now.steps keys lawful fits).long.made
 
       -- its machine is at its end
       ended : r.machine.phase ≡ Calling → r.machine.call.state ≡ Ended reply

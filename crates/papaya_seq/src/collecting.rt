@@ -1,10 +1,12 @@
 //! Calls that take many pairs, one after the other.
 ghost use Rattle.std.specs.Prelude.{◌≡◌, ◌⊎◌, IfOk, IfErr};
 ghost use Rattle.std.specs.Iterator.{IsFiniteIterable};
+ghost use Rattle.papaya_words.specs.Counter.{count_of};
 ghost use Rattle.std.specs.declared.hash.FoldHasher.{FoldHasher};
 ghost use Rattle.std.specs.declared.hash.BuildHasherDefault.{BuildHasherDefault};
 ghost use Rattle.papaya_seq.specs.Entries.{AllCome, ComesNext, Extends, HasJust, IsCutAnew};
 ghost use Rattle.papaya_seq.specs.Entries.{IsCutIn, IsPut};
+ghost use Rattle.papaya_seq.specs.Lengths.{MakesTables};
 ghost use Rattle.papaya_seq.specs.Map.{LogsOne, deref_pair};
 
 use crate::seq::HashMap;
@@ -15,11 +17,13 @@ use std::hash::{BuildHasher, BuildHasherDefault, FoldHasher, Hash};
 
 impl<K: Hash + Eq + Drop, V: Drop, S: BuildHasher> HashMap<K, V, S> {
     /// Stores a pair, and answers whether its key was absent. It is [`HashMap::insert`] without the
-    /// value that goes, so it borrows nothing, and its clause says what the map is after it.
-    /// Refused as that is.
+    /// value that goes, so it borrows nothing, and its clause says what the map is after it, and how
+    /// long the tables are that it made. Refused as that is.
     pub fn put(&mut self, key: K, value: V) -> Result<bool, Refused>
         ensures puts { IsPut K.eq key value self.old result self.new }
         ensures logs { LogsOne self.old.store self.new.store }
+        ensures tables { MakesTables self.old.initial (count_of self.old.store.count.sum)
+            self.old.store.words self.new.store.words }
     {
         let (reply, _) = self.insert_by(key, value, true);
         match reply {

@@ -1,9 +1,11 @@
 //! Insertions: at once where that will do, and else by their machine, answered by the store.
 ghost use Rattle.std.specs.Prelude.{◌≡◌, ℕ, false, Some, None};
+ghost use Rattle.papaya_words.specs.Counter.{count_of};
 ghost use Rattle.papaya_words.specs.declared.probe.Refused.{Refused};
 ghost use Rattle.papaya_keys.specs.Hashes.{hash_of};
 ghost use Rattle.papaya_timeline.specs.Content.{map_in};
 ghost use Rattle.papaya_timeline.specs.Solo.{IsAnswered, IsNewIn};
+ghost use Rattle.papaya_seq.specs.Lengths.{MakesTables};
 ghost use Rattle.papaya_seq.specs.MadeAlone.{IsMadeAlone};
 ghost use Rattle.papaya_seq.specs.Map.{IsTryCause, IsWriteCauseAt, Keeps, LogsOne, insertion};
 
@@ -44,6 +46,8 @@ impl<K: Hash + Eq + Drop, V: Drop, S: BuildHasher> HashMap<K, V, S> {
             (insertion replace key value) result.0 self.new }
         ensures keeps { Keeps self.old self.new }
         ensures logs { LogsOne self.old.store self.new.store }
+        ensures tables { MakesTables self.old.initial (count_of self.old.store.count.sum)
+            self.old.store.words self.new.store.words }
     {
         let hash = self.store.hash(&key);
         match insert_at_once(&mut self.store, self.alloc, key, value, hash, replace) {
@@ -68,6 +72,8 @@ impl<K: Hash + Eq + Drop, V: Drop, S: BuildHasher> HashMap<K, V, S> {
             (insertion replace key value) result.0 self.new }
         ensures keeps { Keeps self.old self.new }
         ensures logs { LogsOne self.old.store self.new.store }
+        ensures tables { MakesTables self.old.initial (count_of self.old.store.count.sum)
+            self.old.store.words self.new.store.words }
     {
         let hash = self.store.hash(&key);
         let mut running: Running<K, V, Listed<V>> = Running {

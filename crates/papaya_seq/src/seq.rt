@@ -4,6 +4,7 @@ ghost use Rattle.std.specs.Prelude.{[], ◌∷◌, ◌++◌};
 ghost use Rattle.std.specs.Prelude.{IfOk, IfErr, IsOk, IsSome, MatchOption, MatchResult, MatchBool, is_some};
 ghost use Rattle.std.specs.Prelude.{length, option_map, vec_len, vec_capacity};
 ghost use Rattle.std.specs.Borrow.{sem};
+ghost use Rattle.papaya_words.specs.Counter.{count_of};
 ghost use Rattle.papaya_words.specs.declared.limits.TheConstants.{DEFAULT_CHUNK};
 ghost use Rattle.papaya_call.specs.Machine.{started};
 ghost use Rattle.papaya_ask.specs.declared.call.Task.TheVariants.{Get};
@@ -19,6 +20,7 @@ ghost use Rattle.papaya_seq.specs.Answered.{entry_answered, judged_answered, old
 ghost use Rattle.papaya_seq.specs.Calls.{AreCalled, IsCalled, IsListed};
 ghost use Rattle.papaya_seq.specs.Computes.{tried_answered};
 ghost use Rattle.papaya_seq.specs.Computing.{reply_of};
+ghost use Rattle.papaya_seq.specs.Lengths.{MakesTables};
 ghost use Rattle.papaya_seq.specs.Looks.{LooksUp};
 ghost use Rattle.papaya_seq.specs.MadeAlone.{IsMadeAlone, IsRefusedAlone};
 ghost use Rattle.papaya_seq.specs.Removes.{IsJudged, IsRemoved, Judges};
@@ -352,6 +354,8 @@ impl<K: Hash + Eq + Drop, V: Drop, S: BuildHasher> HashMap<K, V, S> {
         ensures alone { IfErr result (λ refused. IsMadeAlone K.eq
             (hash_of K.hash_input S.build_hasher S.Hasher.write S.Hasher.finish) self.old
             (Call.TryInsert key value) (Reply.Refused refused) self.new) }
+        ensures tables { MakesTables self.old.initial (count_of self.old.store.count.sum)
+            self.old.store.words self.new.store.words }
     {
         let (reply, left) = self.insert_by(key, value, false);
         match reply {

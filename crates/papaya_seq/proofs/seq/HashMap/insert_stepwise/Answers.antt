@@ -16,7 +16,7 @@ use Rattle.papaya_seq.specs.MadeAlone.{IsMadeAlone}
 use Rattle.papaya_seq.specs.Map.{IsLawfulMap, IsTryCause, IsWriteCauseAt, MapState, insertion}
 use Rattle.papaya_seq.proofs.Alone.{map_answered, map_hasher, map_lawful, map_logged}
 use Rattle.papaya_seq.proofs.Ending.{left_of}
-use Rattle.papaya_seq.proofs.InsertingRun.{IsInserting, inserting_absent, inserting_alone, inserting_begin, inserting_cause, inserting_fit, inserting_left, inserting_more, inserting_nears, left_in}
+use Rattle.papaya_seq.proofs.InsertingRun.{inserting_absent, inserting_alone, inserting_begin, inserting_cause, inserting_fit, inserting_left, inserting_more, inserting_nears, inserting_tables, IsInserting, left_in}
 use Rattle.papaya_seq.proofs.Turns.{IsOver}
 use Rattle.papaya_seq.proofs.seq.HashMap.insert_stepwise.Goals as goal
 use Rattle.papaya_seq.proofs.seq.HashMap.insert_stepwise.Goals.{After-new, After-perform_ask-answer, After-answer, After-value_left}
@@ -133,3 +133,8 @@ returns-in-Call-Done-clause-keeps g c = record {
 
 pub returns-in-Call-Done-clause-logs : goal.returns-in-Call-Done-clause-logs
 returns-in-Call-Done-clause-logs g c = c.loop-reply.invariant.0.logs
+
+pub returns-in-Call-Done-clause-tables : goal.returns-in-Call-Done-clause-tables
+returns-in-Call-Done-clause-tables g c =
+    let n = (goal.at.returns-in-Call-Done-clause-tables g c).After-new in
+    inserting_tables g.K.PartialEq.eq (hash g) c.args.self.now c.args.replace c.args.key c.args.value (keys g c.args.self.now.store.hasher) (lawful g n) (fits g n) c.loop-reply.self-inside.store c.loop-reply.running c.in-Call-Done.reply (replied g (goal.at.returns-in-Call-Done-clause-tables g c).After-value_left) c.loop-reply.invariant.0
