@@ -48,7 +48,11 @@ struct Caller<'a, H: Wait, S: BuildHasher> {
     map: HashMapRef<'a, u64, u64, S>,
 }
 
-impl<H: Wait, S: BuildHasher + Drop> Caller<'_, H, S> {
+impl<'a, H: Wait, S: BuildHasher + Drop> Caller<'a, H, S> {
+    fn new(rt: &'a H, map: &'a HashMap<u64, u64, S>) -> Caller<'a, H, S> {
+        Caller { rt, map: map.pin() }
+    }
+
     /// Stores a pair, and answers what is printed of it.
     fn insert(&self, key: u64, value: u64) -> Printed
         ensures { Obeys (asked.Insert key value) result }
@@ -165,6 +169,6 @@ pub(crate) fn run_shared<H: Wait, S: BuildHasher + Drop, R: Read, W: Write>(
     let map: HashMap<u64, u64, S> = HashMap::with_parts(rt, alloc, mode, 0, SHARDS, hasher).map_err(
         Failure::Refused,
     )?;
-    let mut caller = Caller { rt, map: map.pin() };
+    let mut caller = Caller::new(rt, &map);
     run_lines(alloc, &mut caller, input, output)
 }
