@@ -1,5 +1,10 @@
 //! The lines of an input one by one: each is read, done and answered in turn.
-ghost use Rattle.std.specs.Prelude.{◌≡◌, ◌⊎◌, ℕ, List, IfErr, IfOk};
+ghost use Rattle.std.specs.Prelude.{◌≡◌, ◌≢◌, ◌⊎◌, ℕ, List, [], ◌∷◌, ◌++◌, IfErr, IfOk, IfSome, OnOk};
+ghost use Rattle.std.specs.Io.Buffered.{reader_remaining};
+ghost use Rattle.std.specs.Io.KnownBytes.{Appends, Keeps};
+ghost use Rattle.papaya_lines.specs.Lines.{lines_of};
+ghost use Rattle.papaya_lines.specs.Printed.{text_of};
+ghost use Rattle.papaya_backends.specs.Runs.{IsRun, Prints};
 ghost use Rattle.papaya_lines.specs.Commands.{WritesCommand};
 ghost use Rattle.papaya_lines.specs.declared.commands.Command.TheVariants as asked;
 ghost use Rattle.papaya_lines.specs.declared.printed.Printed.{Printed};
@@ -10,7 +15,7 @@ use papaya_lines::printed::Printed;
 use papaya_shell::failure::Failure;
 use papaya_words::probe::Refused;
 use std::alloc::Global;
-use std::io::{BufReader, BufWriter, Read, Write};
+use std::io::{BufReader, Read, Write};
 
 /// What does lines, one at a time.
 ///
@@ -30,6 +35,48 @@ pub trait Obey {
             × (failure ≡ without_memory))) };
 }
 
+/// Writes out what was printed, unless the reader has a whole line at hand: then it need not wait.
+fn show<R: Read, W: Write>(reader: &BufReader<R>, output: &mut W) -> Result<(), Failure>
+    ensures kept { OnOk result (Keeps (W.contents output.old) (W.contents output.new)) }
+    ensures failed { IfErr result (λ failure. failure ≡ Failure.Output) }
+{
+    if !reader.buffer().contains(&b'\n') {
+        output.flush().map_err(|_| Failure::Output)?;
+    }
+    Ok(())
+}
+
+/// Prints a reply, and a line end.
+fn print<W: Write>(printed: &Printed, output: &mut W) -> Result<(), Failure>
+    ensures printed { OnOk result (Appends (W.contents output.old) (W.contents output.new)
+        (text_of printed.now ++ 10 ∷ [])) }
+    ensures failed { IfErr result (λ failure. failure ≡ Failure.Output) }
+{
+    writeln!(output, "{printed}").map_err(|_| Failure::Output)
+}
+
+/// Has a line done, and prints its reply. An empty line is passed over.
+fn answer<B: Obey, W: Write>(
+    alloc: Global,
+    backend: &mut B,
+    number: u64,
+    line: &[u8],
+    output: &mut W,
+) -> Result<(), Failure>
+    ensures answered { OnOk result ((text : List ℕ)
+        × Prints B.does backend.old (line.now ∷ []) text backend.new
+        × Appends (W.contents output.old) (W.contents output.new) text) }
+    ensures failed { IfErr result (λ failure. (failure ≡ Failure.Output)
+        ⊎ ((failure ≡ without_memory) ⊎ ((failure ≡ Failure.Line number) × (line.now ≢ [])
+        × B.is_bad line.now × (backend.new ≡ backend.old) × (output.new ≡ output.old)))) }
+{
+    if line.is_empty() {
+        return Ok(());
+    }
+    let printed = backend.obey_line(alloc, number, line)?;
+    print(&printed, output)
+}
+
 /// Has the lines done, and prints their replies. A reply is written out before the reader may have
 /// to wait, so that whoever types a line sees its reply.
 fn obey_lines<B: Obey, R: Read, W: Write>(
@@ -37,19 +84,18 @@ fn obey_lines<B: Obey, R: Read, W: Write>(
     backend: &mut B,
     reader: &mut BufReader<R>,
     output: &mut W,
-) -> Result<(), Failure> {
+) -> Result<(), Failure>
+    ensures { IfSome (reader_remaining R.remaining reader.old) (λ text.
+        IsRun (λ s. s ≡ backend.old) B.does B.is_bad (lines_of text)
+        (Appends (W.contents output.old) (W.contents output.new)) result) }
+{
     let mut line = Vec::new(alloc);
     for number in 1..u64::MAX {
-        if !reader.buffer().contains(&b'\n') {
-            output.flush().map_err(|_| Failure::Output)?;
-        }
+        show(reader, output)?;
         if !next_line(reader, &mut line)? {
             return Ok(());
         }
-        if !line.is_empty() {
-            let printed = backend.obey_line(alloc, number, &line)?;
-            writeln!(output, "{printed}").map_err(|_| Failure::Output)?;
-        }
+        answer(alloc, backend, number, &line, output)?;
     }
     Err(Failure::Input)
 }
@@ -62,10 +108,13 @@ pub fn run_lines<B: Obey, R: Read, W: Write>(
     backend: &mut B,
     input: &mut R,
     output: &mut W,
-) -> Result<(), Failure> {
+) -> Result<(), Failure>
+    ensures { IfSome (R.remaining input.old) (λ text.
+        IsRun (λ s. s ≡ backend.old) B.does B.is_bad (lines_of text)
+        (Appends (W.contents output.old) (W.contents output.new)) result) }
+{
     let mut reader = BufReader::new(alloc, input).map_err(|_| Failure::Refused(Refused::Memory))?;
-    let mut output = BufWriter::new(alloc, output).map_err(|_| Failure::Refused(Refused::Memory))?;
-    let done = obey_lines(alloc, backend, &mut reader, &mut output);
+    let done = obey_lines(alloc, backend, &mut reader, output);
     output.flush().map_err(|_| Failure::Output)?;
     done
 }

@@ -1,5 +1,11 @@
 //! The whole program, over any reader and writers.
-ghost use Rattle.std.specs.Prelude.{◌≡◌, ◌≤◌, map, string_bytes};
+ghost use Rattle.std.specs.Prelude.{◌≡◌, ◌≤◌, IfErr, IfSome, map, string_bytes};
+ghost use Rattle.std.specs.Hash.{u64};
+ghost use Rattle.std.specs.Io.KnownBytes.{Appends};
+ghost use Rattle.papaya_keys.specs.Hashes.{hash_of};
+ghost use Rattle.papaya_lines.specs.Lines.{lines_of};
+ghost use Rattle.papaya_shell.specs.Failure.{without_memory};
+ghost use Rattle.papaya_backends.specs.Program.{IsProgramRun, RunsOn, RunsTo};
 ghost use Rattle.papaya_lines.specs.declared.arguments.Arguments.{Arguments};
 ghost use Rattle.papaya_lines.specs.Arguments.{WritesArguments};
 
@@ -9,12 +15,44 @@ use crate::shared::run_shared;
 use papaya_lines::arguments::{Arguments, Backend, Hashing};
 use papaya_lines::hashers::{Identity, Zero};
 use papaya_shell::failure::{Failure, ended};
+use papaya_words::probe::Refused;
 use std::alloc::Global;
-use std::io::{Read, Write};
+use std::hash::BuildHasher;
+use std::io::{BufWriter, Read, Write};
 use std::sync::Wait;
 
 /// The name of the program in what it prints on standard error.
 pub const PROGRAM: &str = "papaya-run";
+
+/// The writer behind a buffer: what is printed reaches it where the program may wait for its input,
+/// and at its end.
+pub fn buffered<W: Write + Drop>(alloc: Global, output: W) -> Result<BufWriter<W>, Failure>
+    ensures failed { IfErr result (λ failure. failure ≡ without_memory) }
+{
+    BufWriter::new(alloc, output).map_err(|_| Failure::Refused(Refused::Memory))
+}
+
+/// Runs the lines on the backend that is asked for, with this hasher.
+fn run_by<H: Wait, S: BuildHasher + Drop, R: Read, W: Write>(
+    rt: &H,
+    alloc: Global,
+    arguments: Arguments,
+    hasher: S,
+    input: &mut R,
+    output: &mut W,
+) -> Result<(), Failure>
+    ensures { IfSome (R.remaining input.old) (λ text.
+        RunsOn (hash_of u64 S.build_hasher S.Hasher.write S.Hasher.finish) arguments.backend
+        arguments.mode hasher (lines_of text)
+        (Appends (W.contents output.old) (W.contents output.new)) result) }
+{
+    let mode = arguments.mode;
+    match arguments.backend {
+        Backend::Core => run_core(alloc, mode, hasher, input, output),
+        Backend::Seq => run_seq(alloc, mode, hasher, input, output),
+        Backend::Shared => run_shared(rt, alloc, mode, hasher, input, output),
+    }
+}
 
 /// Runs what the arguments ask for.
 fn run<H: Wait, R: Read, W: Write>(
@@ -24,28 +62,31 @@ fn run<H: Wait, R: Read, W: Write>(
     input: &mut R,
     output: &mut W,
 ) -> Result<(), Failure>
-    ensures { ((arguments : Arguments) → ¬ (WritesArguments (map string_bytes args.now) arguments))
+    ensures bad_arguments { ((arguments : Arguments)
+        → ¬ (WritesArguments (map string_bytes args.now) arguments))
         → result ≡ Err Failure.Arguments }
+    ensures ran { IfSome (R.remaining input.old) (λ text.
+        IsProgramRun (map string_bytes args.now) (lines_of text)
+        (Appends (W.contents output.old) (W.contents output.new)) result) }
 {
     let Some(arguments) = Arguments::from_words(args) else {
         return Err(Failure::Arguments);
     };
-    let mode = arguments.mode;
-    match (arguments.backend, arguments.hashing) {
-        (Backend::Core, Hashing::Identity) => run_core(alloc, mode, Identity, input, output),
-        (Backend::Core, Hashing::Zero) => run_core(alloc, mode, Zero, input, output),
-        (Backend::Seq, Hashing::Identity) => run_seq(alloc, mode, Identity, input, output),
-        (Backend::Seq, Hashing::Zero) => run_seq(alloc, mode, Zero, input, output),
-        (Backend::Shared, Hashing::Identity) => run_shared(
-            rt, alloc, mode, Identity, input, output,
-        ),
-        (Backend::Shared, Hashing::Zero) => run_shared(rt, alloc, mode, Zero, input, output),
+    match arguments.hashing {
+        Hashing::Identity => run_by(rt, alloc, arguments, Identity, input, output),
+        Hashing::Zero => run_by(rt, alloc, arguments, Zero, input, output),
     }
 }
 
 /// Runs the program on the arguments behind its name, and answers its exit status: 0, or the
 /// failure's that it has printed on `errors`. The arguments are looked at first, then the map is
 /// made, then lines are read. A line's number counts from 1.
+///
+/// Where the bytes of the input are known, the contract says what was written of them: what their
+/// lines print one after the other, up to the first bad one. Of a run that ends by want of memory
+/// or by a fault of the input or the output, which has status 1, it says nothing.
+///
+/// What is printed is handed to `output` line by line, so a caller buffers it.
 pub fn run_on<H: Wait, R: Read, W: Write, E: Write>(
     rt: &H,
     alloc: Global,
@@ -57,6 +98,9 @@ pub fn run_on<H: Wait, R: Read, W: Write, E: Write>(
     ensures bad_arguments { ((arguments : Arguments)
         → ¬ (WritesArguments (map string_bytes args.now) arguments)) → result ≡ 2 }
     ensures bound { result ≤ 2 }
+    ensures written { IfSome (R.remaining input.old) (λ text.
+        RunsTo result (map string_bytes args.now) (lines_of text)
+        (Appends (W.contents output.old) (W.contents output.new))) }
 {
     ended(run(rt, alloc, args, input, output), PROGRAM, errors)
 }

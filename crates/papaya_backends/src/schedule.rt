@@ -1,33 +1,32 @@
 //! The lines as one schedule of many callers on one map, a step at a time.
+ghost use Rattle.std.specs.Prelude.{◌≡◌, IfErr, IfOk, IfSome};
+ghost use Rattle.std.specs.Hash.{u64};
+ghost use Rattle.std.specs.Io.KnownBytes.{Appends};
+ghost use Rattle.papaya_keys.specs.Hashes.{hash_of};
+ghost use Rattle.papaya_lines.specs.Lines.{IsReadFailure, lines_of};
+ghost use Rattle.papaya_lines.specs.Script.{IsScript};
+ghost use Rattle.papaya_timeline.specs.New.{IsNew};
+ghost use Rattle.papaya_backends.specs.Core.{IsCoreRun};
+
 use papaya_core::schedule::Core;
-use papaya_core::trace::Trace;
 use papaya_lines::closures::Answering;
 use papaya_lines::replies::print_trace;
-use papaya_lines::script::{Line, Script};
+use papaya_lines::script::Script;
 use papaya_shell::failure::Failure;
 use papaya_words::probe::{Refused, ResizeMode};
 use std::alloc::Global;
 use std::hash::BuildHasher;
-use std::io::{BufReader, BufWriter, Read, Write};
+use std::io::{BufReader, Read, Write};
 
 /// Reads the whole input.
-fn script_of<R: Read>(alloc: Global, input: &mut R) -> Result<Script, Failure> {
+fn script_of<R: Read>(alloc: Global, input: &mut R) -> Result<Script, Failure>
+    ensures read { IfOk result (λ script. IfSome (R.remaining input.old)
+        (λ text. IsScript (lines_of text) 1 script.turns.items script.lines.items
+        script.bad_line)) }
+    ensures failed { IfErr result IsReadFailure }
+{
     let mut reader = BufReader::new(alloc, input).map_err(|_| Failure::Refused(Refused::Memory))?;
     Script::read(alloc, &mut reader)
-}
-
-/// Prints the replies, and answers the number of the first line whose turn was passed over.
-fn print<S: BuildHasher + Drop, W: Write>(
-    alloc: Global,
-    core: &Core<u64, u64, S, Answering>,
-    lines: &[Line],
-    trace: &Trace,
-    output: &mut W,
-) -> Result<Option<u64>, Failure> {
-    let mut output = BufWriter::new(alloc, output).map_err(|_| Failure::Refused(Refused::Memory))?;
-    let passed_over = print_trace(alloc, core, lines, trace, &mut output)?;
-    output.flush().map_err(|_| Failure::Output)?;
-    Ok(passed_over)
 }
 
 /// Runs the lines of the input as one schedule of a new core, and prints the replies.
@@ -37,15 +36,23 @@ pub(crate) fn run_core<S: BuildHasher + Drop, R: Read, W: Write>(
     hasher: S,
     input: &mut R,
     output: &mut W,
-) -> Result<(), Failure> {
-    let mut core: Core<u64, u64, S, Answering> = Core::new(alloc, mode, 0, 1, hasher)?;
+) -> Result<(), Failure>
+    ensures { IfSome (R.remaining input.old) (λ text.
+        IsCoreRun (hash_of u64 S.build_hasher S.Hasher.write S.Hasher.finish)
+        (IsNew mode 0 1 hasher) (lines_of text)
+        (Appends (W.contents output.old) (W.contents output.new)) result) }
+{
+    let mut core: Core<u64, u64, S, Answering> = Core::new(alloc, mode, 0, 1, hasher).map_err(
+        Failure::Refused,
+    )?;
     let Script {
         turns,
         lines,
         bad_line,
     } = script_of(alloc, input)?;
-    let trace = core.run(turns)?;
-    let passed_over = print(alloc, &core, lines.as_slice(), &trace, output)?;
+    let trace = core.run(turns).map_err(Failure::Refused)?;
+    let passed_over = print_trace(alloc, &core, lines.as_slice(), &trace, output)?;
+    output.flush().map_err(|_| Failure::Output)?;
     match passed_over.or(bad_line) {
         Some(number) => Err(Failure::Line(number)),
         None => Ok(()),

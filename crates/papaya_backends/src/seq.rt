@@ -1,12 +1,16 @@
 //! The lines on a map for one caller: each is read, done and printed before the next is read.
-ghost use Rattle.std.specs.Prelude.{◌≡◌, IfErr, IfOk};
-ghost use Rattle.papaya_lines.specs.Closures.{follower};
+ghost use Rattle.std.specs.Prelude.{◌≡◌, IfErr, IfOk, IfSome};
+ghost use Rattle.std.specs.Io.KnownBytes.{Appends};
+ghost use Rattle.papaya_lines.specs.Lines.{lines_of};
+ghost use Rattle.papaya_backends.specs.Program.{DoesLine, IsNewMap};
+ghost use Rattle.papaya_backends.specs.Runs.{IsRun};
 ghost use Rattle.papaya_lines.specs.Commands.{WritesNone};
 ghost use Rattle.papaya_lines.specs.Walk.{IsByKey};
 ghost use Rattle.papaya_shell.specs.Failure.{without_memory};
 ghost use Rattle.papaya_backends.specs.Seq.{Obeys, ObeysLine, pairs_of};
 
 use crate::line_by_line::{Obey, run_lines};
+use papaya_lines::closures::follower;
 use papaya_lines::commands::{Command, command_of};
 use papaya_lines::printed::Printed;
 use papaya_lines::walk::Walk;
@@ -16,13 +20,6 @@ use papaya_words::probe::ResizeMode;
 use std::alloc::Global;
 use std::hash::BuildHasher;
 use std::io::{Read, Write};
-
-/// The number after this one; 0 follows the greatest.
-fn follower(value: &u64) -> u64
-    ensures { result ≡ follower value.now }
-{
-    value.wrapping_add(1)
-}
 
 /// The pairs of the map.
 fn walk<S: BuildHasher + Drop>(alloc: Global, map: &HashMap<u64, u64, S>) -> Result<Walk, Failure>
@@ -98,7 +95,13 @@ pub(crate) fn run_seq<S: BuildHasher + Drop, R: Read, W: Write>(
     hasher: S,
     input: &mut R,
     output: &mut W,
-) -> Result<(), Failure> {
-    let mut map: HashMap<u64, u64, S> = HashMap::with_parts(alloc, mode, 0, 1, hasher)?;
+) -> Result<(), Failure>
+    ensures { IfSome (R.remaining input.old) (λ text.
+        IsRun (IsNewMap mode hasher) DoesLine WritesNone (lines_of text)
+        (Appends (W.contents output.old) (W.contents output.new)) result) }
+{
+    let mut map: HashMap<u64, u64, S> = HashMap::with_parts(alloc, mode, 0, 1, hasher).map_err(
+        Failure::Refused,
+    )?;
     run_lines(alloc, &mut map, input, output)
 }

@@ -1,24 +1,14 @@
-use Rattle.std.proofs.Common.{◌≡◌, Ok, rules}
-use Rattle.papaya_keys.specs.declared.compute.Compute.TheVariants.{Inserted, Updated, Removed, Aborted}
-use Rattle.papaya_backends.proofs.SharedLemmas.{aborted, not_inserted, not_removed, updated}
+use Rattle.std.proofs.Common.{Ok, ◌∙◌, ap, sym}
+use Rattle.papaya_seq.specs.Answered.{old_answered}
+use Rattle.papaya_backends.specs.Replied.{of_update}
+use Rattle.papaya_backends.proofs.SharedLemmas.{followed}
 use Rattle.papaya_backends.proofs.shared.Caller.update.Goals as goal
 
-pub returns-in-Ok-Updated-clause-updated : goal.returns-in-Ok-Updated-clause-updated
-returns-in-Ok-Updated-clause-updated g c =
-    let is : c.compute_as-computed.result ≡ Ok (Updated c.in-Ok-Updated.field-0-0 (c.in-Ok-Updated.field-0-1-0, c.in-Ok-Updated.value)) = search rules in
-    updated _ c.args.key c.args.self.now.pass.history c.compute_as-computed.new.pass.history _ c.compute_as-computed.result c.compute_as-computed.ensures.computed (λ f shown done g called. called.met.1) c.in-Ok-Updated.field-0-0 (c.in-Ok-Updated.field-0-1-0, c.in-Ok-Updated.value) is
+pub returns-in-Ok-Some : goal.returns-in-Ok-Some
+returns-in-Ok-Some g c = (c.update.result, sym (ap (λ r. of_update (old_answered r)) (c.in-Ok-Some.is ∙ ap Ok c.in-Ok-Some.field-0-is)), followed c.args.key _ _ (λ shown next is. is) c.update.result c.update.ensures.updated, c.update.ensures.refused)
 
-pub unreachable-requires : goal.unreachable-requires
-unreachable-requires g c =
-    let is : c.compute_as-computed.result ≡ Ok (Inserted c.in-Ok-Inserted.field-0-0 c.in-Ok-Inserted.field-0-1) = search rules in
-    not_inserted _ c.args.key c.args.self.now.pass.history c.compute_as-computed.new.pass.history _ c.compute_as-computed.result c.compute_as-computed.ensures.computed (λ f shown done g called. called.met.1) c.in-Ok-Inserted.field-0-0 c.in-Ok-Inserted.field-0-1 is
+pub returns-in-Ok-None : goal.returns-in-Ok-None
+returns-in-Ok-None g c = (c.update.result, sym (ap (λ r. of_update (old_answered r)) (c.in-Ok-None.is ∙ ap Ok c.in-Ok-None.field-0-is)), followed c.args.key _ _ (λ shown next is. is) c.update.result c.update.ensures.updated, c.update.ensures.refused)
 
-pub unreachable-requires-in-Ok-Removed : goal.unreachable-requires-in-Ok-Removed
-unreachable-requires-in-Ok-Removed g c =
-    let is : c.compute_as-computed.result ≡ Ok (Removed c.in-Ok-Removed.field-0-0 c.in-Ok-Removed.field-0-1) = search rules in
-    not_removed _ c.args.key c.args.self.now.pass.history c.compute_as-computed.new.pass.history _ c.compute_as-computed.result c.compute_as-computed.ensures.computed (λ f shown done g called. called.met.1) c.in-Ok-Removed.field-0-0 c.in-Ok-Removed.field-0-1 is
-
-pub returns-in-Ok-Aborted-clause-updated : goal.returns-in-Ok-Aborted-clause-updated
-returns-in-Ok-Aborted-clause-updated g c =
-    let is : c.compute_as-computed.result ≡ Ok (Aborted c.in-Ok-Aborted.field-0-0) = search rules in
-    aborted _ c.args.key c.args.self.now.pass.history c.compute_as-computed.new.pass.history _ c.compute_as-computed.result c.compute_as-computed.ensures.computed (λ f shown done g called. called.met.1) c.in-Ok-Aborted.field-0-0 is
+pub returns-in-Err : goal.returns-in-Err
+returns-in-Err g c = (c.update.result, sym (ap (λ r. of_update (old_answered r)) c.in-Err.is), followed c.args.key _ _ (λ shown next is. is) c.update.result c.update.ensures.updated, c.update.ensures.refused)
