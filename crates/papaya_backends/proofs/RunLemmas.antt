@@ -1,12 +1,12 @@
 -- Lines that are done one after the other, and what they print.
-use Rattle.std.proofs.Common.{◌≡◌, ◌≢◌, ℕ, ◌+◌, ◌<◌, Bool, true, false, cond, eqb, None, Some, IfSome, Ok, Err, List, [], ◌∷◌, ◌++◌, length, inl, inr, refl, sym, ap, subst, ◌∙◌, arith, append_assoc, length-append}
+use Rattle.std.proofs.Common.{◌≡◌, ◌≢◌, ℕ, ◌+◌, Bool, true, false, cond, eqb, None, Some, IfSome, Ok, Err, List, [], ◌∷◌, ◌++◌, length, inl, inr, refl, sym, ap, subst, ◌∙◌, arith, append_assoc, length-append}
 use Rattle.std.specs.Prelude.{◌⊎◌, IfOk, IsErrAnd, MatchResult, Option, Result}
 use Rattle.std.proofs.lemmas.List.{append-nil}
 use Rattle.std.specs.Io.KnownBytes.{prepend_known}
 use Rattle.papaya_shell.specs.Failure.{without_memory}
 use Rattle.papaya_shell.specs.declared.failure.Failure.{Failure}
 use Rattle.papaya_shell.specs.declared.failure.Failure.TheVariants as failure
-use Rattle.papaya_lines.specs.Lines.{IsNextLine, IsReadFailure, lines_of}
+use Rattle.papaya_lines.specs.Lines.{IsNextLine, lines_of}
 use Rattle.papaya_lines.specs.Printed.{text_of}
 use Rattle.papaya_backends.specs.Runs.{HasBad, IsRun, Prints, Wrote}
 use Rattle.papaya_lines.specs.declared.printed.Printed.{Printed}

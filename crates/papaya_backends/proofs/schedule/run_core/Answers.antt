@@ -1,4 +1,4 @@
-use Rattle.std.proofs.Common.{◌≡◌, ◌==◌, ◌∙◌, List, ℕ, length, refl, reverse, subst, sym}
+use Rattle.std.proofs.Common.{◌==◌, ◌∙◌, List, length, refl, reverse, subst, sym}
 use Rattle.std.specs.Io.KnownBytes.{Appends}
 use Rattle.std.specs.Hash.{u64}
 use Rattle.papaya_keys.specs.Hashes.{hash_of}
