@@ -1,9 +1,8 @@
 //! The maps that the workloads are run on.
-use crate::rivals::locked;
 use crate::rivals::locks::Lock;
 use crate::rivals::map::{Map, maps};
-use crate::steps::{self, Target};
-use crate::{one_caller, plain, sets, shared};
+use crate::rivals::{alone, locked};
+use crate::{one_caller, shared};
 use papaya_plan::plan::{Part, Plan};
 use papaya_shell::failure::Failure;
 use std::alloc::Global;
@@ -21,10 +20,6 @@ pub enum Backend {
     Shared,
     /// The shared map, by several threads.
     Threads,
-    /// The shared map by its plain calls, by one thread.
-    Plain,
-    /// The shared map by the calls of a session, by one thread.
-    Session,
     /// The kit's hash map.
     Std,
     /// That behind a lock of readers and a writer, by one thread.
@@ -35,10 +30,6 @@ pub enum Backend {
     Mutex,
     /// The same, by several threads.
     MutexThreads,
-    /// The set for one caller.
-    SeqSet,
-    /// The shared set, by one thread.
-    Set,
 }
 
 /// What a run of a plan gave: how long its rounds took, and the sum of their answers.
@@ -49,13 +40,11 @@ pub struct Measure {
 }
 
 impl Backend {
-    /// The maps, in the order in which they are run.
-    pub const MAPS: &'static [Backend] = &[
+    /// All backends, in the order in which they are run.
+    pub const ALL: [Backend; 8] = [
         Backend::Seq,
         Backend::Shared,
         Backend::Threads,
-        Backend::Plain,
-        Backend::Session,
         Backend::Std,
         Backend::RwLock,
         Backend::RwLockThreads,
@@ -63,24 +52,17 @@ impl Backend {
         Backend::MutexThreads,
     ];
 
-    /// The sets, which are run behind the maps.
-    pub const SETS: &'static [Backend] = &[Backend::SeqSet, Backend::Set];
-
     /// The name in what is printed.
     pub fn name(self) -> &'static str {
         match self {
             Backend::Seq => "seq",
             Backend::Shared => "shared",
             Backend::Threads => "threads",
-            Backend::Plain => "plain",
-            Backend::Session => "session",
             Backend::Std => "std",
             Backend::RwLock => "rwlock",
             Backend::RwLockThreads => "rwlock-threads",
             Backend::Mutex => "mutex",
             Backend::MutexThreads => "mutex-threads",
-            Backend::SeqSet => "seq-set",
-            Backend::Set => "set",
         }
     }
 
@@ -92,54 +74,36 @@ impl Backend {
         plan: Plan,
     ) -> Result<Measure, Failure> {
         match self {
-            Backend::Seq => by_one_caller(rt, one_caller::maps(alloc, plan)?, plan),
-            Backend::Shared | Backend::Threads | Backend::Plain | Backend::Session => {
-                self.on_shared_maps(rt, alloc, plan)
+            Backend::Seq => {
+                let mut maps = one_caller::maps(alloc, plan)?;
+                let start = now(rt)?;
+                let sum = one_caller::run(maps.as_mut_slice(), plan);
+                ended(rt, start, sum)
             }
-            Backend::Std => by_one_caller(rt, maps::<Map>(alloc, plan)?, plan),
+            Backend::Shared => {
+                let maps = shared::maps(rt, alloc, plan)?;
+                let start = now(rt)?;
+                let sum = shared::run(rt, maps.as_slice(), plan, Part::whole(plan));
+                ended(rt, start, sum)
+            }
+            Backend::Threads => {
+                let maps = shared::maps(rt, alloc, plan)?;
+                let start = now(rt)?;
+                let sum = shared::run_in_threads(rt, alloc, maps.as_slice(), plan);
+                ended(rt, start, sum)
+            }
+            Backend::Std => {
+                let mut maps = maps::<Map>(alloc, plan)?;
+                let start = now(rt)?;
+                let sum = alone::run(maps.as_mut_slice(), plan);
+                ended(rt, start, sum)
+            }
             Backend::RwLock => by_one_thread::<R, RwLock<Map>>(rt, alloc, plan),
             Backend::RwLockThreads => by_several::<R, RwLock<Map>>(rt, alloc, plan),
             Backend::Mutex => by_one_thread::<R, Mutex<Map>>(rt, alloc, plan),
             Backend::MutexThreads => by_several::<R, Mutex<Map>>(rt, alloc, plan),
-            Backend::SeqSet => by_one_caller(rt, sets::one_caller(alloc, plan)?, plan),
-            Backend::Set => {
-                let sets = sets::shared(rt, alloc, plan)?;
-                let start = now(rt)?;
-                let sum = sets::run(rt, sets.as_slice(), plan);
-                ended(rt, start, sum)
-            }
         }
     }
-
-    /// The measure of the shared map: by the calls of a pass, but where the backend names others.
-    fn on_shared_maps<R: Clock + Threads + Wait + Sync>(
-        self,
-        rt: &R,
-        alloc: Global,
-        plan: Plan,
-    ) -> Result<Measure, Failure> {
-        let maps = shared::maps(rt, alloc, plan)?;
-        let start = now(rt)?;
-        let sum = match self {
-            Backend::Threads => shared::run_in_threads(rt, alloc, maps.as_slice(), plan),
-            Backend::Plain => plain::run(rt, maps.as_slice(), plan),
-            Backend::Session => plain::run_sessions(rt, maps.as_slice(), plan),
-            _ => shared::run(rt, maps.as_slice(), plan, Part::whole(plan)),
-        };
-        ended(rt, start, sum)
-    }
-}
-
-/// The measure of maps or sets for one caller.
-fn by_one_caller<R: Clock + Wait, T: Target + Drop>(
-    rt: &R,
-    targets: Vec<T>,
-    plan: Plan,
-) -> Result<Measure, Failure> {
-    let mut targets = targets;
-    let start = now(rt)?;
-    let sum = steps::run(rt, targets.as_mut_slice(), plan);
-    ended(rt, start, sum)
 }
 
 /// The measure of the kit's map behind a lock, by one thread.

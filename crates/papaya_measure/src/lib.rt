@@ -5,11 +5,7 @@
 mod backends;
 pub mod growth;
 mod one_caller;
-mod plain;
-pub mod reclaim;
 mod rivals;
 pub mod run;
-mod sets;
 mod shared;
 pub mod shared_growth;
-mod steps;

@@ -1,13 +1,12 @@
 //! The workloads on the map for one caller.
-use crate::steps::Target;
+use papaya_plan::action::Action;
 use papaya_plan::answers::weight;
-use papaya_plan::plan::{Plan, key_of};
+use papaya_plan::plan::{Part, Plan, key_of};
 use papaya_seq::seq::HashMap;
 use papaya_shell::failure::Failure;
 use papaya_words::probe::{Refused, ResizeMode};
 use std::alloc::Global;
 use std::hash::{BuildHasherDefault, FoldHasher};
-use std::sync::Wait;
 
 /// The map that is measured.
 pub type Map = HashMap<u64, u64, BuildHasherDefault<FoldHasher>>;
@@ -37,19 +36,38 @@ pub fn maps(alloc: Global, plan: Plan) -> Result<Vec<Map>, Failure> {
     Ok(maps)
 }
 
-impl Target for Map {
-    #[inline(always)]
-    fn look_up<R: Wait>(&mut self, _rt: &R, key: u64) -> u64 {
-        weight(self.get(&key))
+/// One step: what it answers.
+#[inline(always)]
+fn step(map: &mut Map, action: Action) -> Result<u64, Refused> {
+    match action {
+        Action::Get(number) => Ok(weight(map.get(&key_of(number)))),
+        Action::Insert(number, value) => Ok(weight(map.insert(key_of(number), value)?)),
+        Action::Renew(number) => {
+            let key = key_of(number);
+            let removed = weight(map.remove(&key)?);
+            Ok(removed.wrapping_add(weight(map.insert(key, number)?)))
+        }
     }
+}
 
-    #[inline(always)]
-    fn put_in<R: Wait>(&mut self, _rt: &R, key: u64, value: u64) -> Result<u64, Failure> {
-        Ok(weight(self.insert(key, value)?))
+/// The rounds of one map: the sum of what their steps answer.
+fn rounds(map: &mut Map, plan: Plan, part: Part) -> Result<u64, Refused> {
+    let mut sum: u64 = 0;
+    let (_, rounds) = plan.maps();
+    for round in 0..rounds {
+        for turn in part.start..part.end {
+            let action = plan.action_at(plan.number_at(turn), round);
+            sum = sum.wrapping_add(step(map, action)?);
+        }
     }
+    Ok(sum)
+}
 
-    #[inline(always)]
-    fn take_out<R: Wait>(&mut self, _rt: &R, key: u64) -> Result<u64, Failure> {
-        Ok(weight(self.remove(&key)?))
+/// The rounds of all maps: the sum of what their steps answer.
+pub fn run(maps: &mut [Map], plan: Plan) -> Result<u64, Failure> {
+    let mut sum: u64 = 0;
+    for map in maps {
+        sum = sum.wrapping_add(rounds(map, plan, Part::whole(plan))?);
     }
+    Ok(sum)
 }

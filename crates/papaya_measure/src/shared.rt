@@ -14,7 +14,7 @@ use std::sync::Wait;
 use std::thread;
 use std::thread::Threads;
 
-pub(crate) type Hasher = BuildHasherDefault<FoldHasher>;
+type Hasher = BuildHasherDefault<FoldHasher>;
 
 /// The map that is measured.
 pub type Map = HashMap<u64, u64, Hasher>;

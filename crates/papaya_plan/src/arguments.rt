@@ -12,8 +12,6 @@ pub enum Task {
     Time,
     /// Time maps that grow from empty: the argument `grow`.
     Grow,
-    /// Time maps that are filled and reclaimed: the argument `reclaim`.
-    Reclaim,
 }
 
 impl Task {
@@ -27,7 +25,6 @@ impl Task {
             [word] => match word.as_str() {
                 "time" => Some(Task::Time),
                 "grow" => Some(Task::Grow),
-                "reclaim" => Some(Task::Reclaim),
                 _ => None,
             },
             _ => None,

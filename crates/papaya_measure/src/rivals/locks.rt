@@ -1,7 +1,6 @@
 //! The locks that a map is put behind.
 use crate::rivals::map::Map;
-use crate::steps::Target;
-use papaya_plan::answers::weight;
+use crate::rivals::steps::Target;
 use papaya_shell::failure::Failure;
 use std::sync::{Mutex, RwLock, Wait};
 
@@ -11,26 +10,26 @@ pub trait Lock {
 
     fn put_in<R: Wait>(&self, rt: &R, key: u64, value: u64) -> Result<u64, Failure>;
 
-    fn take_out<R: Wait>(&self, rt: &R, key: u64) -> Result<u64, Failure>;
+    fn take_out<R: Wait>(&self, rt: &R, key: u64) -> u64;
 }
 
 impl Lock for RwLock<Map> {
     #[inline(always)]
     fn look_up<R: Wait>(&self, rt: &R, key: u64) -> u64 {
         let map = self.read(rt);
-        weight(map.get(&key))
+        Target::look_up(&*map, key)
     }
 
     #[inline(always)]
     fn put_in<R: Wait>(&self, rt: &R, key: u64, value: u64) -> Result<u64, Failure> {
         let mut map = self.write(rt);
-        Target::put_in(&mut *map, rt, key, value)
+        Target::put_in(&mut *map, key, value)
     }
 
     #[inline(always)]
-    fn take_out<R: Wait>(&self, rt: &R, key: u64) -> Result<u64, Failure> {
+    fn take_out<R: Wait>(&self, rt: &R, key: u64) -> u64 {
         let mut map = self.write(rt);
-        Target::take_out(&mut *map, rt, key)
+        Target::take_out(&mut *map, key)
     }
 }
 
@@ -38,18 +37,18 @@ impl Lock for Mutex<Map> {
     #[inline(always)]
     fn look_up<R: Wait>(&self, rt: &R, key: u64) -> u64 {
         let map = self.lock(rt);
-        weight(map.get(&key))
+        Target::look_up(&*map, key)
     }
 
     #[inline(always)]
     fn put_in<R: Wait>(&self, rt: &R, key: u64, value: u64) -> Result<u64, Failure> {
         let mut map = self.lock(rt);
-        Target::put_in(&mut *map, rt, key, value)
+        Target::put_in(&mut *map, key, value)
     }
 
     #[inline(always)]
-    fn take_out<R: Wait>(&self, rt: &R, key: u64) -> Result<u64, Failure> {
+    fn take_out<R: Wait>(&self, rt: &R, key: u64) -> u64 {
         let mut map = self.lock(rt);
-        Target::take_out(&mut *map, rt, key)
+        Target::take_out(&mut *map, key)
     }
 }

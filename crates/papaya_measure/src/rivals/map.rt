@@ -1,12 +1,11 @@
 //! The hash map of the kit.
-use crate::steps::Target;
+use crate::rivals::steps::Target;
 use papaya_plan::answers::weight;
 use papaya_plan::plan::{Plan, key_of};
 use papaya_shell::failure::Failure;
 use std::alloc::Global;
 use std::collections::HashMap;
 use std::hash::{BuildHasherDefault, FoldHasher};
-use std::sync::Wait;
 
 /// The map that is measured.
 pub type Map = HashMap<u64, u64, BuildHasherDefault<FoldHasher>>;
@@ -33,17 +32,17 @@ pub fn maps<M: From<Map> + Drop>(alloc: Global, plan: Plan) -> Result<Vec<M>, Fa
 
 impl Target for Map {
     #[inline(always)]
-    fn look_up<R: Wait>(&mut self, _rt: &R, key: u64) -> u64 {
+    fn look_up(&self, key: u64) -> u64 {
         weight(self.get(&key))
     }
 
     #[inline(always)]
-    fn put_in<R: Wait>(&mut self, _rt: &R, key: u64, value: u64) -> Result<u64, Failure> {
+    fn put_in(&mut self, key: u64, value: u64) -> Result<u64, Failure> {
         Ok(weight(self.insert(key, value)?.as_ref()))
     }
 
     #[inline(always)]
-    fn take_out<R: Wait>(&mut self, _rt: &R, key: u64) -> Result<u64, Failure> {
-        Ok(weight(self.remove(&key).as_ref()))
+    fn take_out(&mut self, key: u64) -> u64 {
+        weight(self.remove(&key).as_ref())
     }
 }
