@@ -21,11 +21,13 @@ ghost use Rattle.papaya_change.specs.Showings.{Judges, Operates};
 ghost use Rattle.papaya_sweep.specs.Leaving.{HasKept};
 
 use crate::computing::compute;
+use crate::told::{Told, tell};
 use papaya_book::book::Book;
 use papaya_book::book::kept::KeptRoot;
 use papaya_book::book::parts::Parts;
 use papaya_book::count::Count;
-use papaya_book::rule::entry::Step;
+use papaya_book::rule::entry::{Event, Named, Step};
+use papaya_book::rule::law::Law;
 use papaya_book::rule::own::{Given, Own};
 use papaya_book::rule::trade::Sight;
 use papaya_book::window::Window;
@@ -105,6 +107,19 @@ impl<K: Hash + Eq, V, S: BuildHasher> Model for Pass<K, V, S> {
     } };
 
     ghost invariant = { λ p. IsLegalHistory K.eq key_of (history_of p.sight.log) };
+}
+
+impl<K: Hash + Eq, V, S: BuildHasher> Pass<K, V, S> {
+    /// An answer, with what the pass has seen.
+    #[inline(always)]
+    pub(crate) fn tell<B>(&self, answer: B) -> Told<B, Event<K, V, S>, Named<K, V>, Law<K, V, S>>
+        ensures answer { result.answer ≡ answer }
+        ensures book { result.book ≡ self.now.book }
+        ensures history { history_of result.log ≡ self.now.history }
+        ensures legal { IsLegalHistory K.eq key_of (history_of result.log) }
+    {
+        tell(answer, &self.sight)
+    }
 }
 
 /// A map, as calls take it. What it answers stays for as long as the map does. It keeps the root as
