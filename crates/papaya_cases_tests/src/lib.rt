@@ -29,5 +29,3 @@ mod shared_sets;
 mod steps;
 #[cfg(test)]
 mod threads;
-#[cfg(test)]
-mod together;

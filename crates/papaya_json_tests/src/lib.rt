@@ -6,8 +6,6 @@ mod expect;
 #[cfg(test)]
 mod reads;
 #[cfg(test)]
-mod refused;
-#[cfg(test)]
 mod sets;
 #[cfg(test)]
 mod shared;

@@ -30,8 +30,6 @@ mod removals;
 #[cfg(test)]
 mod room;
 #[cfg(test)]
-mod stored_keys;
-#[cfg(test)]
 mod sweeps;
 #[cfg(test)]
 mod texts;

@@ -4,8 +4,6 @@
 #[cfg(test)]
 mod calls;
 #[cfg(test)]
-mod clones;
-#[cfg(test)]
 mod computes;
 #[cfg(test)]
 mod expect;

@@ -7,8 +7,3 @@ use std::process::Abort;
 pub fn is<T: PartialEq + Debug + Drop>(rt: &impl Abort, found: T, wanted: T) {
     assert_eq!(rt; found, wanted);
 }
-
-/// What was found in a case, which has a number, is what is wanted.
-pub fn is_at<T: PartialEq + Debug + Drop>(rt: &impl Abort, case: usize, found: T, wanted: T) {
-    assert_eq!(rt; found, wanted, "at {case}");
-}

@@ -2,16 +2,14 @@
 #![tactic(auto)]
 
 #[cfg(test)]
-mod copies;
-#[cfg(test)]
 mod expect;
+#[cfg(test)]
+mod guards;
 #[cfg(test)]
 mod labels;
 #[cfg(test)]
-mod refused;
+mod printing;
 #[cfg(test)]
 mod shared;
 #[cfg(test)]
 mod threads;
-#[cfg(test)]
-mod together;

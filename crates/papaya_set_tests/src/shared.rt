@@ -1,11 +1,8 @@
 // Each call of the set that threads share, once and with ample memory: what it answers by one caller.
 use crate::expect::is;
 use crate::labels::{Keys, Labelled, Pinned, any, key};
-use papaya_keys::guard::Collector;
 use papaya_set::set::HashSet;
-use papaya_words::probe::{Refused, ResizeMode};
-use std::alloc::Global;
-use std::hash::BuildHasherDefault;
+use papaya_words::probe::Refused;
 use std::process::Abort;
 use std::sync::Wait;
 use std::test::Fail;
@@ -67,52 +64,5 @@ fn a_pinned_set_answers(rt: HostRuntime) -> Result<(), Fail> {
     stores(&rt, &set.pin());
     removes(&rt, &set.pin());
     sweeps(&rt, &set);
-    Ok(())
-}
-
-/// How many keys a set has that was made, or why none was made.
-fn len(made: Result<Keys, Refused>) -> Result<usize, Refused> {
-    match made {
-        Ok(set) => Ok(set.len()),
-        Err(refused) => Err(refused),
-    }
-}
-
-/// A set that its constructor makes empty.
-fn made<R: Wait>(rt: &R, alloc: Global, by: u64) -> Result<Keys, Refused> {
-    let mode = ResizeMode::Blocking;
-    match by {
-        0 => HashSet::default(rt, alloc),
-        1 => HashSet::with_capacity(rt, alloc, 3),
-        2 => HashSet::with_hasher(rt, alloc, BuildHasherDefault::new()),
-        3 => HashSet::with_capacity_and_hasher(rt, alloc, 3, BuildHasherDefault::new()),
-        4 => HashSet::with_parts(rt, alloc, mode, 3, 2, BuildHasherDefault::new()),
-        _ => HashSet::builder()
-            .capacity(3)
-            .resize_mode(mode)
-            .build(rt, alloc),
-    }
-}
-
-#[test]
-fn sets_are_made(rt: HostRuntime) {
-    let alloc = rt.alloc();
-    for by in 0..6u64 {
-        is(&rt, len(made(&rt, alloc, by)), Ok(0));
-    }
-    let none: [Labelled; 0] = [];
-    is(&rt, len(HashSet::from_iter(&rt, alloc, none)), Ok(0));
-    let keys = [any(1), any(2), any(1)];
-    is(&rt, len(HashSet::from_iter(&rt, alloc, keys)), Ok(2));
-    is(&rt, len(HashSet::from_array(&rt, alloc, keys)), Ok(2));
-}
-
-/// A builder shows its capacity, its collector's number and its mode.
-#[test]
-fn a_builder_of_sets_prints(rt: HostRuntime) -> Result<(), Fail> {
-    let builder = Keys::builder().capacity(6).collector(Collector::new(2));
-    let text = format!(in rt.alloc(); "{builder:?}")?;
-    let wanted = "HashSetBuilder { capacity: 6, collector: 2, resize_mode: Incremental(64) }";
-    is(&rt, text.as_str(), wanted);
     Ok(())
 }
