@@ -1,6 +1,6 @@
 // Computes by threads: no addition is lost.
 use crate::expect::is;
-use crate::numbers::{Numbers, counts, finds, in_each_mode};
+use crate::numbers::{MODES, Numbers, counts, finds, made};
 use papaya_call::answers::Operation;
 use std::process::Abort;
 use std::sync::Wait;
@@ -65,5 +65,9 @@ fn adds<R: Threads + Wait + Sync + Abort>(rt: &R, map: &Numbers) {
 /// No addition of eight threads is lost, and none is made twice.
 #[test]
 fn each_addition_is_made_once(rt: HostRuntime) -> Result<(), Fail> {
-    Ok(in_each_mode(&rt, rt.alloc(), 0, |map| adds(&rt, map))?)
+    for mode in MODES {
+        let map = made(&rt, rt.alloc(), mode, 0, 4)?;
+        adds(&rt, &map);
+    }
+    Ok(())
 }

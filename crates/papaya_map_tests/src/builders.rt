@@ -100,6 +100,13 @@ fn maps_may_share_a_collector(rt: HostRuntime) -> Result<(), Fail> {
     Ok(())
 }
 
+#[test]
+fn a_map_is_made_with_a_hasher(rt: HostRuntime) -> Result<(), Fail> {
+    let map: Numbers = HashMap::with_hasher(&rt, rt.alloc(), APART)?;
+    stores(&rt, &map);
+    Ok(())
+}
+
 /// A map for so many pairs is not made, and this is why.
 fn has_no_room_for<R: Wait + Abort>(rt: &R, alloc: Global, capacity: usize) {
     let made: Result<Numbers, Refused> = HashMap::with_capacity_and_hasher(

@@ -2,13 +2,12 @@
 ghost use Rattle.std.specs.Prelude.{◌≡◌};
 
 use crate::expect::is;
-use crate::numbers::{Numbers, NumbersPass, counts, finds, in_each_mode};
+use crate::numbers::{Numbers, NumbersPass, counts, finds, numbers};
 use papaya_call::answers::Operation;
 use papaya_keys::compute::Compute;
 use papaya_words::probe::Refused;
 use std::process::Abort;
 use std::sync::Wait;
-use std::test::Fail;
 
 /// A removal by a compute is refused where there is no pair.
 fn removes_nothing<R: Wait + Abort>(rt: &R, map: &Numbers, pass: &mut NumbersPass)
@@ -43,8 +42,9 @@ fn changes_nothing<R: Wait + Abort>(rt: &R, map: &Numbers) {
 }
 
 #[test]
-fn a_compute_has_nothing_to_remove(rt: HostRuntime) -> Result<(), Fail> {
-    Ok(in_each_mode(&rt, rt.alloc(), 0, |map| changes_nothing(&rt, map))?)
+fn a_compute_has_nothing_to_remove(rt: HostRuntime) {
+    let map = numbers(&rt, rt.alloc());
+    changes_nothing(&rt, &map);
 }
 
 /// What a closure of the tests answers.
@@ -108,11 +108,12 @@ fn shows_each_once<R: Wait + Abort>(rt: &R, map: &Numbers) {
     ] {
         is(rt, shown_by(rt, map, 7, says), shown);
     }
-    counts(rt, map, 0);
 }
 
 /// Where nobody else acts, a closure is called once, whatever it answers.
 #[test]
-fn a_closure_is_called_once(rt: HostRuntime) -> Result<(), Fail> {
-    Ok(in_each_mode(&rt, rt.alloc(), 0, |map| shows_each_once(&rt, map))?)
+fn a_closure_is_called_once(rt: HostRuntime) {
+    let map = numbers(&rt, rt.alloc());
+    shows_each_once(&rt, &map);
+    counts(&rt, &map, 0);
 }

@@ -1,6 +1,6 @@
 // A pair that is replaced while a closure is shown it.
 use crate::expect::is;
-use crate::numbers::{Numbers, counts, finds, in_each_mode, inserts};
+use crate::numbers::{MODES, Numbers, counts, finds, inserts, made};
 use crate::threads::turn_until;
 use papaya_call::answers::Operation;
 use papaya_keys::compute::Compute;
@@ -120,7 +120,11 @@ fn removes_what_replaced<R: Threads + Wait + Sync + Abort>(rt: &R, map: &Numbers
 /// its place.
 #[test]
 fn a_removal_shows_what_replaced_its_pair(rt: HostRuntime) -> Result<(), Fail> {
-    Ok(in_each_mode(&rt, rt.alloc(), 0, |map| removes_what_replaced(&rt, map))?)
+    for mode in MODES {
+        let map = made(&rt, rt.alloc(), mode, 0, 4)?;
+        removes_what_replaced(&rt, &map);
+    }
+    Ok(())
 }
 
 /// What the closure of a compute was shown, and the values that the compute answered of the old
@@ -229,5 +233,9 @@ fn updates_what_replaced<R: Threads + Wait + Sync + Abort>(rt: &R, map: &Numbers
 /// took its place.
 #[test]
 fn a_compute_shows_what_replaced_its_pair(rt: HostRuntime) -> Result<(), Fail> {
-    Ok(in_each_mode(&rt, rt.alloc(), 0, |map| updates_what_replaced(&rt, map))?)
+    for mode in MODES {
+        let map = made(&rt, rt.alloc(), mode, 0, 4)?;
+        updates_what_replaced(&rt, &map);
+    }
+    Ok(())
 }

@@ -1,6 +1,6 @@
 // Threads that share a map while it grows.
 use crate::expect::is;
-use crate::numbers::{Numbers, in_each_mode};
+use crate::numbers::{MODES, Numbers, made};
 use std::process::Abort;
 use std::sync::Wait;
 use std::sync::atomic::{AtomicBool, Ordering};
@@ -45,7 +45,11 @@ fn stores_twice<R: Threads + Wait + Sync + Abort>(rt: &R, map: &Numbers) {
 
 #[test]
 fn two_threads_store_the_same_keys(rt: HostRuntime) -> Result<(), Fail> {
-    Ok(in_each_mode(&rt, rt.alloc(), 0, |map| stores_twice(&rt, map))?)
+    for mode in MODES {
+        let map = made(&rt, rt.alloc(), mode, 0, 4)?;
+        stores_twice(&rt, &map);
+    }
+    Ok(())
 }
 
 /// Inserts these keys, each with itself. Was no call refused?
@@ -101,13 +105,11 @@ fn reads_while_growing<R: Threads + Wait + Sync + Abort>(rt: &R, map: &Numbers) 
 
 #[test]
 fn a_reader_finds_the_first_keys_while_the_map_grows(rt: HostRuntime) -> Result<(), Fail> {
-    let capacity = KEYS as usize;
-    Ok(in_each_mode(
-        &rt,
-        rt.alloc(),
-        capacity,
-        |map| reads_while_growing(&rt, map),
-    )?)
+    for mode in MODES {
+        let map = made(&rt, rt.alloc(), mode, KEYS as usize, 4)?;
+        reads_while_growing(&rt, &map);
+    }
+    Ok(())
 }
 
 /// Two threads insert the keys of a half each. Was no call refused?
@@ -156,5 +158,9 @@ fn inserts_eight<R: Threads + Wait + Sync + Abort>(rt: &R, map: &Numbers) {
 
 #[test]
 fn eight_threads_that_need_a_next_table_lose_no_key(rt: HostRuntime) -> Result<(), Fail> {
-    Ok(in_each_mode(&rt, rt.alloc(), 0, |map| inserts_eight(&rt, map))?)
+    for mode in MODES {
+        let map = made(&rt, rt.alloc(), mode, 0, 4)?;
+        inserts_eight(&rt, &map);
+    }
+    Ok(())
 }

@@ -1,7 +1,7 @@
 // Each call that takes a guard: with one of another collector it is refused and changes nothing, and
 // with one of the map's number it answers as ever, whichever collector made it.
 use crate::expect::is;
-use crate::numbers::{Numbers, in_each_mode};
+use crate::numbers::{Numbers, numbers};
 use papaya_call::answers::Operation;
 use papaya_keys::compute::Compute;
 use papaya_keys::guard::{Collector, Guard};
@@ -9,7 +9,6 @@ use papaya_keys::occupied::{NotInserted, OccupiedError};
 use papaya_words::probe::Refused;
 use std::process::Abort;
 use std::sync::Wait;
-use std::test::Fail;
 
 /// The value after one.
 fn next(value: &u64) -> u64 {
@@ -82,9 +81,7 @@ fn refuses<R: Wait + Abort, G: Guard>(rt: &R, map: &Numbers, guard: &G) {
 }
 
 /// So is each of its two kinds.
-fn refuses_both<R: Wait + Abort>(rt: &R, map: &Numbers) {
-    is(rt, map.pin().insert(rt, 1, 10), Ok(None));
-    let other = Collector::new(7);
+fn refuses_both<R: Wait + Abort>(rt: &R, map: &Numbers, other: &Collector) {
     let guard = other.enter();
     refuses(rt, map, &guard);
     let owned = other.enter_owned();
@@ -92,8 +89,11 @@ fn refuses_both<R: Wait + Abort>(rt: &R, map: &Numbers) {
 }
 
 #[test]
-fn a_guard_of_another_collector_is_refused(rt: HostRuntime) -> Result<(), Fail> {
-    Ok(in_each_mode(&rt, rt.alloc(), 0, |map| refuses_both(&rt, map))?)
+fn a_guard_of_another_collector_is_refused(rt: HostRuntime) {
+    let map = numbers(&rt, rt.alloc());
+    is(&rt, map.pin().insert(&rt, 1, 10), Ok(None));
+    let other = Collector::new(7);
+    refuses_both(&rt, &map, &other);
 }
 
 /// With such a guard 10 is stored at 1, and the lookups find it.
@@ -182,19 +182,15 @@ fn takes_both<R: Wait + Abort>(rt: &R, map: &Numbers) {
 }
 
 /// So is a guard of another collector that has the map's number.
-fn takes_of<R: Wait + Abort>(rt: &R, map: &Numbers) {
-    let foreign = Collector::new(0);
+fn takes_of<R: Wait + Abort>(rt: &R, map: &Numbers, foreign: &Collector) {
     let guard = foreign.enter();
     takes(rt, map, &guard);
 }
 
-/// All three are.
-fn takes_each<R: Wait + Abort>(rt: &R, map: &Numbers) {
-    takes_both(rt, map);
-    takes_of(rt, map);
-}
-
 #[test]
-fn a_guard_of_the_maps_number_is_taken(rt: HostRuntime) -> Result<(), Fail> {
-    Ok(in_each_mode(&rt, rt.alloc(), 0, |map| takes_each(&rt, map))?)
+fn a_guard_of_the_maps_number_is_taken(rt: HostRuntime) {
+    let map = numbers(&rt, rt.alloc());
+    takes_both(&rt, &map);
+    let foreign = Collector::new(0);
+    takes_of(&rt, &map, &foreign);
 }

@@ -30,6 +30,8 @@ mod removals;
 #[cfg(test)]
 mod room;
 #[cfg(test)]
+mod stored_keys;
+#[cfg(test)]
 mod sweeps;
 #[cfg(test)]
 mod texts;

@@ -10,7 +10,7 @@ use std::process::Abort;
 use std::sync::Wait;
 
 /// How the maps of the tests with threads resize.
-const MODES: [ResizeMode; 3] = [
+pub const MODES: [ResizeMode; 3] = [
     ResizeMode::Blocking,
     ResizeMode::Incremental(1),
     ResizeMode::Incremental(64),
@@ -65,20 +65,4 @@ pub fn inserts<R: Wait + Abort>(
 pub fn counts(rt: &impl Abort, map: &Numbers, pairs: usize) {
     is(rt, map.len(), pairs);
     is(rt, map.is_empty(), pairs == 0);
-}
-
-/// Does so with a new map in each mode.
-pub fn in_each_mode<R: Wait, F: Fn(&Numbers)>(
-    rt: &R,
-    alloc: Global,
-    capacity: usize,
-    act: F,
-) -> Result<(), Refused>
-    requires { F.IsAlwaysCallable act }
-{
-    for mode in MODES {
-        let map = made(rt, alloc, mode, capacity, 4)?;
-        act(&map);
-    }
-    Ok(())
 }

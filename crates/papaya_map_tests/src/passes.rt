@@ -1,10 +1,9 @@
 // What two passes have seen of a map is brought together.
 ghost use Rattle.std.specs.Prelude.{◌≡◌};
 
-use crate::numbers::{Numbers, NumbersPass, finds, in_each_mode, inserts};
+use crate::numbers::{Numbers, NumbersPass, finds, inserts, numbers};
 use std::process::Abort;
 use std::sync::Wait;
-use std::test::Fail;
 
 /// Each of two keys has the value that one of two callers gave it.
 fn finds_both(rt: &impl Abort, map: &Numbers, pass: &mut NumbersPass)
@@ -45,6 +44,7 @@ fn meet_twice<R: Wait + Abort>(rt: &R, map: &Numbers) {
 }
 
 #[test]
-fn two_passes_meet(rt: HostRuntime) -> Result<(), Fail> {
-    Ok(in_each_mode(&rt, rt.alloc(), 0, |map| meet_twice(&rt, map))?)
+fn two_passes_meet(rt: HostRuntime) {
+    let map = numbers(&rt, rt.alloc());
+    meet_twice(&rt, &map);
 }

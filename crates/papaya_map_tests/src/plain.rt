@@ -1,11 +1,10 @@
 // The calls of a pinned map that take no pass.
 use crate::expect::is;
-use crate::numbers::{Numbers, in_each_mode};
+use crate::numbers::numbers;
 use papaya_hashers::times::Times;
 use papaya_map::map::HashMapRef;
 use std::process::Abort;
 use std::sync::Wait;
-use std::test::Fail;
 
 /// A pinned map of numbers.
 type Pinned<'a> = HashMapRef<'a, u64, u64, Times>;
@@ -34,24 +33,11 @@ fn removes<R: Wait + Abort>(rt: &R, map: &Pinned<'_>) {
     is(rt, map.is_empty(), true);
 }
 
-/// So by a pass.
-fn removes_by_a_pass<R: Wait + Abort>(rt: &R, map: &Numbers) {
-    let mut pass = map.pass();
-    is(rt, map.pin().insert(rt, 1, 14), Ok(None));
-    let removed = map.pin().remove_entry_as(rt, &1, &mut pass);
-    is(rt, removed, Ok(Some((&1, &14))));
-}
-
-/// All of this, on a map of no pairs.
-fn takes_calls<R: Wait + Abort>(rt: &R, map: &Numbers) {
-    let pinned = map.pin();
-    stores(rt, &pinned);
-    removes(rt, &pinned);
-    removes_by_a_pass(rt, map);
-    is(rt, pinned.map().len(), 0);
-}
-
 #[test]
-fn a_pinned_map_takes_calls_without_a_pass(rt: HostRuntime) -> Result<(), Fail> {
-    Ok(in_each_mode(&rt, rt.alloc(), 0, |map| takes_calls(&rt, map))?)
+fn a_pinned_map_takes_calls_without_a_pass(rt: HostRuntime) {
+    let map = numbers(&rt, rt.alloc());
+    let pinned = map.pin();
+    stores(&rt, &pinned);
+    removes(&rt, &pinned);
+    is(&rt, pinned.map().len(), 0);
 }

@@ -1,5 +1,5 @@
 // A growth that is refused leaves the map as it was. Where the tests run with a failing allocation,
-// as by `tests/refused.py`, a call here meets it.
+// as by `rt try --test --fail-alloc N`, a call here meets it.
 ghost use Rattle.std.specs.Prelude.{◌≡◌};
 
 use crate::expect::{is, is_at};

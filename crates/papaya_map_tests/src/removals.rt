@@ -1,10 +1,9 @@
 // What a removal by one caller shows its closure.
 
 use crate::expect::is;
-use crate::numbers::{Numbers, counts, finds, in_each_mode, inserts};
+use crate::numbers::{Numbers, counts, finds, inserts, numbers};
 use std::process::Abort;
 use std::sync::Wait;
-use std::test::Fail;
 
 /// How often the closure of a removal was shown a pair, and which it was shown last.
 fn shown_by<R: Wait>(
@@ -53,11 +52,12 @@ fn shows_the_first<R: Wait + Abort>(rt: &R, map: &Numbers) {
     shows_each_once(rt, map);
     let mut later = map.pass();
     finds(rt, map, 8, &mut later, Some(&80));
-    counts(rt, map, 1);
 }
 
 /// Where nobody else acts, a closure is shown the stored pair, once, and nothing for an absent key.
 #[test]
-fn a_closure_is_shown_the_pair_once(rt: HostRuntime) -> Result<(), Fail> {
-    Ok(in_each_mode(&rt, rt.alloc(), 0, |map| shows_the_first(&rt, map))?)
+fn a_closure_is_shown_the_pair_once(rt: HostRuntime) {
+    let map = numbers(&rt, rt.alloc());
+    shows_the_first(&rt, &map);
+    counts(&rt, &map, 1);
 }

@@ -1,6 +1,6 @@
 // Room that is made ahead in a map that threads share.
 use crate::expect::is;
-use crate::numbers::{Numbers, in_each_mode};
+use crate::numbers::{MODES, Numbers, made};
 use papaya_words::probe::Refused;
 use std::process::Abort;
 use std::sync::Wait;
@@ -73,7 +73,11 @@ fn reads_beside<R: Threads + Wait + Sync + Abort>(rt: &R, map: &Numbers) {
 
 #[test]
 fn a_reader_finds_all_keys_while_room_is_made(rt: HostRuntime) -> Result<(), Fail> {
-    Ok(in_each_mode(&rt, rt.alloc(), 0, |map| reads_beside(&rt, map))?)
+    for mode in MODES {
+        let map = made(&rt, rt.alloc(), mode, 0, 4)?;
+        reads_beside(&rt, &map);
+    }
+    Ok(())
 }
 
 /// No table has room for so many pairs, and none is made.
@@ -88,5 +92,9 @@ fn refuses<R: Wait + Abort>(rt: &R, map: &Numbers) {
 
 #[test]
 fn room_for_too_many_pairs_is_refused(rt: HostRuntime) -> Result<(), Fail> {
-    Ok(in_each_mode(&rt, rt.alloc(), 0, |map| refuses(&rt, map))?)
+    for mode in MODES {
+        let map = made(&rt, rt.alloc(), mode, 0, 4)?;
+        refuses(&rt, &map);
+    }
+    Ok(())
 }

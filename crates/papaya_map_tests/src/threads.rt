@@ -1,6 +1,6 @@
 // Threads that share a map, each with a pass of its own.
 use crate::expect::{is, is_at};
-use crate::numbers::{Numbers, in_each_mode};
+use crate::numbers::{MODES, Numbers, made};
 use std::alloc::Global;
 use std::process::Abort;
 use std::sync::Wait;
@@ -195,6 +195,9 @@ fn churns<R: Threads + Wait + Sync + Abort>(rt: &R, alloc: Global, map: &Numbers
 /// Each value is taken out once or is left, and none is lost or taken twice.
 #[test]
 fn each_value_is_taken_out_once(rt: HostRuntime) -> Result<(), Fail> {
-    let alloc = rt.alloc();
-    Ok(in_each_mode(&rt, alloc, 0, |map| churns(&rt, alloc, map))?)
+    for mode in MODES {
+        let map = made(&rt, rt.alloc(), mode, 0, 4)?;
+        churns(&rt, rt.alloc(), &map);
+    }
+    Ok(())
 }

@@ -1,6 +1,6 @@
 // Updates by threads: no addition is lost.
 use crate::expect::is;
-use crate::numbers::{Numbers, in_each_mode};
+use crate::numbers::{MODES, Numbers, made};
 use std::process::Abort;
 use std::sync::Wait;
 use std::test::Fail;
@@ -34,5 +34,9 @@ fn adds<R: Threads + Wait + Sync + Abort>(rt: &R, map: &Numbers) {
 
 #[test]
 fn each_update_is_made_once(rt: HostRuntime) -> Result<(), Fail> {
-    Ok(in_each_mode(&rt, rt.alloc(), 0, |map| adds(&rt, map))?)
+    for mode in MODES {
+        let map = made(&rt, rt.alloc(), mode, 0, 4)?;
+        adds(&rt, &map);
+    }
+    Ok(())
 }

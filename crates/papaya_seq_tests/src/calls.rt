@@ -70,17 +70,6 @@ fn stores_and_removes(rt: &impl Abort, map: &mut Usual) {
     has(rt, map, 0);
 }
 
-/// Keys 1 and 2 are stored where they are absent, and not again.
-fn stores_absent(rt: &impl Abort, map: &mut Usual) {
-    is(rt, map.insert_absent(1, 10), Ok((0, None)));
-    is(rt, map.insert_absent(1, 11), Ok((0, Some(11))));
-    let mut left = None;
-    is(rt, map.try_insert_into(2, 20, &mut left), Ok(Ok(&20)));
-    is(rt, map.try_insert_into(2, 21, &mut left), Ok(Err(&20)));
-    is(rt, left, Some(21));
-    has(rt, map, 2);
-}
-
 /// What a closure answers, in turn.
 fn answers(alloc: Global, yes: bool) -> Result<Listed<u64>, Fail> {
     Ok(Listed {
@@ -141,7 +130,6 @@ enum Case {
     StoresOne,
     ReplacesTwice,
     StoresAndRemoves,
-    StoresAbsent,
     RunsInTurn,
 }
 
@@ -151,7 +139,6 @@ fn calls_on_new_maps(rt: HostRuntime) -> Result<(), Fail> {
         Case::StoresOne,
         Case::ReplacesTwice,
         Case::StoresAndRemoves,
-        Case::StoresAbsent,
         Case::RunsInTurn,
     ] {
         let mut map: Usual = HashMap::default(rt.alloc())?;
@@ -159,7 +146,6 @@ fn calls_on_new_maps(rt: HostRuntime) -> Result<(), Fail> {
             Case::StoresOne => stores_one(&rt, &mut map),
             Case::ReplacesTwice => replaces_twice(&rt, &mut map),
             Case::StoresAndRemoves => stores_and_removes(&rt, &mut map),
-            Case::StoresAbsent => stores_absent(&rt, &mut map),
             Case::RunsInTurn => runs_in_turn(&rt, rt.alloc(), &mut map)?,
         }
     }
