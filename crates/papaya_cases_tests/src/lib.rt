@@ -29,3 +29,5 @@ mod shared_sets;
 mod steps;
 #[cfg(test)]
 mod threads;
+#[cfg(test)]
+mod together;

@@ -6,6 +6,8 @@ mod expect;
 #[cfg(test)]
 mod reads;
 #[cfg(test)]
+mod refused;
+#[cfg(test)]
 mod sets;
 #[cfg(test)]
 mod shared;

@@ -4,6 +4,8 @@
 #[cfg(test)]
 mod calls;
 #[cfg(test)]
+mod clones;
+#[cfg(test)]
 mod computes;
 #[cfg(test)]
 mod expect;

@@ -1,5 +1,5 @@
 // A growth that is refused leaves the map as it was. Where the tests run with a failing allocation,
-// as by `tests/refused.py`, a call here meets it.
+// as by `rt try --test --fail-alloc N`, a call here meets it.
 use crate::numbers::{Numbers, removes};
 use papaya_call::answers::Operation;
 use papaya_hashers::times::TOGETHER;
@@ -124,5 +124,36 @@ fn refused_update_leaves_the_map(rt: HostRuntime) -> Result<(), Fail> {
     for _ in 0..20u64 {
         assert!(rt; updates(&mut map, 0)?);
     }
+    Ok(())
+}
+
+/// Clones the map: were both as they should be, or this one where that was refused?
+fn clones(alloc: Global, map: &Numbers, end: u64) -> Result<bool, Refused> {
+    match map.try_clone(alloc) {
+        Ok(clone) => Ok(has_below(&clone, end) && has_below(map, end)),
+        Err(Refused::Memory) => Ok(has_below(map, end)),
+        Err(refused) => Err(refused),
+    }
+}
+
+/// Builds the map anew: was it as it should be, also where that was refused?
+fn reclaims(map: &mut Numbers, end: u64) -> Result<bool, Refused> {
+    match map.reclaim() {
+        Ok(()) | Err(Refused::Memory) => Ok(has_below(map, end)),
+        Err(refused) => Err(refused),
+    }
+}
+
+#[test]
+fn refused_clones_leave_the_map(rt: HostRuntime) -> Result<(), Fail> {
+    let mut map = made(rt.alloc())?;
+    for key in 0..9u64 {
+        assert!(rt;
+            insert_again(&mut map, key, Insertion::Insert)?,
+            "at key {key}"
+        );
+    }
+    assert!(rt; clones(rt.alloc(), &map, 9)?);
+    assert!(rt; reclaims(&mut map, 9)?);
     Ok(())
 }

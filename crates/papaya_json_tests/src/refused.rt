@@ -1,0 +1,69 @@
+// A growth that is refused makes nothing, and the same call then succeeds. Where the tests run with
+// a failing allocation, as by `rt try --test --fail-alloc N`, a call here meets it.
+use crate::expect::{Numbers, digits, is, number};
+use crate::reads::numbers_of;
+use crate::sets::{Keys, keys_of};
+use papaya_json::writing::{map_to_value, set_to_value};
+use papaya_seq::seq::HashMap;
+use papaya_set::seq::HashSet;
+use papaya_words::probe::Refused;
+use std::alloc::Global;
+use std::test::Fail;
+
+/// What the call answers, also where memory was refused to it or to the function that makes a text
+/// for it at first.
+fn again<T: Drop, F: Fn() -> Result<T, Refused>>(call: F) -> Result<T, Refused>
+    requires { F.IsAlwaysCallable call }
+{
+    match call() {
+        Err(Refused::Memory | Refused::Item) => call(),
+        answer => answer,
+    }
+}
+
+/// How many keys the maps and sets have, so that their tables grow.
+const KEYS: u64 = 40;
+
+/// A map of these keys.
+fn filled_map(alloc: Global) -> Result<Numbers, Refused> {
+    let mut map = again(|| HashMap::new(alloc))?;
+    for key in 0..KEYS {
+        match map.put(key, key) {
+            Err(Refused::Memory) => map.put(key, key)?,
+            answer => answer?,
+        };
+    }
+    Ok(map)
+}
+
+/// A set of these keys.
+fn filled_set(alloc: Global) -> Result<Keys, Refused> {
+    let mut set = again(|| HashSet::new(alloc))?;
+    for key in 0..KEYS {
+        match set.insert(key) {
+            Err(Refused::Memory) => set.insert(key)?,
+            answer => answer?,
+        };
+    }
+    Ok(set)
+}
+
+#[test]
+fn refused_growth_makes_no_map(rt: HostRuntime) -> Result<(), Fail> {
+    let alloc = rt.alloc();
+    let map = filled_map(alloc)?;
+    let value = again(|| map_to_value(alloc, &map, |key| digits(alloc, key), number))?;
+    let back = again(|| numbers_of(alloc, &value))?;
+    is(&rt, (map.len(), back.eq(&map)), (40, true));
+    Ok(())
+}
+
+#[test]
+fn refused_growth_makes_no_set(rt: HostRuntime) -> Result<(), Fail> {
+    let alloc = rt.alloc();
+    let set = filled_set(alloc)?;
+    let value = again(|| set_to_value(alloc, &set, number))?;
+    let back = again(|| keys_of(alloc, &value))?;
+    is(&rt, (set.len(), back.eq(&set)), (40, true));
+    Ok(())
+}
