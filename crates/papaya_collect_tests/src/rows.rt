@@ -117,17 +117,18 @@ fn equal<R: Wait, C: Collection>(rt: &R, one: &C, other: &C) -> Result<(bool, bo
     Ok((one.equals(rt, other)?, other.equals(rt, one)?))
 }
 
-/// Such are equal or not, and none with a key is equal to one without.
+/// Such are equal or not, and none with a key is equal to one without. A copy of one without is.
 fn are_compared<R: Wait + Abort, C: Collection + Drop>(
     rt: &R,
     alloc: Global,
     has_values: bool,
 ) -> Result<(), Refused> {
     let none: C = C::of_nothing(rt, alloc)?;
+    let copy: C = none.copied(rt, alloc)?;
     is_at(
         rt,
         COMPARED.len(),
-        equal(rt, &none, &none),
+        equal(rt, &none, &copy),
         Ok((true, true)),
     );
     for (case, (one, other, maps, sets)) in COMPARED.into_iter().enumerate() {
