@@ -92,8 +92,6 @@ class Tests:
 # The tests that pass whichever request is refused.
 TOLERANT = [
     ("papaya_collect_tests", "calls::"),
-    ("papaya_seq_tests", "refused"),
-    ("papaya_map_tests", "refused::refused"),
 ]
 
 
