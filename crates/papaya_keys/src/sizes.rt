@@ -1,14 +1,12 @@
 //! What is asked for of a new map, before anything is made.
 ghost use Rattle.std.specs.Prelude.{◌≡◌, ◌*◌, ◌^◌, ◌<◌, ◌≤◌, IfErr, IfOk, OnOk};
 ghost use Rattle.papaya_words.specs.Mode.{IsChunked};
-ghost use Rattle.papaya_ask.specs.Search.{IsSize};
 ghost use Rattle.papaya_keys.specs.Sizes.{IsTooMuch};
 ghost use Rattle.papaya_words.specs.Probe.{IsEntriesFor};
 ghost use Rattle.papaya_words.specs.declared.limits.TheConstants.{MAX_TABLE_LEN};
 
 use papaya_words::limits::MAX_TABLE_LEN;
-use papaya_words::probe::{Refused, ResizeMode, entries_for, limit};
-use papaya_words::table::table_len;
+use papaya_words::probe::{Refused, ResizeMode, entries_for};
 
 /// Refuses a chunk of no slots.
 pub fn check_chunk(mode: ResizeMode) -> Result<(), Refused>
@@ -32,13 +30,4 @@ pub fn initial_len(capacity: usize) -> Result<usize, Refused>
         return Err(Refused::Capacity);
     }
     Ok(initial)
-}
-
-/// The size of the first table of a map with this initial capacity.
-pub fn first_size(capacity: usize, initial: usize) -> (usize, usize)
-    requires { IsEntriesFor capacity initial × (initial ≤ MAX_TABLE_LEN) }
-    ensures { IsSize result.0 result.1 }
-{
-    let len = table_len(initial);
-    (len, limit(len))
 }

@@ -2,7 +2,9 @@
 ghost use Rattle.std.specs.Prelude.{◌≡◌, ℕ, List, [], ◌∷◌, ◌++◌, IfErr, IfOk, OnOk, reverse};
 ghost use Rattle.std.specs.Io.KnownBytes.{Appends};
 ghost use Rattle.papaya_lines.specs.Replies.{printed_of, value_in};
-ghost use Rattle.papaya_lines.specs.Told.{IsPrintFailure, IsTold, Replies, Tells, behind, call_of, gave_to, no_calls, own_of, pairs_in, reply_among, reply_text, unended_text, with_call};
+ghost use Rattle.papaya_lines.specs.Told.{IsPrintFailure, IsTold, Replies, Tells, behind, call_of};
+ghost use Rattle.papaya_lines.specs.Told.{gave_to, no_calls, own_of, pairs_in, reply_among, reply_text};
+ghost use Rattle.papaya_lines.specs.Told.{unended_text, with_call};
 ghost use Rattle.papaya_shell.specs.Failure.{without_memory};
 
 use crate::closures::Answering;

@@ -1,6 +1,7 @@
 //! Making and opening tables.
 ghost use Rattle.papaya_book.specs.Books.{IsIn, IsLeft, Opens, Seals, root_then};
-ghost use Rattle.std.specs.Prelude.{◌≡◌, ℕ, ◌+◌, ◌<◌, ◌≤◌, ◌⊎◌, ◌==◌, cond, false, Some, None, [], ◌∷◌, IfErr, IfOk, length, map};
+ghost use Rattle.std.specs.Prelude.{◌≡◌, ℕ, ◌+◌, ◌<◌, ◌≤◌, ◌⊎◌, ◌==◌, cond, false, Some, None};
+ghost use Rattle.std.specs.Prelude.{[], ◌∷◌, IfErr, IfOk, length, map};
 ghost use mathlib.Core.List.{IsPrefix};
 ghost use Rattle.papaya_ask.specs.Search.{IsSize};
 ghost use Rattle.papaya_book.specs.Calls.{IsTable};
