@@ -1,3 +1,8 @@
 pub mod Ruled
 -- where no pair stays, none is left
 pub mod Cleared
+-- an answer that is told; the walk of a call that hands it on; and how that call meets its contract
+pub mod Earlier
+pub mod Telling
+pub mod ToldWalks
+pub mod Handed

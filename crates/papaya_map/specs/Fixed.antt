@@ -5,7 +5,9 @@ use Rattle.logbook.specs.Pages.{Book}
 use Rattle.papaya_words.specs.Probe.{IsEntriesFor}
 use Rattle.papaya_words.specs.declared.probe.ResizeMode.{ResizeMode}
 use Rattle.papaya_book.specs.Limits.{HasTableFrom}
+use Rattle.papaya_book.specs.Logs.{Stored}
 use Rattle.papaya_book.specs.declared.rule.entry.Begun.{Begun}
+use Rattle.papaya_lookup.specs.History.{Change}
 
 -- Which book it has; what that was opened with: the hasher, how the map resizes, and the logs of
 -- pairs and of tables; the initial capacity, in slots, by which its first table is sized; over how
@@ -18,6 +20,12 @@ pub record Fixed (K V S : Type 0) : Type 0 where
   pub shards : ℕ
   pub collector : ℕ
   pub opened : List ℕ
+
+-- What a map shows that is pinned: what of it is fixed, and what had been seen of its history when it
+-- was pinned.
+pub record Pinned (K V S : Type 0) : Type 0 where
+  pub map : Fixed K V S
+  pub seen : List (Change K (Stored K V))
 
 -- It resizes so, is made for so many pairs, and counts over the next power of two shards. Where there
 -- are to be pairs, it had a table for them when it was made.

@@ -43,14 +43,14 @@ impl<'a, K: Hash + Eq + Drop, V: Drop, S: BuildHasher> HashMapRef<'a, K, V, S> {
         value: V,
         pass: &mut Pass<K, V, S>,
     ) -> Result<Result<&'a V, OccupiedError<'a, V>>, Refused>
-        requires { pass.old.book ≡ self.now.book }
+        requires { pass.old.book ≡ self.now.map.book }
         ensures book { pass.new.book ≡ pass.old.book }
         ensures seen { IsPrefix pass.old.history pass.new.history }
         ensures tables { IsPrefix pass.old.tables pass.new.tables }
         ensures made { Makes (stored result) pass.old.made pass.new.made pass.new.history }
         ensures tried { IfOk result (IsTried K.eq key pass.old.history pass.new.history value) }
         ensures refused { IfErr result IsMemoryOrCapacity }
-        ensures crowded { result ≡ Err Refused.Capacity → HasNoRoom self.now.initial
+        ensures crowded { result ≡ Err Refused.Capacity → HasNoRoom self.now.map.initial
             pass.new.tables pass.new.given }
     {
         let mut rule = Giving {
@@ -82,7 +82,7 @@ impl<'a, K: Hash + Eq + Drop, V: Drop, S: BuildHasher> HashMapRef<'a, K, V, S> {
         f: F,
         pass: &mut Pass<K, V, S>,
     ) -> Result<Result<&'a V, &'a V>, Refused>
-        requires book { pass.old.book ≡ self.now.book }
+        requires book { pass.old.book ≡ self.now.map.book }
         requires callable { F.IsAlwaysCallable f }
         ensures book { pass.new.book ≡ pass.old.book }
         ensures seen { IsPrefix pass.old.history pass.new.history }
@@ -91,7 +91,7 @@ impl<'a, K: Hash + Eq + Drop, V: Drop, S: BuildHasher> HashMapRef<'a, K, V, S> {
         ensures tried { IfOk result (IsTriedWith K.eq key pass.old.history pass.new.history
             (F.post f)) }
         ensures refused { IfErr result IsMemoryOrCapacity }
-        ensures crowded { result ≡ Err Refused.Capacity → HasNoRoom self.now.initial
+        ensures crowded { result ≡ Err Refused.Capacity → HasNoRoom self.now.map.initial
             pass.new.tables pass.new.given }
     {
         let mut rule = Giving {
@@ -122,14 +122,14 @@ impl<'a, K: Hash + Eq + Drop, V: Drop, S: BuildHasher> HashMapRef<'a, K, V, S> {
         value: V,
         pass: &mut Pass<K, V, S>,
     ) -> Result<&'a V, Refused>
-        requires { pass.old.book ≡ self.now.book }
+        requires { pass.old.book ≡ self.now.map.book }
         ensures book { pass.new.book ≡ pass.old.book }
         ensures seen { IsPrefix pass.old.history pass.new.history }
         ensures tables { IsPrefix pass.old.tables pass.new.tables }
         ensures there { IsThereBy K.eq key pass.old.history pass.new.history (λ w. w ≡ value)
             pass.old.made pass.new.made result }
         ensures refused { IfErr result IsMemoryOrCapacity }
-        ensures crowded { result ≡ Err Refused.Capacity → HasNoRoom self.now.initial
+        ensures crowded { result ≡ Err Refused.Capacity → HasNoRoom self.now.map.initial
             pass.new.tables pass.new.given }
     {
         match self.try_insert_as(rt, key, value, pass) {
@@ -148,7 +148,7 @@ impl<'a, K: Hash + Eq + Drop, V: Drop, S: BuildHasher> HashMapRef<'a, K, V, S> {
         f: F,
         pass: &mut Pass<K, V, S>,
     ) -> Result<&'a V, Refused>
-        requires book { pass.old.book ≡ self.now.book }
+        requires book { pass.old.book ≡ self.now.map.book }
         requires callable { F.IsAlwaysCallable f }
         ensures book { pass.new.book ≡ pass.old.book }
         ensures seen { IsPrefix pass.old.history pass.new.history }
@@ -156,7 +156,7 @@ impl<'a, K: Hash + Eq + Drop, V: Drop, S: BuildHasher> HashMapRef<'a, K, V, S> {
         ensures there { IsThereBy K.eq key pass.old.history pass.new.history (F.post f)
             pass.old.made pass.new.made result }
         ensures refused { IfErr result IsMemoryOrCapacity }
-        ensures crowded { result ≡ Err Refused.Capacity → HasNoRoom self.now.initial
+        ensures crowded { result ≡ Err Refused.Capacity → HasNoRoom self.now.map.initial
             pass.new.tables pass.new.given }
     {
         match self.try_insert_with_as(rt, key, f, pass) {

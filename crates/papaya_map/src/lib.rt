@@ -17,4 +17,5 @@ pub mod plain;
 mod printing;
 pub mod resizing;
 pub mod sweeps;
+mod told;
 pub mod updating;

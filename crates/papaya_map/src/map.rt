@@ -2,7 +2,7 @@
 ghost use Rattle.std.specs.Prelude.{◌≡◌, ◌⊎◌, true, is_ok, [], Err, IfErr, IfOk};
 ghost use Rattle.std.specs.Int.{IsPowerOfTwo};
 ghost use mathlib.Core.List.{IsPrefix};
-ghost use Rattle.papaya_map.specs.Fixed.{Fixed};
+ghost use Rattle.papaya_map.specs.Fixed.{Fixed, Pinned};
 ghost use Rattle.papaya_map.specs.Powers.{IsPowerOfTwo-prop};
 ghost use Rattle.papaya_book.specs.Parts.{begun_of};
 ghost use Rattle.papaya_book.specs.Limits.{HasNoRoom, tables_of};
@@ -20,10 +20,12 @@ ghost use Rattle.papaya_sweep.specs.Leaving.{HasKept};
 pub mod making;
 
 use crate::computing::compute;
+use crate::told::{Told, tell};
 use papaya_book::book::Book;
 use papaya_book::book::kept::KeptRoot;
 use papaya_book::count::Count;
-use papaya_book::rule::entry::Step;
+use papaya_book::rule::entry::{Event, Named, Step};
+use papaya_book::rule::law::Law;
 use papaya_book::rule::own::{Given, Own};
 use papaya_book::rule::trade::Sight;
 use papaya_book::window::Window;
@@ -106,26 +108,43 @@ impl<K: Hash + Eq, V, S: BuildHasher> Model for Pass<K, V, S> {
     ghost invariant = { λ p. IsLegalHistory K.eq key_of (history_of p.sight.log) };
 }
 
+impl<K: Hash + Eq, V, S: BuildHasher> Pass<K, V, S> {
+    /// An answer, with what shows the history that the pass has seen.
+    #[inline(always)]
+    pub(crate) fn tell<B>(&self, answer: B) -> Told<B, Event<K, V, S>, Named<K, V>, Law<K, V, S>>
+        ensures answer { result.answer ≡ answer }
+        ensures book { result.book ≡ self.now.book }
+        ensures history { history_of result.log ≡ self.now.history }
+        ensures legal { IsLegalHistory K.eq key_of (history_of result.log) }
+    {
+        tell(answer, &self.sight)
+    }
+}
+
 /// A map, as calls take it. What it answers stays for as long as the map does. It keeps the root as
 /// it was found when the map was pinned, so that calls need not look for the table again. Contracts
-/// see what they see of the map.
+/// see what they see of the map, and what had been seen of its history when it was pinned.
 pub struct HashMapRef<'a, K: Hash + Eq, V, S: BuildHasher> {
     pub(crate) map: &'a HashMap<K, V, S>,
     kept: KeptRoot<'a, K, V, S>,
+    seen: Sight<K, V, S>,
+    ghost seen_book: { seen.book ≡ map.now.book },
 }
 
 impl<'a, K: Hash + Eq, V, S: BuildHasher> Model for HashMapRef<'a, K, V, S> {
-    ghost Value = { Fixed K V S };
+    ghost Value = { Pinned K V S };
 
-    ghost view = { λ r. r.map.now };
+    ghost view = { λ r. record { map = r.map.now; seen = history_of r.seen.log } };
 
-    ghost invariant = { λ r. r.kept ≡ r.map.now.book };
+    ghost invariant = { λ r. (r.kept ≡ r.map.now.book)
+        × IsLegalHistory K.eq key_of (history_of r.seen.log) };
 }
 
 // By hand, so that a caller's proof sees the whole value to its end.
 impl<'a, K: Hash + Eq, V, S: BuildHasher> Drop for HashMapRef<'a, K, V, S> {
     fn drop(self) {
-        let Self { map: _, kept } = self;
+        let Self { map: _, kept, seen } = self;
+        drop(seen);
         drop(kept);
     }
 }
@@ -134,18 +153,22 @@ impl<K: Hash + Eq, V, S: BuildHasher> HashMap<K, V, S> {
     /// The map, as calls take it. It writes no word.
     #[inline]
     pub fn pin(&self) -> HashMapRef<'_, K, V, S>
-        ensures { result ≡ self.now }
+        ensures { result.map ≡ self.now }
     {
+        let kept = self.book.keep_root();
+        let mut seen = self.book.unseen();
+        seen.learn(&self.opened);
         HashMapRef {
             map: self,
-            kept: self.book.keep_root(),
+            kept,
+            seen,
         }
     }
 
     /// The same as [`HashMap::pin`]: `pin_owned` of 0.2.5, whose reference may go to another thread. Here
     /// each may, as it holds no guard.
     pub fn pin_owned(&self) -> HashMapRef<'_, K, V, S>
-        ensures { result ≡ self.now }
+        ensures { result.map ≡ self.now }
     {
         self.pin()
     }
@@ -169,7 +192,12 @@ impl<K: Hash + Eq, V, S: BuildHasher> HashMap<K, V, S> {
         ensures tables { result.tables ≡ [] }
         ensures given { result.given ≡ [] }
     {
-        self.numbered(self.collector.enter().number())
+        self.numbered(self.number())
+    }
+
+    /// The number by which a call's pass picks a shard of the count.
+    pub(crate) fn number(&self) -> u64 {
+        self.collector.enter().number()
     }
 
     /// Tells a pass which tables the map had when it was made: one of at least the initial capacity,
@@ -205,12 +233,28 @@ impl<K: Hash + Eq, V, S: BuildHasher> HashMap<K, V, S> {
 }
 
 impl<'a, K: Hash + Eq, V, S: BuildHasher> HashMapRef<'a, K, V, S> {
+    /// A new pass of this map, which has seen what had been seen when the map was pinned.
+    #[inline(always)]
+    pub(crate) fn begun(&self, number: u64) -> Pass<K, V, S>
+        ensures book { result.book ≡ self.now.map.book }
+        ensures seen { result.history ≡ self.now.seen }
+        ensures made { result.made ≡ [] }
+        ensures given { result.given ≡ [] }
+    {
+        Pass {
+            number,
+            sight: self.seen.again(),
+            own: Own::nothing(),
+            given: Own::nothing(),
+        }
+    }
+
     /// Tells each of two passes of this map what the other has seen. Afterwards both have seen one
     /// history, which begins with what each had seen. Nothing is done when the program runs, and
     /// the call is never refused.
     pub fn meet(&self, a: &mut Pass<K, V, S>, b: &mut Pass<K, V, S>)
-        requires first { a.old.book ≡ self.now.book }
-        requires second { b.old.book ≡ self.now.book }
+        requires first { a.old.book ≡ self.now.map.book }
+        requires second { b.old.book ≡ self.now.map.book }
         ensures books { (a.new.book ≡ a.old.book) × (b.new.book ≡ b.old.book) }
         ensures made { (a.new.made ≡ a.old.made) × (b.new.made ≡ b.old.made) }
         ensures one { (a.new.history ≡ b.new.history) × (a.new.tables ≡ b.new.tables) }
@@ -240,7 +284,7 @@ impl<'a, K: Hash + Eq, V, S: BuildHasher> HashMapRef<'a, K, V, S> {
     /// and takes no lock and no memory.
     #[inline(always)]
     pub fn get_as<Q: Equivalent<K>>(&self, key: &Q, pass: &mut Pass<K, V, S>) -> Option<&'a V>
-        requires { pass.old.book ≡ self.now.book }
+        requires { pass.old.book ≡ self.now.map.book }
         ensures book { pass.new.book ≡ pass.old.book }
         ensures seen { IsPrefix pass.old.history pass.new.history }
         ensures tables { IsPrefix pass.old.tables pass.new.tables }
@@ -264,7 +308,7 @@ impl<'a, K: Hash + Eq, V, S: BuildHasher> HashMapRef<'a, K, V, S> {
         key: &Q,
         pass: &mut Pass<K, V, S>,
     ) -> Option<(&'a K, &'a V)>
-        requires { pass.old.book ≡ self.now.book }
+        requires { pass.old.book ≡ self.now.map.book }
         ensures book { pass.new.book ≡ pass.old.book }
         ensures seen { IsPrefix pass.old.history pass.new.history }
         ensures tables { IsPrefix pass.old.tables pass.new.tables }
@@ -295,7 +339,7 @@ impl<'a, K: Hash + Eq, V, S: BuildHasher> HashMapRef<'a, K, V, S> {
         additional: usize,
         pass: &mut Pass<K, V, S>,
     ) -> Result<(), Refused>
-        requires { pass.old.book ≡ self.now.book }
+        requires { pass.old.book ≡ self.now.map.book }
         ensures book { pass.new.book ≡ pass.old.book }
         ensures seen { IsPrefix pass.old.history pass.new.history }
         ensures tables { IsPrefix pass.old.tables pass.new.tables }
@@ -303,7 +347,7 @@ impl<'a, K: Hash + Eq, V, S: BuildHasher> HashMapRef<'a, K, V, S> {
         ensures room { IfOk result (λ _. HasRoomAhead additional pass.new.tables
             pass.new.given) }
         ensures refused { IfErr result (λ refused. IsMemoryOrCapacity refused) }
-        ensures crowded { result ≡ Err Refused.Capacity → HasNoRoomAhead self.now.initial
+        ensures crowded { result ≡ Err Refused.Capacity → HasNoRoomAhead self.now.map.initial
             additional pass.new.tables pass.new.given }
     {
         let map: &'a HashMap<K, V, S> = self.map;
@@ -343,7 +387,7 @@ impl<'a, K: Hash + Eq, V, S: BuildHasher> HashMapRef<'a, K, V, S> {
         stays: F,
         pass: &mut Pass<K, V, S>,
     ) -> Result<(), Refused>
-        requires book { pass.old.book ≡ self.now.book }
+        requires book { pass.old.book ≡ self.now.map.book }
         requires callable { F.IsAlwaysCallable stays }
         ensures book { pass.new.book ≡ pass.old.book }
         ensures seen { IsPrefix pass.old.history pass.new.history }
@@ -351,7 +395,7 @@ impl<'a, K: Hash + Eq, V, S: BuildHasher> HashMapRef<'a, K, V, S> {
         ensures kept { HasKept K.eq pass.old.history pass.new.history pass.old.made pass.new.made
             (Judges F.FnMut) stays result }
         ensures refused { IfErr result (λ refused. IsMemoryOrCapacity refused) }
-        ensures crowded { result ≡ Err Refused.Capacity → HasNoRoom self.now.initial
+        ensures crowded { result ≡ Err Refused.Capacity → HasNoRoom self.now.map.initial
             pass.new.tables pass.new.given }
     {
         let map: &'a HashMap<K, V, S> = self.map;
@@ -385,16 +429,16 @@ impl<'a, K: Hash + Eq, V, S: BuildHasher> HashMapRef<'a, K, V, S> {
         rt: &R,
         pass: &mut Pass<K, V, S>,
     ) -> Result<Iter<'a, K, V, S>, Refused>
-        requires { pass.old.book ≡ self.now.book }
+        requires { pass.old.book ≡ self.now.map.book }
         ensures book { pass.new.book ≡ pass.old.book }
         ensures seen { IsPrefix pass.old.history pass.new.history }
         ensures tables { IsPrefix pass.old.tables pass.new.tables }
         ensures made { pass.new.made ≡ pass.old.made }
-        ensures walk { IfOk result (λ pairs. pairs.book ≡ self.now.book) }
+        ensures walk { IfOk result (λ pairs. pairs.book ≡ self.now.map.book) }
         ensures began { IfOk result (λ pairs. (pairs.began ≡ pass.old.history)
             × (pairs.history ≡ pass.new.history)) }
         ensures refused { IfErr result (λ refused. IsMemoryOrCapacity refused) }
-        ensures crowded { result ≡ Err Refused.Capacity → HasNoRoom self.now.initial
+        ensures crowded { result ≡ Err Refused.Capacity → HasNoRoom self.now.map.initial
             pass.new.tables pass.new.given }
     {
         let map: &'a HashMap<K, V, S> = self.map;
@@ -434,7 +478,7 @@ impl<'a, K: Hash + Eq, V, S: BuildHasher> HashMapRef<'a, K, V, S> {
         should_remove: F,
         pass: &mut Pass<K, V, S>,
     ) -> Result<Result<Option<(&'a K, &'a V)>, (&'a K, &'a V)>, Refused>
-        requires book { pass.old.book ≡ self.now.book }
+        requires book { pass.old.book ≡ self.now.map.book }
         requires callable { F.IsAlwaysCallable should_remove }
         ensures book { pass.new.book ≡ pass.old.book }
         ensures seen { IsPrefix pass.old.history pass.new.history }
@@ -442,7 +486,7 @@ impl<'a, K: Hash + Eq, V, S: BuildHasher> HashMapRef<'a, K, V, S> {
         ensures made { Makes (went result) pass.old.made pass.new.made pass.new.history }
         ensures removed { IsRemovalBy K.eq (Q.matches key.now) pass.old.history pass.new.history
             (Judges F.FnMut) should_remove result }
-        ensures crowded { result ≡ Err Refused.Capacity → HasNoRoom self.now.initial
+        ensures crowded { result ≡ Err Refused.Capacity → HasNoRoom self.now.map.initial
             pass.new.tables pass.new.given }
     {
         let map: &'a HashMap<K, V, S> = self.map;
@@ -473,14 +517,14 @@ impl<'a, K: Hash + Eq, V, S: BuildHasher> HashMapRef<'a, K, V, S> {
         key: &Q,
         pass: &mut Pass<K, V, S>,
     ) -> Result<Option<&'a V>, Refused>
-        requires { pass.old.book ≡ self.now.book }
+        requires { pass.old.book ≡ self.now.map.book }
         ensures book { pass.new.book ≡ pass.old.book }
         ensures seen { IsPrefix pass.old.history pass.new.history }
         ensures tables { IsPrefix pass.old.tables pass.new.tables }
         ensures made { Makes (took result) pass.old.made pass.new.made pass.new.history }
         ensures removed { IsRemoved K.eq (Q.matches key.now) pass.old.history pass.new.history
             result }
-        ensures crowded { result ≡ Err Refused.Capacity → HasNoRoom self.now.initial
+        ensures crowded { result ≡ Err Refused.Capacity → HasNoRoom self.now.map.initial
             pass.new.tables pass.new.given }
     {
         let removed = self.remove_if_as(
@@ -517,7 +561,7 @@ impl<'a, K: Hash + Eq + Drop, V: Drop, S: BuildHasher> HashMapRef<'a, K, V, S> {
         value: V,
         pass: &mut Pass<K, V, S>,
     ) -> Result<Option<&'a V>, Refused>
-        requires { pass.old.book ≡ self.now.book }
+        requires { pass.old.book ≡ self.now.map.book }
         ensures book { pass.new.book ≡ pass.old.book }
         ensures seen { IsPrefix pass.old.history pass.new.history }
         ensures tables { IsPrefix pass.old.tables pass.new.tables }
@@ -526,7 +570,7 @@ impl<'a, K: Hash + Eq + Drop, V: Drop, S: BuildHasher> HashMapRef<'a, K, V, S> {
             answer) }
         ensures refused { IfErr result (λ refused. (refused ≡ Refused.Memory)
             ⊎ (refused ≡ Refused.Capacity)) }
-        ensures crowded { result ≡ Err Refused.Capacity → HasNoRoom self.now.initial
+        ensures crowded { result ≡ Err Refused.Capacity → HasNoRoom self.now.map.initial
             pass.new.tables pass.new.given }
     {
         let map: &'a HashMap<K, V, S> = self.map;
@@ -567,13 +611,13 @@ impl<'a, K: Hash + Eq + Drop, V: Drop, S: BuildHasher> HashMapRef<'a, K, V, S> {
         f: F,
         pass: &mut Pass<K, V, S>,
     ) -> Result<Compute<'a, K, V, T>, Refused>
-        requires book { pass.old.book ≡ self.now.book }
+        requires book { pass.old.book ≡ self.now.map.book }
         requires callable { F.IsAlwaysCallable f }
         ensures book { pass.new.book ≡ pass.old.book }
         ensures seen { IsPrefix pass.old.history pass.new.history }
         ensures tables { IsPrefix pass.old.tables pass.new.tables }
         ensures made { Makes (changes result) pass.old.made pass.new.made pass.new.history }
-        ensures crowded { result ≡ Err Refused.Capacity → HasNoRoom self.now.initial
+        ensures crowded { result ≡ Err Refused.Capacity → HasNoRoom self.now.map.initial
             pass.new.tables pass.new.given }
         ensures computed { IsComputeBy K.eq key pass.old.history pass.new.history (Operates F.FnMut)
             f result }
@@ -608,13 +652,13 @@ impl<'a, K: Hash + Eq + Drop, V: Drop, S: BuildHasher> HashMapRef<'a, K, V, S> {
         f: F,
         pass: &mut Pass<K, V, S>,
     ) -> Result<Compute<'a, K, V, T>, Refused>
-        requires book { pass.old.book ≡ self.now.book }
+        requires book { pass.old.book ≡ self.now.map.book }
         requires callable { F.IsAlwaysCallable f }
         ensures book { pass.new.book ≡ pass.old.book }
         ensures seen { IsPrefix pass.old.history pass.new.history }
         ensures tables { IsPrefix pass.old.tables pass.new.tables }
         ensures made { Makes (changes result) pass.old.made pass.new.made pass.new.history }
-        ensures crowded { result ≡ Err Refused.Capacity → HasNoRoom self.now.initial
+        ensures crowded { result ≡ Err Refused.Capacity → HasNoRoom self.now.map.initial
             pass.new.tables pass.new.given }
         ensures computed { IsComputeBy K.eq key pass.old.history pass.new.history (Operates F.FnMut)
             f result }
@@ -647,7 +691,7 @@ impl<'a, K: Hash + Eq + Drop, V: Drop, S: BuildHasher> HashMapRef<'a, K, V, S> {
         rule: &mut D,
         pass: &mut Pass<K, V, S>,
     ) -> Result<Outcome<'a, V>, Refused>
-        requires book { pass.old.book ≡ self.now.book }
+        requires book { pass.old.book ≡ self.now.map.book }
         requires callable { D.callable rule.old }
         ensures book { pass.new.book ≡ pass.old.book }
         ensures seen { IsPrefix pass.old.history pass.new.history }
@@ -655,7 +699,7 @@ impl<'a, K: Hash + Eq + Drop, V: Drop, S: BuildHasher> HashMapRef<'a, K, V, S> {
         ensures made { Makes (puts result) pass.old.made pass.new.made pass.new.history }
         ensures decided { IsDecided K.eq key pass.old.history pass.new.history D.decides rule.old
             rule.new result }
-        ensures crowded { result ≡ Err Refused.Capacity → HasNoRoom self.now.initial
+        ensures crowded { result ≡ Err Refused.Capacity → HasNoRoom self.now.map.initial
             pass.new.tables pass.new.given }
     {
         let map: &'a HashMap<K, V, S> = self.map;

@@ -2,18 +2,23 @@
 //! it says is so of a history that no caller is shown. `remove_entry_as`, which takes one, stands
 //! beside the call that is made of it.
 ghost use Rattle.std.specs.Prelude.{◌≡◌, [], true, is_some, Option, Err, IfOk, IfErr, ◌⊎◌};
-ghost use Rattle.std.specs.Borrow.{Bor};
+ghost use Rattle.std.specs.Borrow.{Bor, sem};
 ghost use mathlib.Core.List.{IsPrefix};
 ghost use Rattle.papaya_book.specs.Limits.{HasNoRoom};
 ghost use Rattle.papaya_lookup.specs.Answers.{IsAnsweredBetween, IsPairAnsweredBetween};
-ghost use Rattle.papaya_lookup.specs.History.{Makes};
+ghost use Rattle.papaya_lookup.specs.History.{IsLegalHistory, Makes, history_of, key_of};
+ghost use Rattle.papaya_book.specs.contracts.rule.entry.Event.{the_row as EventOf};
 ghost use Rattle.papaya_change.specs.Changes.{IsPut};
 ghost use Rattle.papaya_change.specs.RemovalAnswers.{IsEntryRemoved, IsRemovalBy, IsRemoved, took};
 ghost use Rattle.papaya_change.specs.Showings.{Judges, Operates};
 ghost use Rattle.papaya_compute.specs.ComputeAnswers.{IsComputeBy};
-ghost use Rattle.papaya_map.specs.Plain.{IsOfHistory};
+ghost use Rattle.papaya_map.specs.Plain.{IsOfHistory, of_its_history, rule_of};
 
 use crate::map::{HashMap, HashMapRef, Pass};
+use crate::told::{Saying, Told};
+use logbook::Rule;
+use papaya_book::rule::entry::{Event, Named};
+use papaya_book::rule::law::Law;
 use papaya_call::answers::Operation;
 use papaya_keys::compute::Compute;
 use papaya_keys::guard::Equivalent;
@@ -24,7 +29,7 @@ use std::sync::Wait;
 impl<'a, K: Hash + Eq, V, S: BuildHasher> HashMapRef<'a, K, V, S> {
     /// The map that was pinned: `map` of 0.2.5.
     pub fn map(&self) -> &'a HashMap<K, V, S>
-        ensures { result.now ≡ self.now }
+        ensures { result.now ≡ self.now.map }
     {
         self.map
     }
@@ -39,13 +44,31 @@ impl<'a, K: Hash + Eq, V, S: BuildHasher> HashMapRef<'a, K, V, S> {
         self.map.is_empty()
     }
 
+    /// The value of a key, with what was seen.
+    #[inline(always)]
+    fn get_told<Q: Equivalent<K>>(&self, key: &Q) -> Saying<Option<&'a V>, K, V, S>
+        ensures book { result.book ≡ self.now.map.book }
+        ensures legal { IsLegalHistory K.eq key_of (history_of result.log) }
+        ensures seen { IsPrefix self.now.seen (history_of result.log) }
+        ensures answered { IsAnsweredBetween K.eq (Q.matches key.now) self.now.seen
+            (history_of result.log) result.answer }
+    {
+        let mut pass = self.begun(0);
+        let found = self.get_as(key, &mut pass);
+        pass.tell(found)
+    }
+
     /// The value of a key: `get` of 0.2.5. It waits for nobody, and takes no lock and no memory.
     #[inline]
     pub fn get<Q: Equivalent<K>>(&self, key: &Q) -> Option<&'a V>
-        ensures { IsOfHistory K.eq (λ h. IsAnsweredBetween K.eq (Q.matches key.now) [] h result) }
+        ensures* own { sem 𝓛 (of_its_history (EventOf K.row V.row S.row).coded.code
+            (rule_of ⟦<Law<K, V, S> as Rule<Event<K, V, S>, Named<K, V>>>⟧) self.now K.eq
+            (λ h. IsAnsweredBetween K.eq (Q.matches key.now) self.now.seen h result)) }
+        ensures answered { IsOfHistory K.eq (λ h. IsAnsweredBetween K.eq (Q.matches key.now) [] h
+            result) }
     {
-        let mut pass = self.map.numbered(0);
-        self.get_as(key, &mut pass)
+        let Told { answer, marker: _ } = self.get_told(key);
+        answer
     }
 
     /// The stored key and the value of a key: `get_key_value` of 0.2.5. As [`HashMapRef::get`], it
@@ -120,14 +143,14 @@ impl<'a, K: Hash + Eq, V, S: BuildHasher> HashMapRef<'a, K, V, S> {
         key: &Q,
         pass: &mut Pass<K, V, S>,
     ) -> Result<Option<(&'a K, &'a V)>, Refused>
-        requires { pass.old.book ≡ self.now.book }
+        requires { pass.old.book ≡ self.now.map.book }
         ensures book { pass.new.book ≡ pass.old.book }
         ensures seen { IsPrefix pass.old.history pass.new.history }
         ensures tables { IsPrefix pass.old.tables pass.new.tables }
         ensures made { Makes (took result) pass.old.made pass.new.made pass.new.history }
         ensures removed { IsEntryRemoved K.eq (Q.matches key.now) pass.old.history
             pass.new.history result }
-        ensures crowded { result ≡ Err Refused.Capacity → HasNoRoom self.now.initial
+        ensures crowded { result ≡ Err Refused.Capacity → HasNoRoom self.now.map.initial
             pass.new.tables pass.new.given }
     {
         let removed = self.remove_if_as(

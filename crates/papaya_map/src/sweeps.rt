@@ -20,7 +20,7 @@ impl<'a, K: Hash + Eq, V, S: BuildHasher> HashMapRef<'a, K, V, S> {
     /// is stored meanwhile may stay. Refused as [`HashMapRef::retain_as`] is. Refused or not, the pass
     /// makes one change for each pair that this call removed, and no other one.
     pub fn clear_as<R: Wait>(&self, rt: &R, pass: &mut Pass<K, V, S>) -> Result<(), Refused>
-        requires { pass.old.book ≡ self.now.book }
+        requires { pass.old.book ≡ self.now.map.book }
         ensures book { pass.new.book ≡ pass.old.book }
         ensures seen { IsPrefix pass.old.history pass.new.history }
         ensures tables { IsPrefix pass.old.tables pass.new.tables }
@@ -28,7 +28,7 @@ impl<'a, K: Hash + Eq, V, S: BuildHasher> HashMapRef<'a, K, V, S> {
             pass.new.made }
         ensures cleared { IfOk result (λ _. IsCleared K.eq pass.old.history pass.new.history) }
         ensures refused { IfErr result (λ refused. IsMemoryOrCapacity refused) }
-        ensures crowded { result ≡ Err Refused.Capacity → HasNoRoom self.now.initial
+        ensures crowded { result ≡ Err Refused.Capacity → HasNoRoom self.now.map.initial
             pass.new.tables pass.new.given }
     {
         self.retain_as(
@@ -69,7 +69,7 @@ impl<'a, K: Hash + Eq, V, S: BuildHasher> HashMapRef<'a, K, V, S> {
 
     /// The pairs of the map, one by one: `iter` of 0.2.5. Refused as [`HashMapRef::iter_as`] is.
     pub fn iter<R: Wait>(&self, rt: &R) -> Result<Iter<'a, K, V, S>, Refused>
-        ensures walk { IfOk result (λ pairs. pairs.book ≡ self.now.book) }
+        ensures walk { IfOk result (λ pairs. pairs.book ≡ self.now.map.book) }
         ensures began { IfOk result (λ pairs. pairs.began ≡ []) }
         ensures refused { IfErr result (λ refused. IsMemoryOrCapacity refused) }
     {
@@ -79,7 +79,7 @@ impl<'a, K: Hash + Eq, V, S: BuildHasher> HashMapRef<'a, K, V, S> {
 
     /// The keys of the map, one by one: `keys` of 0.2.5. Refused as [`HashMapRef::iter_as`] is.
     pub fn keys<R: Wait>(&self, rt: &R) -> Result<Keys<'a, K, V, S>, Refused>
-        ensures walk { IfOk result (λ keys. keys.pairs.book ≡ self.now.book) }
+        ensures walk { IfOk result (λ keys. keys.pairs.book ≡ self.now.map.book) }
         ensures began { IfOk result (λ keys. keys.pairs.began ≡ []) }
         ensures refused { IfErr result (λ refused. IsMemoryOrCapacity refused) }
     {
@@ -88,7 +88,7 @@ impl<'a, K: Hash + Eq, V, S: BuildHasher> HashMapRef<'a, K, V, S> {
 
     /// The values of the map, one by one: `values` of 0.2.5. Refused as [`HashMapRef::iter_as`] is.
     pub fn values<R: Wait>(&self, rt: &R) -> Result<Values<'a, K, V, S>, Refused>
-        ensures walk { IfOk result (λ values. values.pairs.book ≡ self.now.book) }
+        ensures walk { IfOk result (λ values. values.pairs.book ≡ self.now.map.book) }
         ensures began { IfOk result (λ values. values.pairs.began ≡ []) }
         ensures refused { IfErr result (λ refused. IsMemoryOrCapacity refused) }
     {

@@ -31,7 +31,7 @@ impl<'a, K: Hash + Eq + Drop, V: Drop, S: BuildHasher> HashMapRef<'a, K, V, S> {
         f: F,
         pass: &mut Pass<K, V, S>,
     ) -> Result<Option<&'a V>, Refused>
-        requires book { pass.old.book ≡ self.now.book }
+        requires book { pass.old.book ≡ self.now.map.book }
         requires callable { F.IsAlwaysCallable f }
         ensures book { pass.new.book ≡ pass.old.book }
         ensures seen { IsPrefix pass.old.history pass.new.history }
@@ -40,7 +40,7 @@ impl<'a, K: Hash + Eq + Drop, V: Drop, S: BuildHasher> HashMapRef<'a, K, V, S> {
         ensures updated { IfOk result (IsUpdated K.eq key pass.old.history pass.new.history
             (FnReturnsAt F.Fn f)) }
         ensures refused { IfErr result IsMemoryOrCapacity }
-        ensures crowded { result ≡ Err Refused.Capacity → HasNoRoom self.now.initial
+        ensures crowded { result ≡ Err Refused.Capacity → HasNoRoom self.now.map.initial
             pass.new.tables pass.new.given }
     {
         let mut rule = Updating { update: f };
@@ -62,7 +62,7 @@ impl<'a, K: Hash + Eq + Drop, V: Drop, S: BuildHasher> HashMapRef<'a, K, V, S> {
         supply: G,
         pass: &mut Pass<K, V, S>,
     ) -> Result<&'a V, Refused>
-        requires book { pass.old.book ≡ self.now.book }
+        requires book { pass.old.book ≡ self.now.map.book }
         requires callable { F.IsAlwaysCallable update }
         requires gives { G.can_give supply }
         ensures book { pass.new.book ≡ pass.old.book }
@@ -72,7 +72,7 @@ impl<'a, K: Hash + Eq + Drop, V: Drop, S: BuildHasher> HashMapRef<'a, K, V, S> {
         ensures upserted { IfOk result (IsUpserted K.eq key pass.old.history pass.new.history
             (FnReturnsAt F.Fn update) (G.gives supply)) }
         ensures refused { IfErr result IsMemoryOrCapacity }
-        ensures crowded { result ≡ Err Refused.Capacity → HasNoRoom self.now.initial
+        ensures crowded { result ≡ Err Refused.Capacity → HasNoRoom self.now.map.initial
             pass.new.tables pass.new.given }
     {
         let mut rule = Upserting {
@@ -97,7 +97,7 @@ impl<'a, K: Hash + Eq + Drop, V: Drop, S: BuildHasher> HashMapRef<'a, K, V, S> {
         value: V,
         pass: &mut Pass<K, V, S>,
     ) -> Result<&'a V, Refused>
-        requires book { pass.old.book ≡ self.now.book }
+        requires book { pass.old.book ≡ self.now.map.book }
         requires callable { F.IsAlwaysCallable update }
         ensures book { pass.new.book ≡ pass.old.book }
         ensures seen { IsPrefix pass.old.history pass.new.history }
@@ -106,7 +106,7 @@ impl<'a, K: Hash + Eq + Drop, V: Drop, S: BuildHasher> HashMapRef<'a, K, V, S> {
         ensures upserted { IfOk result (IsUpserted K.eq key pass.old.history pass.new.history
             (FnReturnsAt F.Fn update) (λ w. w ≡ value)) }
         ensures refused { IfErr result IsMemoryOrCapacity }
-        ensures crowded { result ≡ Err Refused.Capacity → HasNoRoom self.now.initial
+        ensures crowded { result ≡ Err Refused.Capacity → HasNoRoom self.now.map.initial
             pass.new.tables pass.new.given }
     {
         self.upsert_as(rt, key, update, Ready { value }, pass)
@@ -122,7 +122,7 @@ impl<'a, K: Hash + Eq + Drop, V: Drop, S: BuildHasher> HashMapRef<'a, K, V, S> {
         f: F,
         pass: &mut Pass<K, V, S>,
     ) -> Result<&'a V, Refused>
-        requires book { pass.old.book ≡ self.now.book }
+        requires book { pass.old.book ≡ self.now.map.book }
         requires update { U.IsAlwaysCallable update }
         requires make { F.IsAlwaysCallable f }
         ensures book { pass.new.book ≡ pass.old.book }
@@ -132,7 +132,7 @@ impl<'a, K: Hash + Eq + Drop, V: Drop, S: BuildHasher> HashMapRef<'a, K, V, S> {
         ensures upserted { IfOk result (IsUpserted K.eq key pass.old.history pass.new.history
             (FnReturnsAt U.Fn update) (F.post f)) }
         ensures refused { IfErr result IsMemoryOrCapacity }
-        ensures crowded { result ≡ Err Refused.Capacity → HasNoRoom self.now.initial
+        ensures crowded { result ≡ Err Refused.Capacity → HasNoRoom self.now.map.initial
             pass.new.tables pass.new.given }
     {
         self.upsert_as(rt, key, update, Made { make: f }, pass)

@@ -1,0 +1,88 @@
+-- The walk of a call that asks another for an answer that is told, and answers it. Assumes `Logic`.
+use Rattle.std.proofs.Common.{◌≡◌, ℕ, List, [], ◌∷◌, ◌++◌, refl, sym, subst}
+use lib.Dec.{T}
+use seplogic.Ra.Ura.{Ura}
+use mir.Syntax.{Body, Callee, Fn, Kind, Home, Local, Opd, Sym, Ty, Tys, call, copy, field, local, place, return, rv_opd, assign, seq, tcons, tnil, ty_struct}
+use mir.Val.{Val}
+use base.Logic.{SProp, ent, ex, sep}
+use prog.Model.{Model}
+use prog.Wp.{WpFn}
+use types.Logic.{Logic}
+use types.Kit.{raw, ◌⊛◌, some, later, ◌$◌, ◌∵◌, !, qed, by, split, pick, use1, await}
+use types.Run.{stop, fld, of_opd, no_more, and_then, returns, enter}
+use types.ByLocal.{alloc_all, pass_all, free_all, look_at, get, get_in, sets, lands_as}
+use types.Part.{sub, whole}
+use contract.Monad.{fact}
+use contract.Running.{Running, tables}
+use denote.Steps.{heard}
+use denote.Triple.Call.{calls_from}
+use denote.Triple.Table.{framed}
+use Rattle.papaya_map.proofs.Telling.{Good, One, held}
+
+-- the callee is called with these, and what it tells goes to a local, whose first part is the answer
+abbrev pub body_of : Callee → List Opd → (answer told : ℕ) → Body
+body_of f os answer told = seq (call f os (place told [])) (seq (assign (place answer []) (rv_opd (copy (place told (field 0 ∷ []))))) (seq (assign (place 0 []) (rv_opd (copy (place answer [])))) return))
+
+-- one that is moved goes to a local of its own first
+abbrev pub moved : (to from : ℕ) → Body → Body
+moved to from = seq (assign (place to []) (rv_opd (copy (place from []))))
+
+-- the answer, as it is stored: in the result's local, in its own, and in what the callee tells
+abbrev pub Fits : (τ τ₀ τₐ τₜ : Ty) → Type 0
+Fits τ τ₀ τₐ τₜ = (w : Val) → Good τ w → Good τ₀ w × Good τₐ w × Good τₜ (held w)
+
+-- a function of these locals
+abbrev pub fn_of : (n m p : ℕ) → List (ℕ × ℕ) → List Kind → List Local → Body → Fn
+fn_of n m p os ks ls b = record { lifetimes = n; outlives = os; ty_params = ks; givens = m; params = p; locals = ls; body = b }
+
+module _ {M : Type 1} (𝓤 : Ura M) (𝓛 : Logic 𝓤) (𝓜 : Model 𝓤 𝓛.H) (𝓡 : Running 𝓤 𝓛.H 𝓜) where
+  -- The code runs from what the callee asks to what is made of what it tells.
+  pub record Walk (fn : Fn) (f : Callee) (τ : Ty) (vs : List Val) : Type 2 where
+    pub runs : (Pre : SProp 𝓤) (Q Left Post : Val → SProp 𝓤) → ent 𝓤 Pre ((tables 𝓤 𝓛.H 𝓜 𝓡 𝓡.env).C f vs Q)
+        → ((v : Val) → ent 𝓤 (Q v) (𝓛.H.⇛ (ex 𝓤 (λ (w : Val). sep 𝓤 (fact 𝓤 (Good τ w × (v ≡ held w))) (Left w)))))
+        → ((w : Val) → Good τ w → ent 𝓤 (Left w) (Post w)) → ent 𝓤 Pre (WpFn 𝓤 𝓛.H (tables 𝓤 𝓛.H 𝓜 𝓡 𝓡.env).C (tables 𝓤 𝓛.H 𝓜 𝓡 𝓡.env).Λ fn vs Post)
+
+  at_rr : {n m p : ℕ} {os : List (ℕ × ℕ)} {ks : List Kind} {f : Callee} {τ τ₀ τ₁ τ₂ τₐ τₜ : Ty} {ν : Sym} {τs : Tys} {h₀ h₁ h₂ hₐ hₜ : Home} {v₁ v₂ : Val} → Good τ₁ v₁ → Good τ₂ v₂ → Fits τ τ₀ τₐ (ty_struct ν (tcons τₜ τs))
+      → Walk (fn_of n m p os ks (local τ₀ h₀ ∷ local τ₁ h₁ ∷ local τ₂ h₂ ∷ local τₐ hₐ ∷ local (ty_struct ν (tcons τₜ τs)) hₜ ∷ []) (body_of f (copy (place 1 []) ∷ copy (place 2 []) ∷ []) 3 4)) f τ (v₁ ∷ v₂ ∷ [])
+  at_rr {n} {m} {p} {os} {ks} {f} {τ} {τ₀} {τ₁} {τ₂} {τₐ} {τₜ} {ν} {τs} {h₀} {h₁} {h₂} {hₐ} {hₜ} {v₁} {v₂} g₁ g₂ fits = record {
+    runs = λ Pre Q Left Post asks gives ends. let 𝓣 = tables 𝓤 𝓛.H 𝓜 𝓡 𝓡.env in
+        qed 𝓛 (raw Pre ∷ []) ∵ enter ! 𝓣.C 𝓣.Λ (fn_of n m p os ks (local τ₀ h₀ ∷ local τ₁ h₁ ∷ local τ₂ h₂ ∷ local τₐ hₐ ∷ local (ty_struct ν (tcons τₜ τs)) hₜ ∷ []) (body_of f (copy (place 1 []) ∷ copy (place 2 []) ∷ []) 3 4)) (v₁ ∷ v₂ ∷ []) Post $ alloc_all ! (λ l. pass_all ! refl (g₁, (g₂, tt)) $
+        calls_from ! (framed 𝓤 𝓛.H 𝓜 𝓣) (raw Pre) (v₁ ∷ v₂ ∷ []) Q asks (and_then ! (get ! refl) (and_then ! (get ! refl) (no_more !))) (λ v.
+        use1 𝓛 (later (some (λ (w : Val). raw (fact 𝓤 (Good τ w × (v ≡ held w))) ⊛ raw (Left w)))) (gives v) $ await ! tt $ pick ! (λ w. split ! $ heard ! _ (λ is.
+        lands_as ! is.1 refl (fits w is.0).2 $ sets ! (of_opd ! (get_in ! (fld ! refl (stop !)) (sub ! 0 refl (whole !)))) refl (fits w is.0).1 $ sets ! (of_opd ! (get ! refl)) refl (fits w is.0).0 $
+        returns ! (look_at ! 0 refl) $ free_all ! refl $ by ! (ends w is.0)))));
+  }
+
+  pub walk_rr : {n m p : ℕ} {os : List (ℕ × ℕ)} {ks : List Kind} {f : Callee} {τ τ₀ τ₁ τ₂ τₐ τₜ : Ty} {ν : Sym} {τs : Tys} {h₀ h₁ h₂ hₐ hₜ : Home} {u₁ u₂ : List Val} → One τ₁ u₁ → One τ₂ u₂ → Fits τ τ₀ τₐ (ty_struct ν (tcons τₜ τs))
+      → Walk (fn_of n m p os ks (local τ₀ h₀ ∷ local τ₁ h₁ ∷ local τ₂ h₂ ∷ local τₐ hₐ ∷ local (ty_struct ν (tcons τₜ τs)) hₜ ∷ []) (body_of f (copy (place 1 []) ∷ copy (place 2 []) ∷ []) 3 4)) f τ (u₁ ++ (u₂ ++ []))
+  walk_rr {n} {m} {p} {os} {ks} {f} {τ} {τ₀} {τ₁} {τ₂} {τₐ} {τₜ} {ν} {τs} {h₀} {h₁} {h₂} {hₐ} {hₜ} {u₁} {u₂} o₁ o₂ fits = subst (Walk (fn_of n m p os ks (local τ₀ h₀ ∷ local τ₁ h₁ ∷ local τ₂ h₂ ∷ local τₐ hₐ ∷ local (ty_struct ν (tcons τₜ τs)) hₜ ∷ []) (body_of f (copy (place 1 []) ∷ copy (place 2 []) ∷ []) 3 4)) f τ) (sym (λ i. o₁.is i ++ (o₂.is i ++ []))) (at_rr o₁.good o₂.good fits)
+
+  at_rorr : {n m p : ℕ} {os : List (ℕ × ℕ)} {ks : List Kind} {f : Callee} {τ τ₀ τ₁ τ₂ τ₃ τ₄ τₐ τₜ : Ty} {ν : Sym} {τs : Tys} {h₀ h₁ h₂ h₃ h₄ hₐ hₜ m₂ : Home} {v₁ v₂ v₃ v₄ : Val} → Good τ₁ v₁ → Good τ₂ v₂ → Good τ₃ v₃ → Good τ₄ v₄ → Fits τ τ₀ τₐ (ty_struct ν (tcons τₜ τs))
+      → Walk (fn_of n m p os ks (local τ₀ h₀ ∷ local τ₁ h₁ ∷ local τ₂ h₂ ∷ local τ₃ h₃ ∷ local τ₄ h₄ ∷ local τₐ hₐ ∷ local (ty_struct ν (tcons τₜ τs)) hₜ ∷ local τ₂ m₂ ∷ []) (moved 7 2 (body_of f (copy (place 1 []) ∷ copy (place 7 []) ∷ copy (place 3 []) ∷ copy (place 4 []) ∷ []) 5 6))) f τ (v₁ ∷ v₂ ∷ v₃ ∷ v₄ ∷ [])
+  at_rorr {n} {m} {p} {os} {ks} {f} {τ} {τ₀} {τ₁} {τ₂} {τ₃} {τ₄} {τₐ} {τₜ} {ν} {τs} {h₀} {h₁} {h₂} {h₃} {h₄} {hₐ} {hₜ} {m₂} {v₁} {v₂} {v₃} {v₄} g₁ g₂ g₃ g₄ fits = record {
+    runs = λ Pre Q Left Post asks gives ends. let 𝓣 = tables 𝓤 𝓛.H 𝓜 𝓡 𝓡.env in
+        qed 𝓛 (raw Pre ∷ []) ∵ enter ! 𝓣.C 𝓣.Λ (fn_of n m p os ks (local τ₀ h₀ ∷ local τ₁ h₁ ∷ local τ₂ h₂ ∷ local τ₃ h₃ ∷ local τ₄ h₄ ∷ local τₐ hₐ ∷ local (ty_struct ν (tcons τₜ τs)) hₜ ∷ local τ₂ m₂ ∷ []) (moved 7 2 (body_of f (copy (place 1 []) ∷ copy (place 7 []) ∷ copy (place 3 []) ∷ copy (place 4 []) ∷ []) 5 6))) (v₁ ∷ v₂ ∷ v₃ ∷ v₄ ∷ []) Post $ alloc_all ! (λ l. pass_all ! refl (g₁, (g₂, (g₃, (g₄, tt)))) $ sets ! (of_opd ! (get ! refl)) refl g₂ $
+        calls_from ! (framed 𝓤 𝓛.H 𝓜 𝓣) (raw Pre) (v₁ ∷ v₂ ∷ v₃ ∷ v₄ ∷ []) Q asks (and_then ! (get ! refl) (and_then ! (get ! refl) (and_then ! (get ! refl) (and_then ! (get ! refl) (no_more !))))) (λ v.
+        use1 𝓛 (later (some (λ (w : Val). raw (fact 𝓤 (Good τ w × (v ≡ held w))) ⊛ raw (Left w)))) (gives v) $ await ! tt $ pick ! (λ w. split ! $ heard ! _ (λ is.
+        lands_as ! is.1 refl (fits w is.0).2 $ sets ! (of_opd ! (get_in ! (fld ! refl (stop !)) (sub ! 0 refl (whole !)))) refl (fits w is.0).1 $ sets ! (of_opd ! (get ! refl)) refl (fits w is.0).0 $
+        returns ! (look_at ! 0 refl) $ free_all ! refl $ by ! (ends w is.0)))));
+  }
+
+  pub walk_rorr : {n m p : ℕ} {os : List (ℕ × ℕ)} {ks : List Kind} {f : Callee} {τ τ₀ τ₁ τ₂ τ₃ τ₄ τₐ τₜ : Ty} {ν : Sym} {τs : Tys} {h₀ h₁ h₂ h₃ h₄ hₐ hₜ m₂ : Home} {u₁ u₂ u₃ u₄ : List Val} → One τ₁ u₁ → One τ₂ u₂ → One τ₃ u₃ → One τ₄ u₄ → Fits τ τ₀ τₐ (ty_struct ν (tcons τₜ τs))
+      → Walk (fn_of n m p os ks (local τ₀ h₀ ∷ local τ₁ h₁ ∷ local τ₂ h₂ ∷ local τ₃ h₃ ∷ local τ₄ h₄ ∷ local τₐ hₐ ∷ local (ty_struct ν (tcons τₜ τs)) hₜ ∷ local τ₂ m₂ ∷ []) (moved 7 2 (body_of f (copy (place 1 []) ∷ copy (place 7 []) ∷ copy (place 3 []) ∷ copy (place 4 []) ∷ []) 5 6))) f τ (u₁ ++ (u₂ ++ (u₃ ++ (u₄ ++ []))))
+  walk_rorr {n} {m} {p} {os} {ks} {f} {τ} {τ₀} {τ₁} {τ₂} {τ₃} {τ₄} {τₐ} {τₜ} {ν} {τs} {h₀} {h₁} {h₂} {h₃} {h₄} {hₐ} {hₜ} {m₂} {u₁} {u₂} {u₃} {u₄} o₁ o₂ o₃ o₄ fits = subst (Walk (fn_of n m p os ks (local τ₀ h₀ ∷ local τ₁ h₁ ∷ local τ₂ h₂ ∷ local τ₃ h₃ ∷ local τ₄ h₄ ∷ local τₐ hₐ ∷ local (ty_struct ν (tcons τₜ τs)) hₜ ∷ local τ₂ m₂ ∷ []) (moved 7 2 (body_of f (copy (place 1 []) ∷ copy (place 7 []) ∷ copy (place 3 []) ∷ copy (place 4 []) ∷ []) 5 6))) f τ) (sym (λ i. o₁.is i ++ (o₂.is i ++ (o₃.is i ++ (o₄.is i ++ []))))) (at_rorr o₁.good o₂.good o₃.good o₄.good fits)
+
+  at_rroo : {n m p : ℕ} {os : List (ℕ × ℕ)} {ks : List Kind} {f : Callee} {τ τ₀ τ₁ τ₂ τ₃ τ₄ τₐ τₜ : Ty} {ν : Sym} {τs : Tys} {h₀ h₁ h₂ h₃ h₄ hₐ hₜ m₃ m₄ : Home} {v₁ v₂ v₃ v₄ : Val} → Good τ₁ v₁ → Good τ₂ v₂ → Good τ₃ v₃ → Good τ₄ v₄ → Fits τ τ₀ τₐ (ty_struct ν (tcons τₜ τs))
+      → Walk (fn_of n m p os ks (local τ₀ h₀ ∷ local τ₁ h₁ ∷ local τ₂ h₂ ∷ local τ₃ h₃ ∷ local τ₄ h₄ ∷ local τₐ hₐ ∷ local (ty_struct ν (tcons τₜ τs)) hₜ ∷ local τ₃ m₃ ∷ local τ₄ m₄ ∷ []) (moved 7 3 (moved 8 4 (body_of f (copy (place 1 []) ∷ copy (place 2 []) ∷ copy (place 7 []) ∷ copy (place 8 []) ∷ []) 5 6)))) f τ (v₁ ∷ v₂ ∷ v₃ ∷ v₄ ∷ [])
+  at_rroo {n} {m} {p} {os} {ks} {f} {τ} {τ₀} {τ₁} {τ₂} {τ₃} {τ₄} {τₐ} {τₜ} {ν} {τs} {h₀} {h₁} {h₂} {h₃} {h₄} {hₐ} {hₜ} {m₃} {m₄} {v₁} {v₂} {v₃} {v₄} g₁ g₂ g₃ g₄ fits = record {
+    runs = λ Pre Q Left Post asks gives ends. let 𝓣 = tables 𝓤 𝓛.H 𝓜 𝓡 𝓡.env in
+        qed 𝓛 (raw Pre ∷ []) ∵ enter ! 𝓣.C 𝓣.Λ (fn_of n m p os ks (local τ₀ h₀ ∷ local τ₁ h₁ ∷ local τ₂ h₂ ∷ local τ₃ h₃ ∷ local τ₄ h₄ ∷ local τₐ hₐ ∷ local (ty_struct ν (tcons τₜ τs)) hₜ ∷ local τ₃ m₃ ∷ local τ₄ m₄ ∷ []) (moved 7 3 (moved 8 4 (body_of f (copy (place 1 []) ∷ copy (place 2 []) ∷ copy (place 7 []) ∷ copy (place 8 []) ∷ []) 5 6)))) (v₁ ∷ v₂ ∷ v₃ ∷ v₄ ∷ []) Post $ alloc_all ! (λ l. pass_all ! refl (g₁, (g₂, (g₃, (g₄, tt)))) $ sets ! (of_opd ! (get ! refl)) refl g₃ $ sets ! (of_opd ! (get ! refl)) refl g₄ $
+        calls_from ! (framed 𝓤 𝓛.H 𝓜 𝓣) (raw Pre) (v₁ ∷ v₂ ∷ v₃ ∷ v₄ ∷ []) Q asks (and_then ! (get ! refl) (and_then ! (get ! refl) (and_then ! (get ! refl) (and_then ! (get ! refl) (no_more !))))) (λ v.
+        use1 𝓛 (later (some (λ (w : Val). raw (fact 𝓤 (Good τ w × (v ≡ held w))) ⊛ raw (Left w)))) (gives v) $ await ! tt $ pick ! (λ w. split ! $ heard ! _ (λ is.
+        lands_as ! is.1 refl (fits w is.0).2 $ sets ! (of_opd ! (get_in ! (fld ! refl (stop !)) (sub ! 0 refl (whole !)))) refl (fits w is.0).1 $ sets ! (of_opd ! (get ! refl)) refl (fits w is.0).0 $
+        returns ! (look_at ! 0 refl) $ free_all ! refl $ by ! (ends w is.0)))));
+  }
+
+  pub walk_rroo : {n m p : ℕ} {os : List (ℕ × ℕ)} {ks : List Kind} {f : Callee} {τ τ₀ τ₁ τ₂ τ₃ τ₄ τₐ τₜ : Ty} {ν : Sym} {τs : Tys} {h₀ h₁ h₂ h₃ h₄ hₐ hₜ m₃ m₄ : Home} {u₁ u₂ u₃ u₄ : List Val} → One τ₁ u₁ → One τ₂ u₂ → One τ₃ u₃ → One τ₄ u₄ → Fits τ τ₀ τₐ (ty_struct ν (tcons τₜ τs))
+      → Walk (fn_of n m p os ks (local τ₀ h₀ ∷ local τ₁ h₁ ∷ local τ₂ h₂ ∷ local τ₃ h₃ ∷ local τ₄ h₄ ∷ local τₐ hₐ ∷ local (ty_struct ν (tcons τₜ τs)) hₜ ∷ local τ₃ m₃ ∷ local τ₄ m₄ ∷ []) (moved 7 3 (moved 8 4 (body_of f (copy (place 1 []) ∷ copy (place 2 []) ∷ copy (place 7 []) ∷ copy (place 8 []) ∷ []) 5 6)))) f τ (u₁ ++ (u₂ ++ (u₃ ++ (u₄ ++ []))))
+  walk_rroo {n} {m} {p} {os} {ks} {f} {τ} {τ₀} {τ₁} {τ₂} {τ₃} {τ₄} {τₐ} {τₜ} {ν} {τs} {h₀} {h₁} {h₂} {h₃} {h₄} {hₐ} {hₜ} {m₃} {m₄} {u₁} {u₂} {u₃} {u₄} o₁ o₂ o₃ o₄ fits = subst (Walk (fn_of n m p os ks (local τ₀ h₀ ∷ local τ₁ h₁ ∷ local τ₂ h₂ ∷ local τ₃ h₃ ∷ local τ₄ h₄ ∷ local τₐ hₐ ∷ local (ty_struct ν (tcons τₜ τs)) hₜ ∷ local τ₃ m₃ ∷ local τ₄ m₄ ∷ []) (moved 7 3 (moved 8 4 (body_of f (copy (place 1 []) ∷ copy (place 2 []) ∷ copy (place 7 []) ∷ copy (place 8 []) ∷ []) 5 6)))) f τ) (sym (λ i. o₁.is i ++ (o₂.is i ++ (o₃.is i ++ (o₄.is i ++ []))))) (at_rroo o₁.good o₂.good o₃.good o₄.good fits)
