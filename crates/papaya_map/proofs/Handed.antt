@@ -146,3 +146,8 @@ pub four_facts : {M : Type 1} (𝓤 : Ura M) {φ₁ φ₂ φ₃ φ₄ : Type 0} 
 four_facts 𝓤 {φ₁} {φ₂} {φ₃} {φ₄} = let rest₃ : SProp 𝓤 = sep 𝓤 (fact 𝓤 φ₃) (fact 𝓤 φ₄) in let rest₂ : SProp 𝓤 = sep 𝓤 (fact 𝓤 φ₂) rest₃ in
     fact_use 𝓤 φ₁ (fst∗ 𝓤 (fact 𝓤 φ₁) rest₂) (λ x₁. via 𝓤 rest₂ (snd∗ 𝓤 (fact 𝓤 φ₁) rest₂) (fact_use 𝓤 φ₂ (fst∗ 𝓤 (fact 𝓤 φ₂) rest₃) (λ x₂. via 𝓤 rest₃ (snd∗ 𝓤 (fact 𝓤 φ₂) rest₃)
     (fact_use 𝓤 φ₃ (fst∗ 𝓤 (fact 𝓤 φ₃) (fact 𝓤 φ₄)) (λ x₃. via 𝓤 (fact 𝓤 φ₄) (snd∗ 𝓤 (fact 𝓤 φ₃) (fact 𝓤 φ₄)) (fact_use 𝓤 φ₄ (id⊢ 𝓤 (fact 𝓤 φ₄)) (λ x₄. fact_i 𝓤 (φ₁ × φ₂ × φ₃ × φ₄) (fact 𝓤 φ₄) (x₁, x₂, x₃, x₄))))))))
+
+-- and five
+pub five_facts : {M : Type 1} (𝓤 : Ura M) {φ₁ φ₂ φ₃ φ₄ φ₅ : Type 0} → ent 𝓤 (sep 𝓤 (fact 𝓤 φ₁) (sep 𝓤 (fact 𝓤 φ₂) (sep 𝓤 (fact 𝓤 φ₃) (sep 𝓤 (fact 𝓤 φ₄) (fact 𝓤 φ₅))))) (fact 𝓤 (φ₁ × φ₂ × φ₃ × φ₄ × φ₅))
+five_facts 𝓤 {φ₁} {φ₂} {φ₃} {φ₄} {φ₅} = let rest : SProp 𝓤 = sep 𝓤 (fact 𝓤 φ₂) (sep 𝓤 (fact 𝓤 φ₃) (sep 𝓤 (fact 𝓤 φ₄) (fact 𝓤 φ₅))) in
+    fact_use 𝓤 φ₁ (fst∗ 𝓤 (fact 𝓤 φ₁) rest) (λ x₁. via 𝓤 rest (snd∗ 𝓤 (fact 𝓤 φ₁) rest) (fact_use 𝓤 (φ₂ × φ₃ × φ₄ × φ₅) (four_facts 𝓤) (λ x. fact_i 𝓤 (φ₁ × φ₂ × φ₃ × φ₄ × φ₅) rest (x₁, x.0, x.1, x.2, x.3))))

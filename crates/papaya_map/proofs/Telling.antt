@@ -13,12 +13,15 @@ use denote.Laws.{Is, Typed, shows}
 use denote.Steps.{nothing, peeks}
 use denote.Shadow.{makes_shadow}
 use denote.Bor.{Bor}
-use denote.Ref.{ShrRef, shr_Tells}
+use denote.Ref.{NamedLft, ShrRef, shr_Tells}
+use denote.Param.Shared.{copy_shared}
+use denote.Struct.Field.{bool-field, shr_ref_field, unit-field}
+use denote.Struct.Laws.{bool-copy, bool-laws, shr_ref_copy, shr_ref_laws, unit-copy, unit-laws}
 use denote.Param.{layout, param}
-use denote.Param.Laws.{Laws, param_laws}
+use denote.Param.Laws.{Laws, of_field, param_laws}
 use denote.Struct.Struct.{within}
 use denote.Struct.Owning.{shape, to}
-use denote.Struct.Tuple.{Tuple}
+use denote.Struct.Tuple.{Tuple, tuple_laws}
 use Rattle.std.specs.contracts.marker.PhantomData as marker
 use Rattle.logbook.specs.declared.tokens.Rule.{Ghosts}
 use Rattle.logbook.specs.Kept.{rules, seen_owns}
@@ -82,3 +85,22 @@ module _ (B E A P : RattleType) (g : Ghosts P.Denot E.Denot A.Denot) where
         nothing t $ use0 𝓛 (‵ (Mark.own_val d.marker (vstruct vnil ∷ []))) (makes_shadow 𝓛 (Mark.own_val d.marker (vstruct vnil ∷ [])) (λ uss. (tt, tt)) (tt, (refl, tt))) $ fjoin t $
         move t (2 ∷ 0 ∷ []) $ fjoin t $ feq_i t (List Val) (held v ∷ []) (held v ∷ []) refl $ fjoin t $
         fpack t (Valss (B ∷ Mark ∷ [])) (within (shape (told.the_type B E A P g)) (to (told.the_type B E A P g) d) (held v ∷ [])) (v ∷ [], (vstruct vnil ∷ [], tt)) $ fjoin t $ s)
+
+-- a shared reference to a value of a type parameter, two of them, and `bool`, with their laws
+abbrev pub ref_row : NamedLft → ℕ → RattleType → RattleType
+ref_row ℓ k R = (shr_ref_field ℓ (param k R) tt).row
+
+pub ref_laws : (ℓ : NamedLft) (k : ℕ) (R : RattleType) → Laws R → Laws (ref_row ℓ k R)
+ref_laws ℓ k R L = let X = shr_ref_field ℓ (param k R) tt in of_field X (shr_ref_laws ℓ (param k R) tt) refl (copy_shared X (shr_ref_copy ℓ (param k R) tt (param_laws k R L).shr_laws))
+
+abbrev pub pair_row : NamedLft → ℕ → RattleType → ℕ → RattleType → RattleType
+pair_row ℓ k R m T = Tuple (ref_row ℓ k R ∷ ref_row ℓ m T ∷ [])
+
+pub pair_laws : (ℓ : NamedLft) (k : ℕ) (R : RattleType) → Laws R → (m : ℕ) (T : RattleType) → Laws T → Laws (pair_row ℓ k R m T)
+pair_laws ℓ k R L m T LT = tuple_laws (ref_row ℓ k R ∷ ref_row ℓ m T ∷ []) (ref_laws ℓ k R L, (ref_laws ℓ m T LT, tt))
+
+pub bool_laws : Laws bool-field.row
+bool_laws = of_field bool-field bool-laws refl (copy_shared bool-field bool-copy)
+
+pub unit_laws : Laws unit-field.row
+unit_laws = of_field unit-field unit-laws refl (copy_shared unit-field unit-copy)

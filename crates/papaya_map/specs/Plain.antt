@@ -1,11 +1,13 @@
 -- What a call says that takes no pass.
-use Rattle.std.specs.Prelude.{Bool, ℕ, Ok, Err, List, Result}
+use Rattle.std.specs.Prelude.{◌≡◌, Bool, ℕ, Option, Ok, Err, List, Result, is_some}
 use mathlib.Core.List.{IsPrefix}
 use base.Fml.{Fml, fex, fsep}
 use base.Stored.{Gv}
+use denote.Bor.{Bor}
 use Rattle.logbook.specs.Kept.{Rules, fact, rules, seen_owns}
 use Rattle.logbook.specs.declared.tokens.Rule.{Ghosts}
 use Rattle.papaya_words.specs.declared.probe.Refused.{Refused}
+use Rattle.papaya_lookup.specs.Answers.{IsAnsweredBetween}
 use Rattle.papaya_lookup.specs.History.{Change, IsLegalHistory, history_of, key_of}
 use Rattle.papaya_book.specs.Logs.{Stored}
 use Rattle.papaya_book.specs.declared.rule.entry.Event.{Event}
@@ -38,3 +40,9 @@ abbrev pub of_its_history : {K V S : Type 0} → (Event K V S → Gv) → Rules 
     → Pinned K V S → (eq : K → K → Bool) → (tells : List (Change K (Stored K V)) → Type 0) → Fml
 of_its_history {K} {V} {S} code rule map eq tells = fex (List ℕ × List (Event K V S)) (λ s. fsep
     (seen_owns code rule map.map.book s.0 s.1) (fact (IsSince map eq tells (history_of s.1))))
+
+-- a matching key had a pair between the two histories, or none had one
+abbrev pub IsContained : {K V : Type 0} → (K → K → Bool) → (K → Bool)
+    → (old new : List (Change K (Stored K V))) → Bool → Type 0
+IsContained {V = V} eq matches old new has = (found : Option (Bor V)) × (has ≡ is_some found)
+    × IsAnsweredBetween eq matches old new found

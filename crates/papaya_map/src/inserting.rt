@@ -1,14 +1,20 @@
 //! The calls that store a value where a key has none, pinned and with a guard.
 ghost use Rattle.std.specs.Prelude.{◌≡◌, ◌⊎◌, [], None, Some, Option, Err, IfErr, IfOk, MatchOption};
+ghost use Rattle.std.specs.Borrow.{sem};
 ghost use mathlib.Core.List.{IsPrefix};
+ghost use Rattle.papaya_book.specs.contracts.rule.entry.Event.{the_row as EventOf};
 ghost use Rattle.papaya_book.specs.Limits.{HasNoRoom};
 ghost use Rattle.papaya_keys.specs.declared.occupied.NotInserted.TheVariants.{Logged, Value};
 ghost use Rattle.papaya_change.specs.Writing.{IsMemoryOrCapacity};
-ghost use Rattle.papaya_lookup.specs.History.{Makes};
-ghost use Rattle.papaya_map.specs.Plain.{IsOfHistory};
+ghost use Rattle.papaya_lookup.specs.History.{IsLegalHistory, Makes, history_of, key_of};
+ghost use Rattle.papaya_map.specs.Plain.{IsOfHistory, of_its_history, rule_of};
 ghost use Rattle.papaya_map.specs.Storing.{IsThere, IsThereBy, IsTried, IsTriedWith, stored};
 
 use crate::map::{HashMap, HashMapRef, Pass};
+use crate::told::{Saying, Told};
+use logbook::Rule;
+use papaya_book::rule::entry::{Event, Named};
+use papaya_book::rule::law::Law;
 use papaya_compute::deciding::Outcome;
 use papaya_compute::rules::{Giving, Made, Ready};
 use papaya_keys::guard::Guard;
@@ -166,6 +172,25 @@ impl<'a, K: Hash + Eq + Drop, V: Drop, S: BuildHasher> HashMapRef<'a, K, V, S> {
         }
     }
 
+    /// The same, with what was seen.
+    #[inline(always)]
+    fn try_insert_told<R: Wait>(
+        &self,
+        rt: &R,
+        key: K,
+        value: V,
+    ) -> Saying<Result<Result<&'a V, OccupiedError<'a, V>>, Refused>, K, V, S>
+        ensures book { result.book ≡ self.now.map.book }
+        ensures legal { IsLegalHistory K.eq key_of (history_of result.log) }
+        ensures seen { IsPrefix self.now.seen (history_of result.log) }
+        ensures tried { IfOk result.answer (IsTried K.eq key self.now.seen (history_of result.log) value) }
+        ensures refused { IfErr result.answer IsMemoryOrCapacity }
+    {
+        let mut pass = self.begun(self.map.number());
+        let answer = self.try_insert_as(rt, key, value, &mut pass);
+        pass.tell(answer)
+    }
+
     /// Stores a pair where the key has none, and answers its value: `try_insert` of 0.2.5. Where the
     /// key has a value, that stays, and what was handed in is given back, or it lies in the log.
     ///
@@ -176,12 +201,15 @@ impl<'a, K: Hash + Eq + Drop, V: Drop, S: BuildHasher> HashMapRef<'a, K, V, S> {
         key: K,
         value: V,
     ) -> Result<Result<&'a V, OccupiedError<'a, V>>, Refused>
+        ensures* own { sem 𝓛 (of_its_history (EventOf K.row V.row S.row).coded.code
+            (rule_of ⟦<Law<K, V, S> as Rule<Event<K, V, S>, Named<K, V>>>⟧) self.now K.eq
+            (λ h. IfOk result (IsTried K.eq key self.now.seen h value))) }
         ensures tried { IfOk result (λ tried. IsOfHistory K.eq (λ h. IsTried K.eq key [] h value
             tried)) }
         ensures refused { IfErr result IsMemoryOrCapacity }
     {
-        let mut pass = self.map.pass();
-        self.try_insert_as(rt, key, value, &mut pass)
+        let Told { answer, marker: _ } = self.try_insert_told(rt, key, value);
+        answer
     }
 
     /// The same with a closure that makes the value where it is to be stored, and with the value
@@ -203,19 +231,38 @@ impl<'a, K: Hash + Eq + Drop, V: Drop, S: BuildHasher> HashMapRef<'a, K, V, S> {
         self.try_insert_with_as(rt, key, f, &mut pass)
     }
 
+    /// The same, with what was seen.
+    #[inline(always)]
+    fn get_or_insert_told<R: Wait>(
+        &self,
+        rt: &R,
+        key: K,
+        value: V,
+    ) -> Saying<Result<&'a V, Refused>, K, V, S>
+        ensures book { result.book ≡ self.now.map.book }
+        ensures legal { IsLegalHistory K.eq key_of (history_of result.log) }
+        ensures seen { IsPrefix self.now.seen (history_of result.log) }
+        ensures there { IfOk result.answer (IsThere K.eq key self.now.seen (history_of result.log) (λ w. w ≡ value)) }
+        ensures refused { IfErr result.answer IsMemoryOrCapacity }
+    {
+        let mut pass = self.begun(self.map.number());
+        let answer = self.get_or_insert_as(rt, key, value, &mut pass);
+        pass.tell(answer)
+    }
+
     /// The value of a key, which is stored where the key has none: `get_or_insert` of 0.2.5.
     ///
     /// Refused as [`HashMapRef::insert_as`] is, and then it changes nothing.
     pub fn get_or_insert<R: Wait>(&self, rt: &R, key: K, value: V) -> Result<&'a V, Refused>
+        ensures* own { sem 𝓛 (of_its_history (EventOf K.row V.row S.row).coded.code
+            (rule_of ⟦<Law<K, V, S> as Rule<Event<K, V, S>, Named<K, V>>>⟧) self.now K.eq
+            (λ h. IfOk result (IsThere K.eq key self.now.seen h (λ w. w ≡ value)))) }
         ensures there { IfOk result (λ there. IsOfHistory K.eq (λ h. IsThere K.eq key [] h
             (λ w. w ≡ value) there)) }
         ensures refused { IfErr result IsMemoryOrCapacity }
     {
-        match self.try_insert(rt, key, value) {
-            Ok(Ok(stored)) => Ok(stored),
-            Ok(Err(occupied)) => Ok(occupied.current),
-            Err(refused) => Err(refused),
-        }
+        let Told { answer, marker: _ } = self.get_or_insert_told(rt, key, value);
+        answer
     }
 
     /// The same with a closure that makes the value where it is to be stored:

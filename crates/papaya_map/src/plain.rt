@@ -12,7 +12,7 @@ ghost use Rattle.papaya_change.specs.Changes.{IsPut};
 ghost use Rattle.papaya_change.specs.RemovalAnswers.{IsEntryRemoved, IsRemovalBy, IsRemoved, took};
 ghost use Rattle.papaya_change.specs.Showings.{Judges, Operates};
 ghost use Rattle.papaya_compute.specs.ComputeAnswers.{IsComputeBy};
-ghost use Rattle.papaya_map.specs.Plain.{IsOfHistory, of_its_history, rule_of};
+ghost use Rattle.papaya_map.specs.Plain.{IsContained, IsOfHistory, of_its_history, rule_of};
 
 use crate::map::{HashMap, HashMapRef, Pass};
 use crate::told::{Saying, Told};
@@ -71,24 +71,77 @@ impl<'a, K: Hash + Eq, V, S: BuildHasher> HashMapRef<'a, K, V, S> {
         answer
     }
 
+    /// The same, with what was seen.
+    #[inline(always)]
+    fn get_key_value_told<Q: Equivalent<K>>(
+        &self,
+        key: &Q,
+    ) -> Saying<Option<(&'a K, &'a V)>, K, V, S>
+        ensures book { result.book ≡ self.now.map.book }
+        ensures legal { IsLegalHistory K.eq key_of (history_of result.log) }
+        ensures seen { IsPrefix self.now.seen (history_of result.log) }
+        ensures answered { IsPairAnsweredBetween K.eq (Q.matches key.now) self.now.seen (history_of result.log) result.answer }
+    {
+        let mut pass = self.begun(0);
+        let found = self.get_key_value_as(key, &mut pass);
+        pass.tell(found)
+    }
+
     /// The stored key and the value of a key: `get_key_value` of 0.2.5. As [`HashMapRef::get`], it
     /// waits for nobody, and takes no lock and no memory.
     #[inline]
     pub fn get_key_value<Q: Equivalent<K>>(&self, key: &Q) -> Option<(&'a K, &'a V)>
-        ensures { IsOfHistory K.eq (λ h. IsPairAnsweredBetween K.eq (Q.matches key.now) [] h
-            result) }
+        ensures* own { sem 𝓛 (of_its_history (EventOf K.row V.row S.row).coded.code
+            (rule_of ⟦<Law<K, V, S> as Rule<Event<K, V, S>, Named<K, V>>>⟧) self.now K.eq
+            (λ h. IsPairAnsweredBetween K.eq (Q.matches key.now) self.now.seen h result)) }
+        ensures answered { IsOfHistory K.eq (λ h. IsPairAnsweredBetween K.eq (Q.matches key.now) []
+            h result) }
     {
-        let mut pass = self.map.numbered(0);
-        self.get_key_value_as(key, &mut pass)
+        let Told { answer, marker: _ } = self.get_key_value_told(key);
+        answer
+    }
+
+    /// The same, with what was seen.
+    #[inline(always)]
+    fn contains_key_told<Q: Equivalent<K>>(&self, key: &Q) -> Saying<bool, K, V, S>
+        ensures book { result.book ≡ self.now.map.book }
+        ensures legal { IsLegalHistory K.eq key_of (history_of result.log) }
+        ensures seen { IsPrefix self.now.seen (history_of result.log) }
+        ensures answered { IsContained K.eq (Q.matches key.now) self.now.seen (history_of result.log) result.answer }
+    {
+        let mut pass = self.begun(0);
+        let found = self.get_as(key, &mut pass).is_some();
+        pass.tell(found)
     }
 
     /// Has a key a value? `contains_key` of 0.2.5. It waits for nobody, as [`HashMapRef::get`].
     #[inline]
     pub fn contains_key<Q: Equivalent<K>>(&self, key: &Q) -> bool
-        ensures { (found : Option (Bor V)) × (result ≡ is_some found) × IsOfHistory K.eq
+        ensures* own { sem 𝓛 (of_its_history (EventOf K.row V.row S.row).coded.code
+            (rule_of ⟦<Law<K, V, S> as Rule<Event<K, V, S>, Named<K, V>>>⟧) self.now K.eq
+            (λ h. IsContained K.eq (Q.matches key.now) self.now.seen h result)) }
+        ensures answered { (found : Option (Bor V)) × (result ≡ is_some found) × IsOfHistory K.eq
             (λ h. IsAnsweredBetween K.eq (Q.matches key.now) [] h found) }
     {
-        self.get(key).is_some()
+        let Told { answer, marker: _ } = self.contains_key_told(key);
+        answer
+    }
+
+    /// The same, with what was seen.
+    #[inline(always)]
+    fn remove_told<R: Wait, Q: Equivalent<K>>(
+        &self,
+        rt: &R,
+        key: &Q,
+    ) -> Saying<Result<Option<&'a V>, Refused>, K, V, S>
+        ensures book { result.book ≡ self.now.map.book }
+        ensures legal { IsLegalHistory K.eq key_of (history_of result.log) }
+        ensures seen { IsPrefix self.now.seen (history_of result.log) }
+        ensures removed { IsRemoved K.eq (Q.matches key.now) self.now.seen (history_of result.log) result.answer }
+    {
+        let mut pass = self.begun(self.map.number());
+        let answer = self.remove_as(rt, key, &mut pass);
+        pass.tell(answer)
     }
 
     /// Removes a key's pair, and answers its value: `remove` of 0.2.5.
@@ -99,10 +152,13 @@ impl<'a, K: Hash + Eq, V, S: BuildHasher> HashMapRef<'a, K, V, S> {
         rt: &R,
         key: &Q,
     ) -> Result<Option<&'a V>, Refused>
-        ensures { IsOfHistory K.eq (λ h. IsRemoved K.eq (Q.matches key.now) [] h result) }
+        ensures* own { sem 𝓛 (of_its_history (EventOf K.row V.row S.row).coded.code
+            (rule_of ⟦<Law<K, V, S> as Rule<Event<K, V, S>, Named<K, V>>>⟧) self.now K.eq
+            (λ h. IsRemoved K.eq (Q.matches key.now) self.now.seen h result)) }
+        ensures removed { IsOfHistory K.eq (λ h. IsRemoved K.eq (Q.matches key.now) [] h result) }
     {
-        let mut pass = self.map.pass();
-        self.remove_as(rt, key, &mut pass)
+        let Told { answer, marker: _ } = self.remove_told(rt, key);
+        answer
     }
 
     /// Removes a key's pair if the closure, which is shown it, answers true: `remove_if` of 0.2.5.
@@ -122,6 +178,23 @@ impl<'a, K: Hash + Eq, V, S: BuildHasher> HashMapRef<'a, K, V, S> {
         self.remove_if_as(rt, key, should_remove, &mut pass)
     }
 
+    /// The same, with what was seen.
+    #[inline(always)]
+    fn remove_entry_told<R: Wait, Q: Equivalent<K>>(
+        &self,
+        rt: &R,
+        key: &Q,
+    ) -> Saying<Result<Option<(&'a K, &'a V)>, Refused>, K, V, S>
+        ensures book { result.book ≡ self.now.map.book }
+        ensures legal { IsLegalHistory K.eq key_of (history_of result.log) }
+        ensures seen { IsPrefix self.now.seen (history_of result.log) }
+        ensures removed { IsEntryRemoved K.eq (Q.matches key.now) self.now.seen (history_of result.log) result.answer }
+    {
+        let mut pass = self.begun(self.map.number());
+        let answer = self.remove_entry_as(rt, key, &mut pass);
+        pass.tell(answer)
+    }
+
     /// Removes a key's pair, and answers it: `remove_entry` of 0.2.5.
     ///
     /// Refused as [`HashMapRef::remove_if_as`] is, and then it changes nothing.
@@ -130,10 +203,14 @@ impl<'a, K: Hash + Eq, V, S: BuildHasher> HashMapRef<'a, K, V, S> {
         rt: &R,
         key: &Q,
     ) -> Result<Option<(&'a K, &'a V)>, Refused>
-        ensures { IsOfHistory K.eq (λ h. IsEntryRemoved K.eq (Q.matches key.now) [] h result) }
+        ensures* own { sem 𝓛 (of_its_history (EventOf K.row V.row S.row).coded.code
+            (rule_of ⟦<Law<K, V, S> as Rule<Event<K, V, S>, Named<K, V>>>⟧) self.now K.eq
+            (λ h. IsEntryRemoved K.eq (Q.matches key.now) self.now.seen h result)) }
+        ensures removed { IsOfHistory K.eq (λ h. IsEntryRemoved K.eq (Q.matches key.now) [] h
+            result) }
     {
-        let mut pass = self.map.pass();
-        self.remove_entry_as(rt, key, &mut pass)
+        let Told { answer, marker: _ } = self.remove_entry_told(rt, key);
+        answer
     }
 
     /// The same by a pass. It is refused as [`HashMapRef::remove_if_as`] is.
@@ -171,18 +248,41 @@ impl<'a, K: Hash + Eq, V, S: BuildHasher> HashMapRef<'a, K, V, S> {
 }
 
 impl<'a, K: Hash + Eq + Drop, V: Drop, S: BuildHasher> HashMapRef<'a, K, V, S> {
+    /// The same, with what was seen.
+    #[inline(always)]
+    fn insert_told<R: Wait>(
+        &self,
+        rt: &R,
+        key: K,
+        value: V,
+    ) -> Saying<Result<Option<&'a V>, Refused>, K, V, S>
+        ensures book { result.book ≡ self.now.map.book }
+        ensures legal { IsLegalHistory K.eq key_of (history_of result.log) }
+        ensures seen { IsPrefix self.now.seen (history_of result.log) }
+        ensures put { IfOk result.answer (IsPut K.eq key value self.now.seen (history_of result.log)) }
+        ensures refused { IfErr result.answer (λ refused. (refused ≡ Refused.Memory)
+            ⊎ (refused ≡ Refused.Capacity)) }
+    {
+        let mut pass = self.begun(self.map.number());
+        let answer = self.insert_as(rt, key, value, &mut pass);
+        pass.tell(answer)
+    }
+
     /// Stores a pair, and answers the value that its key had: `insert` of 0.2.5. As there, the new
     /// key takes the old one's place too.
     ///
     /// Refused as [`HashMapRef::insert_as`] is, and then it changes nothing.
     pub fn insert<R: Wait>(&self, rt: &R, key: K, value: V) -> Result<Option<&'a V>, Refused>
+        ensures* own { sem 𝓛 (of_its_history (EventOf K.row V.row S.row).coded.code
+            (rule_of ⟦<Law<K, V, S> as Rule<Event<K, V, S>, Named<K, V>>>⟧) self.now K.eq
+            (λ h. IfOk result (IsPut K.eq key value self.now.seen h))) }
         ensures put { IfOk result (λ answer. IsOfHistory K.eq (λ h. IsPut K.eq key value [] h
             answer)) }
         ensures refused { IfErr result (λ refused. (refused ≡ Refused.Memory)
             ⊎ (refused ≡ Refused.Capacity)) }
     {
-        let mut pass = self.map.pass();
-        self.insert_as(rt, key, value, &mut pass)
+        let Told { answer, marker: _ } = self.insert_told(rt, key, value);
+        answer
     }
 
     /// What the closure makes of the key's pair, or of its absence: `compute` of 0.2.5.

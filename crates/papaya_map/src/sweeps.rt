@@ -3,11 +3,18 @@ ghost use Rattle.std.specs.Prelude.{◌≡◌, ◌⊎◌, false, [], Err, IfErr,
 ghost use Rattle.papaya_book.specs.Limits.{HasNoRoom};
 ghost use Rattle.papaya_change.specs.Showings.{Judges};
 ghost use Rattle.papaya_change.specs.Writing.{IsMemoryOrCapacity};
-ghost use Rattle.papaya_map.specs.Plain.{IsOfHistory};
+ghost use Rattle.std.specs.Borrow.{sem};
+ghost use Rattle.papaya_book.specs.contracts.rule.entry.Event.{the_row as EventOf};
+ghost use Rattle.papaya_lookup.specs.History.{IsLegalHistory, history_of, key_of};
+ghost use Rattle.papaya_map.specs.Plain.{IsOfHistory, of_its_history, rule_of};
 ghost use mathlib.Core.List.{IsPrefix};
 ghost use Rattle.papaya_sweep.specs.Leaving.{HasDropped, HasKept, IsCleared};
 
 use crate::map::{HashMap, HashMapRef, Pass};
+use crate::told::{Saying, Told};
+use logbook::Rule;
+use papaya_book::rule::entry::{Event, Named};
+use papaya_book::rule::law::Law;
 use papaya_keys::guard::Guard;
 use papaya_sweep::walk::{Iter, Keys, Values};
 use papaya_words::probe::Refused;
@@ -40,14 +47,31 @@ impl<'a, K: Hash + Eq, V, S: BuildHasher> HashMapRef<'a, K, V, S> {
         )
     }
 
+    /// The same, with what was seen.
+    #[inline(always)]
+    fn clear_told<R: Wait>(&self, rt: &R) -> Saying<Result<(), Refused>, K, V, S>
+        ensures book { result.book ≡ self.now.map.book }
+        ensures legal { IsLegalHistory K.eq key_of (history_of result.log) }
+        ensures seen { IsPrefix self.now.seen (history_of result.log) }
+        ensures cleared { IfOk result.answer (λ _. IsCleared K.eq self.now.seen (history_of result.log)) }
+        ensures refused { IfErr result.answer IsMemoryOrCapacity }
+    {
+        let mut pass = self.begun(self.map.number());
+        let answer = self.clear_as(rt, &mut pass);
+        pass.tell(answer)
+    }
+
     /// Removes the pairs that the map has: `clear` of 0.2.5. A pair that is stored meanwhile may stay.
     ///
     /// Refused as [`HashMapRef::retain`] is.
     pub fn clear<R: Wait>(&self, rt: &R) -> Result<(), Refused>
-        ensures { IfErr result (λ refused. IsMemoryOrCapacity refused) }
+        ensures* own { sem 𝓛 (of_its_history (EventOf K.row V.row S.row).coded.code
+            (rule_of ⟦<Law<K, V, S> as Rule<Event<K, V, S>, Named<K, V>>>⟧) self.now K.eq
+            (λ h. IfOk result (λ _. IsCleared K.eq self.now.seen h))) }
+        ensures refused { IfErr result (λ refused. IsMemoryOrCapacity refused) }
     {
-        let mut pass = self.map().pass();
-        self.clear_as(rt, &mut pass)
+        let Told { answer, marker: _ } = self.clear_told(rt);
+        answer
     }
 
     /// Removes the pairs for which the closure, which is shown each, answers false: `retain` of 0.2.5.
