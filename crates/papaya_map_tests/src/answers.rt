@@ -14,14 +14,10 @@ pub enum Answer {
     Is(bool),
     /// A value, or a count.
     Number(u64),
-    /// A key and its value.
+    /// A key and its value, or two numbers of what a walk gave.
     Pair(u64, u64),
-    /// What is there stays: its key and value.
+    /// What is there stays: its key and value, or its value and the one that was not stored.
     Kept(u64, u64),
-    /// The value that is there stays, and the other one is given back.
-    Occupied(u64, u64),
-    /// The value that is there stays, and no other was made.
-    NotMade(u64),
     /// A compute stored this pair.
     Inserted(u64, u64),
     /// A compute put the second value in the first one's place.
@@ -30,8 +26,6 @@ pub enum Answer {
     Removed(u64, u64),
     /// A compute ended with this number.
     Aborted(u64),
-    /// Two numbers of what a walk gave.
-    Walked(u64, u64),
     /// How often a closure was shown that there is no pair, how often one, and which last.
     Saw(u64, u64, Option<(u64, u64)>),
     Refused(Refused),
@@ -97,8 +91,8 @@ pub fn tried(answer: Result<Result<&u64, OccupiedError<'_, u64>>, Refused>) -> A
     match answer {
         Ok(Ok(value)) => Answer::Number(*value),
         Ok(Err(occupied)) => match occupied.not_inserted {
-            NotInserted::Value(value) => Answer::Occupied(*occupied.current, value),
-            NotInserted::Logged(value) => Answer::Occupied(*occupied.current, *value),
+            NotInserted::Value(value) => Answer::Kept(*occupied.current, value),
+            NotInserted::Logged(value) => Answer::Kept(*occupied.current, *value),
         },
         Err(refused) => Answer::Refused(refused),
     }
@@ -108,7 +102,7 @@ pub fn tried(answer: Result<Result<&u64, OccupiedError<'_, u64>>, Refused>) -> A
 pub fn made(answer: Result<Result<&u64, &u64>, Refused>) -> Answer {
     match answer {
         Ok(Ok(value)) => Answer::Number(*value),
-        Ok(Err(value)) => Answer::NotMade(*value),
+        Ok(Err(value)) => Answer::Kept(*value, *value),
         Err(refused) => Answer::Refused(refused),
     }
 }

@@ -118,7 +118,7 @@ fn updates<R: Wait, C: Calls>(rt: &R, map: &mut C) -> bool {
 fn walks<R: Wait, C: Calls>(rt: &R, map: &mut C, keys: u64) -> bool {
     for _ in 0..20u64 {
         match map.keys(rt, keys) {
-            Answer::Walked(below, _) if below == keys => {}
+            Answer::Pair(below, _) if below == keys => {}
             _ => return false,
         }
     }

@@ -1,8 +1,6 @@
 // Each call that takes a guard: with one of another collector it is refused and changes nothing, and
 // with one of the map's number it answers as ever, whichever collector made it.
-use crate::answers::Answer::{
-    Absent, Done, Is, Kept, Number, Occupied, Pair, Refused, Removed, Walked,
-};
+use crate::answers::Answer::{Absent, Done, Is, Kept, Number, Pair, Refused, Removed};
 use crate::numbers::Numbers;
 use crate::seen::Says;
 use crate::shared::Turn::{self, Calls, Guarded};
@@ -74,7 +72,7 @@ const TAKES: Script = &[
     (GetKeyValue(1), Pair(1, 10)),
     (Contains(2), Is(false)),
     // 10 stays at 1, and 20 is stored at 2.
-    (TryInsert(1, 11), Occupied(10, 11)),
+    (TryInsert(1, 11), Kept(10, 11)),
     (TryInsertWith(2, 20), Number(20)),
     (GetOrInsert(2, 21), Number(20)),
     (GetOrInsertWith(3, 30), Number(30)),
@@ -85,8 +83,8 @@ const TAKES: Script = &[
     (Compute(4, Says::Remove), Removed(4, 41)),
     // 10, 20 and 31 are walked over, which 1, 2 and 3 have.
     (Reserve(20), Done),
-    (Iter, Walked(0, 3)),
-    (Keys(4), Walked(3, 6)),
+    (Iter, Pair(0, 3)),
+    (Keys(4), Pair(3, 6)),
     (Values, Number(61)),
     (Remove(1), Number(10)),
     (RemoveEntry(2), Pair(2, 20)),

@@ -65,7 +65,7 @@ impl<'a> Pinned<'a> {
             same = same.wrapping_add(u64::from(key == value));
             less = less.wrapping_add(u64::from(key < value));
         }
-        Ok(Answer::Walked(same, less))
+        Ok(Answer::Pair(same, less))
     }
 
     /// How many keys below this one a walk gives, and the sum of all keys.
@@ -76,7 +76,7 @@ impl<'a> Pinned<'a> {
             below = below.wrapping_add(u64::from(*key < end));
             sum = sum.wrapping_add(*key);
         }
-        Ok(Answer::Walked(below, sum))
+        Ok(Answer::Pair(below, sum))
     }
 
     /// The sum of the values that a walk gives.

@@ -1,5 +1,5 @@
 // The calls that visit the whole map.
-use crate::answers::Answer::{Absent, Done, Is, Number, Walked};
+use crate::answers::Answer::{Absent, Done, Is, Number, Pair};
 use crate::numbers::Numbers;
 use crate::shared::Turn::{self, Calls, Guarded};
 use crate::shared::{Holder, MODES, Making, runs};
@@ -12,18 +12,18 @@ use std::test::Fail;
 /// Each of 100 pairs is given once, five stay that are below 5, and none after a clear.
 const SWEEPS: [Turn; 1] = [Calls(&[
     (InsertBelow(100), Is(true)),
-    (Iter, Walked(100, 0)),
-    (Keys(100), Walked(100, 4950)),
+    (Iter, Pair(100, 0)),
+    (Keys(100), Pair(100, 4950)),
     (Values, Number(4950)),
     (Retain(ValuesBelow(5)), Done),
     (Len, Number(5)),
-    (Iter, Walked(5, 0)),
-    (Keys(5), Walked(5, 10)),
+    (Iter, Pair(5, 0)),
+    (Keys(5), Pair(5, 10)),
     (Values, Number(10)),
     (Clear, Done),
     (Len, Number(0)),
-    (Iter, Walked(0, 0)),
-    (Keys(100), Walked(0, 0)),
+    (Iter, Pair(0, 0)),
+    (Keys(100), Pair(0, 0)),
     (Values, Number(0)),
 ])];
 
