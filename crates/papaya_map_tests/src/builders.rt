@@ -1,6 +1,11 @@
 // What builders and constructors make, and what they refuse.
+use crate::answers::Answer::{Absent, Number, Refused as No};
 use crate::expect::is;
 use crate::numbers::Numbers;
+use crate::shared::Turn::{Calls, Guarded};
+use crate::shared::{Holder, Making, Shared, runs};
+use crate::steps::Script;
+use crate::steps::Step::{Get, Insert, Len};
 use papaya_hashers::times::{APART, Times};
 use papaya_keys::guard::Collector;
 use papaya_map::builder::HashMapBuilder;
@@ -11,6 +16,19 @@ use std::process::Abort;
 use std::sync::{Arc, Wait};
 use std::test::Fail;
 
+/// What a builder is asked for.
+#[derive(Clone, Copy)]
+pub enum Asked {
+    Nothing,
+    Capacity(usize),
+    Shards(usize),
+    Mode(ResizeMode),
+    /// Of this number.
+    Collector(u64),
+    /// Each part.
+    All,
+}
+
 /// What the builders of the tests build.
 type Builder = HashMapBuilder<u64, u64, Times>;
 
@@ -19,135 +37,179 @@ fn builder() -> Builder {
     HashMap::builder().hasher(APART)
 }
 
-/// The map is not built, and this is why.
-fn refuses<R: Wait + Abort>(rt: &R, alloc: Global, builder: Builder, why: Refused) {
-    is(rt, builder.build(rt, alloc).err(), Some(why));
-}
-
-/// The map is built, and stores a pair.
-fn builds<R: Wait + Abort>(rt: &R, alloc: Global, builder: Builder) {
-    let map = builder.build(rt, alloc).expect(rt, "a map");
-    stores(rt, &map);
-}
-
-/// An empty map stores a pair.
-fn stores<R: Wait + Abort>(rt: &R, map: &Numbers) {
-    is(rt, map.len(), 0);
-    is(rt, map.pin().insert(rt, 1, 10), Ok(None));
-    is(rt, map.pin().get(&1), Some(&10));
-}
-
-#[test]
-fn what_is_past_a_limit_is_not_built(rt: HostRuntime) {
-    let alloc = rt.alloc();
-    let chunk = builder().resize_mode(ResizeMode::Incremental(0));
-    refuses(&rt, alloc, chunk, Refused::ZeroChunk);
-    refuses(
-        &rt,
-        alloc,
-        builder().capacity(0x1_0000_0000),
-        Refused::Capacity,
-    );
-    refuses(
-        &rt,
-        alloc,
-        builder().capacity(3_221_225_473),
-        Refused::Capacity,
-    );
-    refuses(&rt, alloc, builder().shards(65_537), Refused::Capacity);
-}
-
-#[test]
-fn any_number_of_shards_to_the_limit_is_built(rt: HostRuntime) {
-    for shards in [0usize, 3, 65_536] {
-        builds(&rt, rt.alloc(), builder().shards(shards));
-    }
-}
-
-#[test]
-fn each_part_may_be_asked_for(rt: HostRuntime) {
-    let all = builder()
+/// One that is asked for each part.
+fn whole() -> Builder {
+    builder()
         .collector(Collector::new(3))
         .capacity(10)
         .resize_mode(ResizeMode::Blocking)
-        .shards(4);
-    builds(&rt, rt.alloc(), all);
+        .shards(4)
 }
 
-/// A map takes the guards of a collector of its number, and refuses those of another.
-fn knows_its_guards<R: Abort>(rt: &R, map: &Numbers, own: &Collector, other: &Collector) {
-    let guard = own.enter();
-    is(rt, map.get(&1, &guard), Ok(None));
-    let guard = other.enter();
-    is(rt, map.get(&1, &guard), Err(Refused::WrongGuard));
+/// One that is asked for this.
+fn asking(asked: Asked) -> Builder {
+    match asked {
+        Asked::Nothing => builder(),
+        Asked::Capacity(capacity) => builder().capacity(capacity),
+        Asked::Shards(shards) => builder().shards(shards),
+        Asked::Mode(mode) => builder().resize_mode(mode),
+        Asked::Collector(number) => builder().collector(Collector::new(number)),
+        Asked::All => whole(),
+    }
+}
+
+/// What it builds.
+pub fn built<R: Wait>(rt: &R, alloc: Global, asked: Asked) -> Result<Numbers, Refused> {
+    asking(asked).build(rt, alloc)
+}
+
+/// A map that shares this collector.
+pub fn sharing<R: Wait>(
+    rt: &R,
+    alloc: Global,
+    collector: Arc<Collector>,
+) -> Result<Numbers, Refused> {
+    builder().shared_collector(collector).build(rt, alloc)
+}
+
+/// The maps are not made, and this is why.
+fn refuses<R: Wait + Abort, M: Shared + Drop>(
+    rt: &R,
+    alloc: Global,
+    refused: &[(Making, Refused)],
+) {
+    for &(making, why) in refused {
+        is(rt, M::made(rt, alloc, making).err(), Some(why));
+    }
+}
+
+/// What is past a limit.
+const PAST: [(Making, Refused); 4] = [
+    (
+        Making::Built(Asked::Mode(ResizeMode::Incremental(0))),
+        Refused::ZeroChunk,
+    ),
+    (
+        Making::Built(Asked::Capacity(0x1_0000_0000)),
+        Refused::Capacity,
+    ),
+    (
+        Making::Built(Asked::Capacity(3_221_225_473)),
+        Refused::Capacity,
+    ),
+    (Making::Built(Asked::Shards(65_537)), Refused::Capacity),
+];
+
+#[test]
+fn what_is_past_a_limit_is_not_built(rt: HostRuntime) {
+    refuses::<_, Numbers>(&rt, rt.alloc(), &PAST);
+}
+
+/// Maps for too many pairs.
+const TOO_LARGE: [(Making, Refused); 2] = [
+    (Making::Capacity(0x1_0000_0000), Refused::Capacity),
+    (Making::Capacity(3_221_225_473), Refused::Capacity),
+];
+
+#[test]
+fn a_map_for_too_many_pairs_is_not_made(rt: HostRuntime) {
+    refuses::<_, Numbers>(&rt, rt.alloc(), &TOO_LARGE);
+}
+
+/// An empty map stores a pair.
+const STORES: Script = &[
+    (Len, Number(0)),
+    (Insert(1, 10), Absent),
+    (Get(1), Number(10)),
+];
+
+/// Maps over any number of shards to the limit.
+const SHARDS: [Making; 3] = [
+    Making::Built(Asked::Shards(0)),
+    Making::Built(Asked::Shards(3)),
+    Making::Built(Asked::Shards(65_536)),
+];
+
+#[test]
+fn any_number_of_shards_to_the_limit_is_built(rt: HostRuntime) -> Result<(), Fail> {
+    runs::<_, Numbers>(&rt, rt.alloc(), &SHARDS, &[Calls(STORES)])
 }
 
 #[test]
+fn each_part_may_be_asked_for(rt: HostRuntime) -> Result<(), Fail> {
+    runs::<_, Numbers>(
+        &rt,
+        rt.alloc(),
+        &[Making::Built(Asked::All)],
+        &[Calls(STORES)],
+    )
+}
+
+#[test]
+fn a_map_is_made_with_a_hasher(rt: HostRuntime) -> Result<(), Fail> {
+    runs::<_, Numbers>(&rt, rt.alloc(), &[Making::Hasher], &[Calls(STORES)])
+}
+
+/// A map takes the guards of a collector of its number, and refuses those of another.
+const TAKES: Script = &[(Get(1), Absent)];
+
+const REFUSES: Script = &[(Get(1), No(Refused::WrongGuard))];
+
+#[test]
 fn a_guard_is_known_by_its_collector(rt: HostRuntime) -> Result<(), Fail> {
-    let map = builder()
-        .collector(Collector::new(2))
-        .build(&rt, rt.alloc())?;
-    knows_its_guards(&rt, &map, &Collector::new(2), &Collector::new(1));
+    runs::<_, Numbers>(
+        &rt,
+        rt.alloc(),
+        &[Making::Built(Asked::Collector(2))],
+        &[
+            Guarded(Holder::Other(2), TAKES),
+            Guarded(Holder::Other(1), REFUSES),
+        ],
+    )
+}
+
+/// A map shares a collector, whose guards it takes.
+fn shares<R: Wait + Abort, M: Shared + Drop>(rt: &R, alloc: Global) -> Result<(), Fail> {
+    let collector = Arc::new(alloc, Collector::new(5)).expect(rt, "memory");
+    let map: M = M::sharing(rt, alloc, Arc::try_clone(&collector)?)?;
+    map.goes_with(rt, 0, &collector, false, TAKES);
+    map.goes_with(rt, 0, &Collector::new(0), false, REFUSES);
     Ok(())
 }
 
 #[test]
 fn maps_may_share_a_collector(rt: HostRuntime) -> Result<(), Fail> {
-    let collector = Arc::new(rt.alloc(), Collector::new(5)).expect(&rt, "memory");
-    let theirs = Arc::try_clone(&collector)?;
-    let map = builder().shared_collector(theirs).build(&rt, rt.alloc())?;
-    knows_its_guards(&rt, &map, &collector, &Collector::new(0));
-    Ok(())
+    shares::<_, Numbers>(&rt, rt.alloc())
 }
 
-#[test]
-fn a_map_is_made_with_a_hasher(rt: HostRuntime) -> Result<(), Fail> {
-    let map: Numbers = HashMap::with_hasher(&rt, rt.alloc(), APART)?;
-    stores(&rt, &map);
-    Ok(())
-}
-
-/// A map for so many pairs is not made, and this is why.
-fn has_no_room_for<R: Wait + Abort>(rt: &R, alloc: Global, capacity: usize) {
-    let made: Result<Numbers, Refused> = HashMap::with_capacity_and_hasher(
-        rt, alloc, capacity, APART,
-    );
-    is(rt, made.err(), Some(Refused::Capacity));
-}
-
-#[test]
-fn a_map_for_too_many_pairs_is_not_made(rt: HostRuntime) {
-    has_no_room_for(&rt, rt.alloc(), 0x1_0000_0000);
-    has_no_room_for(&rt, rt.alloc(), 3_221_225_473);
-}
-
-/// The slots of a map for one caller that is built for so many pairs, or why it is not.
-fn slots_for(alloc: Global, builder: Builder) -> Result<usize, Refused> {
-    let map = builder.build_seq(alloc)?;
+/// The slots of a map for one caller that is built, or why it is not.
+fn slots_for(alloc: Global, asked: Asked) -> Result<usize, Refused> {
+    let map = asking(asked).build_seq(alloc)?;
     Ok(map.slots())
 }
 
+/// What is asked for, and the slots that a map for one caller has then.
+const SLOTS: [(Asked, Result<usize, Refused>); 3] = [
+    (Asked::Nothing, Ok(0)),
+    (Asked::Capacity(10), Ok(16)),
+    (
+        Asked::Mode(ResizeMode::Incremental(0)),
+        Err(Refused::ZeroChunk),
+    ),
+];
+
 #[test]
 fn a_map_for_one_caller_is_built(rt: HostRuntime) {
-    let alloc = rt.alloc();
-    is(&rt, slots_for(alloc, builder()), Ok(0));
-    is(&rt, slots_for(alloc, builder().capacity(10)), Ok(16));
-    is(
-        &rt,
-        slots_for(alloc, builder().resize_mode(ResizeMode::Incremental(0))),
-        Err(Refused::ZeroChunk),
-    );
+    for (asked, wanted) in SLOTS {
+        is(&rt, slots_for(rt.alloc(), asked), wanted);
+    }
 }
 
 /// A builder shows its capacity, its collector's number and its mode.
-fn shows(rt: &impl Abort, alloc: Global) -> Result<(), Fail> {
-    let text = format!(in alloc; "{:?}", builder().capacity(6).collector(Collector::new(2)))?;
-    let wanted = "HashMapBuilder { capacity: 6, collector: 2, resize_mode: Incremental(64) }";
-    is(rt, text.as_str() == wanted, true);
-    Ok(())
-}
-
 #[test]
 fn a_builder_is_shown(rt: HostRuntime) -> Result<(), Fail> {
-    shows(&rt, rt.alloc())
+    let text = format!(in rt.alloc(); "{:?}", builder().capacity(6).collector(Collector::new(2)))?;
+    let wanted = "HashMapBuilder { capacity: 6, collector: 2, resize_mode: Incremental(64) }";
+    is(&rt, text.as_str() == wanted, true);
+    Ok(())
 }

@@ -1,119 +1,77 @@
-// Computes by one caller that change nothing, and what each shows its closure.
-ghost use Rattle.std.specs.Prelude.{◌≡◌};
+// Computes and removals by one caller, and what each shows its closure.
+use crate::answers::Answer::{
+    Aborted, Absent, Inserted, Is, Kept, Number, Pair, Refused, Removed, Saw, Updated,
+};
+use crate::numbers::Numbers;
+use crate::seen::Says;
+use crate::shared::Turn::{self, Calls};
+use crate::shared::{MODES, runs};
+use crate::steps::Step::{Compute, Get, Insert, IsEmpty, Len, RemoveIf, Seen};
+use papaya_words::probe::Refused::RemoveNothing;
+use std::test::Fail;
 
-use crate::expect::is;
-use crate::numbers::{Numbers, NumbersPass, counts, finds, numbers};
-use papaya_call::answers::Operation;
-use papaya_keys::compute::Compute;
-use papaya_words::probe::Refused;
-use std::process::Abort;
-use std::sync::Wait;
-
-/// A removal by a compute is refused where there is no pair.
-fn removes_nothing<R: Wait + Abort>(rt: &R, map: &Numbers, pass: &mut NumbersPass)
-    requires { pass.old.book ≡ map.now.book }
-    ensures { pass.new.book ≡ pass.old.book }
-{
-    let removed: Result<Compute<u64, u64, ()>, Refused> = map
-        .pin()
-        .compute_as(rt, 1, |_| Operation::Remove, pass);
-    is(rt, removed, Err(Refused::RemoveNothing));
-}
-
-/// An abort of a compute is answered with what it was given.
-fn aborts_with_five<R: Wait + Abort>(rt: &R, map: &Numbers, pass: &mut NumbersPass)
-    requires { pass.old.book ≡ map.now.book }
-    ensures { pass.new.book ≡ pass.old.book }
-{
-    let aborted = map
-        .pin()
-        .compute_as(rt, 1, |_| Operation::Abort(5u64), pass);
-    is(rt, aborted, Ok(Compute::Aborted(5)));
-}
-
-/// Both, by one pass, on a map of no pairs.
-fn changes_nothing<R: Wait + Abort>(rt: &R, map: &Numbers) {
-    let mut pass = map.pass();
-    removes_nothing(rt, map, &mut pass);
-    counts(rt, map, 0);
-    aborts_with_five(rt, map, &mut pass);
-    counts(rt, map, 0);
-    finds(rt, map, 1, &mut pass, None);
-}
+/// A removal by a compute is refused where there is no pair, and an abort is answered with what it
+/// was given.
+const CHANGES_NOTHING: [Turn; 1] = [Calls(&[
+    (Compute(1, Says::Remove), Refused(RemoveNothing)),
+    (Len, Number(0)),
+    (IsEmpty, Is(true)),
+    (Compute(1, Says::Leave(5)), Aborted(5)),
+    (Len, Number(0)),
+    (IsEmpty, Is(true)),
+    (Get(1), Absent),
+])];
 
 #[test]
-fn a_compute_has_nothing_to_remove(rt: HostRuntime) {
-    let map = numbers(&rt, rt.alloc());
-    changes_nothing(&rt, &map);
-}
-
-/// What a closure of the tests answers.
-#[derive(Clone, Copy)]
-enum Says {
-    Store(u64),
-    Remove,
-    Leave,
-}
-
-/// The operation that it is.
-fn operation(says: Says) -> Operation<u64, ()> {
-    match says {
-        Says::Store(value) => Operation::Insert(value),
-        Says::Remove => Operation::Remove,
-        Says::Leave => Operation::Abort(()),
-    }
-}
-
-/// What the closure of a compute was shown: how often that there is none, how often a pair, and
-/// which
-/// pair last.
-fn shown_by<R: Wait>(
-    rt: &R,
-    map: &Numbers,
-    key: u64,
-    says: Says,
-) -> (u64, u64, Option<(u64, u64)>) {
-    let mut nones = 0u64;
-    let mut pairs = 0u64;
-    let mut last = None;
-    let mut pass = map.pass();
-    let _ = map.pin().compute_as(
-        rt,
-        key,
-        |shown| {
-            match shown {
-                Some((k, v)) => {
-                    pairs = pairs.wrapping_add(1);
-                    last = Some((*k, *v));
-                }
-                None => nones = nones.wrapping_add(1),
-            }
-            operation(says)
-        },
-        &mut pass,
-    );
-    (nones, pairs, last)
+fn a_compute_has_nothing_to_remove(rt: HostRuntime) -> Result<(), Fail> {
+    runs::<_, Numbers>(&rt, rt.alloc(), &MODES, &CHANGES_NOTHING)
 }
 
 /// What the closures of a line of computes are shown.
-fn shows_each_once<R: Wait + Abort>(rt: &R, map: &Numbers) {
-    for (says, shown) in [
-        (Says::Leave, (1, 0, None)),
-        (Says::Remove, (1, 0, None)),
-        (Says::Store(70), (1, 0, None)),
-        (Says::Leave, (0, 1, Some((7, 70)))),
-        (Says::Store(71), (0, 1, Some((7, 70)))),
-        (Says::Remove, (0, 1, Some((7, 71)))),
-        (Says::Leave, (1, 0, None)),
-    ] {
-        is(rt, shown_by(rt, map, 7, says), shown);
-    }
-}
+const COMPUTES: [Turn; 1] = [Calls(&[
+    (Compute(7, Says::Leave(0)), Aborted(0)),
+    (Seen, Saw(1, 0, None)),
+    (Compute(7, Says::Remove), Refused(RemoveNothing)),
+    (Seen, Saw(1, 0, None)),
+    (Compute(7, Says::Store(70)), Inserted(7, 70)),
+    (Seen, Saw(1, 0, None)),
+    (Compute(7, Says::Leave(0)), Aborted(0)),
+    (Seen, Saw(0, 1, Some((7, 70)))),
+    (Compute(7, Says::Store(71)), Updated(70, 71)),
+    (Seen, Saw(0, 1, Some((7, 70)))),
+    (Compute(7, Says::Remove), Removed(7, 71)),
+    (Seen, Saw(0, 1, Some((7, 71)))),
+    (Compute(7, Says::Leave(0)), Aborted(0)),
+    (Seen, Saw(1, 0, None)),
+    (Len, Number(0)),
+    (IsEmpty, Is(true)),
+])];
 
 /// Where nobody else acts, a closure is called once, whatever it answers.
 #[test]
-fn a_closure_is_called_once(rt: HostRuntime) {
-    let map = numbers(&rt, rt.alloc());
-    shows_each_once(&rt, &map);
-    counts(&rt, &map, 0);
+fn a_closure_is_called_once(rt: HostRuntime) -> Result<(), Fail> {
+    runs::<_, Numbers>(&rt, rt.alloc(), &MODES, &COMPUTES)
+}
+
+/// Of two keys the first is shown and removed.
+const REMOVALS: [Turn; 1] = [Calls(&[
+    (Insert(7, 70), Absent),
+    (Insert(8, 80), Absent),
+    (RemoveIf(9, true), Absent),
+    (Seen, Saw(0, 0, None)),
+    (RemoveIf(7, false), Kept(7, 70)),
+    (Seen, Saw(0, 1, Some((7, 70)))),
+    (RemoveIf(7, true), Pair(7, 70)),
+    (Seen, Saw(0, 1, Some((7, 70)))),
+    (RemoveIf(7, true), Absent),
+    (Seen, Saw(0, 0, None)),
+    (Get(8), Number(80)),
+    (Len, Number(1)),
+    (IsEmpty, Is(false)),
+])];
+
+/// Where nobody else acts, a closure is shown the stored pair, once, and nothing for an absent key.
+#[test]
+fn a_closure_is_shown_the_pair_once(rt: HostRuntime) -> Result<(), Fail> {
+    runs::<_, Numbers>(&rt, rt.alloc(), &MODES, &REMOVALS)
 }

@@ -1,4 +1,4 @@
-// What the tests compare with. A test is calls of these, since each assertion that stands written
+// What the tests compare with. A test is calls of this, since each assertion that stands written
 // out in one makes its proof longer.
 use std::fmt::Debug;
 use std::process::Abort;
@@ -6,9 +6,4 @@ use std::process::Abort;
 /// What was found is what is wanted.
 pub fn is<T: PartialEq + Debug + Drop>(rt: &impl Abort, found: T, wanted: T) {
     assert_eq!(rt; found, wanted);
-}
-
-/// What was found in a case, which has a number, is what is wanted.
-pub fn is_at<T: PartialEq + Debug + Drop>(rt: &impl Abort, case: usize, found: T, wanted: T) {
-    assert_eq!(rt; found, wanted, "at {case}");
 }

@@ -4,15 +4,21 @@
 #[cfg(test)]
 mod additions;
 #[cfg(test)]
+mod answers;
+#[cfg(test)]
 mod builders;
 #[cfg(test)]
 mod computes;
+#[cfg(test)]
+mod crowd;
 #[cfg(test)]
 mod expect;
 #[cfg(test)]
 mod gates;
 #[cfg(test)]
 mod growth;
+#[cfg(test)]
+mod guarded;
 #[cfg(test)]
 mod guards;
 #[cfg(test)]
@@ -26,9 +32,11 @@ mod printing;
 #[cfg(test)]
 mod refused;
 #[cfg(test)]
-mod removals;
+mod seen;
 #[cfg(test)]
-mod room;
+mod shared;
+#[cfg(test)]
+mod steps;
 #[cfg(test)]
 mod stored_keys;
 #[cfg(test)]
@@ -37,5 +45,3 @@ mod sweeps;
 mod texts;
 #[cfg(test)]
 mod threads;
-#[cfg(test)]
-mod updates;

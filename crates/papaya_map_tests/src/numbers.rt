@@ -1,68 +1,196 @@
-// Maps of numbers, and their calls with what they are to answer.
+// Maps of numbers, pinned: their calls by a pass, and those that take none.
 ghost use Rattle.std.specs.Prelude.{◌≡◌};
 
-use crate::expect::is;
-use papaya_hashers::times::{APART, Times};
-use papaya_map::map::{HashMap, Pass};
-use papaya_words::probe::{Refused, ResizeMode};
-use std::alloc::Global;
-use std::process::Abort;
+use crate::answers::{Answer, computed, done, pair, removal, value};
+use crate::seen::{Gate, Says, Seen, agrees, operation};
+use crate::steps::{Calls, Keeps, Step};
+use papaya_hashers::times::Times;
+use papaya_map::map::{HashMap, HashMapRef, Pass};
+use papaya_words::probe::Refused;
+use std::mem::swap;
 use std::sync::Wait;
-
-/// How the maps of the tests with threads resize.
-pub const MODES: [ResizeMode; 3] = [
-    ResizeMode::Blocking,
-    ResizeMode::Incremental(1),
-    ResizeMode::Incremental(64),
-];
 
 /// The maps of the tests.
 pub type Numbers = HashMap<u64, u64, Times>;
 
-/// A pass of such a map.
-pub type NumbersPass = Pass<u64, u64, Times>;
-
-/// A map in which small keys have places of their own, or why there is none.
-pub fn made<R: Wait>(
-    rt: &R,
-    alloc: Global,
-    mode: ResizeMode,
-    capacity: usize,
-    shards: usize,
-) -> Result<Numbers, Refused> {
-    HashMap::with_parts(rt, alloc, mode, capacity, shards, APART)
+/// Such a map, pinned, with two passes of it.
+#[derive(Drop)]
+pub struct Pinned<'a> {
+    map: HashMapRef<'a, u64, u64, Times>,
+    pass: Pass<u64, u64, Times>,
+    other: Pass<u64, u64, Times>,
+    seen: Seen,
+    ghost same: { pass.book ≡ map.book },
+    ghost other_same: { other.book ≡ map.book },
 }
 
-/// A map with no table yet.
-pub fn numbers<R: Wait + Abort>(rt: &R, alloc: Global) -> Numbers {
-    made(rt, alloc, ResizeMode::Blocking, 0, 4).expect(rt, "a map")
+impl<'a> Pinned<'a> {
+    /// By `pin`, with a new pass.
+    pub fn of(map: &'a Numbers) -> Pinned<'a> {
+        Pinned {
+            map: map.pin(),
+            pass: map.pass(),
+            other: map.pass(),
+            seen: Seen::nothing(),
+        }
+    }
+
+    /// By `pin_owned`.
+    pub fn owned_of(map: &'a Numbers) -> Pinned<'a> {
+        Pinned {
+            map: map.pin_owned(),
+            pass: map.pass(),
+            other: map.pass(),
+            seen: Seen::nothing(),
+        }
+    }
+
+    /// The passes meet.
+    fn meet(&mut self) -> Answer {
+        self.map.meet(&mut self.pass, &mut self.other);
+        Answer::Done
+    }
+
+    /// They trade places.
+    fn swap(&mut self) -> Answer {
+        swap(&mut self.pass, &mut self.other);
+        Answer::Done
+    }
+
+    /// How many pairs a walk gives whose key is the value, and how many whose key is below it.
+    fn pairs<R: Wait>(&self, rt: &R) -> Result<Answer, Refused> {
+        let mut same = 0u64;
+        let mut less = 0u64;
+        for (key, value) in self.map.iter(rt)? {
+            same = same.wrapping_add(u64::from(key == value));
+            less = less.wrapping_add(u64::from(key < value));
+        }
+        Ok(Answer::Pair(same, less))
+    }
+
+    /// How many keys below this one a walk gives, and the sum of all keys.
+    fn walk_keys<R: Wait>(&self, rt: &R, end: u64) -> Result<Answer, Refused> {
+        let mut below = 0u64;
+        let mut sum = 0u64;
+        for key in self.map.keys(rt)? {
+            below = below.wrapping_add(u64::from(*key < end));
+            sum = sum.wrapping_add(*key);
+        }
+        Ok(Answer::Pair(below, sum))
+    }
+
+    /// The sum of the values that a walk gives.
+    fn walk_values<R: Wait>(&self, rt: &R) -> Result<Answer, Refused> {
+        let mut sum = 0u64;
+        for value in self.map.values(rt)? {
+            sum = sum.wrapping_add(*value);
+        }
+        Ok(Answer::Number(sum))
+    }
 }
 
-/// A lookup answers so.
-pub fn finds(rt: &impl Abort, map: &Numbers, key: u64, pass: &mut NumbersPass, wanted: Option<&u64>)
-    requires { pass.old.book ≡ map.now.book }
-    ensures { pass.new.book ≡ pass.old.book }
-{
-    is(rt, map.pin().get_as(&key, pass), wanted);
+/// What was answered, also where it was refused.
+pub fn said(answer: Result<Answer, Refused>) -> Answer {
+    match answer {
+        Ok(answer) => answer,
+        Err(refused) => Answer::Refused(refused),
+    }
 }
 
-/// An insertion answers so.
-pub fn inserts<R: Wait + Abort>(
-    rt: &R,
-    map: &Numbers,
-    key: u64,
-    value: u64,
-    pass: &mut NumbersPass,
-    wanted: Result<Option<&u64>, Refused>,
-)
-    requires { pass.old.book ≡ map.now.book }
-    ensures { pass.new.book ≡ pass.old.book }
-{
-    is(rt, map.pin().insert_as(rt, key, value, pass), wanted);
-}
+impl Calls for Pinned<'_> {
+    fn get(&mut self, key: u64) -> Answer {
+        value(Ok(self.map.get_as(&key, &mut self.pass)))
+    }
 
-/// So many pairs were counted.
-pub fn counts(rt: &impl Abort, map: &Numbers, pairs: usize) {
-    is(rt, map.len(), pairs);
-    is(rt, map.is_empty(), pairs == 0);
+    fn contains(&mut self, key: u64) -> Answer {
+        Answer::Is(self.map.contains_key(&key))
+    }
+
+    fn insert<R: Wait>(&mut self, rt: &R, key: u64, to: u64) -> Answer {
+        value(self.map.insert_as(rt, key, to, &mut self.pass))
+    }
+
+    fn remove<R: Wait>(&mut self, rt: &R, key: u64) -> Answer {
+        value(self.map.remove_as(rt, &key, &mut self.pass))
+    }
+
+    fn remove_entry<R: Wait>(&mut self, rt: &R, key: u64) -> Answer {
+        pair(self.map.remove_entry(rt, &key))
+    }
+
+    fn remove_if<R: Wait>(&mut self, rt: &R, key: u64, says: bool, gate: &Gate) -> Answer {
+        let mut seen = Seen::nothing();
+        let removed = self.map.remove_if_as(
+            rt,
+            &key,
+            |key, value| agrees(says, &mut seen, gate, key, value),
+            &mut self.pass,
+        );
+        self.seen = seen;
+        removal(removed)
+    }
+
+    fn update<R: Wait>(&mut self, rt: &R, key: u64) -> Answer {
+        value(self.map.update(rt, key, |value| value.wrapping_add(1)))
+    }
+
+    fn compute<R: Wait>(&mut self, rt: &R, key: u64, says: Says, gate: &Gate) -> Answer {
+        let mut seen = Seen::nothing();
+        let answer = self.map.compute_as(
+            rt,
+            key,
+            |shown| operation(says, &mut seen, gate, shown),
+            &mut self.pass,
+        );
+        self.seen = seen;
+        computed(answer)
+    }
+
+    fn seen(&self) -> Seen {
+        self.seen
+    }
+
+    fn reserve<R: Wait>(&mut self, rt: &R, more: usize) -> Answer {
+        done(self.map.reserve(rt, more))
+    }
+
+    fn retain<R: Wait>(&mut self, rt: &R, keeps: Keeps) -> Answer {
+        done(self.map.retain(rt, |key, value| keeps.has(*key, *value)))
+    }
+
+    fn clear<R: Wait>(&mut self, rt: &R) -> Answer {
+        done(self.map.clear(rt))
+    }
+
+    fn iter<R: Wait>(&mut self, rt: &R) -> Answer {
+        said(self.pairs(rt))
+    }
+
+    fn keys<R: Wait>(&mut self, rt: &R, end: u64) -> Answer {
+        said(self.walk_keys(rt, end))
+    }
+
+    fn values<R: Wait>(&mut self, rt: &R) -> Answer {
+        said(self.walk_values(rt))
+    }
+
+    fn len(&self) -> u64 {
+        self.map.len() as u64
+    }
+
+    fn is_empty(&self) -> bool {
+        self.map.is_empty()
+    }
+
+    fn other<R: Wait>(&mut self, rt: &R, step: Step) -> Answer {
+        match step {
+            Step::GetAlone(key) => value(Ok(self.map.get(&key))),
+            Step::InsertAlone(key, to) => value(self.map.insert(rt, key, to)),
+            Step::RemoveAlone(key) => value(self.map.remove(rt, &key)),
+            Step::Meet => self.meet(),
+            Step::Swap => self.swap(),
+            Step::GetKeyValue(key) => pair(Ok(self.map.get_key_value(&key))),
+            _ => Answer::Number(self.map.map().len() as u64),
+        }
+    }
 }

@@ -1,113 +1,152 @@
 // What a map with one pair and its walks print, and a map with two. Which pair comes first is left open.
+use crate::answers::Answer::Absent;
+use crate::crowd::{Board, Job};
 use crate::expect::is;
-use crate::numbers::{Numbers, numbers};
+use crate::numbers::Numbers;
+use crate::shared::Turn::{self, Calls, PrintEach, Prints, PrintsEither};
+use crate::shared::{MODES, Shared, runs};
+use crate::steps::Step::Insert;
 use std::alloc::Global;
 use std::process::Abort;
 use std::sync::Wait;
 use std::test::Fail;
 
-/// The map prints this.
-fn prints(rt: &impl Abort, alloc: Global, map: &Numbers, wanted: &str) -> Result<(), Fail> {
-    let text = format!(in alloc; "{map:?}")?;
-    is(rt, text.as_str(), wanted);
-    Ok(())
+/// What is printed.
+#[derive(Clone, Copy)]
+pub enum What {
+    Map,
+    Pinned,
+    /// A walk, before anything is given.
+    Pairs,
+    Keys,
+    Values,
+    /// A walk when one value is given.
+    ValuesLeft,
 }
 
-/// Pinned, it prints this.
-fn prints_pinned(rt: &impl Abort, alloc: Global, map: &Numbers, wanted: &str) -> Result<(), Fail> {
+/// A pinned map prints this.
+fn print_pinned(alloc: Global, map: &Numbers) -> Option<String> {
     let pinned = map.pin();
-    let text = format!(in alloc; "{pinned:?}")?;
-    is(rt, text.as_str(), wanted);
-    Ok(())
+    format!(in alloc; "{pinned:?}").ok()
 }
 
 /// Its walk prints this.
-fn prints_pairs<R: Wait + Abort>(
-    rt: &R,
-    alloc: Global,
-    map: &Numbers,
-    wanted: &str,
-) -> Result<(), Fail> {
-    let pinned = map.pin();
-    let pairs = pinned.iter(rt)?;
-    let text = format!(in alloc; "{pairs:?}")?;
-    is(rt, text.as_str(), wanted);
-    Ok(())
+fn print_pairs<R: Wait>(rt: &R, alloc: Global, map: &Numbers) -> Option<String> {
+    let pairs = map.pin().iter(rt).ok()?;
+    format!(in alloc; "{pairs:?}").ok()
 }
 
 /// The walk of its keys prints this.
-fn prints_keys<R: Wait + Abort>(
-    rt: &R,
-    alloc: Global,
-    map: &Numbers,
-    wanted: &str,
-) -> Result<(), Fail> {
-    let pinned = map.pin();
-    let keys = pinned.keys(rt)?;
-    let text = format!(in alloc; "{keys:?}")?;
-    is(rt, text.as_str(), wanted);
-    Ok(())
+fn print_keys<R: Wait>(rt: &R, alloc: Global, map: &Numbers) -> Option<String> {
+    let keys = map.pin().keys(rt).ok()?;
+    format!(in alloc; "{keys:?}").ok()
 }
 
-/// The walk of its values prints this when so many are given.
-fn prints_values<R: Wait + Abort>(
-    rt: &R,
-    alloc: Global,
-    map: &Numbers,
-    given: usize,
-    wanted: &str,
-) -> Result<(), Fail> {
-    let pinned = map.pin();
-    let mut values = pinned.values(rt)?;
-    for _ in 0..given {
-        is(rt, values.next().is_some(), true);
+/// The walk of its values prints this, when one is given or none.
+fn print_values<R: Wait>(rt: &R, alloc: Global, map: &Numbers, is_given: bool) -> Option<String> {
+    let mut values = map.pin().values(rt).ok()?;
+    if is_given && values.next().is_none() {
+        return None;
     }
-    let text = format!(in alloc; "{values:?}")?;
-    is(rt, text.as_str(), wanted);
-    Ok(())
+    format!(in alloc; "{values:?}").ok()
 }
 
-#[test]
-fn a_map_of_one_pair_prints_it(rt: HostRuntime) -> Result<(), Fail> {
-    let alloc = rt.alloc();
-    let map = numbers(&rt, alloc);
-    prints(&rt, alloc, &map, "{}")?;
-    is(&rt, map.pin().insert(&rt, 42, 7), Ok(None));
-    prints(&rt, alloc, &map, "{42: 7}")?;
-    prints_pinned(&rt, alloc, &map, "{42: 7}")?;
-    Ok(())
+/// What is printed, if there is memory for it.
+pub fn printed<R: Wait>(rt: &R, alloc: Global, map: &Numbers, what: What) -> Option<String> {
+    match what {
+        What::Map => format!(in alloc; "{map:?}").ok(),
+        What::Pinned => print_pinned(alloc, map),
+        What::Pairs => print_pairs(rt, alloc, map),
+        What::Keys => print_keys(rt, alloc, map),
+        What::Values => print_values(rt, alloc, map, false),
+        What::ValuesLeft => print_values(rt, alloc, map, true),
+    }
+}
+
+/// This is printed.
+pub fn prints<R: Wait + Abort, M: Shared>(
+    rt: &R,
+    alloc: Global,
+    map: &M,
+    what: What,
+    wanted: &str,
+) {
+    let text = map.printed(rt, alloc, what).expect(rt, "a text");
+    is(rt, text.as_str(), wanted);
 }
 
 /// The map prints one of these.
-fn prints_either(
-    rt: &impl Abort,
+pub fn prints_either<R: Wait + Abort, M: Shared>(
+    rt: &R,
     alloc: Global,
-    map: &Numbers,
+    map: &M,
     one: &str,
     other: &str,
-) -> Result<(), Fail> {
-    let text = format!(in alloc; "{map:?}")?;
+) {
+    let text = map.printed(rt, alloc, What::Map).expect(rt, "a text");
     is(rt, text.as_str() == one || text.as_str() == other, true);
-    Ok(())
 }
+
+/// How often the text has a colon.
+fn colons(text: &str) -> u64 {
+    let mut found = 0u64;
+    for one in text.as_bytes() {
+        if *one == b':' {
+            found = found.wrapping_add(1);
+        }
+    }
+    found
+}
+
+/// While pairs are being moved, each is printed once.
+pub fn prints_each<R: Wait + Abort, M: Shared>(rt: &R, alloc: Global, map: &M) {
+    let board = Board::new(alloc, 0).expect(rt, "a board");
+    for key in 0..99u64 {
+        is(rt, map.does(rt, Job::Insert(key, key + 1), &board), true);
+        let text = map.printed(rt, alloc, What::Map).expect(rt, "a text");
+        is(rt, colons(text.as_str()), key + 1);
+    }
+}
+
+#[test]
+fn a_map_that_grows_prints_each_pair_once(rt: HostRuntime) -> Result<(), Fail> {
+    runs::<_, Numbers>(&rt, rt.alloc(), &MODES, &[PrintEach])
+}
+
+/// No pair, and then one.
+const OF_ONE: [Turn; 4] = [
+    Prints(What::Map, "{}"),
+    Calls(&[(Insert(42, 7), Absent)]),
+    Prints(What::Map, "{42: 7}"),
+    Prints(What::Pinned, "{42: 7}"),
+];
+
+#[test]
+fn a_map_of_one_pair_prints_it(rt: HostRuntime) -> Result<(), Fail> {
+    runs::<_, Numbers>(&rt, rt.alloc(), &MODES, &OF_ONE)
+}
+
+/// Two pairs.
+const OF_TWO: [Turn; 2] = [
+    Calls(&[(Insert(42, 0), Absent), (Insert(16, 8), Absent)]),
+    PrintsEither("{42: 0, 16: 8}", "{16: 8, 42: 0}"),
+];
 
 #[test]
 fn a_map_of_two_pairs_prints_both(rt: HostRuntime) -> Result<(), Fail> {
-    let alloc = rt.alloc();
-    let map = numbers(&rt, alloc);
-    is(&rt, map.pin().insert(&rt, 42, 0), Ok(None));
-    is(&rt, map.pin().insert(&rt, 16, 8), Ok(None));
-    prints_either(&rt, alloc, &map, "{42: 0, 16: 8}", "{16: 8, 42: 0}")
+    runs::<_, Numbers>(&rt, rt.alloc(), &MODES, &OF_TWO)
 }
+
+/// What is left of a walk.
+const WALKS: [Turn; 5] = [
+    Calls(&[(Insert(42, 7), Absent)]),
+    Prints(What::Pairs, "[(42, 7)]"),
+    Prints(What::Keys, "Keys([(42, 7)])"),
+    Prints(What::Values, "Values([(42, 7)])"),
+    Prints(What::ValuesLeft, "Values([])"),
+];
 
 #[test]
 fn walks_print_what_is_left(rt: HostRuntime) -> Result<(), Fail> {
-    let alloc = rt.alloc();
-    let map = numbers(&rt, alloc);
-    is(&rt, map.pin().insert(&rt, 42, 7), Ok(None));
-    prints_pairs(&rt, alloc, &map, "[(42, 7)]")?;
-    prints_keys(&rt, alloc, &map, "Keys([(42, 7)])")?;
-    prints_values(&rt, alloc, &map, 0, "Values([(42, 7)])")?;
-    prints_values(&rt, alloc, &map, 1, "Values([])")?;
-    Ok(())
+    runs::<_, Numbers>(&rt, rt.alloc(), &MODES, &WALKS)
 }

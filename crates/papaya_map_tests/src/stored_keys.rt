@@ -5,21 +5,24 @@ ghost use Rattle.std.proofs.Common.{ap};
 ghost use Rattle.std.specs.Cmp.{nat_eq_equiv, on_equiv, partial_equiv_from_equiv, unsigned_Decides};
 ghost use Rattle.std.specs.Hash as fed;
 
-use crate::expect::is;
+use crate::answers::Answer::{self, Absent, Number, Pair, Refused as No};
+use crate::answers::value;
+use crate::steps::answers;
 use papaya_hashers::times::{APART, Times};
-use papaya_keys::guard::{Collector, Guard};
-use papaya_map::map::{HashMap, HashMapRef};
+use papaya_keys::guard::Collector;
+use papaya_map::map::HashMap;
 use papaya_words::probe::Refused;
+use std::alloc::Global;
 use std::hash::{Hash, Hasher};
 use std::process::Abort;
 use std::sync::Wait;
 use std::test::Fail;
 
 /// A number with a label that no comparison looks at.
-#[derive(Clone, Copy, Debug)]
+#[derive(Clone, Copy)]
 struct Labelled {
     number: u64,
-    label: char,
+    label: u64,
 }
 
 impl PartialEq for Labelled {
@@ -46,93 +49,102 @@ impl Hash for Labelled {
     }
 }
 
-/// A map of such keys, and one that is pinned.
-type Labels = HashMap<Labelled, u64, Times>;
-
-type Pinned<'a> = HashMapRef<'a, Labelled, u64, Times>;
-
 /// Key 7 with this label.
-fn seven(label: char) -> Labelled {
+fn seven(label: u64) -> Labelled {
     Labelled { number: 7, label }
 }
 
-/// Which key was stored, and its value.
-fn shown(entry: Option<(&Labelled, &u64)>) -> Option<(char, u64)> {
-    match entry {
-        Some((key, value)) => Some((key.label, *value)),
-        None => None,
+/// Which key was stored, by its label, and its value.
+fn shown(answer: Result<Option<(&Labelled, &u64)>, Refused>) -> Answer {
+    match answer {
+        Ok(Some((key, value))) => Pair(key.label, *value),
+        Ok(None) => Absent,
+        Err(refused) => No(refused),
     }
 }
 
-/// Key 7 is stored with this label and value, and had this value before.
-fn stores<R: Wait + Abort>(rt: &R, map: &Pinned<'_>, label: char, value: u64, old: Option<&u64>) {
-    is(rt, map.insert(rt, seven(label), value), Ok(old));
+/// A map of such keys. Lookups and removals are of key 7, by a key with another label.
+trait Labels: Sized {
+    fn made<R: Wait>(rt: &R, alloc: Global) -> Result<Self, Refused>;
+
+    fn insert<R: Wait>(&self, rt: &R, label: u64, to: u64) -> Answer;
+
+    fn get(&self) -> Answer;
+
+    fn get_by_pass(&self) -> Answer;
+
+    fn get_with_own(&self) -> Answer;
+
+    fn get_with(&self, collector: &Collector) -> Answer;
+
+    fn remove<R: Wait>(&self, rt: &R) -> Answer;
 }
 
-/// A lookup of key 7, by a key without its label, answers so.
-fn finds(rt: &impl Abort, map: &Pinned<'_>, wanted: Option<(char, u64)>) {
-    is(rt, shown(map.get_key_value(&seven('?'))), wanted);
+impl Labels for HashMap<Labelled, u64, Times> {
+    fn made<R: Wait>(rt: &R, alloc: Global) -> Result<Self, Refused> {
+        HashMap::with_hasher(rt, alloc, APART)
+    }
+
+    fn insert<R: Wait>(&self, rt: &R, label: u64, to: u64) -> Answer {
+        value(self.pin().insert(rt, seven(label), to))
+    }
+
+    fn get(&self) -> Answer {
+        shown(Ok(self.pin().get_key_value(&seven(0))))
+    }
+
+    fn get_by_pass(&self) -> Answer {
+        let mut pass = self.pass();
+        shown(Ok(self.pin().get_key_value_as(&seven(0), &mut pass)))
+    }
+
+    fn get_with_own(&self) -> Answer {
+        let guard = self.guard();
+        shown(self.get_key_value(&seven(0), &guard))
+    }
+
+    fn get_with(&self, collector: &Collector) -> Answer {
+        let guard = collector.enter();
+        shown(self.get_key_value(&seven(0), &guard))
+    }
+
+    fn remove<R: Wait>(&self, rt: &R) -> Answer {
+        value(self.pin().remove(rt, &seven(0)))
+    }
 }
 
-/// An insertion that replaces a value stores its own key.
-fn replaces<R: Wait + Abort>(rt: &R, map: &Pinned<'_>) {
-    finds(rt, map, None);
-    stores(rt, map, 'x', 1, None);
-    finds(rt, map, Some(('x', 1)));
-    stores(rt, map, 'y', 2, Some(&1));
-    finds(rt, map, Some(('y', 2)));
+/// An insertion that replaces a value stores its own key. So does one after a removal. A new pass finds
+/// the same, and a guard of the map, but none of another collector.
+fn finds_the_stored<R: Wait + Abort, L: Labels>(rt: &R, map: &L) {
+    answers(rt, 0, 0, map.get(), Absent);
+    answers(rt, 0, 1, map.insert(rt, 1, 10), Absent);
+    answers(rt, 0, 2, map.get(), Pair(1, 10));
+    answers(rt, 0, 3, map.insert(rt, 2, 20), Number(10));
+    answers(rt, 0, 4, map.get(), Pair(2, 20));
+    answers(rt, 0, 5, map.remove(rt), Number(20));
+    answers(rt, 0, 6, map.get(), Absent);
+    answers(rt, 0, 7, map.insert(rt, 3, 30), Absent);
+    answers(rt, 0, 8, map.get(), Pair(3, 30));
+    answers(rt, 0, 9, map.get_by_pass(), Pair(3, 30));
+    answers(rt, 0, 10, map.get_with_own(), Pair(3, 30));
+    answers(
+        rt,
+        0,
+        11,
+        map.get_with(&Collector::new(7)),
+        No(Refused::WrongGuard),
+    );
 }
 
-/// So does one after a removal.
-fn removes<R: Wait + Abort>(rt: &R, map: &Pinned<'_>) {
-    is(rt, map.remove(rt, &seven('?')), Ok(Some(&2)));
-    finds(rt, map, None);
-    stores(rt, map, 'z', 3, None);
-    finds(rt, map, Some(('z', 3)));
-}
-
-/// A new pass finds the same.
-fn finds_by_a_pass(rt: &impl Abort, map: &Labels) {
-    let mut pass = map.pass();
-    let found = map.pin().get_key_value_as(&seven('?'), &mut pass);
-    is(rt, shown(found), Some(('z', 3)));
-}
-
-/// With this guard a lookup of key 7 answers so.
-fn answers<G: Guard>(
-    rt: &impl Abort,
-    map: &Labels,
-    guard: &G,
-    wanted: Result<Option<(char, u64)>, Refused>,
-) {
-    let answer = match map.get_key_value(&seven('?'), guard) {
-        Ok(found) => Ok(shown(found)),
-        Err(refused) => Err(refused),
-    };
-    is(rt, answer, wanted);
-}
-
-/// A guard of the map is taken.
-fn takes_its_guard(rt: &impl Abort, map: &Labels) {
-    let guard = map.guard();
-    answers(rt, map, &guard, Ok(Some(('z', 3))));
-}
-
-/// A guard of another collector is not.
-fn refuses_another(rt: &impl Abort, map: &Labels) {
-    let other = Collector::new(7);
-    let guard = other.enter();
-    answers(rt, map, &guard, Err(Refused::WrongGuard));
+/// Of a new map.
+fn finds_of_new<R: Wait + Abort, L: Labels + Drop>(rt: &R, alloc: Global) -> Result<(), Refused> {
+    let map: L = L::made(rt, alloc)?;
+    finds_the_stored(rt, &map);
+    Ok(())
 }
 
 #[test]
 fn the_stored_key_is_found(rt: HostRuntime) -> Result<(), Fail> {
-    let map: Labels = HashMap::with_hasher(&rt, rt.alloc(), APART)?;
-    let pinned = map.pin();
-    replaces(&rt, &pinned);
-    removes(&rt, &pinned);
-    finds_by_a_pass(&rt, &map);
-    takes_its_guard(&rt, &map);
-    refuses_another(&rt, &map);
+    finds_of_new::<_, HashMap<Labelled, u64, Times>>(&rt, rt.alloc())?;
     Ok(())
 }

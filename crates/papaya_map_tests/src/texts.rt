@@ -1,9 +1,9 @@
 // A map of texts, with the hasher that maps have where none is named.
-ghost use Rattle.std.specs.Prelude.{◌≡◌};
-
-use crate::expect::is;
+use crate::answers::Answer::{self, Absent, Number};
+use crate::answers::value;
+use crate::steps::answers;
 use papaya_keys::guard::TextKey;
-use papaya_map::map::{HashMap, Pass};
+use papaya_map::map::HashMap;
 use papaya_words::probe::{Refused, ResizeMode};
 use std::alloc::Global;
 use std::hash::{BuildHasherDefault, FoldHasher};
@@ -11,104 +11,86 @@ use std::process::Abort;
 use std::sync::Wait;
 use std::test::Fail;
 
-type Hasher = BuildHasherDefault<FoldHasher>;
-
-type Texts = HashMap<String, u64, Hasher>;
-
-type TextsPass = Pass<String, u64, Hasher>;
-
 /// A map of texts.
-fn texts<R: Wait>(rt: &R, alloc: Global) -> Result<Texts, Refused> {
-    let hasher = BuildHasherDefault::default();
-    HashMap::with_parts(rt, alloc, ResizeMode::Blocking, 0, 4, hasher)
+trait Texts: Sized {
+    fn made<R: Wait>(rt: &R, alloc: Global) -> Result<Self, Refused>;
+
+    /// Each call is by a pass of its own.
+    fn insert<R: Wait>(&self, rt: &R, alloc: Global, key: &str, to: u64) -> Answer;
+
+    fn get(&self, key: &str) -> Answer;
+
+    /// By a key of its own.
+    fn get_owned(&self, alloc: Global, key: &str) -> Answer;
+
+    fn remove<R: Wait>(&self, rt: &R, key: &str) -> Answer;
+
+    fn count(&self) -> u64;
 }
 
-/// A new text is inserted.
-fn inserts<R: Wait + Abort>(
-    rt: &R,
-    alloc: Global,
-    map: &Texts,
-    key: &str,
-    value: u64,
-    pass: &mut TextsPass,
-) -> Result<(), Fail>
-    requires { pass.old.book ≡ map.now.book }
-    ensures { pass.new.book ≡ pass.old.book }
-{
-    let key = key.to_string(alloc)?;
-    is(rt, map.pin().insert_as(rt, key, value, pass), Ok(None));
+/// Where there is no memory for a text.
+const NO_MEMORY: Answer = Answer::Refused(Refused::Memory);
+
+impl Texts for HashMap<String, u64, BuildHasherDefault<FoldHasher>> {
+    fn made<R: Wait>(rt: &R, alloc: Global) -> Result<Self, Refused> {
+        let hasher = BuildHasherDefault::default();
+        HashMap::with_parts(rt, alloc, ResizeMode::Blocking, 0, 4, hasher)
+    }
+
+    fn insert<R: Wait>(&self, rt: &R, alloc: Global, key: &str, to: u64) -> Answer {
+        let Ok(key) = key.to_string(alloc) else {
+            return NO_MEMORY;
+        };
+        let mut pass = self.pass();
+        value(self.pin().insert_as(rt, key, to, &mut pass))
+    }
+
+    fn get(&self, key: &str) -> Answer {
+        let mut pass = self.pass();
+        value(Ok(self.pin().get_as(&TextKey(key), &mut pass)))
+    }
+
+    fn get_owned(&self, alloc: Global, key: &str) -> Answer {
+        let Ok(key) = key.to_string(alloc) else {
+            return NO_MEMORY;
+        };
+        let mut pass = self.pass();
+        value(Ok(self.pin().get_as(&key, &mut pass)))
+    }
+
+    fn remove<R: Wait>(&self, rt: &R, key: &str) -> Answer {
+        let mut pass = self.pass();
+        value(self.pin().remove_as(rt, &TextKey(key), &mut pass))
+    }
+
+    fn count(&self) -> u64 {
+        self.len() as u64
+    }
+}
+
+/// Two texts are stored, the first of them is removed, and a text that is not there is not. The second
+/// one is found by a key of its own.
+fn keeps_blue<R: Wait + Abort, T: Texts>(rt: &R, alloc: Global, map: &T) {
+    answers(rt, 0, 0, map.insert(rt, alloc, "red", 1), Absent);
+    answers(rt, 0, 1, map.insert(rt, alloc, "blue", 2), Absent);
+    answers(rt, 0, 2, map.get("red"), Number(1));
+    answers(rt, 0, 3, map.get("green"), Absent);
+    answers(rt, 0, 4, map.remove(rt, "green"), Absent);
+    answers(rt, 0, 5, map.remove(rt, "red"), Number(1));
+    answers(rt, 0, 6, map.get("red"), Absent);
+    answers(rt, 0, 7, map.get_owned(alloc, "blue"), Number(2));
+    answers(rt, 0, 8, Number(map.count()), Number(1));
+}
+
+/// Of a new map.
+fn keeps_of_new<R: Wait + Abort, T: Texts + Drop>(rt: &R, alloc: Global) -> Result<(), Refused> {
+    let map: T = T::made(rt, alloc)?;
+    keeps_blue(rt, alloc, &map);
     Ok(())
-}
-
-/// A lookup by this text answers so.
-fn finds(rt: &impl Abort, map: &Texts, key: &str, pass: &mut TextsPass, wanted: Option<&u64>)
-    requires { pass.old.book ≡ map.now.book }
-    ensures { pass.new.book ≡ pass.old.book }
-{
-    is(rt, map.pin().get_as(&TextKey(key), pass), wanted);
-}
-
-/// A removal by this text answers so.
-fn removes<R: Wait + Abort>(
-    rt: &R,
-    map: &Texts,
-    key: &str,
-    pass: &mut TextsPass,
-    wanted: Option<&u64>,
-)
-    requires { pass.old.book ≡ map.now.book }
-    ensures { pass.new.book ≡ pass.old.book }
-{
-    is(rt, map.pin().remove_as(rt, &TextKey(key), pass), Ok(wanted));
-}
-
-/// Two texts are stored.
-fn stores_two<R: Wait + Abort>(
-    rt: &R,
-    alloc: Global,
-    map: &Texts,
-    pass: &mut TextsPass,
-) -> Result<(), Fail>
-    requires { pass.old.book ≡ map.now.book }
-    ensures { pass.new.book ≡ pass.old.book }
-{
-    inserts(rt, alloc, map, "red", 1, pass)?;
-    inserts(rt, alloc, map, "blue", 2, pass)
-}
-
-/// The first of them is removed, and a text that is not there is not.
-fn removes_one<R: Wait + Abort>(rt: &R, map: &Texts, pass: &mut TextsPass)
-    requires { pass.old.book ≡ map.now.book }
-    ensures { pass.new.book ≡ pass.old.book }
-{
-    finds(rt, map, "red", pass, Some(&1));
-    finds(rt, map, "green", pass, None);
-    removes(rt, map, "green", pass, None);
-    removes(rt, map, "red", pass, Some(&1));
-    finds(rt, map, "red", pass, None);
-}
-
-/// The second one is found by a key of its own.
-fn finds_blue(rt: &impl Abort, alloc: Global, map: &Texts, pass: &mut TextsPass) -> Result<(), Fail>
-    requires { pass.old.book ≡ map.now.book }
-{
-    let blue = "blue".to_string(alloc)?;
-    is(rt, map.pin().get_as(&blue, pass), Some(&2));
-    Ok(())
-}
-
-/// All of this, by one pass.
-fn keeps_blue<R: Wait + Abort>(rt: &R, alloc: Global, map: &Texts) -> Result<(), Fail> {
-    let mut pass = map.pass();
-    stores_two(rt, alloc, map, &mut pass)?;
-    removes_one(rt, map, &mut pass);
-    finds_blue(rt, alloc, map, &mut pass)
 }
 
 #[test]
 fn texts_are_removed_by_text(rt: HostRuntime) -> Result<(), Fail> {
-    let map = texts(&rt, rt.alloc())?;
-    keeps_blue(&rt, rt.alloc(), &map)?;
-    is(&rt, map.len(), 1);
+    keeps_of_new::<_, HashMap<String, u64, BuildHasherDefault<FoldHasher>>>(&rt, rt.alloc())?;
     Ok(())
 }

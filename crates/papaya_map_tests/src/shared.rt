@@ -1,0 +1,255 @@
+// The tests of maps: how one is made, and what is done with it in turn. Functions are generic over the
+// map, so that each is proved once, and with no map's destructor to look into.
+use crate::builders::{Asked, built, sharing};
+use crate::crowd::{Board, Job, does, eight, four, two};
+use crate::expect::is;
+use crate::guarded::Guarded;
+use crate::numbers::{Numbers, Pinned};
+use crate::printing::{What, printed, prints, prints_each, prints_either};
+use crate::steps::{Script, goes};
+use crate::threads::VALUES;
+use papaya_hashers::times::{APART, Times};
+use papaya_keys::guard::Collector;
+use papaya_map::map::HashMap;
+use papaya_words::probe::{Refused, ResizeMode};
+use std::alloc::Global;
+use std::process::Abort;
+use std::sync::{Arc, Wait};
+use std::test::Fail;
+use std::thread::Threads;
+
+/// How a map is made.
+#[derive(Clone, Copy)]
+pub enum Making {
+    /// In this mode, for so many pairs, with this hasher.
+    Parts(ResizeMode, usize, Times),
+    /// With a hasher alone.
+    Hasher,
+    /// For so many pairs, with a hasher.
+    Capacity(usize),
+    /// By a builder that is asked for this.
+    Built(Asked),
+}
+
+/// A map in each mode, in which small keys have places of their own.
+pub const MODES: [Making; 3] = [
+    Making::Parts(ResizeMode::Blocking, 0, APART),
+    Making::Parts(ResizeMode::Incremental(1), 0, APART),
+    Making::Parts(ResizeMode::Incremental(64), 0, APART),
+];
+
+/// Whose guard the calls take.
+#[derive(Clone, Copy)]
+pub enum Holder {
+    /// The map's own.
+    Map,
+    MapOwned,
+    /// One of a collector of this number.
+    Other(u64),
+    OtherOwned(u64),
+}
+
+/// What is done with a map.
+#[derive(Clone, Copy)]
+pub enum Turn {
+    /// Calls on the pinned map.
+    Calls(Script),
+    /// Calls with a guard.
+    Guarded(Holder, Script),
+    /// Threads that do a job each.
+    Two([Job; 2]),
+    Eight([Job; 4], [Job; 4]),
+    /// Four that count what they take out, which ends with what is left.
+    Churn([Job; 4]),
+    /// This is printed, or the map prints one of two texts, or each pair once while it grows.
+    Prints(What, &'static str),
+    PrintsEither(&'static str, &'static str),
+    PrintEach,
+}
+
+/// A map that threads share.
+pub trait Shared: Sized {
+    fn made<R: Wait>(rt: &R, alloc: Global, making: Making) -> Result<Self, Refused>;
+
+    /// One that shares a collector.
+    fn sharing<R: Wait>(rt: &R, alloc: Global, by: Arc<Collector>) -> Result<Self, Refused>;
+
+    /// What is printed, if there is memory for it.
+    fn printed<R: Wait>(&self, rt: &R, alloc: Global, what: What) -> Option<String>;
+
+    /// The calls of a script answer so on the pinned map.
+    fn goes<R: Wait + Abort>(&self, rt: &R, at: usize, script: Script);
+
+    /// So they do with a guard of the map's.
+    fn goes_with_own<R: Wait + Abort>(&self, rt: &R, at: usize, is_owned: bool, script: Script);
+
+    /// So they do with a guard of this collector.
+    fn goes_with<R: Wait + Abort>(
+        &self,
+        rt: &R,
+        at: usize,
+        collector: &Collector,
+        is_owned: bool,
+        script: Script,
+    );
+
+    /// A thread does a job.
+    fn does<R: Wait>(&self, rt: &R, job: Job, board: &Board) -> bool;
+}
+
+impl Shared for Numbers {
+    fn made<R: Wait>(rt: &R, alloc: Global, making: Making) -> Result<Self, Refused> {
+        match making {
+            Making::Parts(mode, capacity, hasher) => {
+                HashMap::with_parts(rt, alloc, mode, capacity, 4, hasher)
+            }
+            Making::Hasher => HashMap::with_hasher(rt, alloc, APART),
+            Making::Capacity(pairs) => HashMap::with_capacity_and_hasher(rt, alloc, pairs, APART),
+            Making::Built(asked) => built(rt, alloc, asked),
+        }
+    }
+
+    fn sharing<R: Wait>(rt: &R, alloc: Global, by: Arc<Collector>) -> Result<Self, Refused> {
+        sharing(rt, alloc, by)
+    }
+
+    fn printed<R: Wait>(&self, rt: &R, alloc: Global, what: What) -> Option<String> {
+        printed(rt, alloc, self, what)
+    }
+
+    fn goes<R: Wait + Abort>(&self, rt: &R, at: usize, script: Script) {
+        goes(rt, at, &mut Pinned::owned_of(self), script);
+    }
+
+    fn goes_with_own<R: Wait + Abort>(&self, rt: &R, at: usize, is_owned: bool, script: Script) {
+        if is_owned {
+            let guard = self.owned_guard();
+            goes(rt, at, &mut Guarded::of(self, &guard), script);
+        } else {
+            let guard = self.guard();
+            goes(rt, at, &mut Guarded::of(self, &guard), script);
+        }
+    }
+
+    fn goes_with<R: Wait + Abort>(
+        &self,
+        rt: &R,
+        at: usize,
+        collector: &Collector,
+        is_owned: bool,
+        script: Script,
+    ) {
+        if is_owned {
+            let guard = collector.enter_owned();
+            goes(rt, at, &mut Guarded::of(self, &guard), script);
+        } else {
+            let guard = collector.enter();
+            goes(rt, at, &mut Guarded::of(self, &guard), script);
+        }
+    }
+
+    fn does<R: Wait>(&self, rt: &R, job: Job, board: &Board) -> bool {
+        does(rt, &mut Pinned::of(self), job, board)
+    }
+}
+
+/// The calls of a script answer so with a guard.
+fn goes_guarded<R: Wait + Abort, M: Shared>(
+    rt: &R,
+    at: usize,
+    map: &M,
+    holder: Holder,
+    script: Script,
+) {
+    match holder {
+        Holder::Map => map.goes_with_own(rt, at, false, script),
+        Holder::MapOwned => map.goes_with_own(rt, at, true, script),
+        Holder::Other(number) => map.goes_with(rt, at, &Collector::new(number), false, script),
+        Holder::OtherOwned(number) => {
+            map.goes_with(rt, at, &Collector::new(number), true, script)
+        }
+    }
+}
+
+/// Four threads count what they take out of a map of no pairs: was each value taken once, or left?
+fn churns<R: Threads + Wait + Sync, M: Shared + Sync>(
+    rt: &R,
+    alloc: Global,
+    map: &M,
+    jobs: [Job; 4],
+) -> bool {
+    match Board::new(alloc, VALUES) {
+        Some(board) => four(rt, map, &board, jobs) && map.does(rt, Job::TakeLeft, &board),
+        None => false,
+    }
+}
+
+/// Threads do a job each.
+fn crowds<R: Threads + Wait + Sync + Abort, M: Shared + Sync>(
+    rt: &R,
+    alloc: Global,
+    map: &M,
+    turn: Turn,
+) {
+    let board = Board::new(alloc, 0).expect(rt, "a board");
+    let did = match turn {
+        Turn::Two(jobs) => two(rt, map, &board, jobs),
+        Turn::Eight(low, high) => eight(rt, map, &board, low, high),
+        Turn::Churn(jobs) => (churns(rt, alloc, map, jobs), true),
+        _ => (false, false),
+    };
+    is(rt, did, (true, true));
+}
+
+/// Takes a turn on a map.
+fn takes<R: Threads + Wait + Sync + Abort, M: Shared + Sync>(
+    rt: &R,
+    alloc: Global,
+    at: usize,
+    map: &M,
+    turn: Turn,
+) {
+    match turn {
+        Turn::Calls(script) => map.goes(rt, at, script),
+        Turn::Guarded(holder, script) => goes_guarded(rt, at, map, holder, script),
+        Turn::Prints(what, wanted) => prints(rt, alloc, map, what, wanted),
+        Turn::PrintsEither(one, other) => prints_either(rt, alloc, map, one, other),
+        Turn::PrintEach => prints_each(rt, alloc, map),
+        _ => crowds(rt, alloc, map, turn),
+    }
+}
+
+/// A map, also where memory was refused for it at first.
+fn made<R: Wait, M: Shared>(rt: &R, alloc: Global, making: Making) -> Result<M, Refused> {
+    match M::made(rt, alloc, making) {
+        Err(Refused::Memory) => M::made(rt, alloc, making),
+        made => made,
+    }
+}
+
+/// Makes the maps one after another, and takes each turn on each.
+fn runs_on<R: Threads + Wait + Sync + Abort, M: Shared + Sync + Drop>(
+    rt: &R,
+    alloc: Global,
+    makings: &[Making],
+    turns: &[Turn],
+) -> Result<(), Refused> {
+    for (at, &making) in makings.iter().enumerate() {
+        let map: M = made(rt, alloc, making)?;
+        for &turn in turns {
+            takes(rt, alloc, at, &map, turn);
+        }
+    }
+    Ok(())
+}
+
+/// So a test runs.
+pub fn runs<R: Threads + Wait + Sync + Abort, M: Shared + Sync + Drop>(
+    rt: &R,
+    alloc: Global,
+    makings: &[Making],
+    turns: &[Turn],
+) -> Result<(), Fail> {
+    runs_on::<R, M>(rt, alloc, makings, turns)?;
+    Ok(())
+}

@@ -1,0 +1,217 @@
+// Calls of maps as values, and what makes them.
+use crate::answers::Answer;
+use crate::refused::{empties, fills, replaces, stores_again};
+use crate::seen::{Gate, Says, Seen};
+use std::process::Abort;
+use std::sync::Wait;
+
+/// Which pairs stay in a retain.
+#[derive(Clone, Copy)]
+pub enum Keeps {
+    ValuesBelow(u64),
+    ValuesAbove(u64),
+    EvenKeys,
+}
+
+impl Keeps {
+    /// Does this pair stay?
+    pub fn has(self, key: u64, value: u64) -> bool {
+        match self {
+            Keeps::ValuesBelow(end) => value < end,
+            Keeps::ValuesAbove(start) => value > start,
+            Keeps::EvenKeys => key % 2 == 0,
+        }
+    }
+}
+
+/// A call of a map, or some of one kind.
+#[derive(Clone, Copy)]
+pub enum Step {
+    Get(u64),
+    Contains(u64),
+    Insert(u64, u64),
+    Remove(u64),
+    RemoveEntry(u64),
+    /// With a closure that agrees, or does not.
+    RemoveIf(u64, bool),
+    /// Adds 1 to the value.
+    Update(u64),
+    Compute(u64, Says),
+    /// What the last closure of a removal or a compute was shown.
+    Seen,
+    Reserve(usize),
+    Retain(Keeps),
+    Clear,
+    /// How many pairs a walk gives whose key is the value, and how many whose key is below it.
+    Iter,
+    /// How many keys below this one a walk gives, and the sum of all keys.
+    Keys(u64),
+    /// The sum of the values that a walk gives.
+    Values,
+    Len,
+    IsEmpty,
+    /// Inserts the keys below this one, each with itself. Were all absent?
+    InsertBelow(u64),
+    /// Have the keys below the first number their value: so many times themselves, and so much
+    /// more?
+    HasBelow(u64, u64, u64),
+    /// Has each key below this one the value 0 or 1?
+    HasEither(u64),
+    /// Of a map that is refused memory: see there.
+    StoresAgain(u64),
+    Fills,
+    Empties,
+    Replaces,
+    // The calls of a pinned map that take no pass, where there is one that does.
+    GetAlone(u64),
+    InsertAlone(u64, u64),
+    RemoveAlone(u64),
+    LenOfMap,
+    /// The two passes of a pinned map meet, or trade places: calls are by the first of them.
+    Meet,
+    Swap,
+    // Those that are made with a guard alone.
+    Verify,
+    GetKeyValue(u64),
+    TryInsert(u64, u64),
+    TryInsertWith(u64, u64),
+    GetOrInsert(u64, u64),
+    GetOrInsertWith(u64, u64),
+    /// Adds 1 to the value of the first, or stores the second there.
+    UpdateOrInsert(u64, u64),
+    UpdateOrInsertWith(u64, u64),
+}
+
+/// Calls, each with what it answers.
+pub type Script = &'static [(Step, Answer)];
+
+/// A map whose calls answer in this crate's words.
+pub trait Calls {
+    fn get(&mut self, key: u64) -> Answer;
+
+    fn contains(&mut self, key: u64) -> Answer;
+
+    fn insert<R: Wait>(&mut self, rt: &R, key: u64, value: u64) -> Answer;
+
+    fn remove<R: Wait>(&mut self, rt: &R, key: u64) -> Answer;
+
+    fn remove_entry<R: Wait>(&mut self, rt: &R, key: u64) -> Answer;
+
+    fn remove_if<R: Wait>(&mut self, rt: &R, key: u64, says: bool, gate: &Gate) -> Answer;
+
+    fn update<R: Wait>(&mut self, rt: &R, key: u64) -> Answer;
+
+    fn compute<R: Wait>(&mut self, rt: &R, key: u64, says: Says, gate: &Gate) -> Answer;
+
+    /// What the last closure of a removal or a compute was shown.
+    fn seen(&self) -> Seen;
+
+    fn reserve<R: Wait>(&mut self, rt: &R, more: usize) -> Answer;
+
+    fn retain<R: Wait>(&mut self, rt: &R, keeps: Keeps) -> Answer;
+
+    fn clear<R: Wait>(&mut self, rt: &R) -> Answer;
+
+    fn iter<R: Wait>(&mut self, rt: &R) -> Answer;
+
+    fn keys<R: Wait>(&mut self, rt: &R, end: u64) -> Answer;
+
+    fn values<R: Wait>(&mut self, rt: &R) -> Answer;
+
+    fn len(&self) -> u64;
+
+    fn is_empty(&self) -> bool;
+
+    /// A call that maps take in one way alone, pinned or with a guard.
+    fn other<R: Wait>(&mut self, rt: &R, step: Step) -> Answer;
+}
+
+/// Inserts these keys, each with itself. Were all absent?
+pub fn inserts<R: Wait, C: Calls>(rt: &R, map: &mut C, from: u64, end: u64) -> bool {
+    for key in from..end {
+        if map.insert(rt, key, key) != Answer::Absent {
+            return false;
+        }
+    }
+    true
+}
+
+/// Have the keys below this one their value: so many times themselves, and so much more?
+pub fn has_below<C: Calls>(map: &mut C, end: u64, times: u64, more: u64) -> bool {
+    for key in 0..end {
+        let value = key.wrapping_mul(times).wrapping_add(more);
+        if map.get(key) != Answer::Number(value) {
+            return false;
+        }
+    }
+    true
+}
+
+/// Has each key below this one the value 0 or 1?
+fn has_either<C: Calls>(map: &mut C, end: u64) -> bool {
+    for key in 0..end {
+        match map.get(key) {
+            Answer::Number(0 | 1) => {}
+            _ => return false,
+        }
+    }
+    true
+}
+
+/// What a call answers that changes nothing.
+fn asked<R: Wait, C: Calls>(rt: &R, map: &mut C, step: Step) -> Answer {
+    match step {
+        Step::Get(key) => map.get(key),
+        Step::Contains(key) => map.contains(key),
+        Step::Seen => map.seen().told(),
+        Step::Iter => map.iter(rt),
+        Step::Keys(end) => map.keys(rt, end),
+        Step::Values => map.values(rt),
+        Step::Len => Answer::Number(map.len()),
+        Step::IsEmpty => Answer::Is(map.is_empty()),
+        Step::HasBelow(end, times, more) => Answer::Is(has_below(map, end, times, more)),
+        Step::HasEither(end) => Answer::Is(has_either(map, end)),
+        _ => map.other(rt, step),
+    }
+}
+
+/// What some calls of one kind came to.
+fn came_to<R: Wait, C: Calls>(rt: &R, map: &mut C, step: Step) -> Answer {
+    match step {
+        Step::InsertBelow(end) => Answer::Is(inserts(rt, map, 0, end)),
+        Step::StoresAgain(key) => Answer::Is(stores_again(rt, map, key)),
+        Step::Fills => Answer::Is(fills(rt, map)),
+        Step::Empties => Answer::Is(empties(rt, map)),
+        Step::Replaces => Answer::Is(replaces(rt, map)),
+        _ => asked(rt, map, step),
+    }
+}
+
+/// What a call answers. Its closure waits at this gate.
+pub fn answer<R: Wait, C: Calls>(rt: &R, map: &mut C, step: Step, gate: &Gate) -> Answer {
+    match step {
+        Step::Insert(key, value) => map.insert(rt, key, value),
+        Step::Remove(key) => map.remove(rt, key),
+        Step::RemoveEntry(key) => map.remove_entry(rt, key),
+        Step::RemoveIf(key, says) => map.remove_if(rt, key, says, gate),
+        Step::Update(key) => map.update(rt, key),
+        Step::Compute(key, says) => map.compute(rt, key, says, gate),
+        Step::Reserve(more) => map.reserve(rt, more),
+        Step::Retain(keeps) => map.retain(rt, keeps),
+        Step::Clear => map.clear(rt),
+        _ => came_to(rt, map, step),
+    }
+}
+
+/// A step answers what is wanted.
+pub fn answers(rt: &impl Abort, at: usize, step: usize, found: Answer, wanted: Answer) {
+    assert!(rt; found == wanted, "map {at}, step {step}");
+}
+
+/// The calls of a script answer so. The map is the one of this number in its test.
+pub fn goes<R: Wait + Abort, C: Calls>(rt: &R, at: usize, map: &mut C, script: Script) {
+    let gate = Gate::new(true);
+    for (step, &(call, wanted)) in script.iter().enumerate() {
+        answers(rt, at, step, answer(rt, map, call, &gate), wanted);
+    }
+}
