@@ -17,22 +17,22 @@ use std::thread::Threads;
 /// counts 1; and the second round of replacements finds each value 1 greater, that of mixed steps the
 /// seven values at multiples of ten. Of a set each yes counts 1: 57 keys are looked up by mixed steps.
 const CHECKED: &str = "\
-get-hit: seq 4032 shared 4032 threads 4032 plain 4032 session 4032 \
+get-hit: seq 4032 shared 4032 threads 4032 session 4032 \
     std 4032 rwlock 4032 rwlock-threads 4032 mutex 4032 mutex-threads 4032\n\
 get-hit: seq-set 128 set 128\n\
-get-miss: seq 128 shared 128 threads 128 plain 128 session 128 \
+get-miss: seq 128 shared 128 threads 128 session 128 \
     std 128 rwlock 128 rwlock-threads 128 mutex 128 mutex-threads 128\n\
 get-miss: seq-set 0 set 0\n\
-insert-fresh: seq 128 shared 128 threads 128 plain 128 session 128 \
+insert-fresh: seq 128 shared 128 threads 128 session 128 \
     std 128 rwlock 128 rwlock-threads 128 mutex 128 mutex-threads 128\n\
 insert-fresh: seq-set 128 set 128\n\
-insert-replace: seq 4096 shared 4096 threads 4096 plain 4096 session 4096 \
+insert-replace: seq 4096 shared 4096 threads 4096 session 4096 \
     std 4096 rwlock 4096 rwlock-threads 4096 mutex 4096 mutex-threads 4096\n\
 insert-replace: seq-set 0 set 0\n\
-remove-insert: seq 4160 shared 4160 threads 4160 plain 4160 session 4160 \
+remove-insert: seq 4160 shared 4160 threads 4160 session 4160 \
     std 4160 rwlock 4160 rwlock-threads 4160 mutex 4160 mutex-threads 4160\n\
 remove-insert: seq-set 256 set 256\n\
-mixed: seq 4039 shared 4039 threads 4039 plain 4039 session 4039 \
+mixed: seq 4039 shared 4039 threads 4039 session 4039 \
     std 4039 rwlock 4039 rwlock-threads 4039 mutex 4039 mutex-threads 4039\n\
 mixed: seq-set 114 set 114\n";
 
@@ -125,7 +125,6 @@ fn a_line_of_time(rt: HostRuntime) -> Result<(), Fail> {
         "get-hit/seq/8",
         "get-hit/shared/8",
         "get-hit/threads/8",
-        "get-hit/plain/8",
         "get-hit/session/8",
         "get-hit/std/8",
         "get-hit/rwlock/8",

@@ -8,7 +8,6 @@ use std::alloc::Global;
 use std::io::Write;
 use std::rt::Clock;
 use std::sync::Wait;
-use std::time::Instant;
 
 /// A map that gives back what replaced and removed pairs take.
 pub(crate) trait Reclaimed: Collection {
@@ -17,22 +16,16 @@ pub(crate) trait Reclaimed: Collection {
 
 /// Prints a line at once: what was done, the map, its keys, how many pairs were stored, and the
 /// nanoseconds.
-fn print<R: Clock, W: Write>(
-    rt: &R,
-    name: (&str, Backend),
+fn print<W: Write>(
+    done: &str,
+    backend: Backend,
     keys: u32,
     stored: u64,
-    start: Instant,
+    nanoseconds: u128,
     output: &mut W,
 ) -> Result<(), Failure> {
-    let nanoseconds = elapsed(rt, start)?;
-    let (done, map) = name;
-    writeln!(
-        output,
-        "{done}/{}/{keys} {stored} {nanoseconds}",
-        map.name()
-    )
-    .map_err(|_| Failure::Output)?;
+    let name = backend.name();
+    writeln!(output, "{done}/{name}/{keys} {stored} {nanoseconds}").map_err(|_| Failure::Output)?;
     output.flush().map_err(|_| Failure::Output)
 }
 
@@ -50,22 +43,16 @@ fn time_map<R: Clock + Wait, M: Reclaimed, W: Write>(
     for _ in 0..rounds {
         map.alone(rt, Work::Fill(keys))?;
     }
-    print(
-        rt,
-        ("fill", backend),
-        keys,
-        u64::from(keys) * u64::from(rounds),
-        start,
-        output,
-    )?;
+    let stored = u64::from(keys) * u64::from(rounds);
+    print("fill", backend, keys, stored, elapsed(rt, start)?, output)?;
     let start = now(rt)?;
     map.give_back(rt)?;
     print(
-        rt,
-        ("reclaim", backend),
+        "reclaim",
+        backend,
         keys,
         u64::from(keys),
-        start,
+        elapsed(rt, start)?,
         output,
     )
 }

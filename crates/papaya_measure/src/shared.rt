@@ -4,7 +4,7 @@ use crate::reclaim::Reclaimed;
 use crate::steps::{Target, Work};
 use papaya_map::map::{HashMap, HashMapRef};
 use papaya_plan::answers::weight;
-use papaya_session::session;
+use papaya_session::session::Session;
 use papaya_set::set::{HashSet, HashSetRef};
 use papaya_shell::failure::Failure;
 use std::alloc::Global;
@@ -40,7 +40,7 @@ impl Target for HashMapRef<'_, u64, u64, Hasher> {
     }
 }
 
-impl Target for session::Session<'_, u64, u64> {
+impl Target for Session<'_, u64, u64> {
     #[inline(always)]
     fn look_up<R: Wait>(&mut self, _rt: &R, key: u64) -> u64 {
         weight(self.get(&key))
@@ -96,7 +96,7 @@ impl Collection for BySession {
     }
 
     fn alone<R: Wait>(&mut self, rt: &R, work: Work) -> Result<u64, Failure> {
-        work.at(rt, &mut session::Session::new(&self.0))
+        work.at(rt, &mut Session::new(&self.0))
     }
 }
 
