@@ -1,5 +1,6 @@
 // What is printed, and what no clause says of failures.
 use papaya_measure::growth::time_growth;
+use papaya_measure::reclaim::time_reclaim;
 use papaya_measure::run::{run_on, time_workload};
 use papaya_measure::shared_growth::time_shared_growth;
 use papaya_plan::plan::{Plan, Workload};
@@ -14,20 +15,26 @@ use std::thread::Threads;
 
 /// Two rounds at 64 keys. The values are the keys' numbers, which sum to 2016; what is not there
 /// counts 1; and the second round of replacements finds each value 1 greater, that of mixed steps the
-/// seven values at multiples of ten.
+/// seven values at multiples of ten. Of a set each yes counts 1: 57 keys are looked up by mixed steps.
 const CHECKED: &str = "\
-get-hit: seq 4032 shared 4032 threads 4032 \
+get-hit: seq 4032 shared 4032 threads 4032 session 4032 \
     std 4032 rwlock 4032 rwlock-threads 4032 mutex 4032 mutex-threads 4032\n\
-get-miss: seq 128 shared 128 threads 128 \
+get-hit: seq-set 128 set 128\n\
+get-miss: seq 128 shared 128 threads 128 session 128 \
     std 128 rwlock 128 rwlock-threads 128 mutex 128 mutex-threads 128\n\
-insert-fresh: seq 128 shared 128 threads 128 \
+get-miss: seq-set 0 set 0\n\
+insert-fresh: seq 128 shared 128 threads 128 session 128 \
     std 128 rwlock 128 rwlock-threads 128 mutex 128 mutex-threads 128\n\
-insert-replace: seq 4096 shared 4096 threads 4096 \
+insert-fresh: seq-set 128 set 128\n\
+insert-replace: seq 4096 shared 4096 threads 4096 session 4096 \
     std 4096 rwlock 4096 rwlock-threads 4096 mutex 4096 mutex-threads 4096\n\
-remove-insert: seq 4160 shared 4160 threads 4160 \
+insert-replace: seq-set 0 set 0\n\
+remove-insert: seq 4160 shared 4160 threads 4160 session 4160 \
     std 4160 rwlock 4160 rwlock-threads 4160 mutex 4160 mutex-threads 4160\n\
-mixed: seq 4039 shared 4039 threads 4039 \
-    std 4039 rwlock 4039 rwlock-threads 4039 mutex 4039 mutex-threads 4039\n";
+remove-insert: seq-set 256 set 256\n\
+mixed: seq 4039 shared 4039 threads 4039 session 4039 \
+    std 4039 rwlock 4039 rwlock-threads 4039 mutex 4039 mutex-threads 4039\n\
+mixed: seq-set 114 set 114\n";
 
 /// Asserts that this was written, in a run with these arguments.
 fn has_written<A: Abort>(rt: &A, found: &[u8], wanted: &str, args: &[String]) -> Result<(), Fail> {
@@ -78,6 +85,7 @@ fn bad_arguments(rt: HostRuntime) -> Result<(), Fail> {
         " time",
         "check",
         "Grow",
+        "reclaimed",
     ] {
         let args = words(rt.alloc(), args)?;
         refuses(&rt, rt.alloc(), args.as_slice())?;
@@ -90,14 +98,15 @@ fn is_part<A: Abort>(rt: &A, found: Option<&str>, wanted: Option<&str>) {
     assert_eq!(rt; found, wanted);
 }
 
-/// Asserts that a line has these parts: a name, 24 steps, a time, and the sum 84.
+/// Asserts that a line has these parts: a name, 24 steps, a time, and a sum: 84, or of a set 24.
 fn is_line<A: Abort>(rt: &A, line: &str, name: Option<&str>) -> Result<(), Fail> {
+    let sum = if line.contains("set/") { "24" } else { "84" };
     let mut parts = line.split(' ');
     is_part(rt, parts.next(), name);
     is_part(rt, parts.next(), Some("24"));
     let nanoseconds = parts.next().ok_or("a time")?;
     assert!(rt; nanoseconds.parse::<u64>().is_ok(), "in {line}");
-    is_part(rt, parts.next(), Some("84"));
+    is_part(rt, parts.next(), Some(sum));
     is_part(rt, parts.next(), None);
     Ok(())
 }
@@ -116,11 +125,14 @@ fn a_line_of_time(rt: HostRuntime) -> Result<(), Fail> {
         "get-hit/seq/8",
         "get-hit/shared/8",
         "get-hit/threads/8",
+        "get-hit/session/8",
         "get-hit/std/8",
         "get-hit/rwlock/8",
         "get-hit/rwlock-threads/8",
         "get-hit/mutex/8",
         "get-hit/mutex-threads/8",
+        "get-hit/seq-set/8",
+        "get-hit/set/8",
     ]
     .iter();
     for line in std::str::from_utf8(printed.as_slice())?.lines() {
@@ -208,6 +220,38 @@ fn lines_of_shared_growth(rt: HostRuntime) -> Result<(), Fail> {
         "grow-blocking/gets/40",
     ];
     are_shared(&rt, std::str::from_utf8(printed.as_slice())?, names)
+}
+
+/// Asserts that a line has these parts: a name, how many pairs were stored, and a time.
+fn is_stored<A: Abort>(
+    rt: &A,
+    line: &str,
+    name: Option<&str>,
+    stored: Option<&str>,
+) -> Result<(), Fail> {
+    let mut parts = line.split(' ');
+    is_part(rt, parts.next(), name);
+    is_part(rt, parts.next(), stored);
+    let _nanoseconds = number(parts.next())?;
+    is_part(rt, parts.next(), None);
+    Ok(())
+}
+
+#[test]
+fn lines_of_reclaiming(rt: HostRuntime) -> Result<(), Fail> {
+    let mut printed = Vec::new(rt.alloc());
+    assert!(rt; time_reclaim(&rt, rt.alloc(), (40, 3), &mut printed).is_ok());
+    let mut lines = std::str::from_utf8(printed.as_slice())?.lines();
+    for (name, stored) in [
+        ("fill/seq/40", "120"),
+        ("reclaim/seq/40", "40"),
+        ("fill/shared/40", "120"),
+        ("reclaim/shared/40", "40"),
+    ] {
+        is_stored(&rt, lines.next().ok_or("a line")?, Some(name), Some(stored))?;
+    }
+    is_part(&rt, lines.next(), None);
+    Ok(())
 }
 
 /// Asserts that a run whose output takes this much of what is printed fails after it.

@@ -1,9 +1,7 @@
-//! The maps that the workloads are run on.
-use crate::rivals::locks::Lock;
-use crate::rivals::map::{Map, maps};
-use crate::rivals::{alone, locked};
-use crate::{one_caller, shared};
-use papaya_plan::plan::{Part, Plan};
+//! The maps and sets that the workloads are run on.
+use crate::collections::{Collection, Shared, all, run, run_in_threads};
+use crate::{rivals, seq, shared};
+use papaya_plan::plan::Plan;
 use papaya_shell::failure::Failure;
 use std::alloc::Global;
 use std::rt::Clock;
@@ -16,10 +14,12 @@ use std::time::Instant;
 pub enum Backend {
     /// The map for one caller.
     Seq,
-    /// The shared map, by one thread.
+    /// The shared map, pinned by one thread.
     Shared,
-    /// The shared map, by several threads.
+    /// The same, by several threads.
     Threads,
+    /// The shared map, by a session of one thread.
+    Session,
     /// The kit's hash map.
     Std,
     /// That behind a lock of readers and a writer, by one thread.
@@ -30,6 +30,10 @@ pub enum Backend {
     Mutex,
     /// The same, by several threads.
     MutexThreads,
+    /// The set for one caller.
+    SeqSet,
+    /// The shared set, pinned by one thread.
+    Set,
 }
 
 /// What a run of a plan gave: how long its rounds took, and the sum of their answers.
@@ -40,11 +44,12 @@ pub struct Measure {
 }
 
 impl Backend {
-    /// All backends, in the order in which they are run.
-    pub const ALL: [Backend; 8] = [
+    /// The maps, in the order in which they are run.
+    pub const MAPS: &'static [Backend] = &[
         Backend::Seq,
         Backend::Shared,
         Backend::Threads,
+        Backend::Session,
         Backend::Std,
         Backend::RwLock,
         Backend::RwLockThreads,
@@ -52,21 +57,27 @@ impl Backend {
         Backend::MutexThreads,
     ];
 
+    /// The sets, which are run behind the maps.
+    pub const SETS: &'static [Backend] = &[Backend::SeqSet, Backend::Set];
+
     /// The name in what is printed.
     pub fn name(self) -> &'static str {
         match self {
             Backend::Seq => "seq",
             Backend::Shared => "shared",
             Backend::Threads => "threads",
+            Backend::Session => "session",
             Backend::Std => "std",
             Backend::RwLock => "rwlock",
             Backend::RwLockThreads => "rwlock-threads",
             Backend::Mutex => "mutex",
             Backend::MutexThreads => "mutex-threads",
+            Backend::SeqSet => "seq-set",
+            Backend::Set => "set",
         }
     }
 
-    /// Makes the maps of a plan, and then measures its rounds alone.
+    /// Makes the maps or sets of a plan, and then measures its rounds alone.
     pub fn measure<R: Clock + Threads + Wait + Sync>(
         self,
         rt: &R,
@@ -74,59 +85,42 @@ impl Backend {
         plan: Plan,
     ) -> Result<Measure, Failure> {
         match self {
-            Backend::Seq => {
-                let mut maps = one_caller::maps(alloc, plan)?;
-                let start = now(rt)?;
-                let sum = one_caller::run(maps.as_mut_slice(), plan);
-                ended(rt, start, sum)
-            }
-            Backend::Shared => {
-                let maps = shared::maps(rt, alloc, plan)?;
-                let start = now(rt)?;
-                let sum = shared::run(rt, maps.as_slice(), plan, Part::whole(plan));
-                ended(rt, start, sum)
-            }
-            Backend::Threads => {
-                let maps = shared::maps(rt, alloc, plan)?;
-                let start = now(rt)?;
-                let sum = shared::run_in_threads(rt, alloc, maps.as_slice(), plan);
-                ended(rt, start, sum)
-            }
-            Backend::Std => {
-                let mut maps = maps::<Map>(alloc, plan)?;
-                let start = now(rt)?;
-                let sum = alone::run(maps.as_mut_slice(), plan);
-                ended(rt, start, sum)
-            }
-            Backend::RwLock => by_one_thread::<R, RwLock<Map>>(rt, alloc, plan),
-            Backend::RwLockThreads => by_several::<R, RwLock<Map>>(rt, alloc, plan),
-            Backend::Mutex => by_one_thread::<R, Mutex<Map>>(rt, alloc, plan),
-            Backend::MutexThreads => by_several::<R, Mutex<Map>>(rt, alloc, plan),
+            Backend::Seq => by_one::<R, seq::Map>(rt, alloc, plan),
+            Backend::Shared => by_one::<R, shared::Map>(rt, alloc, plan),
+            Backend::Threads => by_several::<R, shared::Map>(rt, alloc, plan),
+            Backend::Session => by_one::<R, shared::BySession>(rt, alloc, plan),
+            Backend::Std => by_one::<R, rivals::Map>(rt, alloc, plan),
+            Backend::RwLock => by_one::<R, RwLock<rivals::Map>>(rt, alloc, plan),
+            Backend::RwLockThreads => by_several::<R, RwLock<rivals::Map>>(rt, alloc, plan),
+            Backend::Mutex => by_one::<R, Mutex<rivals::Map>>(rt, alloc, plan),
+            Backend::MutexThreads => by_several::<R, Mutex<rivals::Map>>(rt, alloc, plan),
+            Backend::SeqSet => by_one::<R, seq::Set>(rt, alloc, plan),
+            Backend::Set => by_one::<R, shared::Set>(rt, alloc, plan),
         }
     }
 }
 
-/// The measure of the kit's map behind a lock, by one thread.
-fn by_one_thread<R: Clock + Wait, L: Lock + From<Map> + Drop>(
+/// The measure of collections by one thread.
+fn by_one<R: Clock + Wait, C: Collection>(
     rt: &R,
     alloc: Global,
     plan: Plan,
 ) -> Result<Measure, Failure> {
-    let maps = maps::<L>(alloc, plan)?;
+    let mut all = all::<R, C>(rt, alloc, plan)?;
     let start = now(rt)?;
-    let sum = locked::run(rt, maps.as_slice(), plan, Part::whole(plan));
+    let sum = run(rt, all.as_mut_slice(), plan);
     ended(rt, start, sum)
 }
 
-/// The measure of the kit's map behind a lock, by several threads.
-fn by_several<R: Clock + Threads + Wait + Sync, L: Lock + From<Map> + Sync + Drop>(
+/// The measure of collections by several threads.
+fn by_several<R: Clock + Threads + Wait + Sync, C: Collection + Shared + Sync>(
     rt: &R,
     alloc: Global,
     plan: Plan,
 ) -> Result<Measure, Failure> {
-    let maps = maps::<L>(alloc, plan)?;
+    let all = all::<R, C>(rt, alloc, plan)?;
     let start = now(rt)?;
-    let sum = locked::run_in_threads(rt, alloc, maps.as_slice(), plan);
+    let sum = run_in_threads(rt, alloc, all.as_slice(), plan);
     ended(rt, start, sum)
 }
 

@@ -1,6 +1,6 @@
 //! The map for one caller while it grows: what its insertions take, and the greatest of them.
 use crate::backends::{elapsed, now};
-use crate::one_caller::Map;
+use crate::seq::Map;
 use papaya_plan::plan::key_of;
 use papaya_seq::seq::HashMap;
 use papaya_shell::failure::Failure;

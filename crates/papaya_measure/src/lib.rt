@@ -3,9 +3,12 @@
 #![tactic(auto)]
 
 mod backends;
+mod collections;
 pub mod growth;
-mod one_caller;
+pub mod reclaim;
 mod rivals;
 pub mod run;
+mod seq;
 mod shared;
 pub mod shared_growth;
+mod steps;

@@ -1,6 +1,108 @@
-//! The workloads on the kit's own hash map: alone, and behind a lock.
-pub mod alone;
-pub mod locked;
-pub mod locks;
-pub mod map;
-mod steps;
+//! The kit's own hash map: alone, and behind a lock that each call takes.
+use crate::collections::{Collection, Shared};
+use crate::steps::{Target, Work};
+use papaya_plan::answers::weight;
+use papaya_shell::failure::Failure;
+use std::alloc::Global;
+use std::collections::HashMap;
+use std::hash::{BuildHasherDefault, FoldHasher};
+use std::sync::{Mutex, RwLock, Wait};
+
+/// The map.
+pub(crate) type Map = HashMap<u64, u64, BuildHasherDefault<FoldHasher>>;
+
+impl Target for Map {
+    #[inline(always)]
+    fn look_up<R: Wait>(&mut self, _rt: &R, key: u64) -> u64 {
+        weight(self.get(&key))
+    }
+
+    #[inline(always)]
+    fn put_in<R: Wait>(&mut self, _rt: &R, key: u64, value: u64) -> Result<u64, Failure> {
+        Ok(weight(self.insert(key, value)?.as_ref()))
+    }
+
+    #[inline(always)]
+    fn take_out<R: Wait>(&mut self, _rt: &R, key: u64) -> Result<u64, Failure> {
+        Ok(weight(self.remove(&key).as_ref()))
+    }
+}
+
+impl Target for &RwLock<Map> {
+    #[inline(always)]
+    fn look_up<R: Wait>(&mut self, rt: &R, key: u64) -> u64 {
+        weight(self.read(rt).get(&key))
+    }
+
+    #[inline(always)]
+    fn put_in<R: Wait>(&mut self, rt: &R, key: u64, value: u64) -> Result<u64, Failure> {
+        self.write(rt).put_in(rt, key, value)
+    }
+
+    #[inline(always)]
+    fn take_out<R: Wait>(&mut self, rt: &R, key: u64) -> Result<u64, Failure> {
+        self.write(rt).take_out(rt, key)
+    }
+}
+
+impl Target for &Mutex<Map> {
+    #[inline(always)]
+    fn look_up<R: Wait>(&mut self, rt: &R, key: u64) -> u64 {
+        self.lock(rt).look_up(rt, key)
+    }
+
+    #[inline(always)]
+    fn put_in<R: Wait>(&mut self, rt: &R, key: u64, value: u64) -> Result<u64, Failure> {
+        self.lock(rt).put_in(rt, key, value)
+    }
+
+    #[inline(always)]
+    fn take_out<R: Wait>(&mut self, rt: &R, key: u64) -> Result<u64, Failure> {
+        self.lock(rt).take_out(rt, key)
+    }
+}
+
+impl Collection for Map {
+    fn empty<R: Wait>(_rt: &R, alloc: Global, capacity: usize) -> Result<Map, Failure> {
+        let hasher = BuildHasherDefault::new();
+        Ok(HashMap::with_capacity_and_hasher(alloc, capacity, hasher)?)
+    }
+
+    fn alone<R: Wait>(&mut self, rt: &R, work: Work) -> Result<u64, Failure> {
+        work.at(rt, self)
+    }
+}
+
+impl Collection for RwLock<Map> {
+    fn empty<R: Wait>(rt: &R, alloc: Global, capacity: usize) -> Result<RwLock<Map>, Failure> {
+        Ok(RwLock::new(Map::empty(rt, alloc, capacity)?))
+    }
+
+    fn alone<R: Wait>(&mut self, rt: &R, work: Work) -> Result<u64, Failure> {
+        self.beside(rt, work)
+    }
+}
+
+impl Shared for RwLock<Map> {
+    fn beside<R: Wait>(&self, rt: &R, work: Work) -> Result<u64, Failure> {
+        let mut lock = self;
+        work.at(rt, &mut lock)
+    }
+}
+
+impl Collection for Mutex<Map> {
+    fn empty<R: Wait>(rt: &R, alloc: Global, capacity: usize) -> Result<Mutex<Map>, Failure> {
+        Ok(Mutex::new(Map::empty(rt, alloc, capacity)?))
+    }
+
+    fn alone<R: Wait>(&mut self, rt: &R, work: Work) -> Result<u64, Failure> {
+        self.beside(rt, work)
+    }
+}
+
+impl Shared for Mutex<Map> {
+    fn beside<R: Wait>(&self, rt: &R, work: Work) -> Result<u64, Failure> {
+        let mut lock = self;
+        work.at(rt, &mut lock)
+    }
+}

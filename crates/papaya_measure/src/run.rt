@@ -5,6 +5,7 @@ ghost use Rattle.papaya_plan.specs.Arguments.{words_of};
 
 use crate::backends::Backend;
 use crate::growth::time_growth;
+use crate::reclaim::time_reclaim;
 use crate::shared_growth::time_shared_growth;
 use papaya_plan::answers::compare;
 use papaya_plan::arguments::Task;
@@ -32,10 +33,14 @@ const GROWN: u32 = 0x1_0000;
 /// How many keys each map grows by, where growth alone is asked for.
 const GROWN_TO: [u32; 3] = [0x1000, 0x1_0000, 0x10_0000];
 
-/// Prints what each backend's answers to one workload sum to. The sums are equal, or it fails.
+/// How many keys a map has that is reclaimed, and in how many rounds they were inserted.
+const RECLAIMED: [(u32, u32); 2] = [(0x1_0000, 1), (1000, 1001)];
+
+/// Prints what these backends' answers to one workload sum to. The sums are equal, or it fails.
 fn check_workload<R: Clock + Threads + Wait + Sync, W: Write>(
     rt: &R,
     alloc: Global,
+    backends: &[Backend],
     workload: Workload,
     output: &mut W,
 ) -> Result<(), Failure> {
@@ -47,7 +52,7 @@ fn check_workload<R: Clock + Threads + Wait + Sync, W: Write>(
     };
     write!(output, "{}:", workload.name()).map_err(|_| Failure::Output)?;
     let mut sums = Vec::new(alloc);
-    for backend in Backend::ALL {
+    for backend in backends {
         let sum = backend.measure(rt, alloc, plan)?.checksum;
         write!(output, " {} {sum}", backend.name()).map_err(|_| Failure::Output)?;
         sums.push(sum)?;
@@ -66,7 +71,8 @@ fn check<R: Clock + Threads + Wait + Sync, W: Write>(
     output: &mut W,
 ) -> Result<(), Failure> {
     for workload in Workload::ALL {
-        check_workload(rt, alloc, workload, output)?;
+        check_workload(rt, alloc, Backend::MAPS, workload, output)?;
+        check_workload(rt, alloc, Backend::SETS, workload, output)?;
     }
     output.flush().map_err(|_| Failure::Output)
 }
@@ -78,7 +84,7 @@ pub fn time_workload<R: Clock + Threads + Wait + Sync, W: Write>(
     plan: Plan,
     output: &mut W,
 ) -> Result<(), Failure> {
-    for backend in Backend::ALL {
+    for backend in Backend::MAPS.iter().chain(Backend::SETS) {
         let measure = backend.measure(rt, alloc, plan)?;
         writeln!(
             output,
@@ -133,6 +139,18 @@ fn grow<R: Clock + Threads + Wait + Sync, W: Write>(
     Ok(())
 }
 
+/// Times maps that are filled, and then reclaimed.
+fn reclaim<R: Clock + Wait, W: Write>(
+    rt: &R,
+    alloc: Global,
+    output: &mut W,
+) -> Result<(), Failure> {
+    for plan in RECLAIMED {
+        time_reclaim(rt, alloc, plan, output)?;
+    }
+    Ok(())
+}
+
 /// Does what the arguments ask for.
 fn run<R: Clock + Threads + Wait + Sync, W: Write>(
     rt: &R,
@@ -148,6 +166,7 @@ fn run<R: Clock + Threads + Wait + Sync, W: Write>(
         Some(Task::Check) => check(rt, alloc, output),
         Some(Task::Time) => time(rt, alloc, output),
         Some(Task::Grow) => grow(rt, alloc, output),
+        Some(Task::Reclaim) => reclaim(rt, alloc, output),
     }
 }
 

@@ -8,3 +8,4 @@ abbrev pub words_of : Task → List (List ℕ)
 words_of task.Check = []
 words_of task.Time = codes "time" ∷ []
 words_of task.Grow = codes "grow" ∷ []
+words_of task.Reclaim = codes "reclaim" ∷ []

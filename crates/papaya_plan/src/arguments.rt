@@ -12,6 +12,8 @@ pub enum Task {
     Time,
     /// Time maps that grow from empty: the argument `grow`.
     Grow,
+    /// Time maps that are filled and reclaimed: the argument `reclaim`.
+    Reclaim,
 }
 
 impl Task {
@@ -25,6 +27,7 @@ impl Task {
             [word] => match word.as_str() {
                 "time" => Some(Task::Time),
                 "grow" => Some(Task::Grow),
+                "reclaim" => Some(Task::Reclaim),
                 _ => None,
             },
             _ => None,

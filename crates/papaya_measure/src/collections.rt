@@ -1,0 +1,87 @@
+//! The maps and sets that are measured, whatever they are.
+use crate::steps::Work;
+use papaya_plan::plan::{Part, Plan, THREADS};
+use papaya_shell::failure::Failure;
+use std::alloc::Global;
+use std::sync::Wait;
+use std::thread;
+use std::thread::Threads;
+
+/// A map, a set, or a lock round a map.
+pub(crate) trait Collection: Drop {
+    /// An empty one, with room for so many keys.
+    fn empty<R: Wait>(rt: &R, alloc: Global, capacity: usize) -> Result<Self, Failure>;
+
+    /// Does the work of the one thread that has it.
+    fn alone<R: Wait>(&mut self, rt: &R, work: Work) -> Result<u64, Failure>;
+}
+
+/// One that threads share.
+pub(crate) trait Shared {
+    /// Does the work of one of the threads.
+    fn beside<R: Wait>(&self, rt: &R, work: Work) -> Result<u64, Failure>;
+}
+
+/// A collection as it is before the first round.
+fn made<R: Wait, C: Collection>(rt: &R, alloc: Global, plan: Plan) -> Result<C, Failure> {
+    let mut made = C::empty(rt, alloc, plan.capacity())?;
+    made.alone(rt, Work::Fill(plan.filled()))?;
+    Ok(made)
+}
+
+/// The collections of a plan.
+pub(crate) fn all<R: Wait, C: Collection>(
+    rt: &R,
+    alloc: Global,
+    plan: Plan,
+) -> Result<Vec<C>, Failure> {
+    let mut all = Vec::new(alloc);
+    let (count, _) = plan.maps();
+    for _ in 0..count {
+        all.push(made(rt, alloc, plan)?)?;
+    }
+    Ok(all)
+}
+
+/// The rounds of all by one thread: the sum of what their steps answer.
+pub(crate) fn run<R: Wait, C: Collection>(
+    rt: &R,
+    all: &mut [C],
+    plan: Plan,
+) -> Result<u64, Failure> {
+    let work = Work::Rounds(plan, Part::whole(plan));
+    let mut sum: u64 = 0;
+    for one in all {
+        sum = sum.wrapping_add(one.alone(rt, work)?);
+    }
+    Ok(sum)
+}
+
+/// The part of one thread in the rounds of all: the sum of what its steps answer.
+fn run_part<R: Wait, C: Shared>(rt: &R, all: &[C], plan: Plan, part: Part) -> Result<u64, Failure> {
+    let mut sum: u64 = 0;
+    for one in all {
+        sum = sum.wrapping_add(one.beside(rt, Work::Rounds(plan, part))?);
+    }
+    Ok(sum)
+}
+
+/// The rounds of all by several threads, each at its part of the keys.
+pub(crate) fn run_in_threads<R: Threads + Wait + Sync, C: Shared + Sync>(
+    rt: &R,
+    alloc: Global,
+    all: &[C],
+    plan: Plan,
+) -> Result<u64, Failure> {
+    let sums = thread::map_indices(
+        rt,
+        alloc,
+        THREADS as usize,
+        &|thread| { run_part(rt, all, plan, Part::of_thread(plan, thread as u32)) },
+    )?;
+    let mut sum: u64 = 0;
+    for part in &sums {
+        sum = sum.wrapping_add((*part)?);
+    }
+    Ok(sum)
+}

@@ -1,0 +1,70 @@
+//! Maps that are filled and then reclaimed: what either takes.
+use crate::backends::{Backend, elapsed, now};
+use crate::collections::Collection;
+use crate::steps::Work;
+use crate::{seq, shared};
+use papaya_shell::failure::Failure;
+use std::alloc::Global;
+use std::io::Write;
+use std::rt::Clock;
+use std::sync::Wait;
+
+/// A map that gives back what replaced and removed pairs take.
+pub(crate) trait Reclaimed: Collection {
+    fn give_back<R: Wait>(&mut self, rt: &R) -> Result<(), Failure>;
+}
+
+/// Prints a line at once: what was done, the map, its keys, how many pairs were stored, and the
+/// nanoseconds.
+fn print<W: Write>(
+    done: &str,
+    backend: Backend,
+    keys: u32,
+    stored: u64,
+    nanoseconds: u128,
+    output: &mut W,
+) -> Result<(), Failure> {
+    let name = backend.name();
+    writeln!(output, "{done}/{name}/{keys} {stored} {nanoseconds}").map_err(|_| Failure::Output)?;
+    output.flush().map_err(|_| Failure::Output)
+}
+
+/// Fills a map, made for so many keys, with these keys in so many rounds. Then reclaims it.
+fn time_map<R: Clock + Wait, M: Reclaimed, W: Write>(
+    rt: &R,
+    alloc: Global,
+    backend: Backend,
+    plan: (u32, u32),
+    output: &mut W,
+) -> Result<(), Failure> {
+    let (keys, rounds) = plan;
+    let start = now(rt)?;
+    let mut map = M::empty(rt, alloc, keys as usize)?;
+    for _ in 0..rounds {
+        map.alone(rt, Work::Fill(keys))?;
+    }
+    let stored = u64::from(keys) * u64::from(rounds);
+    print("fill", backend, keys, stored, elapsed(rt, start)?, output)?;
+    let start = now(rt)?;
+    map.give_back(rt)?;
+    print(
+        "reclaim",
+        backend,
+        keys,
+        u64::from(keys),
+        elapsed(rt, start)?,
+        output,
+    )
+}
+
+/// Prints lines of a map for one caller and of a shared one, each made for so many keys: what it takes
+/// to insert them in so many rounds, and to reclaim the map then.
+pub fn time_reclaim<R: Clock + Wait, W: Write>(
+    rt: &R,
+    alloc: Global,
+    plan: (u32, u32),
+    output: &mut W,
+) -> Result<(), Failure> {
+    time_map::<R, seq::Map, W>(rt, alloc, Backend::Seq, plan, output)?;
+    time_map::<R, shared::Map, W>(rt, alloc, Backend::Shared, plan, output)
+}

@@ -1,0 +1,76 @@
+//! The map and the set for one caller.
+use crate::collections::Collection;
+use crate::reclaim::Reclaimed;
+use crate::steps::{Target, Work};
+use papaya_plan::answers::weight;
+use papaya_seq::seq::HashMap;
+use papaya_set::seq::HashSet;
+use papaya_shell::failure::Failure;
+use std::alloc::Global;
+use std::sync::Wait;
+
+/// The map.
+pub(crate) type Map = HashMap<u64, u64>;
+
+/// The set.
+pub(crate) type Set = HashSet<u64>;
+
+impl Target for Map {
+    #[inline(always)]
+    fn look_up<R: Wait>(&mut self, _rt: &R, key: u64) -> u64 {
+        weight(self.get(&key))
+    }
+
+    #[inline(always)]
+    fn put_in<R: Wait>(&mut self, _rt: &R, key: u64, value: u64) -> Result<u64, Failure> {
+        Ok(weight(self.insert(key, value)?))
+    }
+
+    #[inline(always)]
+    fn take_out<R: Wait>(&mut self, _rt: &R, key: u64) -> Result<u64, Failure> {
+        Ok(weight(self.remove(&key)?))
+    }
+}
+
+impl Target for Set {
+    #[inline(always)]
+    fn look_up<R: Wait>(&mut self, _rt: &R, key: u64) -> u64 {
+        u64::from(self.contains(&key))
+    }
+
+    #[inline(always)]
+    fn put_in<R: Wait>(&mut self, _rt: &R, key: u64, _value: u64) -> Result<u64, Failure> {
+        Ok(u64::from(self.insert(key)?))
+    }
+
+    #[inline(always)]
+    fn take_out<R: Wait>(&mut self, _rt: &R, key: u64) -> Result<u64, Failure> {
+        Ok(u64::from(self.remove(&key)?))
+    }
+}
+
+impl Collection for Map {
+    fn empty<R: Wait>(_rt: &R, alloc: Global, capacity: usize) -> Result<Map, Failure> {
+        Ok(HashMap::with_capacity(alloc, capacity)?)
+    }
+
+    fn alone<R: Wait>(&mut self, rt: &R, work: Work) -> Result<u64, Failure> {
+        work.at(rt, self)
+    }
+}
+
+impl Collection for Set {
+    fn empty<R: Wait>(_rt: &R, alloc: Global, capacity: usize) -> Result<Set, Failure> {
+        Ok(HashSet::with_capacity(alloc, capacity)?)
+    }
+
+    fn alone<R: Wait>(&mut self, rt: &R, work: Work) -> Result<u64, Failure> {
+        work.at(rt, self)
+    }
+}
+
+impl Reclaimed for Map {
+    fn give_back<R: Wait>(&mut self, _rt: &R) -> Result<(), Failure> {
+        Ok(self.reclaim()?)
+    }
+}
