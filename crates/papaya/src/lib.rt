@@ -8,6 +8,7 @@
 //! - [`HashMap::builder`] gives a [`HashMapBuilder`], by which a map's parts are asked for one by one.
 //! - [`HashSet`] is the set that threads share, with its [`HashSetRef`] and its [`HashSetBuilder`].
 //! - [`seq::HashMap`] is the map for one caller: changes take `&mut self`. [`seq::HashSet`] is the set.
+//! - [`json`] makes JSON of maps and sets, and reads it.
 //! - [`schedule`] runs the calls of many callers step by step, in any order that a test gives.
 //! - [`raw`] has the words, tables and machines that all three are made of.
 #![tactic(auto)]
@@ -41,6 +42,15 @@ pub mod seq {
     pub mod set {
         pub use papaya_set::walks::Iter;
     }
+}
+
+/// Maps and sets as JSON, and back.
+pub mod json {
+    pub use papaya_json::reading::{map_from_value, set_from_value};
+    pub use papaya_json::shared::{
+        shared_map_from_value, shared_map_to_value, shared_set_from_value, shared_set_to_value,
+    };
+    pub use papaya_json::writing::{map_to_value, set_to_value};
 }
 
 /// Any number of callers under any schedule of their steps.

@@ -20,8 +20,8 @@ pub struct Pinned<'a> {
     pass: Pass<u64, u64, Times>,
     other: Pass<u64, u64, Times>,
     seen: Seen,
-    ghost same: { pass.book ≡ map.book },
-    ghost other_same: { other.book ≡ map.book },
+    ghost same: { pass.book ≡ map.map.book },
+    ghost other_same: { other.book ≡ map.map.book },
 }
 
 impl<'a> Pinned<'a> {
