@@ -61,7 +61,7 @@ fn step<R: Wait>(
     pass: &mut Pass<u64, u64, Hasher>,
     action: Action,
 ) -> Result<u64, Refused>
-    requires { pass.old.book ≡ map.now.book }
+    requires { pass.old.book ≡ map.now.map.book }
     ensures { pass.new.book ≡ pass.old.book }
 {
     match action {

@@ -47,14 +47,14 @@ impl<'a, K: Hash + Eq, V, S: BuildHasher> Model for Session<'a, K, V, S> {
     ghost Value = { Known K V S };
 
     ghost view = { λ s. record {
-      map = s.map;
+      map = s.map.map;
       history = s.pass.history;
       made = s.pass.made;
       tables = s.pass.tables;
       given = s.pass.given;
     } };
 
-    ghost invariant = { λ s. s.pass.book ≡ s.map.book };
+    ghost invariant = { λ s. s.pass.book ≡ s.map.map.book };
 }
 
 impl<'a, K: Hash + Eq, V, S: BuildHasher> Session<'a, K, V, S> {
