@@ -15,8 +15,10 @@ use Rattle.papaya_keys.specs.declared.compute.Compute.TheVariants.{Inserted, Upd
 use Rattle.papaya_keys.specs.declared.occupied.OccupiedError.{OccupiedError}
 use Rattle.papaya_lookup.specs.Answers.{IsFoundBetween}
 use Rattle.papaya_lookup.specs.History.{Change, IsLegalHistory, key_of}
+use Rattle.papaya_sweep.specs.Leaving.{HasKept, IsRetained}
+use Rattle.papaya_sweep.specs.Meeting.{HadPair}
 use Rattle.papaya_map.specs.Plain.{IsContained, IsOfHistory}
-use Rattle.papaya_map.specs.Storing.{IsCurrent, IsInPlace, IsStored, IsThere, IsTried, IsTriedWith, IsUpdated, IsUpserted}
+use Rattle.papaya_map.specs.Storing.{IsCurrent, IsInPlace, IsStored, IsThere, IsThereBy, IsTried, IsTriedWith, IsUpdated, IsUpserted}
 
 abbrev pub History : Type 0 → Type 0 → Type 0
 History K V = List (Change K (Stored K V))
@@ -69,6 +71,21 @@ module _ {K V : Type 0} (old new : History K V) where
       pub removal : {F : Type 0} (judges : F → Stored K V → Bool → F → Type 0) (first : F) (r : Result (Result (Option (Bor K × Bor V)) (Bor K × Bor V)) Refused) → IsRemovalBy eq matches old new judges first r → IsRemovalBy eq matches [] new judges first r
       removal judges first r is = record { said = is.said; left = is.left; has_said = is.has_said; held = each_shown (λ p w. held eq matches w) is.said is.held; answered = judged is.said r is.answered }
 
+    had : (p : Stored K V) → HadPair eq old new p → HadPair eq [] new p
+    had p w = record { seen = w.seen; since = since_first w.seen; until = w.until; is = w.is }
+
+    none_stays : {A : Type 0} (said : List (Stored K V × Bool)) (r : Result A Refused) → IfOk r (λ _. IsRetained eq [] new said)
+    none_stays said (Ok a) = λ k p e. let no : ⊥ = cc e in absurd no
+    none_stays said (Err e) = tt
+
+    pub kept : {A F : Type 0} (judges : F → Stored K V → Bool → F → Type 0) (first : F) (r : Result A Refused) → (made : History K V) × HasKept eq old new [] made judges first r → (made : History K V) × HasKept eq [] new [] made judges first r
+    kept judges first r (made, k) = (made, record {
+      left = k.left;
+      said = k.said;
+      shown = record { has_said = k.shown.has_said; had = each_shown had k.said k.shown.had; changes = k.shown.changes; made_is = k.shown.made_is; dropped = k.shown.dropped };
+      leaves = none_stays k.said r;
+    })
+
     module _ (key : K) where
       operated : {T : Type 0} (said : List (Option (Stored K V) × Operation V T)) (r : Result (Computed K V T) Refused) → IsOperated eq key old new said r → IsOperated eq key [] new said r
       operated said (Ok (Inserted k v)) is = (is.0, change is.1, is.2, is.3, is.4)
@@ -100,6 +117,12 @@ module _ {K V : Type 0} (old new : History K V) where
       pub there : (gives : V → Type 0) (v : Bor V) → IsThere eq key old new gives v → IsThere eq key [] new gives v
       there gives v (inl is) = inl (stored gives v is)
       there gives v (inr is) = inr (current v is)
+
+      -- the same of what is said of a call by a pass
+      pub there_by : (gives : V → Type 0) (made made' : History K V) (r : Result (Bor V) Refused) → IsThereBy eq key old new gives made made' r → IfOk r (IsThere eq key old new gives)
+      there_by gives made made' (Ok v) (inl is) = inl is.0
+      there_by gives made made' (Ok v) (inr is) = inr is.0
+      there_by gives made made' (Err e) is = tt
 
       pub updated : (computes : V → V → Type 0) (r : Option (Bor V)) → IsUpdated eq key old new computes r → IsUpdated eq key [] new computes r
       updated computes None is = held eq (eq key) is

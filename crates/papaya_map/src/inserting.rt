@@ -212,6 +212,26 @@ impl<'a, K: Hash + Eq + Drop, V: Drop, S: BuildHasher> HashMapRef<'a, K, V, S> {
         answer
     }
 
+    /// The same, with what was seen.
+    #[inline(always)]
+    fn try_insert_with_told<R: Wait, F: FnOnce() -> V + Drop>(
+        &self,
+        rt: &R,
+        key: K,
+        f: F,
+    ) -> Saying<Result<Result<&'a V, &'a V>, Refused>, K, V, S>
+        requires { F.IsAlwaysCallable f }
+        ensures book { result.book ≡ self.now.map.book }
+        ensures legal { IsLegalHistory K.eq key_of (history_of result.log) }
+        ensures seen { IsPrefix self.now.seen (history_of result.log) }
+        ensures tried { IfOk result.answer (IsTriedWith K.eq key self.now.seen (history_of result.log) (F.post f)) }
+        ensures refused { IfErr result.answer IsMemoryOrCapacity }
+    {
+        let mut pass = self.begun(self.map.number());
+        let answer = self.try_insert_with_as(rt, key, f, &mut pass);
+        pass.tell(answer)
+    }
+
     /// The same with a closure that makes the value where it is to be stored, and with the value
     /// that is there for an answer: `try_insert_with` of 0.2.5. The closure is called once at most.
     ///
@@ -223,12 +243,15 @@ impl<'a, K: Hash + Eq + Drop, V: Drop, S: BuildHasher> HashMapRef<'a, K, V, S> {
         f: F,
     ) -> Result<Result<&'a V, &'a V>, Refused>
         requires { F.IsAlwaysCallable f }
+        ensures* own { sem 𝓛 (of_its_history (EventOf K.row V.row S.row).coded.code
+            (rule_of ⟦<Law<K, V, S> as Rule<Event<K, V, S>, Named<K, V>>>⟧) self.now K.eq
+            (λ h. IfOk result (IsTriedWith K.eq key self.now.seen h (F.post f)))) }
         ensures tried { IfOk result (λ tried. IsOfHistory K.eq (λ h. IsTriedWith K.eq key [] h
             (F.post f) tried)) }
         ensures refused { IfErr result IsMemoryOrCapacity }
     {
-        let mut pass = self.map.pass();
-        self.try_insert_with_as(rt, key, f, &mut pass)
+        let Told { answer, marker: _ } = self.try_insert_with_told(rt, key, f);
+        answer
     }
 
     /// The same, with what was seen.
@@ -265,6 +288,26 @@ impl<'a, K: Hash + Eq + Drop, V: Drop, S: BuildHasher> HashMapRef<'a, K, V, S> {
         answer
     }
 
+    /// The same, with what was seen.
+    #[inline(always)]
+    fn get_or_insert_with_told<R: Wait, F: FnOnce() -> V + Drop>(
+        &self,
+        rt: &R,
+        key: K,
+        f: F,
+    ) -> Saying<Result<&'a V, Refused>, K, V, S>
+        requires { F.IsAlwaysCallable f }
+        ensures book { result.book ≡ self.now.map.book }
+        ensures legal { IsLegalHistory K.eq key_of (history_of result.log) }
+        ensures seen { IsPrefix self.now.seen (history_of result.log) }
+        ensures there { IfOk result.answer (IsThere K.eq key self.now.seen (history_of result.log) (F.post f)) }
+        ensures refused { IfErr result.answer IsMemoryOrCapacity }
+    {
+        let mut pass = self.begun(self.map.number());
+        let answer = self.get_or_insert_with_as(rt, key, f, &mut pass);
+        pass.tell(answer)
+    }
+
     /// The same with a closure that makes the value where it is to be stored:
     /// `get_or_insert_with` of 0.2.5. The closure is called once at most.
     ///
@@ -276,15 +319,15 @@ impl<'a, K: Hash + Eq + Drop, V: Drop, S: BuildHasher> HashMapRef<'a, K, V, S> {
         f: F,
     ) -> Result<&'a V, Refused>
         requires { F.IsAlwaysCallable f }
+        ensures* own { sem 𝓛 (of_its_history (EventOf K.row V.row S.row).coded.code
+            (rule_of ⟦<Law<K, V, S> as Rule<Event<K, V, S>, Named<K, V>>>⟧) self.now K.eq
+            (λ h. IfOk result (IsThere K.eq key self.now.seen h (F.post f)))) }
         ensures there { IfOk result (λ there. IsOfHistory K.eq (λ h. IsThere K.eq key [] h
             (F.post f) there)) }
         ensures refused { IfErr result IsMemoryOrCapacity }
     {
-        match self.try_insert_with(rt, key, f) {
-            Ok(Ok(stored)) => Ok(stored),
-            Ok(Err(current)) => Ok(current),
-            Err(refused) => Err(refused),
-        }
+        let Told { answer, marker: _ } = self.get_or_insert_with_told(rt, key, f);
+        answer
     }
 }
 

@@ -161,6 +161,26 @@ impl<'a, K: Hash + Eq, V, S: BuildHasher> HashMapRef<'a, K, V, S> {
         answer
     }
 
+    /// The same, with what was seen.
+    #[inline(always)]
+    fn remove_if_told<R: Wait, Q: Equivalent<K>, F: FnMut(&K, &V) -> bool>(
+        &self,
+        rt: &R,
+        key: &Q,
+        should_remove: F,
+    ) -> Saying<Result<Result<Option<(&'a K, &'a V)>, (&'a K, &'a V)>, Refused>, K, V, S>
+        requires { F.IsAlwaysCallable should_remove }
+        ensures book { result.book ≡ self.now.map.book }
+        ensures legal { IsLegalHistory K.eq key_of (history_of result.log) }
+        ensures seen { IsPrefix self.now.seen (history_of result.log) }
+        ensures removed { IsRemovalBy K.eq (Q.matches key.now) self.now.seen (history_of result.log) (Judges F.FnMut)
+            should_remove result.answer }
+    {
+        let mut pass = self.begun(self.map.number());
+        let answer = self.remove_if_as(rt, key, should_remove, &mut pass);
+        pass.tell(answer)
+    }
+
     /// Removes a key's pair if the closure, which is shown it, answers true: `remove_if` of 0.2.5.
     ///
     /// It answers and is refused as [`HashMapRef::remove_if_as`] is.
@@ -171,11 +191,15 @@ impl<'a, K: Hash + Eq, V, S: BuildHasher> HashMapRef<'a, K, V, S> {
         should_remove: F,
     ) -> Result<Result<Option<(&'a K, &'a V)>, (&'a K, &'a V)>, Refused>
         requires { F.IsAlwaysCallable should_remove }
-        ensures { IsOfHistory K.eq (λ h. IsRemovalBy K.eq (Q.matches key.now) [] h
+        ensures* own { sem 𝓛 (of_its_history (EventOf K.row V.row S.row).coded.code
+            (rule_of ⟦<Law<K, V, S> as Rule<Event<K, V, S>, Named<K, V>>>⟧) self.now K.eq
+            (λ h. IsRemovalBy K.eq (Q.matches key.now) self.now.seen h (Judges F.FnMut)
+            should_remove result)) }
+        ensures removed { IsOfHistory K.eq (λ h. IsRemovalBy K.eq (Q.matches key.now) [] h
             (Judges F.FnMut) should_remove result) }
     {
-        let mut pass = self.map.pass();
-        self.remove_if_as(rt, key, should_remove, &mut pass)
+        let Told { answer, marker: _ } = self.remove_if_told(rt, key, should_remove);
+        answer
     }
 
     /// The same, with what was seen.
@@ -285,6 +309,25 @@ impl<'a, K: Hash + Eq + Drop, V: Drop, S: BuildHasher> HashMapRef<'a, K, V, S> {
         answer
     }
 
+    /// The same, with what was seen.
+    #[inline(always)]
+    fn compute_told<R: Wait, T: Drop, F: FnMut(Option<(&'a K, &'a V)>) -> Operation<V, T>>(
+        &self,
+        rt: &R,
+        key: K,
+        f: F,
+    ) -> Saying<Result<Compute<'a, K, V, T>, Refused>, K, V, S>
+        requires { F.IsAlwaysCallable f }
+        ensures book { result.book ≡ self.now.map.book }
+        ensures legal { IsLegalHistory K.eq key_of (history_of result.log) }
+        ensures seen { IsPrefix self.now.seen (history_of result.log) }
+        ensures computed { IsComputeBy K.eq key self.now.seen (history_of result.log) (Operates F.FnMut) f result.answer }
+    {
+        let mut pass = self.begun(self.map.number());
+        let answer = self.compute_as(rt, key, f, &mut pass);
+        pass.tell(answer)
+    }
+
     /// What the closure makes of the key's pair, or of its absence: `compute` of 0.2.5.
     ///
     /// It shows, answers and is refused as [`HashMapRef::compute_as`] does.
@@ -295,9 +338,13 @@ impl<'a, K: Hash + Eq + Drop, V: Drop, S: BuildHasher> HashMapRef<'a, K, V, S> {
         f: F,
     ) -> Result<Compute<'a, K, V, T>, Refused>
         requires { F.IsAlwaysCallable f }
-        ensures { IsOfHistory K.eq (λ h. IsComputeBy K.eq key [] h (Operates F.FnMut) f result) }
+        ensures* own { sem 𝓛 (of_its_history (EventOf K.row V.row S.row).coded.code
+            (rule_of ⟦<Law<K, V, S> as Rule<Event<K, V, S>, Named<K, V>>>⟧) self.now K.eq
+            (λ h. IsComputeBy K.eq key self.now.seen h (Operates F.FnMut) f result)) }
+        ensures computed { IsOfHistory K.eq (λ h. IsComputeBy K.eq key [] h (Operates F.FnMut) f
+            result) }
     {
-        let mut pass = self.map.pass();
-        self.compute_as(rt, key, f, &mut pass)
+        let Told { answer, marker: _ } = self.compute_told(rt, key, f);
+        answer
     }
 }

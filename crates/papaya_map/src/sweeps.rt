@@ -74,6 +74,26 @@ impl<'a, K: Hash + Eq, V, S: BuildHasher> HashMapRef<'a, K, V, S> {
         answer
     }
 
+    /// The same, with what was seen.
+    #[inline(always)]
+    fn retain_told<R: Wait, F: FnMut(&K, &V) -> bool>(
+        &self,
+        rt: &R,
+        stays: F,
+    ) -> Saying<Result<(), Refused>, K, V, S>
+        requires { F.IsAlwaysCallable stays }
+        ensures book { result.book ≡ self.now.map.book }
+        ensures legal { IsLegalHistory K.eq key_of (history_of result.log) }
+        ensures seen { IsPrefix self.now.seen (history_of result.log) }
+        ensures kept { (made : _) × HasKept K.eq self.now.seen (history_of result.log) [] made (Judges F.FnMut) stays
+            result.answer }
+        ensures refused { IfErr result.answer IsMemoryOrCapacity }
+    {
+        let mut pass = self.begun(self.map.number());
+        let answer = self.retain_as(rt, stays, &mut pass);
+        pass.tell(answer)
+    }
+
     /// Removes the pairs for which the closure, which is shown each, answers false: `retain` of 0.2.5.
     /// The closure is shown a key's pair again where another call replaced it meanwhile, or where all
     /// is copied.
@@ -83,12 +103,16 @@ impl<'a, K: Hash + Eq, V, S: BuildHasher> HashMapRef<'a, K, V, S> {
     /// What was removed stays so.
     pub fn retain<R: Wait, F: FnMut(&K, &V) -> bool>(&self, rt: &R, stays: F) -> Result<(), Refused>
         requires { F.IsAlwaysCallable stays }
+        ensures* own { sem 𝓛 (of_its_history (EventOf K.row V.row S.row).coded.code
+            (rule_of ⟦<Law<K, V, S> as Rule<Event<K, V, S>, Named<K, V>>>⟧) self.now K.eq
+            (λ h. (made : _) × HasKept K.eq self.now.seen h [] made (Judges F.FnMut) stays
+            result)) }
         ensures kept { IsOfHistory K.eq (λ h. (made : _) × HasKept K.eq [] h [] made (Judges F.FnMut)
             stays result) }
         ensures refused { IfErr result (λ refused. IsMemoryOrCapacity refused) }
     {
-        let mut pass = self.map().pass();
-        self.retain_as(rt, stays, &mut pass)
+        let Told { answer, marker: _ } = self.retain_told(rt, stays);
+        answer
     }
 
     /// The pairs of the map, one by one: `iter` of 0.2.5. Refused as [`HashMapRef::iter_as`] is.

@@ -1,15 +1,21 @@
 //! The calls that replace a key's value by what a closure makes of it, pinned and with a guard.
 ghost use Rattle.std.specs.Prelude.{◌≡◌, is_ok, [], Err, IfErr, IfOk};
 ghost use Rattle.std.specs.Fn.{FnReturnsAt};
+ghost use Rattle.std.specs.Borrow.{sem};
 ghost use mathlib.Core.List.{IsPrefix};
+ghost use Rattle.papaya_book.specs.contracts.rule.entry.Event.{the_row as EventOf};
 ghost use Rattle.papaya_book.specs.Limits.{HasNoRoom};
 ghost use Rattle.papaya_change.specs.RemovalAnswers.{took};
 ghost use Rattle.papaya_change.specs.Writing.{IsMemoryOrCapacity};
-ghost use Rattle.papaya_lookup.specs.History.{Makes};
-ghost use Rattle.papaya_map.specs.Plain.{IsOfHistory};
+ghost use Rattle.papaya_lookup.specs.History.{IsLegalHistory, Makes, history_of, key_of};
+ghost use Rattle.papaya_map.specs.Plain.{IsOfHistory, of_its_history, rule_of};
 ghost use Rattle.papaya_map.specs.Storing.{IsUpdated, IsUpserted};
 
 use crate::map::{HashMap, HashMapRef, Pass};
+use crate::told::{Saying, Told};
+use logbook::Rule;
+use papaya_book::rule::entry::{Event, Named};
+use papaya_book::rule::law::Law;
 use papaya_compute::deciding::Outcome;
 use papaya_compute::rules::{Made, Ready, Supply, Updating, Upserting};
 use papaya_keys::guard::Guard;
@@ -138,6 +144,26 @@ impl<'a, K: Hash + Eq + Drop, V: Drop, S: BuildHasher> HashMapRef<'a, K, V, S> {
         self.upsert_as(rt, key, update, Made { make: f }, pass)
     }
 
+    /// The same, with what was seen.
+    #[inline(always)]
+    fn update_told<R: Wait, F: Fn(&V) -> V>(
+        &self,
+        rt: &R,
+        key: K,
+        f: F,
+    ) -> Saying<Result<Option<&'a V>, Refused>, K, V, S>
+        requires { F.IsAlwaysCallable f }
+        ensures book { result.book ≡ self.now.map.book }
+        ensures legal { IsLegalHistory K.eq key_of (history_of result.log) }
+        ensures seen { IsPrefix self.now.seen (history_of result.log) }
+        ensures updated { IfOk result.answer (IsUpdated K.eq key self.now.seen (history_of result.log) (FnReturnsAt F.Fn f)) }
+        ensures refused { IfErr result.answer IsMemoryOrCapacity }
+    {
+        let mut pass = self.begun(self.map.number());
+        let answer = self.update_as(rt, key, f, &mut pass);
+        pass.tell(answer)
+    }
+
     /// Puts what the closure makes of the key's value in its place, and answers it: `update` of
     /// 0.2.5. `Ok(None)` where the key has none. The closure may be called again, where another call
     /// was first to replace the value that it was shown.
@@ -150,12 +176,37 @@ impl<'a, K: Hash + Eq + Drop, V: Drop, S: BuildHasher> HashMapRef<'a, K, V, S> {
         f: F,
     ) -> Result<Option<&'a V>, Refused>
         requires { F.IsAlwaysCallable f }
+        ensures* own { sem 𝓛 (of_its_history (EventOf K.row V.row S.row).coded.code
+            (rule_of ⟦<Law<K, V, S> as Rule<Event<K, V, S>, Named<K, V>>>⟧) self.now K.eq
+            (λ h. IfOk result (IsUpdated K.eq key self.now.seen h (FnReturnsAt F.Fn f)))) }
         ensures updated { IfOk result (λ updated. IsOfHistory K.eq (λ h. IsUpdated K.eq key [] h
             (FnReturnsAt F.Fn f) updated)) }
         ensures refused { IfErr result IsMemoryOrCapacity }
     {
-        let mut pass = self.map.pass();
-        self.update_as(rt, key, f, &mut pass)
+        let Told { answer, marker: _ } = self.update_told(rt, key, f);
+        answer
+    }
+
+    /// The same, with what was seen.
+    #[inline(always)]
+    fn update_or_insert_told<R: Wait, F: Fn(&V) -> V>(
+        &self,
+        rt: &R,
+        key: K,
+        update: F,
+        value: V,
+    ) -> Saying<Result<&'a V, Refused>, K, V, S>
+        requires { F.IsAlwaysCallable update }
+        ensures book { result.book ≡ self.now.map.book }
+        ensures legal { IsLegalHistory K.eq key_of (history_of result.log) }
+        ensures seen { IsPrefix self.now.seen (history_of result.log) }
+        ensures upserted { IfOk result.answer (IsUpserted K.eq key self.now.seen (history_of result.log) (FnReturnsAt F.Fn update)
+            (λ w. w ≡ value)) }
+        ensures refused { IfErr result.answer IsMemoryOrCapacity }
+    {
+        let mut pass = self.begun(self.map.number());
+        let answer = self.update_or_insert_as(rt, key, update, value, &mut pass);
+        pass.tell(answer)
     }
 
     /// The same, and where the key has no value this one is stored: `update_or_insert` of 0.2.5.
@@ -169,12 +220,39 @@ impl<'a, K: Hash + Eq + Drop, V: Drop, S: BuildHasher> HashMapRef<'a, K, V, S> {
         value: V,
     ) -> Result<&'a V, Refused>
         requires { F.IsAlwaysCallable update }
+        ensures* own { sem 𝓛 (of_its_history (EventOf K.row V.row S.row).coded.code
+            (rule_of ⟦<Law<K, V, S> as Rule<Event<K, V, S>, Named<K, V>>>⟧) self.now K.eq
+            (λ h. IfOk result (IsUpserted K.eq key self.now.seen h (FnReturnsAt F.Fn update)
+            (λ w. w ≡ value)))) }
         ensures upserted { IfOk result (λ stored. IsOfHistory K.eq (λ h. IsUpserted K.eq key [] h
             (FnReturnsAt F.Fn update) (λ w. w ≡ value) stored)) }
         ensures refused { IfErr result IsMemoryOrCapacity }
     {
-        let mut pass = self.map.pass();
-        self.upsert_as(rt, key, update, Ready { value }, &mut pass)
+        let Told { answer, marker: _ } = self.update_or_insert_told(rt, key, update, value);
+        answer
+    }
+
+    /// The same, with what was seen.
+    #[inline(always)]
+    fn update_or_insert_with_told<R: Wait, U: Fn(&V) -> V, F: FnOnce() -> V + Drop>(
+        &self,
+        rt: &R,
+        key: K,
+        update: U,
+        f: F,
+    ) -> Saying<Result<&'a V, Refused>, K, V, S>
+        requires update { U.IsAlwaysCallable update }
+        requires make { F.IsAlwaysCallable f }
+        ensures book { result.book ≡ self.now.map.book }
+        ensures legal { IsLegalHistory K.eq key_of (history_of result.log) }
+        ensures seen { IsPrefix self.now.seen (history_of result.log) }
+        ensures upserted { IfOk result.answer (IsUpserted K.eq key self.now.seen (history_of result.log) (FnReturnsAt U.Fn update)
+            (F.post f)) }
+        ensures refused { IfErr result.answer IsMemoryOrCapacity }
+    {
+        let mut pass = self.begun(self.map.number());
+        let answer = self.update_or_insert_with_as(rt, key, update, f, &mut pass);
+        pass.tell(answer)
     }
 
     /// The same with a closure that makes the value where the key has none:
@@ -190,12 +268,16 @@ impl<'a, K: Hash + Eq + Drop, V: Drop, S: BuildHasher> HashMapRef<'a, K, V, S> {
     ) -> Result<&'a V, Refused>
         requires update { U.IsAlwaysCallable update }
         requires make { F.IsAlwaysCallable f }
+        ensures* own { sem 𝓛 (of_its_history (EventOf K.row V.row S.row).coded.code
+            (rule_of ⟦<Law<K, V, S> as Rule<Event<K, V, S>, Named<K, V>>>⟧) self.now K.eq
+            (λ h. IfOk result (IsUpserted K.eq key self.now.seen h (FnReturnsAt U.Fn update)
+            (F.post f)))) }
         ensures upserted { IfOk result (λ stored. IsOfHistory K.eq (λ h. IsUpserted K.eq key [] h
             (FnReturnsAt U.Fn update) (F.post f) stored)) }
         ensures refused { IfErr result IsMemoryOrCapacity }
     {
-        let mut pass = self.map.pass();
-        self.upsert_as(rt, key, update, Made { make: f }, &mut pass)
+        let Told { answer, marker: _ } = self.update_or_insert_with_told(rt, key, update, f);
+        answer
     }
 }
 
