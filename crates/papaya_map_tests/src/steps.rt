@@ -209,7 +209,7 @@ pub fn answers(rt: &impl Abort, at: usize, step: usize, found: Answer, wanted: A
 }
 
 /// The calls of a script answer so. The map is the one of this number in its test.
-pub fn goes<R: Wait + Abort, C: Calls>(rt: &R, at: usize, map: &mut C, script: Script) {
+pub fn goes<R: Wait + Abort, C: Calls>(rt: &R, at: usize, map: &mut C, script: &[(Step, Answer)]) {
     let gate = Gate::new(true);
     for (step, &(call, wanted)) in script.iter().enumerate() {
         answers(rt, at, step, answer(rt, map, call, &gate), wanted);
