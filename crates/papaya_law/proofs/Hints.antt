@@ -1,0 +1,66 @@
+-- What a hint says lasts, and a search that meets another byte, or a shut slot, goes past it.
+use Rattle.std.proofs.Common.{◌≡◌, ◌⊎◌, inl, inr, ⊎_elim, ℕ, true, false, refl, sym, ap, ◌∙◌, subst}
+use Rattle.std.proofs.lemmas.Bool.{cases_Bool, cond-false}
+use Rattle.papaya_words.specs.Word.{hint_of}
+use Rattle.papaya_law.specs.Exchange.{Word, Empty, Closed, Live, Marked, Copied, Buried, Setting, State}
+use Rattle.papaya_law.specs.View.{View, Foreign, Here, Leaving, Gone, Grave, view}
+use Rattle.papaya_law.specs.Code.{Coding, IsLawfulCoding}
+use Rattle.papaya_law.specs.Hints.{IsHintOf, IsHint, hint_of_pair}
+use Rattle.papaya_law.specs.Later.{Becomes, IsLater}
+
+module _ {K P : Type 0} (g : Setting K P) (c : Coding K P) where
+  -- 0 is a hint of each slot
+  pub hint_none : (w : Word P) → IsHintOf g c w 0
+  hint_none Empty = refl
+  hint_none Closed = inl refl
+  hint_none (Live p) = inl refl
+  hint_none (Marked p) = inl refl
+  hint_none (Copied p) = inl refl
+  hint_none (Buried p) = inl refl
+
+  module _ (law : IsLawfulCoding g c) where
+    -- pairs of equal keys have one hint
+    hint_same : (p q : P) → g.same (g.key p) (g.key q) ≡ true → hint_of_pair g c p ≡ hint_of_pair g c q
+    hint_same p q e = ap hint_of (law.respects (g.key p) (g.key q) e)
+
+    -- of a pair that gives way to one of an equal key
+    hint_by : (p q : P) (n : ℕ) → g.same (g.key p) (g.key q) ≡ true → (n ≡ 0) ⊎ (n ≡ hint_of_pair g c p) → (n ≡ 0) ⊎ (n ≡ hint_of_pair g c q)
+    hint_by p q n e h = ⊎_elim (λ z. inl z) (λ y. inr (y ∙ hint_same p q e)) h
+
+    -- what a hint says stays true of whatever the word becomes
+    pub hint_becomes : (v w : Word P) (n : ℕ) → Becomes g v w → IsHintOf g c v n → IsHintOf g c w n
+    hint_becomes Empty w n b h = subst (IsHintOf g c w) (sym h) (hint_none w)
+    hint_becomes Closed w n b h = subst (λ y. IsHintOf g c y n) (sym b) h
+    hint_becomes (Live p) Empty n b h = absurd b
+    hint_becomes (Live p) Closed n b h = absurd b
+    hint_becomes (Live p) (Live q) n b h = hint_by p q n b h
+    hint_becomes (Live p) (Marked q) n b h = hint_by p q n b h
+    hint_becomes (Live p) (Copied q) n b h = hint_by p q n b h
+    hint_becomes (Live p) (Buried q) n b h = hint_by p q n b h
+    hint_becomes (Marked p) w n b h = ⊎_elim (λ e. subst (λ y. IsHintOf g c y n) (sym e) h) (λ e. subst (λ y. IsHintOf g c y n) (sym e) h) b
+    hint_becomes (Copied p) w n b h = subst (λ y. IsHintOf g c y n) (sym b) h
+    hint_becomes (Buried p) w n b h = subst (λ y. IsHintOf g c y n) (sym b) h
+
+    -- whatever others exchange
+    pub hint_lasts : (s s' : State P) → IsLater g s s' → (t x n : ℕ) → IsHint g c s t x n → IsHint g c s' t x n
+    hint_lasts s s' l t x n h = hint_becomes (s.slot t x) (s'.slot t x) n (l.words t x) h
+
+    -- a pair with another hint than the key's has another key
+    other_pair : (k : K) (p : P) (n : ℕ) (v : View P) → (n ≡ 0 → ⊥) → (n ≡ hint_of (c.hash k) → ⊥) → (n ≡ 0) ⊎ (n ≡ hint_of_pair g c p) → g.same k (g.key p) ≡ false
+    other_pair k p n v some other h = ⊎_elim
+        (λ (y : g.same k (g.key p) ≡ true). absurd (⊎_elim some (λ e. other (e ∙ ap hint_of (sym (law.respects k (g.key p) y)))) h))
+        (λ (f : g.same k (g.key p) ≡ false). f)
+        (cases_Bool (g.same k (g.key p)))
+
+    -- so a search for the key goes on, without the word
+    pub hint_passes : (k : K) (w : Word P) (n : ℕ) → IsHintOf g c w n → (n ≡ 0 → ⊥) → (n ≡ hint_of (c.hash k) → ⊥) → view g k w ≡ Foreign
+    hint_passes k Empty n h some other = absurd (some h)
+    hint_passes k Closed n h some other = refl
+    hint_passes k (Live p) n h some other = cond-false (g.same k (g.key p)) (Here p) Foreign (other_pair k p n (Here p) some other h)
+    hint_passes k (Marked p) n h some other = cond-false (g.same k (g.key p)) (Leaving p) Foreign (other_pair k p n (Leaving p) some other h)
+    hint_passes k (Copied p) n h some other = cond-false (g.same k (g.key p)) (Gone p) Foreign (other_pair k p n (Gone p) some other h)
+    hint_passes k (Buried p) n h some other = cond-false (g.same k (g.key p)) (Grave p) Foreign (other_pair k p n (Grave p) some other h)
+
+    -- a slot that a pair of the key fills has the key's hint
+    pub hint_fills : (k : K) (w : Word P) (p : P) → w ≡ Live p → g.same k (g.key p) ≡ true → IsHintOf g c w (hint_of (c.hash k))
+    hint_fills k w p e y = subst (λ v. IsHintOf g c v (hint_of (c.hash k))) (sym e) (inr (ap hint_of (law.respects k (g.key p) y)))
