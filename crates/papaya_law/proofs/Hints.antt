@@ -1,12 +1,18 @@
 -- What a hint says lasts, and a search that meets another byte, or a shut slot, goes past it.
-use Rattle.std.proofs.Common.{◌≡◌, ◌⊎◌, inl, inr, ⊎_elim, ℕ, true, false, refl, sym, ap, ◌∙◌, subst}
-use Rattle.std.proofs.lemmas.Bool.{cases_Bool, cond-false}
-use Rattle.papaya_words.specs.Word.{hint_of}
+use Rattle.std.proofs.Common.{◌≡◌, ◌⊎◌, inl, inr, ⊎_elim, ℕ, true, false, refl, sym, ap, ◌∙◌, subst, ◌==◌, eq-eqb}
+use Rattle.std.proofs.lemmas.Bool.{cases_Bool, cond-false, or_parts}
+use Rattle.papaya_words.specs.Word.{hint_of, may_hold}
 use Rattle.papaya_law.specs.Exchange.{Word, Empty, Closed, Live, Marked, Copied, Buried, Setting, State}
 use Rattle.papaya_law.specs.View.{View, Foreign, Here, Leaving, Gone, Grave, view}
 use Rattle.papaya_law.specs.Code.{Coding, IsLawfulCoding}
 use Rattle.papaya_law.specs.Hints.{IsHintOf, IsHint, hint_of_pair}
 use Rattle.papaya_law.specs.Later.{Becomes, IsLater}
+
+-- a hint that says of another key than one with this hash
+says_other : (n hash : ℕ) → may_hold n hash ≡ false → (n ≡ 0 → ⊥) × (n ≡ hint_of hash → ⊥)
+says_other n hash e =
+    let parts = or_parts (n == 0) (n == hint_of hash) e in
+    (λ z. absurd (let is = eq-eqb n 0 z in cc (is, parts.0)), λ z. absurd (let is = eq-eqb n (hint_of hash) z in cc (is, parts.1)))
 
 module _ {K P : Type 0} (g : Setting K P) (c : Coding K P) where
   -- 0 is a hint of each slot
@@ -46,20 +52,22 @@ module _ {K P : Type 0} (g : Setting K P) (c : Coding K P) where
     hint_lasts s s' l t x n h = hint_becomes (s.slot t x) (s'.slot t x) n (l.words t x) h
 
     -- a pair with another hint than the key's has another key
-    other_pair : (k : K) (p : P) (n : ℕ) (v : View P) → (n ≡ 0 → ⊥) → (n ≡ hint_of (c.hash k) → ⊥) → (n ≡ 0) ⊎ (n ≡ hint_of_pair g c p) → g.same k (g.key p) ≡ false
-    other_pair k p n v some other h = ⊎_elim
-        (λ (y : g.same k (g.key p) ≡ true). absurd (⊎_elim some (λ e. other (e ∙ ap hint_of (sym (law.respects k (g.key p) y)))) h))
+    other_pair : (k : K) (p : P) (n : ℕ) → may_hold n (c.hash k) ≡ false → (n ≡ 0) ⊎ (n ≡ hint_of_pair g c p) → g.same k (g.key p) ≡ false
+    other_pair k p n other h =
+        let says = says_other n (c.hash k) other in
+        ⊎_elim
+        (λ (y : g.same k (g.key p) ≡ true). absurd (⊎_elim says.0 (λ e. says.1 (e ∙ ap hint_of (sym (law.respects k (g.key p) y)))) h))
         (λ (f : g.same k (g.key p) ≡ false). f)
         (cases_Bool (g.same k (g.key p)))
 
     -- so a search for the key goes on, without the word
-    pub hint_passes : (k : K) (w : Word P) (n : ℕ) → IsHintOf g c w n → (n ≡ 0 → ⊥) → (n ≡ hint_of (c.hash k) → ⊥) → view g k w ≡ Foreign
-    hint_passes k Empty n h some other = absurd (some h)
-    hint_passes k Closed n h some other = refl
-    hint_passes k (Live p) n h some other = cond-false (g.same k (g.key p)) (Here p) Foreign (other_pair k p n (Here p) some other h)
-    hint_passes k (Marked p) n h some other = cond-false (g.same k (g.key p)) (Leaving p) Foreign (other_pair k p n (Leaving p) some other h)
-    hint_passes k (Copied p) n h some other = cond-false (g.same k (g.key p)) (Gone p) Foreign (other_pair k p n (Gone p) some other h)
-    hint_passes k (Buried p) n h some other = cond-false (g.same k (g.key p)) (Grave p) Foreign (other_pair k p n (Grave p) some other h)
+    pub hint_passes : (k : K) (w : Word P) (n : ℕ) → IsHintOf g c w n → may_hold n (c.hash k) ≡ false → view g k w ≡ Foreign
+    hint_passes k Empty n h other = absurd ((says_other n (c.hash k) other).0 h)
+    hint_passes k Closed n h other = refl
+    hint_passes k (Live p) n h other = cond-false (g.same k (g.key p)) (Here p) Foreign (other_pair k p n other h)
+    hint_passes k (Marked p) n h other = cond-false (g.same k (g.key p)) (Leaving p) Foreign (other_pair k p n other h)
+    hint_passes k (Copied p) n h other = cond-false (g.same k (g.key p)) (Gone p) Foreign (other_pair k p n other h)
+    hint_passes k (Buried p) n h other = cond-false (g.same k (g.key p)) (Grave p) Foreign (other_pair k p n other h)
 
     -- a slot that a pair of the key fills has the key's hint
     pub hint_fills : (k : K) (w : Word P) (p : P) → w ≡ Live p → g.same k (g.key p) ≡ true → IsHintOf g c w (hint_of (c.hash k))

@@ -18,7 +18,7 @@ ghost use Rattle.papaya_law.specs.Later.{IsLasting, IsLater};
 ghost use Rattle.papaya_law.specs.Meaning.{AllLegal, IsAtMoment, IsLawful, IsLegal, IsMeaning, map_after, map_left, map_of};
 ghost use Rattle.papaya_law.specs.View.{Foreign, Free, Gone, Grave, Here, HasWord, IsPassed, IsReached, Leaving, active, beyond, held, look, own, view};
 ghost use Rattle.papaya_law.specs.Code.{IsHashed};
-ghost use Rattle.papaya_words.specs.Word.{IsSlotStep, hint_of, kind_of, pair_of, shut_hint};
+ghost use Rattle.papaya_words.specs.Word.{IsSlotStep, hint_of, kind_of, may_hold, pair_of, shut_hint};
 ghost use Rattle.papaya_words.specs.declared.word.Kind.TheVariants as kinds;
 ghost use Rattle.std.specs.Prelude.{◌≡◌, ◌⊎◌, ◌↔◌, ℕ, zero, suc, ◌*◌, ◌<◌, ◌≤◌, ◌^◌, ◌==◌};
 ghost use Rattle.std.specs.Prelude.{◌++◌, Bool, true, false, List, [], ◌∷◌, length, Option, None, Some};
@@ -230,8 +230,7 @@ pub fn hints<K, P>()
     ensures lasts { (g : Setting K P) (c : Coding K P) → IsLawfulCoding g c → (s s' : State P)
         → IsLater g s s' → (t x n : ℕ) → IsHint g c s t x n → IsHint g c s' t x n }
     ensures passes { (g : Setting K P) (c : Coding K P) → IsLawfulCoding g c → (k : K) (w : Word P)
-        (n : ℕ) → IsHintOf g c w n → (n ≡ 0 → ⊥) → (n ≡ hint_of (c.hash k) → ⊥)
-        → view g k w ≡ Foreign }
+        (n : ℕ) → IsHintOf g c w n → may_hold n (c.hash k) ≡ false → view g k w ≡ Foreign }
     ensures fills { (g : Setting K P) (c : Coding K P) → IsLawfulCoding g c → (k : K) (w : Word P)
         (p : P) → w ≡ Word.Live p → g.same k (g.key p) ≡ true
         → IsHintOf g c w (hint_of (c.hash k)) }

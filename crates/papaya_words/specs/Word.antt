@@ -1,5 +1,5 @@
 -- What the words of slots say, and how they change.
-use Rattle.std.specs.Prelude.{◌≡◌, ℕ, ◌+◌, ◌*◌, ◌/◌, ◌%◌, ◌^◌, ◌==◌, if◌then◌else◌}
+use Rattle.std.specs.Prelude.{◌≡◌, ℕ, ◌+◌, ◌*◌, ◌/◌, ◌%◌, ◌^◌, Bool, ◌==◌, ◌||◌, if◌then◌else◌}
 use Rattle.papaya_words.specs.declared.word.Kind.{Kind}
 use Rattle.papaya_words.specs.declared.word.Kind.TheVariants.{Empty, Live, Marked, Copied, Buried, Closed}
 
@@ -45,6 +45,10 @@ top_byte hash = hash / 2 ^ 57
 -- the hint of a slot that was filled by a key with this hash
 abbrev pub hint_of : ℕ → ℕ
 hint_of hash = 1 + top_byte hash
+
+-- a slot with this hint may hold a pair of a key with this hash
+abbrev pub may_hold : (hint hash : ℕ) → Bool
+may_hold hint hash = hint == 0 || hint == hint_of hash
 
 -- the hint of a slot that is Closed
 abbrev pub shut_hint : ℕ

@@ -2,7 +2,7 @@
 ghost use Rattle.std.specs.Prelude.{◌≡◌, ℕ, ◌+◌, ◌*◌, ◌%◌, ◌^◌, ◌<◌, ◌≤◌, ◌↔◌, ◌≢◌, IsTrue};
 ghost use Rattle.papaya_words.specs.Word.{kind_of, kind_of_code, pair_of, filled_word};
 ghost use Rattle.papaya_words.specs.Word.{live_word, marked_word, copied_word, buried_word};
-ghost use Rattle.papaya_words.specs.Word.{top_byte, hint_of, shut_hint, IsSlotStep};
+ghost use Rattle.papaya_words.specs.Word.{top_byte, hint_of, may_hold, IsSlotStep};
 ghost use Rattle.papaya_words.specs.declared.word.Kind.TheVariants.{Empty, Live, Marked, Copied, Buried, Closed};
 
 /// What a slot word says. Its code in the word is its place in this list, from 0.
@@ -154,6 +154,15 @@ pub fn hint(hash: u64) -> u8
     ensures { result ≡ hint_of hash }
 {
     1 + h2(hash)
+}
+
+/// Whether a slot with this hint may hold a pair of a key with this hash: only
+/// then a search loads its word.
+#[inline(always)]
+pub fn may_hold(found: u64, hash: u64) -> bool
+    ensures { result ≡ may_hold found hash }
+{
+    found == 0 || found == hint(hash) as u64
 }
 
 /// The hint of a Closed slot.

@@ -11,7 +11,7 @@ pub returns-clause-lasts : goal.returns-clause-lasts
 returns-clause-lasts g c = λ h d law s s' later t x n is. hint_lasts h d law s s' later t x n is
 
 pub returns-clause-passes : goal.returns-clause-passes
-returns-clause-passes g c = λ h d law k w n is some other. hint_passes h d law k w n is some other
+returns-clause-passes g c = λ h d law k w n is other. hint_passes h d law k w n is other
 
 pub returns-clause-fills : goal.returns-clause-fills
 returns-clause-fills g c = λ h d law k w p e same. hint_fills h d law k w p e same
