@@ -72,3 +72,16 @@ module _ {K P : Type 0} (g : Setting K P) (c : Coding K P) where
     -- a slot that a pair of the key fills has the key's hint
     pub hint_fills : (k : K) (w : Word P) (p : P) → w ≡ Live p → g.same k (g.key p) ≡ true → IsHintOf g c w (hint_of (c.hash k))
     hint_fills k w p e y = subst (λ v. IsHintOf g c v (hint_of (c.hash k))) (sym e) (inr (ap hint_of (law.respects k (g.key p) y)))
+
+-- the hint of a word is the same where pairs have the same keys
+module _ {K P : Type 0} (g g' : Setting K P) (c : Coding K P) (keys : (p : P) → g'.key p ≡ g.key p) where
+  pair_agrees : (p : P) (n : ℕ) → (n ≡ 0) ⊎ (n ≡ hint_of_pair g c p) → (n ≡ 0) ⊎ (n ≡ hint_of_pair g' c p)
+  pair_agrees p n h = ⊎_elim (λ z. inl z) (λ e. inr (e ∙ ap (λ l. hint_of (c.hash l)) (sym (keys p)))) h
+
+  pub hint_agrees : (w : Word P) (n : ℕ) → IsHintOf g c w n → IsHintOf g' c w n
+  hint_agrees Empty n h = h
+  hint_agrees Closed n h = h
+  hint_agrees (Live p) n h = pair_agrees p n h
+  hint_agrees (Marked p) n h = pair_agrees p n h
+  hint_agrees (Copied p) n h = pair_agrees p n h
+  hint_agrees (Buried p) n h = pair_agrees p n h
