@@ -106,7 +106,7 @@ module _ (m : Machine) (made : Made) where
       exchanged_on : (own : Made) → HasWritten (after (record m { made = own; state = Writing write }) Exchanged).state
       exchanged_on Nothing = tt
       exchanged_on Key = tt
-      exchanged_on (Pair n) = cond_both (write.old == 0) (Counting n) (Ended (Replaced (pair_of write.old) n)) HasWritten (λ _. tt) (λ _. tt)
+      exchanged_on (Pair n) = cond_both (write.old == 0) (Counting (claimed_by write n)) (Ended (Replaced (pair_of write.old) n)) HasWritten (λ _. tt) (λ _. tt)
   writes_on write (Found_instead word) unbeaten = absurd (unbeaten word refl)
   writes_on write (Yes same) unbeaten = tt
   writes_on write (Op kind) unbeaten = tt

@@ -144,7 +144,7 @@ module _ {K V S : Type 0} (eq : K → K → Bool) (hash : K → ℕ) (s : MapSta
   word_is = ap (code g c) (sym lives.1) ∙ kept.coded (Slot root i)
 
   number_is : number_of word ≡ p.number
-  number_is = ap number_of (sym word_is) ∙ (code_pair g c hashed.coding (Live p) p refl).0
+  number_is = ap number_of (sym word_is) ∙ (code_pair g c hashed.coding (Live p) p refl)
 
   -- it is in the log
   pub live_logged : (q : Stored K V) × (pair_of s.store (number_of word) ≡ Some q)
