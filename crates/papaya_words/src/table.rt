@@ -26,6 +26,7 @@ pub struct Table {
 }
 
 impl Model for Table {
+    ghost use Rattle.std.specs.Prelude.{◌≡◌, length};
     ghost use Rattle.papaya_words.specs.Table.{TableWords};
 
     ghost Value = { TableWords };
@@ -39,6 +40,8 @@ impl Model for Table {
       aborted = t.aborted;
       done = t.done;
     } };
+
+    ghost invariant = { λ t. length t.hints.items ≡ length t.slots.items };
 }
 
 impl Table {
@@ -153,7 +156,7 @@ impl Table {
     /// The hint of a slot: 0 where nobody has written one.
     #[inline(always)]
     pub fn hint(&self, i: usize) -> u8
-        requires { i < length self.now.hints }
+        requires { i < length self.now.slots }
         ensures { slice_get self.now.hints i ≡ Some result }
     {
         self.hints[i]
@@ -162,7 +165,7 @@ impl Table {
     /// Writes the hint of a slot that has none. One that stands there stays.
     #[inline(always)]
     pub fn set_hint(&mut self, i: usize, hint: u8)
-        requires { i < length self.old.hints }
+        requires { i < length self.old.slots }
         ensures { self.new ≡ record self.old { hints = noted self.old.hints i hint } }
     {
         if self.hints[i] == 0 {
