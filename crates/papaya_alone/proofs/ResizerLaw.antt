@@ -248,7 +248,7 @@ module _ {K P : Type 0} (g : Setting K P) (c : Coding K P) (s : State P) (kind :
       (λ e h. absurd (spends (subst IsSpending (sym h.0) tt)))
       (λ e h. h.1)
   told_none (LoadHint t x) answer es hands' told spends = told.1.0
-  told_none (WriteHint t x hint) answer es hands' told spends = told.1
+  told_none (WriteHint t x hint) answer es hands' told spends = told.1.0
   told_none (SizeOf t) answer es hands' told spends = told.1.0
   told_none (HashOf n) answer es hands' told spends = told.1
   told_none (SamePair i n) answer es hands' told spends = told.1.0
