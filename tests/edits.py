@@ -76,6 +76,7 @@ def try_copy(room, kept, crate, edits):
         if verdict not in ("not proved", "no proof") or not lines:
             raise Bad(f"{crate}/{edit.name}: NOT REFUSED at a goal of its own ({verdict})\n{digest(said)}")
         told.append(f"{crate}/{edit.name}: refused, as it must be: {lines[0][:160]}")
+    print(f"edits: {crate}, copy {edits[0].words['copy']} with {len(edits)}: {said.splitlines()[-1]}", flush=True)
     return told
 
 

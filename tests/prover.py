@@ -119,7 +119,7 @@ def copy_of(crate, to):
 def check(folder, crate, changed, functions, kept=None):
     """What a check of these functions of the crate says. The crate and those in `changed`, on which it
     stands, are read from their copies below the folder. What is proved goes to the folder `kept`, and
-    what a check before this one left there is not proved again."""
+    what a check before this one left there is not proved again. The last line is the time that it took."""
     words = [f"{KIT}/bin/rattle", "check", "--crate-name", crate, "src/lib.rt", "--links", f"{crate}=", "--jobs", "1"]
     ours = below(crate)
     wait_for(it for it in ours if it not in changed)
@@ -136,8 +136,11 @@ def check(folder, crate, changed, functions, kept=None):
     words += ["--antt-project", f"{KIT}/rattle/logic/antt-project.json", "--logic-built", f"{KIT}/logic_built"]
     words += [word for it in functions for word in ("--only", it)]
     words += ["--incremental", kept] if kept else []
-    how = {"stdin": subprocess.DEVNULL, "stdout": subprocess.PIPE, "stderr": subprocess.STDOUT, "text": True}
-    return subprocess.run(words, cwd=f"{folder}/{crate}", **how).stdout
+    with tempfile.TemporaryFile("w+", encoding="utf-8") as said:
+        how = {"stdin": subprocess.DEVNULL, "stdout": said, "stderr": subprocess.STDOUT}
+        _, _, used = os.wait4(subprocess.Popen(words, cwd=f"{folder}/{crate}", **how).pid, 0)
+        said.seek(0)
+        return f"{said.read()}\ntook {used.ru_utime + used.ru_stime:.0f} s of a processor\n"
 
 
 def library_of(name):

@@ -13,7 +13,7 @@ use Rattle.papaya_timeline.specs.Maps.{Does, IsMadeOf, IsUpdate, IsUpdateBy, Sam
 use Rattle.papaya_timeline.specs.Solo.{CallDoes, IsAnswered, IsNewIn}
 use Rattle.papaya_store.specs.Store.{StoreState, Stored, pair_of}
 use Rattle.papaya_seq.proofs.LeftBy.{left_same, same_left}
-use Rattle.papaya_seq.specs.Map.{Inserts, IsMakeRefusal, IsOccupied, IsTried, IsTryRefusal, IsWriteCause, IsWriteCauseAt, Keeps, MapState, insertion, value_of}
+use Rattle.papaya_seq.specs.Map.{Inserts, IsMakeRefusal, IsOccupied, IsTried, IsTryRefusal, IsWriteCause, IsWriteCauseAt, KeepsAndGrows, MapState, insertion, value_of}
 use Rattle.papaya_seq.proofs.Lawful.{logged_content, lookup_some}
 
 -- equal keys have one pair in a list
@@ -147,7 +147,7 @@ module _ {K V S : Type 0} (eq : K → K → Bool) (law : IsEquivalence eq) where
 
 -- an insertion that found its key in the map, by its number
 pub tried_there : {K V S : Type 0} (eq : K → K → Bool) (k : K) (v : V) (s : MapState K V S) (result : Result (ℕ × Option V) Refused) (s' : MapState K V S) (n : ℕ) (left : V) → result ≡ Ok (n, Some left) → IsTried eq k v s result s'
-    → (p : Stored K V) × (pair_of s'.store n ≡ Some p) × (left ≡ v) × IsOccupied eq k s.store p.value s'.store × Keeps s s'
+    → (p : Stored K V) × (pair_of s'.store n ≡ Some p) × (left ≡ v) × IsOccupied eq k s.store p.value s'.store × KeepsAndGrows s s'
 tried_there eq k v s result s' n left is tried = subst (λ r. IsTried eq k v s r s') is tried
 
 -- what holds of a refusal, holds of this one

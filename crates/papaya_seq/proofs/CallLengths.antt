@@ -48,8 +48,8 @@ use Rattle.papaya_store.specs.Tables.{Tables, table_of, word_at}
 use Rattle.papaya_timeline.specs.Advances.{reply_in}
 use Rattle.papaya_timeline.specs.Solo.{whatever}
 use Rattle.papaya_timeline.proofs.KeptTables.{table_there}
-use Rattle.papaya_seq.specs.Lengths.{IsLongEnough, IsMadeBeside, IsNextLength, MakesTables, lengths_of}
-use Rattle.papaya_seq.specs.Map.{MapState, slots_in}
+use Rattle.papaya_seq.specs.Lengths.{IsLongEnough, IsMadeBeside, IsNextLength, lengths_of}
+use Rattle.papaya_seq.specs.Map.{Grows, MapState, slots_in}
 use Rattle.papaya_seq.proofs.Initial.{chain_initial}
 use Rattle.papaya_seq.proofs.LinkLeads.{IsLed, machine_leads}
 use Rattle.papaya_seq.proofs.LinkLengths.{IsLongLink, copy_good, led_long, link_good, long_beside, next_enough}
@@ -153,18 +153,22 @@ module _ {K V S : Type 0} (s : MapState K V S) where
   -- what the call has made of the tables, and what it goes by
   pub record IsLong (store : StoreState K V S) (m : Machine) : Type 0 where
     pub enough : All (λ len. s.initial ≤ len) (lengths_of store.words)
-    pub made : MakesTables s.initial pairs s.store.words store.words
+    pub made : Grows s (record s { store = store })
     pub link : In (IsLongLink (Follows (lengths_of store.words)) (lengths_of store.words)) (link_in m.phase)
     pub initial : m.call.initial ≡ s.initial
     pub count : reply_in (ask_of m) ≡ None → (HasCounted m → ⊥) → store.count ≡ s.store.count
     pub rooted : 0 < s.store.words.root → 0 < store.words.root
     pub first : s.store.words.root ≡ 0 → s.initial ≤ LEAST_TABLE_LEN
 
+  -- a call that makes no table
+  pub none_made : Grows s s
+  none_made = record { made = []; more = sym (append-nil (lengths_of s.store.words)); each = All-nil _ }
+
   -- as it begins
   pub long_begun : IsLongEnough s.initial s.store.words → (m : Machine) → m.phase ≡ Calling → m.call.initial ≡ s.initial → IsLong s.store m
   long_begun enough m calling initial = record {
     enough = enough.tables;
-    made = record { made = []; more = sym (append-nil (lengths_of s.store.words)); each = All-nil _ };
+    made = none_made;
     link = subst (λ phase. In (IsLongLink (Follows (lengths_of s.store.words)) (lengths_of s.store.words)) (link_in phase)) (sym calling) tt;
     initial = initial;
     count = λ going uncounted. refl;
@@ -252,7 +256,7 @@ module _ {K V S : Type 0} (s : MapState K V S) where
         subst (All (λ len. s.initial ≤ len)) (sym more) (All-append (λ len. s.initial ≤ len) lengths (slots ∷ []) long.enough (All-cons (λ len. s.initial ≤ len) slots [] (made_enough slots asked) (All-nil _))))
         lengthened
 
-    all_made : MakesTables s.initial pairs s.store.words store'.words
+    all_made : Grows s (record s { store = store' })
     all_made =
         let beside' : All (IsMadeBeside s.initial pairs s.store.words.root lengths') long.made.made = λ i d within. still_beside _ (long.made.each i d within) in
         ⊎_elim

@@ -19,7 +19,7 @@ use Rattle.papaya_timeline.specs.declared.outcome.Outcome.{Outcome}
 use Rattle.papaya_store.specs.Store.{StoreState, Stored}
 use Rattle.papaya_timeline.proofs.SoloTimeline.{lookup_alike}
 use Rattle.papaya_seq.specs.Calls.{AreCalled, IsCalled, IsDone, IsJudged, IsListed, IsSaid, MayRefuse}
-use Rattle.papaya_seq.specs.Map.{HasNone, Holds, IsMakeRefusal, Keeps, MapState, Unchanged}
+use Rattle.papaya_seq.specs.Map.{Grows, HasNone, Holds, IsMakeRefusal, Keeps, MapState, Unchanged}
 use Rattle.papaya_seq.specs.Removes.{IsRemoval, IsRemovalBy}
 use Rattle.papaya_seq.specs.Resizes.{IsCopyCause, IsReserveCause}
 use Rattle.papaya_seq.proofs.Lawful.{number_is}
@@ -145,14 +145,15 @@ copy_makes s refused s' (moving, inr (capacity, none)) = inr capacity
 
 module _ {K V S A : Type 0} (eq : K → K → Bool) (classes : IsEquivalence eq) (s : MapState K V S) (apart : AreApart eq (λ p. p.key) (content eq s.store)) (k : K) (a : A) (says : Says K V A) where
   -- a removal by an owned key is a call
-  pub remove_called : {said : Stored K V → Bool → Type 0} (reply : Reply) (s' : MapState K V S) → IsRemovalBy eq (eq k) said s.store reply s'.store → ((refused : words.Refused) → reply ≡ Refused refused → IsCopyCause s refused s') → Keeps s s' → ((p : Stored K V) (agrees : Bool) → said p agrees → (a' : A) × says.yes a p.key p.value agrees a') → IsCalled eq says s (RemoveIf k a) reply s'
-  remove_called {said} reply s' whole because keeps gives = let ordered = λ (refused : words.Refused) (is : reply ≡ Refused refused). removes_something refused (copy_makes s refused s' (because refused is)) in record {
+  pub remove_called : {said : Stored K V → Bool → Type 0} (reply : Reply) (s' : MapState K V S) → IsRemovalBy eq (eq k) said s.store reply s'.store → ((refused : words.Refused) → reply ≡ Refused refused → IsCopyCause s refused s') → Keeps s s' → Grows s s' → ((p : Stored K V) (agrees : Bool) → said p agrees → (a' : A) × says.yes a p.key p.value agrees a') → IsCalled eq says s (RemoveIf k a) reply s'
+  remove_called {said} reply s' whole because keeps grows gives = let ordered = λ (refused : words.Refused) (is : reply ≡ Refused refused). removes_something refused (copy_makes s refused s' (because refused is)) in record {
     answered = remove_answered eq classes s.store apart k said s'.store a reply ordered whole.removal;
     fresh = remove_fresh eq classes s.store apart k said s'.store reply whole.removal;
     said = remove_said eq classes s.store apart k said s'.store says a gives reply whole.removal;
     cause = because;
     done = λ is. keyed_undone eq (RemoveIf k a) k refl reply (map_in eq s.store) (map_in eq s'.store) (remove_answered eq classes s.store apart k said s'.store a reply ordered whole.removal) is;
     keeps = keeps;
+    tables = λ j is. grows;
   }
 
 module _ {K V S A : Type 0} (eq : K → K → Bool) (says : Says K V A) (outcome : Outcome) (call : Call K V A) (now s' : MapState K V S) (called : IsCalled eq says now call (reply_told outcome) s') (lists : IsListed eq call now.store outcome) where
@@ -173,6 +174,7 @@ module _ {K V S A : Type 0} (eq : K → K → Bool) (says : Says K V A) (call : 
     cause = λ refused e. let f : Done ≡ Refused refused = e in absurd cc;
     done = λ e. ok;
     keeps = keeps;
+    tables = λ j is. let f : None ≡ Some j = sym no_key ∙ is in absurd cc;
   })
   resized_called (Err refused) reply is ok err does left = subst (λ r. IsCalled eq says s call r s') (sym is) (record {
     answered = (left, λ nothing. absurd (removes_something refused (makes refused err) nothing));
@@ -181,4 +183,5 @@ module _ {K V S A : Type 0} (eq : K → K → Bool) (says : Says K V A) (call : 
     cause = λ other e. let same : refused ≡ other = let f : Refused refused ≡ Refused other = e in cc f in subst (λ r. MayRefuse eq s call r s') same err;
     done = λ e. let f : Refused refused ≡ Done = e in absurd cc;
     keeps = keeps;
+    tables = λ j is. let f : None ≡ Some j = sym no_key ∙ is in absurd cc;
   })

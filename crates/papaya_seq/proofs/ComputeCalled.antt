@@ -16,7 +16,7 @@ use Rattle.papaya_store.specs.Store.{Stored}
 use Rattle.papaya_seq.specs.Calls.{Answers, IsCalled, IsOperated}
 use Rattle.papaya_seq.specs.Computes.{CallsOnce, ComputesBy, IsRefusedFirst, Operates, Says, answer_map}
 use Rattle.papaya_seq.specs.Computing.{reply_of}
-use Rattle.papaya_seq.specs.Map.{IsResizing, IsWriteCause, IsWriteCauseAt, Keeps, MapState, deref_pair}
+use Rattle.papaya_seq.specs.Map.{IsResizing, IsWriteCause, IsWriteCauseAt, KeepsAndGrows, MapState, deref_pair}
 use Rattle.papaya_keys.specs.declared.compute.Computed.{Computed}
 use Rattle.papaya_keys.specs.declared.compute.Computed.TheVariants.{Inserted, Updated, Removed, Aborted}
 use Rattle.papaya_seq.proofs.Answered.{update_leaves, write_cause}
@@ -56,14 +56,15 @@ module _ {K V S A : Type 0} (eq : K → K → Bool) (classes : IsEquivalence eq)
   insertion_said held v refused (inr (e, full)) answers = subst (λ r. IsOperated says a s held s'.store (replies.Refused r)) (sym e) (inl (v, answers))
 
   -- in each case
-  called : Keeps s s' → (held : Option (Stored K V)) (operation : Operation V ℕ) (done : Result (Computed (Stored K V) ℕ) Refused) (next : Option (Stored K V)) → Answers says a held operation → Operates k s s' held operation done next → IsUpdate eq k held next (map_in eq s.store) (map_in eq s'.store) → Called (reply_of (answer_map (λ p. p.number) done))
+  called : KeepsAndGrows s s' → (held : Option (Stored K V)) (operation : Operation V ℕ) (done : Result (Computed (Stored K V) ℕ) Refused) (next : Option (Stored K V)) → Answers says a held operation → Operates k s s' held operation done next → IsUpdate eq k held next (map_in eq s.store) (map_in eq s'.store) → Called (reply_of (answer_map (λ p. p.number) done))
   called keeps None (ops.Insert v) (Ok (Inserted q)) next answers (new, is) update = record {
     answered = record { went = None; came = next; update = update; does = (q, (v, record { number = refl; key = new.key; value = new.value }), is) };
     fresh = new.fresh;
     said = (q, new.logged, subst (λ o. Answers says a o (ops.Insert q.value)) (sym update.before) (subst (λ w. Answers says a None (ops.Insert w)) (sym new.value) answers));
     cause = λ refused e. let f : replies.Inserted q.number ≡ replies.Refused refused = e in absurd cc;
     done = undone (Ok (Inserted q.number));
-    keeps = keeps;
+    keeps = keeps.0;
+    tables = λ j is. keeps.1;
   }
   called keeps (Some p) (ops.Insert v) (Ok (Updated old q)) next answers (same, new, is) update = record {
     answered = record { went = Some p; came = next; update = update; does = (ap (λ (x : Stored K V). x.number) (sym same), (q, (v, record { number = refl; key = new.key; value = new.value }), is)) };
@@ -71,7 +72,8 @@ module _ {K V S A : Type 0} (eq : K → K → Bool) (classes : IsEquivalence eq)
     said = (q, new.logged, subst (λ o. Answers says a o (ops.Insert q.value)) (sym update.before) (subst (λ w. Answers says a (Some p) (ops.Insert w)) (sym new.value) answers));
     cause = λ refused e. let f : replies.Replaced old.number q.number ≡ replies.Refused refused = e in absurd cc;
     done = undone (Ok (Updated old.number q.number));
-    keeps = keeps;
+    keeps = keeps.0;
+    tables = λ j is. keeps.1;
   }
   called keeps None (ops.Insert v) (Err refused) next answers (cause, is) update = record {
     answered = (update_leaves eq classes s.store s'.store k None (subst (λ o. IsUpdate eq k None o (map_in eq s.store) (map_in eq s'.store)) is update), λ e. absurd (caused refused (write_cause s s' None refused cause) e));
@@ -79,7 +81,8 @@ module _ {K V S A : Type 0} (eq : K → K → Bool) (classes : IsEquivalence eq)
     said = subst (λ o. IsOperated says a s o s'.store (replies.Refused refused)) (sym update.before) (insertion_said None v refused (write_cause s s' None refused cause) answers);
     cause = λ other e. inl (subst (λ r. IsWriteCauseAt s (map_in eq s.store k) r s') (let f : replies.Refused refused ≡ replies.Refused other = e in cc) (subst (λ o. IsWriteCauseAt s o refused s') (sym update.before) cause));
     done = undone (Err refused);
-    keeps = keeps;
+    keeps = keeps.0;
+    tables = λ j is. keeps.1;
   }
   called keeps (Some p) (ops.Insert v) (Err refused) next answers (cause, is) update = record {
     answered = (update_leaves eq classes s.store s'.store k (Some p) (subst (λ o. IsUpdate eq k (Some p) o (map_in eq s.store) (map_in eq s'.store)) is update), λ e. absurd (caused refused (write_cause s s' (Some p) refused cause) e));
@@ -87,7 +90,8 @@ module _ {K V S A : Type 0} (eq : K → K → Bool) (classes : IsEquivalence eq)
     said = subst (λ o. IsOperated says a s o s'.store (replies.Refused refused)) (sym update.before) (insertion_said (Some p) v refused (write_cause s s' (Some p) refused cause) answers);
     cause = λ other e. inl (subst (λ r. IsWriteCauseAt s (map_in eq s.store k) r s') (let f : replies.Refused refused ≡ replies.Refused other = e in cc) (subst (λ o. IsWriteCauseAt s o refused s') (sym update.before) cause));
     done = undone (Err refused);
-    keeps = keeps;
+    keeps = keeps.0;
+    tables = λ j is. keeps.1;
   }
   called keeps None ops.Remove (Err refused) next answers (nothing_there, is) update =
       subst (λ r. Called (replies.Refused r)) (sym nothing_there) (record {
@@ -99,7 +103,8 @@ module _ {K V S A : Type 0} (eq : K → K → Bool) (classes : IsEquivalence eq)
         said = subst (λ o. Answers says a o ops.Remove) (sym update.before) answers;
         cause = λ other e. inr (let f : replies.Refused RemoveNothing ≡ replies.Refused other = e in cc);
         done = undone (Err RemoveNothing);
-        keeps = keeps;
+        keeps = keeps.0;
+        tables = λ j is. keeps.1;
       })
   called keeps (Some p) ops.Remove (Ok (Removed old)) next answers (same, is) update = record {
     answered = record { went = Some p; came = next; update = update; does = (ap (λ (x : Stored K V). x.number) (sym same), is) };
@@ -107,7 +112,8 @@ module _ {K V S A : Type 0} (eq : K → K → Bool) (classes : IsEquivalence eq)
     said = subst (λ o. Answers says a o ops.Remove) (sym update.before) answers;
     cause = λ refused e. let f : replies.Removed old.number ≡ replies.Refused refused = e in absurd cc;
     done = undone (Ok (Removed old.number));
-    keeps = keeps;
+    keeps = keeps.0;
+    tables = λ j is. keeps.1;
   }
   called keeps None (ops.Abort t) (Ok (Aborted u)) next answers (same, is) update = record {
     answered = record { went = None; came = next; update = update; does = is };
@@ -115,7 +121,8 @@ module _ {K V S A : Type 0} (eq : K → K → Bool) (classes : IsEquivalence eq)
     said = subst (λ o. Answers says a o (ops.Abort u)) (sym update.before) (subst (λ w. Answers says a None (ops.Abort w)) (sym same) answers);
     cause = λ refused e. let f : replies.Aborted u ≡ replies.Refused refused = e in absurd cc;
     done = undone (Ok (Aborted u));
-    keeps = keeps;
+    keeps = keeps.0;
+    tables = λ j is. keeps.1;
   }
   called keeps (Some p) (ops.Abort t) (Ok (Aborted u)) next answers (same, is) update = record {
     answered = record { went = Some p; came = next; update = update; does = is };
@@ -123,7 +130,8 @@ module _ {K V S A : Type 0} (eq : K → K → Bool) (classes : IsEquivalence eq)
     said = subst (λ o. Answers says a o (ops.Abort u)) (sym update.before) (subst (λ w. Answers says a (Some p) (ops.Abort w)) (sym same) answers);
     cause = λ refused e. let f : replies.Aborted u ≡ replies.Refused refused = e in absurd cc;
     done = undone (Ok (Aborted u));
-    keeps = keeps;
+    keeps = keeps.0;
+    tables = λ j is. keeps.1;
   }
   called keeps None (ops.Insert v) (Ok (Updated old q)) next answers o update = absurd o
   called keeps None (ops.Insert v) (Ok (Removed old)) next answers o update = absurd o
@@ -154,7 +162,8 @@ module _ {K V S A : Type 0} (eq : K → K → Bool) (classes : IsEquivalence eq)
         said = moving_said (map_in eq s.store k) refused resizing cause;
         cause = λ other e. inl (subst (λ r. IsWriteCauseAt s (map_in eq s.store k) r s') (let f : replies.Refused refused ≡ replies.Refused other = e in cc) (caused_moving (map_in eq s.store k) refused resizing cause));
         done = undone (Err refused);
-        keeps = kept;
+        keeps = kept.0;
+        tables = λ j is. kept.1;
       })
 
 -- a compute by a closure that gives a call's answers

@@ -19,7 +19,7 @@ use Rattle.papaya_store.specs.declared.pairs.Running.{Running}
 use Rattle.papaya_timeline.proofs.SoloTimeline.{lookup_alike}
 use Rattle.papaya_seq.specs.Computes.{ComputesBy, IsNew, Says}
 use Rattle.papaya_seq.specs.Computing.{IsComputed, Replies}
-use Rattle.papaya_seq.specs.Map.{IsWriteCause, IsWriteCauseAt, Keeps, MapState}
+use Rattle.papaya_seq.specs.Map.{IsWriteCause, IsWriteCauseAt, KeepsAndGrows, MapState}
 use Rattle.papaya_keys.specs.declared.compute.Computed.{Computed}
 use Rattle.papaya_keys.specs.declared.compute.Computed.TheVariants.{Inserted, Updated, Removed, Aborted}
 use Rattle.papaya_seq.proofs.Answered.{logged_there}
@@ -98,7 +98,7 @@ module _ {K V S : Type 0} (eq : K → K → Bool) (k : K) (s store : StoreState 
   never replies.Done other done = let f : Some k ≡ None = done.0 in absurd cc
   never reply other done = other
 
-module _ {K V S T : Type 0} (eq : K → K → Bool) (classes : IsEquivalence eq) (k : K) (said : Option (Stored K V) → Operation V T → Type 0) (s s' : MapState K V S) (keeps : Keeps s s') where
+module _ {K V S T : Type 0} (eq : K → K → Bool) (classes : IsEquivalence eq) (k : K) (said : Option (Stored K V) → Operation V T → Type 0) (s s' : MapState K V S) (keeps : KeepsAndGrows s s') where
   -- what is answered of a compute that did this
   abbrev Answers : Result (Computed ℕ T) Refused → Type 0
   Answers answer = ComputesBy eq k (λ p. p.number) said s answer s'
@@ -258,7 +258,7 @@ module _ {K V S T : Type 0} (eq : K → K → Bool) (classes : IsEquivalence eq)
 
   -- the map after the call
   then_is : s' ≡ map_at s s'.store
-  then_is = ap (λ mode. record s' { mode = mode }) keeps.mode ∙ ap (λ initial. record { store = s'.store; mode = s.mode; initial = initial }) keeps.initial
+  then_is = ap (λ mode. record s' { mode = mode }) keeps.0.mode ∙ ap (λ initial. record { store = s'.store; mode = s.mode; initial = initial }) keeps.0.initial
 
   -- in each case
   pub replied_so : (o : Operation V T) (reply : Reply) (left : Option T) (answer : Result (Computed ℕ T) Refused) → said (map_in eq s.store k) o → IsEnd s (map_in eq s.store k) o s'.store reply → IsLeft o left → IsAnswered eq (compute_of k) (map_in eq s.store) reply (map_in eq s'.store) → IsNewIn s.store reply → IsComputed reply left answer → Answers answer
@@ -318,7 +318,7 @@ module _ {K V S T : Type 0} (eq : K → K → Bool) (k : K) (s : MapState K V S)
   pub first_replies : IsFirstEnd s store reply → Replies reply left
   first_replies end = replies_or reply (λ other. never eq k s.store store reply other done) (λ abort. absurd (first_aborts reply end abort))
 
-module _ {K V S A F T : Type 0} (eq : K → K → Bool) (classes : IsEquivalence eq) (hash : S → K → ℕ) (s s' : MapState K V S) (keeps : Keeps s s') (k : K) (post : F → Option (Bor K × Bor V) → Operation V T → Type 0) (f : F) (r : Running K V A) (closure : Option F) (shown : Option ℕ) (left : Option T) (reply : Reply) (told : reply_in (ask_of r.machine) ≡ Some reply)
+module _ {K V S A F T : Type 0} (eq : K → K → Bool) (classes : IsEquivalence eq) (hash : S → K → ℕ) (s s' : MapState K V S) (keeps : KeepsAndGrows s s') (k : K) (post : F → Option (Bor K × Bor V) → Operation V T → Type 0) (f : F) (r : Running K V A) (closure : Option F) (shown : Option ℕ) (left : Option T) (reply : Reply) (told : reply_in (ask_of r.machine) ≡ Some reply)
     (now : IsComputing eq hash s k post f s'.store r closure shown left) (done : IsAnswered eq (compute_of k) (map_in eq s.store) reply (map_in eq s'.store)) where
   -- one that has replied, so
   pub over_replies : Replies reply left

@@ -16,7 +16,7 @@ use Rattle.papaya_seq.specs.Answered.{IsParted}
 use Rattle.papaya_seq.specs.Computing.{IsComputed}
 use Rattle.papaya_seq.specs.MadeAlone.{IsComputedAlone}
 use Rattle.papaya_seq.specs.Computes.{Computes, ComputesBy, IsComputeRefusal, IsNew, IsRefusedFirst, Operates, Says, answer_map}
-use Rattle.papaya_seq.specs.Map.{Inserts, IsResizing, IsWriteCauseAt, Keeps, MapState, Unchanged, deref_pair, entry_of, value_of}
+use Rattle.papaya_seq.specs.Map.{Inserts, IsResizing, IsWriteCauseAt, KeepsAndGrows, MapState, Unchanged, deref_pair, entry_of, value_of}
 use Rattle.papaya_keys.specs.declared.compute.Computed.{Computed}
 use Rattle.papaya_keys.specs.declared.compute.Computed.TheVariants.{Inserted, Updated, Removed, Aborted}
 use Rattle.papaya_seq.proofs.Answered.{logged_there, update_leaves}
@@ -41,7 +41,7 @@ module _ {K V S T : Type 0} (post : Option (Bor K × Bor V) → Operation V T �
     pub before : map_in eq s.store k ≡ held
     pub says : Says post held (Insert v)
     pub inserts : Inserts eq k v s.store (value_of held) s'.store
-    pub keeps : Keeps s s'
+    pub keeps : KeepsAndGrows s s'
 
   -- and has this pair
   pub record StoresPair (held : Option (Stored K V)) (n : ℕ) : Type 0 where
@@ -54,7 +54,7 @@ module _ {K V S T : Type 0} (post : Option (Bor K × Bor V) → Operation V T �
     pub before : map_in eq s.store k ≡ held
     pub says : Says post held operation
     pub same : Unchanged eq s.store s'.store
-    pub keeps : Keeps s s'
+    pub keeps : KeepsAndGrows s s'
 
   -- the pair that the class had, by its number in the log
   pub record Held (p : Stored K V) (n : ℕ) : Type 0 where
@@ -82,7 +82,7 @@ module _ {K V S T : Type 0} (post : Option (Bor K × Bor V) → Operation V T �
   abbrev pub Facts : Result (Computed ℕ T) Refused → Type 0
   Facts (Ok (Inserted n)) = StoresPair None n
   Facts (Ok (Updated m n)) = (p : Stored K V) × Held p m × StoresPair (Some p) n
-  Facts (Ok (Removed m)) = (p : Stored K V) × Held p m × Says post (Some p) Remove × Keeps s s'
+  Facts (Ok (Removed m)) = (p : Stored K V) × Held p m × Says post (Some p) Remove × KeepsAndGrows s s'
   Facts (Ok (Aborted t)) = (held : Option (Stored K V)) × Leaves held (Abort t)
   Facts (Err refused) = IsRefused refused ⊎ IsFirst refused
 
@@ -95,7 +95,7 @@ module _ {K V S T : Type 0} (post : Option (Bor K × Bor V) → Operation V T �
   Logged (Err refused) = Unit {0}
 
   -- a new pair was stored
-  stored : (held next : Option (Stored K V)) (v : V) (q : Stored K V) → Says post held (Insert v) → IsNew k v s.store s'.store q → next ≡ Some q → IsUpdate eq k held next (map_in eq s.store) (map_in eq s'.store) → Keeps s s' → StoresPair held q.number
+  stored : (held next : Option (Stored K V)) (v : V) (q : Stored K V) → Says post held (Insert v) → IsNew k v s.store s'.store q → next ≡ Some q → IsUpdate eq k held next (map_in eq s.store) (map_in eq s'.store) → KeepsAndGrows s s' → StoresPair held q.number
   stored held next v q says new comes u keeps =
       let update : IsUpdate eq k held (Some q) (map_in eq s.store) (map_in eq s'.store) = subst (λ (o : Option (Stored K V)). IsUpdate eq k held o (map_in eq s.store) (map_in eq s'.store)) comes u in
       let said : Says post held (Insert q.value) = subst (λ (w : V). Says post held (Insert w)) (sym new.value) says in
@@ -106,7 +106,7 @@ module _ {K V S T : Type 0} (post : Option (Bor K × Bor V) → Operation V T �
       }
 
   -- nothing was stored
-  leaves : (held next : Option (Stored K V)) (o : Operation V T) → Says post held o → next ≡ held → IsUpdate eq k held next (map_in eq s.store) (map_in eq s'.store) → Keeps s s' → Leaves held o
+  leaves : (held next : Option (Stored K V)) (o : Operation V T) → Says post held o → next ≡ held → IsUpdate eq k held next (map_in eq s.store) (map_in eq s'.store) → KeepsAndGrows s s' → Leaves held o
   leaves held next o says is u keeps =
       let update : IsUpdate eq k held held (map_in eq s.store) (map_in eq s'.store) = subst (λ (o : Option (Stored K V)). IsUpdate eq k held o (map_in eq s.store) (map_in eq s'.store)) is u in
       record { before = u.before; says = says; same = update_leaves eq law s.store s'.store k held update; keeps = keeps }
@@ -115,16 +115,16 @@ module _ {K V S T : Type 0} (post : Option (Bor K × Bor V) → Operation V T �
   held_by : (p : Stored K V) → map_in eq s.store k ≡ Some p → Held p p.number
   held_by p there = record { there = there; logged = logged_there eq law s.store k p.number p there refl }
 
-  facts : (done : Result (Computed (Stored K V) T) Refused) (held : Option (Stored K V)) (o : Operation V T) (next : Option (Stored K V)) → Says post held o → Operates k s s' held o done next → IsUpdate eq k held next (map_in eq s.store) (map_in eq s'.store) → Keeps s s' → Facts (answer_map (λ p. p.number) done) × Logged done
+  facts : (done : Result (Computed (Stored K V) T) Refused) (held : Option (Stored K V)) (o : Operation V T) (next : Option (Stored K V)) → Says post held o → Operates k s s' held o done next → IsUpdate eq k held next (map_in eq s.store) (map_in eq s'.store) → KeepsAndGrows s s' → Facts (answer_map (λ p. p.number) done) × Logged done
   facts (Ok (Inserted q)) None (Insert v) next says does u keeps = (stored None next v q says does.0 does.1 u keeps, does.0.logged)
   facts (Ok (Updated old q)) (Some p) (Insert v) next says does u keeps =
       let same : p ≡ old = sym does.0 in
       let held = held_by p u.before in
-      subst (λ (y : Stored K V). Facts (Ok (Updated y.number q.number)) × Logged (Ok (Updated y q))) same ((p, held, stored (Some p) next v q says does.1 does.2 u keeps), (keeps.pairs p.number p held.logged, does.1.logged))
+      subst (λ (y : Stored K V). Facts (Ok (Updated y.number q.number)) × Logged (Ok (Updated y q))) same ((p, held, stored (Some p) next v q says does.1 does.2 u keeps), (keeps.0.pairs p.number p held.logged, does.1.logged))
   facts (Ok (Removed old)) (Some p) Remove next says does u keeps =
       let same : p ≡ old = sym does.0 in
       let held = held_by p u.before in
-      subst (λ (y : Stored K V). Facts (Ok (Removed y.number)) × Logged (Ok (Removed y))) same ((p, held, says, keeps), keeps.pairs p.number p held.logged)
+      subst (λ (y : Stored K V). Facts (Ok (Removed y.number)) × Logged (Ok (Removed y))) same ((p, held, says, keeps), keeps.0.pairs p.number p held.logged)
   facts (Ok (Aborted t)) None (Abort u') next says does u keeps =
       (subst (λ (y : T). Facts (Ok (Aborted y))) (sym does.0) (None, leaves None next (Abort u') says does.1 u keeps), tt)
   facts (Ok (Aborted t)) (Some p) (Abort u') next says does u keeps =

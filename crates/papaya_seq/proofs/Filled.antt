@@ -67,7 +67,7 @@ module _ {K V S : Type 0} (eq : K → K → Bool) where
           entries = λ j. entries_put (shows item).0 (shows item).1 at.store went s'.store inserts j
               ∙ ap (cond (eq j (shows item).0) (Some (shows item))) (fills.entries j)
               ∙ ap (λ (m : Entries K V). m j) (sym (fold_push (λ (n : Entries K V) (x : A). put eq n (shows x)) (entries_in eq s.store) items item));
-          keeps = keeps_on s at s' fills.keeps keeps;
+          keeps = keeps_on s at s' fills.keeps keeps.0;
           idle = λ none. not_empty items item none;
         }
 

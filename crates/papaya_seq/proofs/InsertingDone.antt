@@ -19,11 +19,9 @@ use Rattle.papaya_timeline.specs.Advances.{reply_in}
 use Rattle.papaya_timeline.specs.Content.{map_in}
 use Rattle.papaya_timeline.specs.Solo.{IsAnswered, IsNewIn, whatever}
 use Rattle.papaya_timeline.proofs.KeptSettings.{IsLawfulKeys}
-use Rattle.papaya_seq.specs.Lengths.{MakesTables}
-use Rattle.papaya_seq.proofs.CallLengths.{pairs}
 use Rattle.papaya_seq.specs.Drives.{Drives, IsReplied, at_hand}
 use Rattle.papaya_seq.specs.MadeAlone.{IsMadeAlone}
-use Rattle.papaya_seq.specs.Map.{IsLawfulMap, IsTryCause, IsWriteCauseAt, Keeps, LogsOne, MapState, insertion}
+use Rattle.papaya_seq.specs.Map.{IsLawfulMap, IsTryCause, IsWriteCauseAt, KeepsAndGrows, LogsOne, MapState, insertion}
 use Rattle.papaya_seq.proofs.Alone.{map_answered, map_hasher, map_lawful, map_logged}
 use Rattle.papaya_seq.proofs.InsertingRun.{inserting_absent, inserting_alone, inserting_begin, inserting_cause, inserting_fit, inserting_left, inserting_more, inserting_tables, IsInserting}
 use Rattle.papaya_seq.proofs.Turns.{IsOver}
@@ -40,9 +38,8 @@ pub record InsertionDone {K V S : Type 0} (eq : K → K → Bool) (hash : S → 
   pub absent : replace ≡ false → (refused : Refused) → reply ≡ Reply_refused refused → IsTryCause s (map_in eq s.store k) refused s'
   pub left_is : (n : ℕ) → reply ≡ Occupied n → left ≡ Some value
   pub alone : IsMadeAlone eq hash s (insertion replace k value) reply s'
-  pub keeps : Keeps s s'
+  pub keeps : KeepsAndGrows s s'
   pub logs : LogsOne s.store s'.store
-  pub tables : MakesTables s.initial (pairs s) s.store.words s'.store.words
   pub orderly : IsLawfulMap eq (hash s'.store.hasher) s'.store s'.mode s'.initial
 
 module _ {K V S : Type 0} (eq : K → K → Bool) (hash : S → K → ℕ) (s : MapState K V S) (replace : Bool) (k : K) (value : V) (keys : IsLawfulKeys eq (hash s.store.hasher)) (lawful : IsLawfulMap eq (hash s.store.hasher) s.store s.mode s.initial) (fits : hash s.store.hasher k < 2 ^ 64) where
@@ -74,13 +71,15 @@ module _ {K V S H : Type 0} (eq : K → K → Bool) (input : K → List (List �
         absent = inserting_absent eq hash s replace k value keys lawful fits store done.end reply done.replied ended;
         left_is = λ n e. sym done.value ∙ inserting_left eq hash s replace k value keys lawful fits store done.end reply done.replied ended n e;
         alone = record { runs = over.ran };
-        keeps = record {
-          hasher = map_hasher eq input build write finish classes respects s (insertion replace k value) reply store lawful over;
-          mode = refl;
-          initial = refl;
-          pairs = (map_logged eq input build write finish classes respects s (insertion replace k value) reply store lawful over).1;
-        };
+        keeps = (
+          record {
+            hasher = map_hasher eq input build write finish classes respects s (insertion replace k value) reply store lawful over;
+            mode = refl;
+            initial = refl;
+            pairs = (map_logged eq input build write finish classes respects s (insertion replace k value) reply store lawful over).1;
+          },
+          inserting_tables eq hash s replace k value keys lawful fits store done.end reply done.replied ended,
+        );
         logs = ended.logs;
-        tables = inserting_tables eq hash s replace k value keys lawful fits store done.end reply done.replied ended;
         orderly = map_lawful eq input build write finish classes respects s (insertion replace k value) reply store lawful over;
       }

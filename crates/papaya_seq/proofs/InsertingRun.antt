@@ -35,9 +35,7 @@ use Rattle.papaya_timeline.specs.Content.{map_in}
 use Rattle.papaya_timeline.specs.Solo.{whatever}
 use Rattle.papaya_timeline.proofs.KeptSettings.{IsLawfulKeys}
 use Rattle.papaya_timeline.proofs.StoreLemmas.{performed_ask, unnumbered}
-use Rattle.papaya_seq.specs.Lengths.{MakesTables}
-use Rattle.papaya_seq.proofs.CallLengths.{pairs}
-use Rattle.papaya_seq.specs.Map.{IsLawfulMap, IsResizing, LogsOne, IsTryCause, IsWriteCause, IsWriteCauseAt, MapState, insertion, next_of}
+use Rattle.papaya_seq.specs.Map.{Grows, IsLawfulMap, IsResizing, LogsOne, IsTryCause, IsWriteCause, IsWriteCauseAt, MapState, insertion, next_of}
 use Rattle.papaya_seq.proofs.Answering.{answering, silent_performs}
 use Rattle.papaya_seq.proofs.Causes.{IsLogRefusal, IsNoTableRefusal, IsRemoveNothing, IsTableAsk, IsUnlogged, insert_pairs, refused_so, unlogged_more, unlogged_none, write_cause}
 use Rattle.papaya_seq.proofs.Ending.{left_of}
@@ -46,7 +44,7 @@ use Rattle.papaya_seq.proofs.Logs.{IsFirst}
 use Rattle.papaya_seq.proofs.Inserting.{HasWritten}
 use Rattle.papaya_seq.proofs.InsertingRoot.{IsResting, IsRootStage, resting_more, written_more}
 use Rattle.papaya_seq.proofs.InsertingSteps.{copy_stays, value_stays}
-use Rattle.papaya_seq.proofs.Steps.{HasCome, IsMade, came_nears, made_alone, made_more, made_none}
+use Rattle.papaya_seq.proofs.Steps.{HasCome, IsMade, came_nears, made_alone, made_more, made_none, made_tables}
 use Rattle.papaya_seq.proofs.KeyCalls.{keyed_insertion}
 use Rattle.papaya_seq.proofs.Turns.{IsOver}
 
@@ -206,8 +204,8 @@ module _ {K V S A : Type 0} (eq : K → K → Bool) (hash : S → K → ℕ) (s 
       inserting_alone = made_alone eq hash s (keyed_insertion replace k value) keys lawful fits store (answering None r) reply (sym (ap reply_in e)) now.steps
 
       -- the tables that it made
-      pub inserting_tables : MakesTables s.initial (pairs s) s.store.words store.words
-      inserting_tables = (now.steps keys lawful fits).long.made
+      pub inserting_tables : Grows s (record s { store = store })
+      inserting_tables = made_tables eq hash s (keyed_insertion replace k value) keys lawful fits store (answering None r) now.steps
 
       -- its machine is at its end
       ended : r.machine.phase ≡ Calling → r.machine.call.state ≡ Ended reply

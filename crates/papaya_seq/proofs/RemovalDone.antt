@@ -66,6 +66,10 @@ module _ {K V S H F : Type 0} (g : Mut F (Bor K × (Bor V × Unit {0})) Bool) (e
     keeps = (
       record { hasher = now.log.hasher; mode = refl; initial = refl; pairs = λ n p e. log_kept map.store later now.log n ∙ e },
       λ single. slots_kept g eq hash matches hashed map agrees later f m now query single,
+      ⊎_elim
+          (λ (has : HasMatch g eq hash matches hashed map agrees later f m). has.run.came.long.made)
+          (λ (lacks : HasNoMatch g eq hash matches hashed map agrees later m). lacks.seeking.long.made)
+          (now.way query),
     );
     orderly = ⊎_elim
         (λ (has : HasMatch g eq hash matches hashed map agrees later f m). map_lawful eq input build write finish classes respects map (removal_by has.one.pair.key) reply later query.lawful (made has))

@@ -39,7 +39,7 @@ use Rattle.papaya_timeline.proofs.KeptCore.{performs-hasher}
 use Rattle.papaya_timeline.proofs.KeptLemmas.{IsLawfulKeys, IsStep, kept_step}
 use Rattle.papaya_timeline.proofs.KeptStep as kept_steps
 use Rattle.papaya_timeline.proofs.SoloEnds.{lone_begin, lone_step}
-use Rattle.papaya_seq.specs.Map.{IsLawfulMap, MapState, Unchanged, core_of}
+use Rattle.papaya_seq.specs.Map.{Grows, IsLawfulMap, MapState, Unchanged, core_of}
 use Rattle.papaya_seq.proofs.CallLengths.{IsLong, long_begun, long_left, long_more, performed_so}
 use Rattle.papaya_seq.proofs.Ending.{left_of, left_to}
 use Rattle.papaya_seq.proofs.KeyCalls.{KeyCall, first_of, key_fits}
@@ -245,6 +245,10 @@ module _ {K V S : Type 0} (eq : K → K → Bool) (hash : S → K → ℕ) (s : 
       let left : IsLeft eq hash (core_of s) (seated store (still r) s.mode s.initial) r =
       call_left eq hash (core_of s) keys whatever (seated store (still r) s.mode s.initial) came.history r (ap (λ o. call_in (as_work (goes_on o r))) going) call.call came.steps lawful.lawful refl (turns_made eq hash s call.call (key_fits (hash s.store.hasher) call fits) lawful.power came.steps (seated store (still r) s.mode s.initial) came.history came.runs) none in
       (left.map, left.keeps)
+
+  -- the tables that a call on a key has made
+  pub made_tables : IsLawfulKeys eq (hash s.store.hasher) → IsLawfulMap eq (hash s.store.hasher) s.store s.mode s.initial → hash s.store.hasher call.key < 2 ^ 64 → (store : StoreState K V S) (r : Running K V (Unit {0})) → IsMade store r → Grows s (record s { store = store })
+  made_tables keys lawful fits store r made = (made keys lawful fits).long.made
 
   -- a call that has replied was made alone
   pub made_alone : IsLawfulKeys eq (hash s.store.hasher) → IsLawfulMap eq (hash s.store.hasher) s.store s.mode s.initial → hash s.store.hasher call.key < 2 ^ 64 → (store : StoreState K V S) (r : Running K V (Unit {0})) (reply : Reply) → reply_in (ask_of r.machine) ≡ Some reply → IsMade store r → IsOver eq hash s call.call store reply

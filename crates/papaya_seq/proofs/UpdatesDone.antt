@@ -8,7 +8,7 @@ use Rattle.papaya_call.specs.declared.answers.Operation.TheVariants.{Insert, Rem
 use Rattle.papaya_timeline.specs.Content.{map_in}
 use Rattle.papaya_store.specs.Store.{Stored, pair_of}
 use Rattle.papaya_seq.specs.Computes.{ComputesBy, IsComputeRefusal, IsTriedWith, IsUpdated, IsUpdatedOrInserted, Says}
-use Rattle.papaya_seq.specs.Map.{IsMakeRefusal, IsOccupied, Keeps, MapState, Unchanged}
+use Rattle.papaya_seq.specs.Map.{IsMakeRefusal, IsOccupied, KeepsAndGrows, MapState, Unchanged}
 use Rattle.papaya_keys.specs.declared.compute.Computed.{Computed}
 use Rattle.papaya_keys.specs.declared.compute.Computed.TheVariants.{Inserted, Updated, Removed, Aborted}
 use Rattle.papaya_seq.proofs.Answered.{logged_there, make_refusal, write_cause}
@@ -83,11 +83,11 @@ pub record IsFoundBy {K V S : Type 0} (eq : K → K → Bool) (k : K) (s s' : Ma
   pub there : map_in eq s.store k ≡ Some pair
   pub logged : pair_of s'.store m ≡ Some pair
   pub same : Unchanged eq s.store s'.store
-  pub keeps : Keeps s s'
+  pub keeps : KeepsAndGrows s s'
 
 -- the value that is shown of the pair that was found is the one that the key has
 pub tried_there : {K V S : Type 0} (eq : K → K → Bool) (k : K) (s s' : MapState K V S) (m : ℕ) (w : V) → IsFoundBy eq k s s' m → IsShownOf s' m w
-    → (IsOccupied eq k s.store w s'.store × Keeps s s') × ((p : Stored K V) × (map_in eq s.store k ≡ Some p) × (p.value ≡ w))
+    → (IsOccupied eq k s.store w s'.store × KeepsAndGrows s s') × ((p : Stored K V) × (map_in eq s.store k ≡ Some p) × (p.value ≡ w))
 tried_there eq k s s' m w f shown =
     let is : f.pair.value ≡ w = sym (shown f.pair f.logged) in
     ((record { pair = f.pair; there = f.there; value = is; unchanged = f.same }, f.keeps), (f.pair, f.there, is))
@@ -100,13 +100,13 @@ module _ {K V S T : Type 0} {post : Option (Bor K × Bor V) → Operation V T �
   pub updated_logged : (m n : ℕ) → result ≡ Ok (Updated m n) → ComputesBy eq k (λ p. p.number) (Says post) s result s' → IsSome (pair_of s'.store m) × IsSome (pair_of s'.store n)
   updated_logged m n is c =
       let f = facts_of post eq law k s s' result (Ok (Updated m n)) is c in
-      (subst (λ (o : Option (Stored K V)). IsSome o) (sym (f.2.stores.keeps.pairs m f.0 f.1.logged)) refl, subst (λ (o : Option (Stored K V)). IsSome o) (sym f.2.logged) refl)
+      (subst (λ (o : Option (Stored K V)). IsSome o) (sym (f.2.stores.keeps.0.pairs m f.0 f.1.logged)) refl, subst (λ (o : Option (Stored K V)). IsSome o) (sym f.2.logged) refl)
 
   -- so is one that was removed
   pub removed_logged : (m : ℕ) → result ≡ Ok (Removed m) → ComputesBy eq k (λ p. p.number) (Says post) s result s' → IsSome (pair_of s'.store m)
   removed_logged m is c =
       let f = facts_of post eq law k s s' result (Ok (Removed m)) is c in
-      subst (λ (o : Option (Stored K V)). IsSome o) (sym (f.3.pairs m f.0 f.1.logged)) refl
+      subst (λ (o : Option (Stored K V)). IsSome o) (sym (f.3.0.pairs m f.0 f.1.logged)) refl
 
   -- a value that was computed took the place of the key's
   pub update_stored : (computes : V → V → Type 0) (m n : ℕ) (w : V) → result ≡ Ok (Updated m n) → ComputesBy eq k (λ p. p.number) (Says post) s result s' → IsShownOf s' n w → ComputesOf post computes
@@ -195,7 +195,7 @@ module _ {K V S T : Type 0} {post : Option (Bor K × Bor V) → Operation V T �
           let both : Some m ≡ Some p.number = sym some ∙ names ∙ ap (option_map (λ (y : Stored K V). y.number)) l.before in
           let same : p.number ≡ m = cc both in
           let logged : pair_of s.store p.number ≡ Some p = logged_there eq law s.store k p.number p l.before refl in
-          record { pair = p; there = l.before; logged = subst (λ (j : ℕ). pair_of s'.store j ≡ Some p) same (l.keeps.pairs p.number p logged); same = l.same; keeps = l.keeps }
+          record { pair = p; there = l.before; logged = subst (λ (j : ℕ). pair_of s'.store j ≡ Some p) same (l.keeps.0.pairs p.number p logged); same = l.same; keeps = l.keeps }
 
   pub tried_refused : (makes : V → Type 0) (t : T) (refused : Refused) → result ≡ Err refused → ComputesBy eq k (λ p. p.number) (Says post) s result s' → AbortsOfSome post t → MakesOfNone post makes
       → IsTriedWith eq k makes s (Err refused) s' × IsMakeRefusal refused

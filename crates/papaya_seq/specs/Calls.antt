@@ -11,12 +11,13 @@ use Rattle.papaya_ask.specs.declared.call.Reply.{Reply}
 use Rattle.papaya_ask.specs.declared.call.Reply.TheVariants.{Inserted, Replaced, Removed, Kept, Aborted, Done, Refused}
 use Rattle.papaya_law.specs.Content.{AreApart, lookup}
 use Rattle.papaya_timeline.specs.Content.{content, map_in}
+use Rattle.papaya_timeline.specs.Maps.{key_of}
 use Rattle.papaya_timeline.specs.Outcomes.{reply_told}
 use Rattle.papaya_timeline.specs.Solo.{IsAnswered, IsNewIn}
 use Rattle.papaya_timeline.specs.declared.outcome.Outcome.{Outcome}
 use Rattle.papaya_timeline.specs.declared.outcome.Outcome.TheVariants.{Replied, Walked}
 use Rattle.papaya_store.specs.Store.{StoreState, Stored, pair_of}
-use Rattle.papaya_seq.specs.Map.{IsResizing, IsTryCause, IsWriteCauseAt, Keeps, MapState, entry_of, next_of}
+use Rattle.papaya_seq.specs.Map.{IsResizing, IsTryCause, IsWriteCauseAt, Grows, Keeps, MapState, entry_of, next_of}
 use Rattle.papaya_seq.specs.Resizes.{HasRoomFor, IsCopyCause, IsReserveCause}
 
 -- what the closure's answers give of the pair of this number
@@ -117,7 +118,8 @@ IsListed eq Walk s (Replied reply) = reply ≡ Refused refusals.Memory
 IsListed eq call s (Replied reply) = Unit {0}
 
 module _ {K V S A : Type 0} (eq : K → K → Bool) (says : Says K V A) where
-  -- a call does what the finite map does, or is refused where it may be
+  -- a call does what the finite map does, or is refused where it may be; one on a key makes tables
+  -- by the rule of sizes
   pub record IsCalled (s : MapState K V S) (call : Call K V A) (reply : Reply)
       (s' : MapState K V S) : Type 0 where
     pub answered : IsAnswered eq call (map_in eq s.store) reply (map_in eq s'.store)
@@ -127,6 +129,7 @@ module _ {K V S A : Type 0} (eq : K → K → Bool) (says : Says K V A) where
         → MayRefuse eq s call refused s'
     pub done : reply ≡ Done → IsDone eq says call s.store s'.store
     pub keeps : Keeps s s'
+    pub tables : (k : K) → key_of call ≡ Some k → Grows s s'
 
   -- one outcome a call
   abbrev pub AreCalled : MapState K V S → List (Call K V A) → List Outcome → MapState K V S → Type 0

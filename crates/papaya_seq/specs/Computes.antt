@@ -8,7 +8,7 @@ use Rattle.papaya_call.specs.declared.answers.Operation.TheVariants.{Insert, Rem
 use Rattle.papaya_timeline.specs.Content.{map_in}
 use Rattle.papaya_timeline.specs.Maps.{IsUpdate}
 use Rattle.papaya_store.specs.Store.{StoreState, Stored, pair_of}
-use Rattle.papaya_seq.specs.Map.{Inserts, IsOccupied, IsResizing, IsWriteCause, IsWriteCauseAt, Keeps, MapState, Unchanged, deref_pair, entry_of}
+use Rattle.papaya_seq.specs.Map.{Inserts, IsOccupied, IsResizing, IsWriteCause, IsWriteCauseAt, KeepsAndGrows, MapState, Unchanged, deref_pair, entry_of}
 use Rattle.papaya_keys.specs.declared.compute.Compute.{Compute}
 use Rattle.papaya_keys.specs.declared.compute.Compute.TheVariants as shown
 use Rattle.papaya_keys.specs.declared.compute.Computed.{Computed}
@@ -56,7 +56,7 @@ module _ {K V S T : Type 0} (k : K) where
 abbrev pub IsComputeRefusal : {K V S : Type 0} → (K → K → Bool) → MapState K V S → Refused
     → MapState K V S → Type 0
 IsComputeRefusal eq s refused s' = IsWriteCause s refused s' × Unchanged eq s.store s'.store
-    × Keeps s s'
+    × KeepsAndGrows s s'
 
 module _ {K V S T : Type 0} (eq : K → K → Bool) (k : K) where
   -- A compute whose closure was called once, and answered `operation`. `said` says what it may
@@ -69,7 +69,7 @@ module _ {K V S T : Type 0} (eq : K → K → Bool) (k : K) where
     pub next : Option (Stored K V)
     pub operates : Operates k s s' held operation answer next
     pub update : IsUpdate eq k held next (map_in eq s.store) (map_in eq s'.store)
-    pub keeps : Keeps s s'
+    pub keeps : KeepsAndGrows s s'
 
   -- one that was refused before its closure was called, which may be while pairs are being moved
   abbrev pub IsRefusedFirst : MapState K V S → Result (Computed (Stored K V) T) Refused
@@ -108,9 +108,9 @@ module _ {K V S : Type 0} (eq : K → K → Bool) (k : K) where
   abbrev pub IsUpdated : (V → V → Type 0) → MapState K V S → Result (Option V) Refused
       → MapState K V S → Type 0
   IsUpdated computes s (Ok None) s' = (map_in eq s.store k ≡ None) × Unchanged eq s.store s'.store
-      × Keeps s s'
+      × KeepsAndGrows s s'
   IsUpdated computes s (Ok (Some v)) s' = (old : V) × computes old v
-      × Inserts eq k v s.store (Some old) s'.store × Keeps s s'
+      × Inserts eq k v s.store (Some old) s'.store × KeepsAndGrows s s'
   IsUpdated computes s (Err refused) s' =
       (((p : Stored K V) × (map_in eq s.store k ≡ Some p)) ⊎ IsResizing s)
       × IsComputeRefusal eq s refused s'
@@ -121,15 +121,17 @@ module _ {K V S : Type 0} (eq : K → K → Bool) (k : K) where
       → Result V Refused → MapState K V S → Type 0
   IsUpdatedOrInserted computes makes s (Ok v) s' =
       (((old : V) × computes old v × Inserts eq k v s.store (Some old) s'.store)
-      ⊎ (makes v × Inserts eq k v s.store None s'.store)) × Keeps s s'
+      ⊎ (makes v × Inserts eq k v s.store None s'.store)) × KeepsAndGrows s s'
   IsUpdatedOrInserted computes makes s (Err refused) s' = IsComputeRefusal eq s refused s'
 
   -- What an insertion of an absent key answers whose value a closure makes: the value that was
   -- stored, or the one that is there, or a refusal. `makes` says what the closure may answer.
   abbrev pub IsTriedWith : (V → Type 0) → MapState K V S → Result (Result V V) Refused
       → MapState K V S → Type 0
-  IsTriedWith makes s (Ok (Ok v)) s' = makes v × Inserts eq k v s.store None s'.store × Keeps s s'
-  IsTriedWith makes s (Ok (Err current)) s' = IsOccupied eq k s.store current s'.store × Keeps s s'
+  IsTriedWith makes s (Ok (Ok v)) s' = makes v × Inserts eq k v s.store None s'.store
+      × KeepsAndGrows s s'
+  IsTriedWith makes s (Ok (Err current)) s' = IsOccupied eq k s.store current s'.store
+      × KeepsAndGrows s s'
   IsTriedWith makes s (Err refused) s' = ((map_in eq s.store k ≡ None) ⊎ IsResizing s)
       × IsComputeRefusal eq s refused s'
 

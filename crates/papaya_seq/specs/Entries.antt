@@ -8,7 +8,7 @@ use Rattle.papaya_words.specs.declared.probe.ResizeMode.TheVariants.{Incremental
 use Rattle.papaya_store.specs.Store.{StoreState}
 use Rattle.papaya_timeline.specs.Content.{map_in}
 use Rattle.papaya_timeline.specs.New.{IsNew}
-use Rattle.papaya_seq.specs.Map.{Inserts, IsWriteCauseAt, Keeps, MapState, Unchanged, core_of, entry_of, slots_of}
+use Rattle.papaya_seq.specs.Map.{Inserts, IsWriteCauseAt, Keeps, KeepsAndGrows, MapState, Unchanged, core_of, entry_of, slots_of}
 
 -- a finite map that tells no numbers
 abbrev pub Entries : (K V : Type 0) → Type 0
@@ -26,9 +26,9 @@ nothing k = None
 abbrev pub IsPut : {K V S : Type 0} → (K → K → Bool) → K → V → MapState K V S → Result Bool Refused
     → MapState K V S → Type 0
 IsPut {V = V} eq k v s (Ok absent) s' = (went : Option V) × (absent ≡ is_none went)
-    × Inserts eq k v s.store went s'.store × Keeps s s'
+    × Inserts eq k v s.store went s'.store × KeepsAndGrows s s'
 IsPut eq k v s (Err refused) s' = IsWriteCauseAt s (map_in eq s.store k) refused s'
-    × Unchanged eq s.store s'.store × Keeps s s'
+    × Unchanged eq s.store s'.store × KeepsAndGrows s s'
 
 module _ {K V : Type 0} (eq : K → K → Bool) where
   -- the class of the pair's key has the pair, and each other class has what it had
@@ -55,7 +55,7 @@ module _ {K V S A : Type 0} (eq : K → K → Bool) (shows : A → K × V) where
     pub fills : Fills s items at
     pub cause : IsWriteCauseAt at (map_in eq at.store (shows item).0) refused s'
     pub unchanged : Unchanged eq at.store s'.store
-    pub keeps : Keeps at s'
+    pub keeps : KeepsAndGrows at s'
 
   -- A map that was made for these items: no class has a pair but theirs, and for no items there is
   -- no table.

@@ -1,12 +1,10 @@
 //! Calls that take many pairs, one after the other.
 ghost use Rattle.std.specs.Prelude.{◌≡◌, ◌⊎◌, IfOk, IfErr};
 ghost use Rattle.std.specs.Iterator.{IsFiniteIterable};
-ghost use Rattle.papaya_words.specs.Counter.{count_of};
 ghost use Rattle.std.specs.declared.hash.FoldHasher.{FoldHasher};
 ghost use Rattle.std.specs.declared.hash.BuildHasherDefault.{BuildHasherDefault};
 ghost use Rattle.papaya_seq.specs.Entries.{AllCome, ComesNext, Extends, HasJust, IsCutAnew};
 ghost use Rattle.papaya_seq.specs.Entries.{IsCutIn, IsPut};
-ghost use Rattle.papaya_seq.specs.Lengths.{MakesTables};
 ghost use Rattle.papaya_seq.specs.Map.{LogsOne, deref_pair};
 
 use crate::seq::HashMap;
@@ -22,8 +20,6 @@ impl<K: Hash + Eq + Drop, V: Drop, S: BuildHasher> HashMap<K, V, S> {
     pub fn put(&mut self, key: K, value: V) -> Result<bool, Refused>
         ensures puts { IsPut K.eq key value self.old result self.new }
         ensures logs { LogsOne self.old.store self.new.store }
-        ensures tables { MakesTables self.old.initial (count_of self.old.store.count.sum)
-            self.old.store.words self.new.store.words }
     {
         let (reply, _) = self.insert_by(key, value, true);
         match reply {

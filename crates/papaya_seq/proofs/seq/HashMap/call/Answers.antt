@@ -11,6 +11,7 @@ use Rattle.papaya_seq.specs.Calls.{IsCalled, IsSifted}
 use Rattle.papaya_seq.specs.Map.{HasNone, Holds, IsLawfulMap, core_of, insertion}
 use Rattle.papaya_seq.specs.Looks.{IsFound}
 use Rattle.papaya_seq.proofs.Answered.{insert_answered, try_answered}
+use Rattle.papaya_seq.proofs.CallLengths.{none_made}
 use Rattle.papaya_seq.proofs.CallsDone.{copy_makes, get_absent, get_found, keyed_undone, remove_called, reserve_makes, resized_called}
 use Rattle.papaya_seq.proofs.ComputeCalled.{compute_called}
 use Rattle.papaya_seq.proofs.Sifted.{err_only, err_then, ok_then, on_err, on_ok, sifted_left, sifts}
@@ -44,6 +45,7 @@ returns-in-Some-clause-called g c =
       cause = λ refused e. let f : Found c.in-Some.pair ≡ Refused refused = e in absurd cc;
       done = λ e. let f : Found c.in-Some.pair ≡ Done = e in absurd cc;
       keeps = record { hasher = refl; mode = refl; initial = refl; pairs = λ n p e. e };
+      tables = λ j is. none_made c.args.self.now;
     })
 
 pub returns-in-Get-clause-called : goal.returns-in-Get-clause-called
@@ -59,6 +61,7 @@ returns-in-Get-clause-called g c =
       cause = λ refused e. let f : Absent ≡ Refused refused = e in absurd cc;
       done = λ e. let f : Absent ≡ Done = e in absurd cc;
       keeps = record { hasher = refl; mode = refl; initial = refl; pairs = λ n p e. e };
+      tables = λ j is. none_made c.args.self.now;
     })
 
 pub returns-in-RemoveIf-clause-called : goal.returns-in-RemoveIf-clause-called
@@ -67,7 +70,7 @@ returns-in-RemoveIf-clause-called g c =
     let apart : AreApart g.K.PartialEq.eq (λ p. p.key) (content g.K.PartialEq.eq c.args.self.now.store) =
     lawful_apart g.K.PartialEq.eq g.K.Hash.hash_input g.S.BuildHasher.build_hasher g.S.Hasher.Hasher.write g.S.Hasher.Hasher.finish g.met.K.Eq.laws g.met.K.Hash.respects_eq (core_of c.args.self.now) lawful.lawful in
     subst (λ call. IsCalled g.K.PartialEq.eq (record { op = g.A.Answers.op_gives; yes = g.A.Answers.yes_gives }) c.args.self.now call c.remove_by.result c.remove_by.new.self) (sym c.in-RemoveIf.is)
-    (remove_called g.K.PartialEq.eq g.met.K.Eq.laws c.args.self.now apart c.in-RemoveIf.key c.in-RemoveIf.answers (record { op = g.A.Answers.op_gives; yes = g.A.Answers.yes_gives }) c.remove_by.result c.remove_by.new.self c.remove_by.ensures.whole c.remove_by.ensures.cause c.remove_by.ensures.keeps.0 (λ p agrees judges. (judges.2.0.now, subst (λ k. g.A.Answers.yes_gives c.in-RemoveIf.answers k p.value agrees judges.2.0.now) judges.3 (subst (λ v. g.A.Answers.yes_gives c.in-RemoveIf.answers judges.0.now v agrees judges.2.0.now) judges.4 (let met = judges.5.met in search rules)))))
+    (remove_called g.K.PartialEq.eq g.met.K.Eq.laws c.args.self.now apart c.in-RemoveIf.key c.in-RemoveIf.answers (record { op = g.A.Answers.op_gives; yes = g.A.Answers.yes_gives }) c.remove_by.result c.remove_by.new.self c.remove_by.ensures.whole c.remove_by.ensures.cause c.remove_by.ensures.keeps.0 c.remove_by.ensures.keeps.2 (λ p agrees judges. (judges.2.0.now, subst (λ k. g.A.Answers.yes_gives c.in-RemoveIf.answers k p.value agrees judges.2.0.now) judges.3 (subst (λ v. g.A.Answers.yes_gives c.in-RemoveIf.answers judges.0.now v agrees judges.2.0.now) judges.4 (let met = judges.5.met in search rules)))))
 
 pub returns-in-Insert-clause-called : goal.returns-in-Insert-clause-called
 returns-in-Insert-clause-called g c =
@@ -78,7 +81,8 @@ returns-in-Insert-clause-called g c =
       said = tt;
       cause = inserted.cause;
       done = λ is. keyed_undone g.K.PartialEq.eq (insertion true c.in-Insert.key c.in-Insert.value) c.in-Insert.key refl c.insert_by.result.0 (map_in g.K.PartialEq.eq c.args.self.now.store) (map_in g.K.PartialEq.eq c.insert_by.new.self.store) inserted.answers is;
-      keeps = inserted.keeps;
+      keeps = inserted.keeps.0;
+      tables = λ j is. inserted.keeps.1;
     })
 
 pub returns-in-TryInsert-clause-called : goal.returns-in-TryInsert-clause-called
@@ -90,7 +94,8 @@ returns-in-TryInsert-clause-called g c =
       said = tt;
       cause = λ refused is. tried.absent refl refused is;
       done = λ is. keyed_undone g.K.PartialEq.eq (insertion false c.in-TryInsert.key c.in-TryInsert.value) c.in-TryInsert.key refl c.insert_by-in-TryInsert.result.0 (map_in g.K.PartialEq.eq c.args.self.now.store) (map_in g.K.PartialEq.eq c.insert_by-in-TryInsert.new.self.store) tried.answers is;
-      keeps = tried.keeps;
+      keeps = tried.keeps.0;
+      tables = λ j is. tried.keeps.1;
     })
 
 pub returns-in-Compute-clause-called : goal.returns-in-Compute-clause-called

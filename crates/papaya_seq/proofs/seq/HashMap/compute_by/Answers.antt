@@ -17,7 +17,7 @@ use Rattle.papaya_timeline.specs.Advances.{reply_in}
 use Rattle.papaya_timeline.proofs.KeptCore.{keys_lawful}
 use Rattle.papaya_timeline.proofs.KeptSettings.{IsLawfulKeys}
 use Rattle.papaya_seq.specs.MadeAlone.{IsMadeAlone}
-use Rattle.papaya_seq.specs.Map.{IsLawfulMap, Keeps, MapState}
+use Rattle.papaya_seq.specs.Map.{IsLawfulMap, KeepsAndGrows, MapState}
 use Rattle.papaya_seq.proofs.Alone.{map_answered, map_hasher, map_lawful, map_logged}
 use Rattle.papaya_seq.proofs.ComputeAsked.{closure_none, closure_pair, entry_are, none_are, none_went, pair_went}
 use Rattle.papaya_seq.proofs.ComputeReply.{over_computes, over_replies, over_shown}
@@ -26,7 +26,7 @@ use Rattle.papaya_seq.proofs.ComputeShown.{asking, compute_of}
 use Rattle.papaya_seq.proofs.ComputeSteps.{computing_went, unreplied_ask}
 use Rattle.papaya_seq.proofs.ComputesDone.{told_refused}
 use Rattle.papaya_seq.proofs.Ending.{left_of}
-use Rattle.papaya_seq.proofs.Steps.{made_alone}
+use Rattle.papaya_seq.proofs.Steps.{made_alone, made_tables}
 use Rattle.papaya_seq.proofs.Turns.{IsOver}
 use Rattle.papaya_seq.proofs.seq.HashMap.compute_by.Goals as goal
 use Rattle.papaya_seq.proofs.seq.HashMap.compute_by.Goals.{After-answer-arg-1, After-new, In-Call-Done, in-Call-ShowNone, in-Call-ShowPair, in_default}
@@ -166,20 +166,24 @@ alone g c orderly fit = made_alone g.K.PartialEq.eq (hash g) c.args.self.now (ke
 abbrev left : (g : Over) (c : In-Call-Done g) → MapState g.row.K.Denot g.row.V.Denot g.row.S.Denot
 left g c = record { store = c.loop-self.self-inside.store; mode = c.loop-self.self-inside.mode; initial = c.loop-self.self-inside.initial }
 
-module _ (g : Over) (c : In-Call-Done g) (orderly : IsLawfulMap g.K.PartialEq.eq (hash g c.args.self.now.store.hasher) c.args.self.now.store c.args.self.now.mode c.args.self.now.initial) (over : IsOver g.K.PartialEq.eq (hash g) c.args.self.now (compute_of c.args.key) c.loop-self.self-inside.store c.in-Call-Done.reply) where
-  keeps : Keeps c.args.self.now (left g c)
-  keeps = record {
-    hasher = map_hasher g.K.PartialEq.eq g.K.Hash.hash_input g.S.BuildHasher.build_hasher g.S.Hasher.Hasher.write g.S.Hasher.Hasher.finish g.met.K.Eq.laws g.met.K.Hash.respects_eq c.args.self.now (compute_of c.args.key) c.in-Call-Done.reply c.loop-self.self-inside.store orderly over;
-    mode = c.loop-self.invariant.1;
-    initial = c.loop-self.invariant.2;
-    pairs = (map_logged g.K.PartialEq.eq g.K.Hash.hash_input g.S.BuildHasher.build_hasher g.S.Hasher.Hasher.write g.S.Hasher.Hasher.finish g.met.K.Eq.laws g.met.K.Hash.respects_eq c.args.self.now (compute_of c.args.key) c.in-Call-Done.reply c.loop-self.self-inside.store orderly over).1;
-  }
+-- what it left beside the finite map
+keeps : (g : Over) (c : In-Call-Done g) → IsLawfulMap g.K.PartialEq.eq (hash g c.args.self.now.store.hasher) c.args.self.now.store c.args.self.now.mode c.args.self.now.initial → hash g c.args.self.now.store.hasher c.args.key < 2 ^ 64 → KeepsAndGrows c.args.self.now (left g c)
+keeps g c orderly fit =
+    let over = alone g c orderly fit in (
+      record {
+        hasher = map_hasher g.K.PartialEq.eq g.K.Hash.hash_input g.S.BuildHasher.build_hasher g.S.Hasher.Hasher.write g.S.Hasher.Hasher.finish g.met.K.Eq.laws g.met.K.Hash.respects_eq c.args.self.now (compute_of c.args.key) c.in-Call-Done.reply c.loop-self.self-inside.store orderly over;
+        mode = c.loop-self.invariant.1;
+        initial = c.loop-self.invariant.2;
+        pairs = (map_logged g.K.PartialEq.eq g.K.Hash.hash_input g.S.BuildHasher.build_hasher g.S.Hasher.Hasher.write g.S.Hasher.Hasher.finish g.met.K.Eq.laws g.met.K.Hash.respects_eq c.args.self.now (compute_of c.args.key) c.in-Call-Done.reply c.loop-self.self-inside.store orderly over).1;
+      },
+      made_tables g.K.PartialEq.eq (hash g) c.args.self.now (keyed_compute c.args.key) (keys g c.args.self.now.store.hasher) orderly fit c.loop-self.self-inside.store (asking c.loop-self.running) c.loop-self.invariant.0.steps,
+    )
 
 pub computed-requires : goal.computed-requires
 computed-requires g c =
     let n = (goal.at.computed-requires g c).After-new in
     let over = alone g c (lawful g n) (fits g n) in
-    over_replies g.K.PartialEq.eq g.met.K.Eq.laws (hash g) c.args.self.now (left g c) (keeps g c (lawful g n) over) c.args.key (post g) c.args.f c.loop-self.running c.loop-self.closure c.loop-self.shown c.loop-self.aborted c.in-Call-Done.reply (replied g c) c.loop-self.invariant.0
+    over_replies g.K.PartialEq.eq g.met.K.Eq.laws (hash g) c.args.self.now (left g c) (keeps g c (lawful g n) (fits g n)) c.args.key (post g) c.args.f c.loop-self.running c.loop-self.closure c.loop-self.shown c.loop-self.aborted c.in-Call-Done.reply (replied g c) c.loop-self.invariant.0
     (map_answered g.K.PartialEq.eq g.K.Hash.hash_input g.S.BuildHasher.build_hasher g.S.Hasher.Hasher.write g.S.Hasher.Hasher.finish g.met.K.Eq.laws g.met.K.Hash.respects_eq c.args.self.now (compute_of c.args.key) c.in-Call-Done.reply c.loop-self.self-inside.store (lawful g n) over)
 
 pub invariant_of-self : goal.invariant_of-self
@@ -195,7 +199,7 @@ returns-in-Call-Done-clause-shown g c =
     let n = (goal.at.returns-in-Call-Done-clause-shown g c).After-new in
     let done = (goal.at.returns-in-Call-Done-clause-shown g c).In-Call-Done in
     let over = alone g done (lawful g n) (fits g n) in
-    over_shown g.K.PartialEq.eq g.met.K.Eq.laws (hash g) c.args.self.now (left g done) (keeps g done (lawful g n) over) c.args.key (post g) c.args.f c.loop-self.running c.loop-self.closure c.loop-self.shown c.loop-self.aborted c.in-Call-Done.reply (replied g done) c.loop-self.invariant.0
+    over_shown g.K.PartialEq.eq g.met.K.Eq.laws (hash g) c.args.self.now (left g done) (keeps g done (lawful g n) (fits g n)) c.args.key (post g) c.args.f c.loop-self.running c.loop-self.closure c.loop-self.shown c.loop-self.aborted c.in-Call-Done.reply (replied g done) c.loop-self.invariant.0
     (map_answered g.K.PartialEq.eq g.K.Hash.hash_input g.S.BuildHasher.build_hasher g.S.Hasher.Hasher.write g.S.Hasher.Hasher.finish g.met.K.Eq.laws g.met.K.Hash.respects_eq c.args.self.now (compute_of c.args.key) c.in-Call-Done.reply c.loop-self.self-inside.store (lawful g n) over)
     c.computed.result c.computed.ensures
 
@@ -220,7 +224,7 @@ returns-in-Call-Done-clause-computes g c =
     let n = (goal.at.returns-in-Call-Done-clause-computes g c).After-new in
     let done = (goal.at.returns-in-Call-Done-clause-computes g c).In-Call-Done in
     let over = alone g done (lawful g n) (fits g n) in
-    over_computes g.K.PartialEq.eq g.met.K.Eq.laws (hash g) c.args.self.now (left g done) (keeps g done (lawful g n) over) c.args.key (post g) c.args.f c.loop-self.running c.loop-self.closure c.loop-self.shown c.loop-self.aborted c.in-Call-Done.reply (replied g done) c.loop-self.invariant.0
+    over_computes g.K.PartialEq.eq g.met.K.Eq.laws (hash g) c.args.self.now (left g done) (keeps g done (lawful g n) (fits g n)) c.args.key (post g) c.args.f c.loop-self.running c.loop-self.closure c.loop-self.shown c.loop-self.aborted c.in-Call-Done.reply (replied g done) c.loop-self.invariant.0
     (map_answered g.K.PartialEq.eq g.K.Hash.hash_input g.S.BuildHasher.build_hasher g.S.Hasher.Hasher.write g.S.Hasher.Hasher.finish g.met.K.Eq.laws g.met.K.Hash.respects_eq c.args.self.now (compute_of c.args.key) c.in-Call-Done.reply c.loop-self.self-inside.store (lawful g n) over)
     (map_logged g.K.PartialEq.eq g.K.Hash.hash_input g.S.BuildHasher.build_hasher g.S.Hasher.Hasher.write g.S.Hasher.Hasher.finish g.met.K.Eq.laws g.met.K.Hash.respects_eq c.args.self.now (compute_of c.args.key) c.in-Call-Done.reply c.loop-self.self-inside.store (lawful g n) over).0
     c.computed.result c.computed.ensures

@@ -57,6 +57,3 @@ returns-in-Ok-clause-keeps g c = (done g (goal.at.returns-in-Ok-clause-keeps g c
 
 pub returns-in-Ok-clause-logs : goal.returns-in-Ok-clause-logs
 returns-in-Ok-clause-logs g c = (done g (goal.at.returns-in-Ok-clause-logs g c).In-Ok).logs
-
-pub returns-in-Ok-clause-tables : goal.returns-in-Ok-clause-tables
-returns-in-Ok-clause-tables g c = (done g (goal.at.returns-in-Ok-clause-tables g c).In-Ok).tables

@@ -124,17 +124,18 @@ returns-in-Call-Done-clause-alone g c =
     subst (IsMadeAlone g.K.PartialEq.eq (hash g) c.args.self.now (insertion c.args.replace c.args.key c.args.value) c.in-Call-Done.reply) (left_is g end) (record { runs = (alone g end (lawful g n) (fits g n)).ran })
 
 pub returns-in-Call-Done-clause-keeps : goal.returns-in-Call-Done-clause-keeps
-returns-in-Call-Done-clause-keeps g c = record {
-  hasher = map_hasher g.K.PartialEq.eq g.K.Hash.hash_input g.S.BuildHasher.build_hasher g.S.Hasher.Hasher.write g.S.Hasher.Hasher.finish g.met.K.Eq.laws g.met.K.Hash.respects_eq c.args.self.now (insertion c.args.replace c.args.key c.args.value) c.in-Call-Done.reply c.loop-reply.self-inside.store (lawful g (goal.at.returns-in-Call-Done-clause-keeps g c).After-new) (alone g (goal.at.returns-in-Call-Done-clause-keeps g c).After-value_left (lawful g (goal.at.returns-in-Call-Done-clause-keeps g c).After-new) (fits g (goal.at.returns-in-Call-Done-clause-keeps g c).After-new));
-  mode = c.loop-reply.invariant.1;
-  initial = c.loop-reply.invariant.2;
-  pairs = (map_logged g.K.PartialEq.eq g.K.Hash.hash_input g.S.BuildHasher.build_hasher g.S.Hasher.Hasher.write g.S.Hasher.Hasher.finish g.met.K.Eq.laws g.met.K.Hash.respects_eq c.args.self.now (insertion c.args.replace c.args.key c.args.value) c.in-Call-Done.reply c.loop-reply.self-inside.store (lawful g (goal.at.returns-in-Call-Done-clause-keeps g c).After-new) (alone g (goal.at.returns-in-Call-Done-clause-keeps g c).After-value_left (lawful g (goal.at.returns-in-Call-Done-clause-keeps g c).After-new) (fits g (goal.at.returns-in-Call-Done-clause-keeps g c).After-new))).1;
-}
+returns-in-Call-Done-clause-keeps g c =
+    let n = (goal.at.returns-in-Call-Done-clause-keeps g c).After-new in
+    let end = (goal.at.returns-in-Call-Done-clause-keeps g c).After-value_left in
+    let over = alone g end (lawful g n) (fits g n) in (
+      record {
+        hasher = map_hasher g.K.PartialEq.eq g.K.Hash.hash_input g.S.BuildHasher.build_hasher g.S.Hasher.Hasher.write g.S.Hasher.Hasher.finish g.met.K.Eq.laws g.met.K.Hash.respects_eq c.args.self.now (insertion c.args.replace c.args.key c.args.value) c.in-Call-Done.reply c.loop-reply.self-inside.store (lawful g n) over;
+        mode = c.loop-reply.invariant.1;
+        initial = c.loop-reply.invariant.2;
+        pairs = (map_logged g.K.PartialEq.eq g.K.Hash.hash_input g.S.BuildHasher.build_hasher g.S.Hasher.Hasher.write g.S.Hasher.Hasher.finish g.met.K.Eq.laws g.met.K.Hash.respects_eq c.args.self.now (insertion c.args.replace c.args.key c.args.value) c.in-Call-Done.reply c.loop-reply.self-inside.store (lawful g n) over).1;
+      },
+      inserting_tables g.K.PartialEq.eq (hash g) c.args.self.now c.args.replace c.args.key c.args.value (keys g c.args.self.now.store.hasher) (lawful g n) (fits g n) c.loop-reply.self-inside.store c.loop-reply.running c.in-Call-Done.reply (replied g end) c.loop-reply.invariant.0,
+    )
 
 pub returns-in-Call-Done-clause-logs : goal.returns-in-Call-Done-clause-logs
 returns-in-Call-Done-clause-logs g c = c.loop-reply.invariant.0.logs
-
-pub returns-in-Call-Done-clause-tables : goal.returns-in-Call-Done-clause-tables
-returns-in-Call-Done-clause-tables g c =
-    let n = (goal.at.returns-in-Call-Done-clause-tables g c).After-new in
-    inserting_tables g.K.PartialEq.eq (hash g) c.args.self.now c.args.replace c.args.key c.args.value (keys g c.args.self.now.store.hasher) (lawful g n) (fits g n) c.loop-reply.self-inside.store c.loop-reply.running c.in-Call-Done.reply (replied g (goal.at.returns-in-Call-Done-clause-tables g c).After-value_left) c.loop-reply.invariant.0

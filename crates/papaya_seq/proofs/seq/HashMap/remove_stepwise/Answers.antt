@@ -148,4 +148,4 @@ pub returns-in-Done-clause-keeps : goal.returns-in-Done-clause-keeps
 returns-in-Done-clause-keeps g c =
     let at = goal.at.returns-in-Done-clause-keeps g c in
     let keeps = (finished g at.After-drop-agrees (query g at.After-new-machine)).keeps in
-    (record { hasher = keeps.0.hasher; mode = c.loop-ask.invariant.2; initial = c.loop-ask.invariant.3; pairs = keeps.0.pairs }, keeps.1)
+    (record { hasher = keeps.0.hasher; mode = c.loop-ask.invariant.2; initial = c.loop-ask.invariant.3; pairs = keeps.0.pairs }, keeps.1, keeps.2)
