@@ -9,8 +9,8 @@ use Rattle.papaya_ask.specs.declared.ask.StepKind.TheVariants as kinds
 use Rattle.papaya_ask.specs.declared.call.Task.{Task}
 use Rattle.papaya_call.specs.declared.machine.Machine.{Machine}
 use Rattle.papaya_call.specs.declared.machine.State.{State as Stage}
-use Rattle.papaya_call.specs.declared.machine.State.TheVariants.{AtRoot, Making, Opening, Searching, Writing, Offering, Showing, Pairing, Putting, Burying, Counting, Uncounting, Leaving, Growing, Ended}
-use Rattle.papaya_ask.specs.declared.search.Search.TheVariants.{Sizing, Looking, Comparing}
+use Rattle.papaya_call.specs.declared.machine.State.TheVariants.{AtRoot, Making, Opening, Searching, Writing, Offering, Showing, Pairing, Putting, Burying, Counting, Noting, Uncounting, Leaving, Growing, Ended}
+use Rattle.papaya_ask.specs.declared.search.Search.TheVariants.{Sizing, Looking, Reading, Comparing}
 use Rattle.papaya_call.specs.declared.write.Made.{Made}
 use Rattle.papaya_call.specs.declared.write.Made.TheVariants.{Nothing, Key, Pair}
 use Rattle.papaya_law.specs.Code.{Coding}
@@ -43,6 +43,7 @@ module _ {K P : Type 0} (g : Setting K P) (c : Coding K P) (hashed : IsHashed g 
   put_in_stage task hash same made m (Opening t) r at old new e puts = absurd (⊎_elim (λ h. cc h) (λ h. cc h) puts)
   put_in_stage task hash same made m (Searching (Sizing t)) r at old new e puts = absurd cc
   put_in_stage task hash same made m (Searching (Looking place)) r at old new e puts = absurd cc
+  put_in_stage task hash same made m (Searching (Reading place)) r at old new e puts = absurd cc
   put_in_stage task hash same made m (Searching (Comparing place word)) r at old new e puts = absurd cc
   put_in_stage task hash same Nothing m (Writing write) r at old new e puts = absurd cc
   put_in_stage task hash same Key m (Writing write) r at old new e puts = absurd cc
@@ -55,6 +56,7 @@ module _ {K P : Type 0} (g : Setting K P) (c : Coding K P) (hashed : IsHashed g 
   put_in_stage task hash same made m (Putting put) r at old new e puts = own_word hash put.pair same r.2 (Slot put.write.place.table put.write.place.probe.i) at put.write.old old new e
   put_in_stage task hash same made m (Burying removal) r at old new e puts = absurd (not_buried (kind_asked made (Burying removal)) refl puts)
   put_in_stage task hash same made m (Counting n) r at old new e puts = absurd cc
+  put_in_stage task hash same made m (Noting n) r at old new e puts = absurd cc
   put_in_stage task hash same made m (Uncounting n) r at old new e puts = absurd cc
   put_in_stage task hash same made m (Leaving t) r at old new e puts = absurd cc
   put_in_stage task hash same made m (Growing t) r at old new e puts = absurd cc

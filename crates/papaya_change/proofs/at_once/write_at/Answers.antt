@@ -1,7 +1,6 @@
 use Rattle.std.proofs.Common.{◌≡◌, ℕ, ◌<◌, ◌==◌, Bool, true, Result, Ok, Err, IfOk, None, Some, sym, ap, ◌∙◌, rules, subst}
-use Rattle.papaya_words.specs.Word.{live_word, top_byte}
+use Rattle.papaya_words.specs.Word.{live_word}
 use Rattle.papaya_ask.specs.declared.ask.StepKind.{StepKind}
-use Rattle.papaya_call.specs.Write.{new_word}
 use Rattle.papaya_book.specs.declared.rule.entry.Named.TheVariants as names
 use Rattle.papaya_book.specs.Calls.{IsSlotTried}
 use Rattle.papaya_book.specs.Hashes.{hash_of}
@@ -31,10 +30,8 @@ put_slot-found-requires-clause-can g c =
     let w = c.args.window.now.book.now in let b = begun_of w.parts in let log = c.args.window.now.sight.log in let key = c.args.key in let write = c.args.spot.write in let q = c.in-Ok.pair in
     let key_is : key_of q ≡ key = ap (λ z. z.key.value) c.in-Ok.ensures.ok ∙ ap (λ z. z.value) c.new.ensures.key in
     let hash = hash_of g.K.Hash.hash_input g.S.BuildHasher.build_hasher g.S.Hasher.Hasher.write g.S.Hasher.Hasher.finish in
-    let byte : c.h2.result ≡ top_byte (hash b.hasher key) = c.h2.ensures.value ∙ ap top_byte c.requires.hashed in
-    let word : c.live.result.0 ≡ new_word (hash b.hasher key) q.index = c.live.ensures ∙ (λ i. live_word (byte i) (c.index-2.ensures i)) in
-    let low = subst (λ n. n < 128) byte c.h2.ensures.byte in
-    rw (c.kind.ensures, word) (put_can g.K.PartialEq.eq g.K.Hash.hash_input g.S.BuildHasher.build_hasher g.S.Hasher.Hasher.write g.S.Hasher.Hasher.finish g.met.K.Eq.laws g.met.K.Hash.respects_eq b w.begun.book key c.requires.stands.0 log write c.args.spot.table.now c.requires.stands.1 q key_is c.in-Ok.ensures.placed (word_pair (hash b.hasher key) q.index low))
+    let word : c.live.result.0 ≡ live_word q.index = c.live.ensures ∙ ap live_word c.index-2.ensures in
+    rw (c.kind.ensures, word) (put_can g.K.PartialEq.eq g.K.Hash.hash_input g.S.BuildHasher.build_hasher g.S.Hasher.Hasher.write g.S.Hasher.Hasher.finish g.met.K.Eq.laws g.met.K.Hash.respects_eq b w.begun.book key c.requires.stands.0 log write c.args.spot.table.now c.requires.stands.1 q key_is c.in-Ok.ensures.placed (word_pair q.index))
 
 pub returns-then-found-old-clause-put : goal.returns-then-found-old-clause-put
 returns-then-found-old-clause-put g c =
@@ -51,8 +48,7 @@ returns-in-Some-clause-put g c = λ begun r.
     let w = c.args.window.now.book.now in let b = begun_of w.parts in let log = c.args.window.now.sight.log in let key = c.args.key in let write = c.args.spot.write in let q = c.in-Ok.pair in
     let key_is : key_of q ≡ key = ap (λ z. z.key.value) c.in-Ok.ensures.ok ∙ ap (λ z. z.value) c.new.ensures.key in
     let hash = hash_of g.K.Hash.hash_input g.S.BuildHasher.build_hasher g.S.Hasher.Hasher.write g.S.Hasher.Hasher.finish in
-    let byte : c.h2.result ≡ top_byte (hash b.hasher key) = c.h2.ensures.value ∙ ap top_byte c.requires.hashed in
-    let word : c.live.result.0 ≡ new_word (hash b.hasher key) q.index = c.live.ensures ∙ (λ i. live_word (byte i) (c.index-2.ensures i)) in
+    let word : c.live.result.0 ≡ live_word q.index = c.live.ensures ∙ ap live_word c.index-2.ensures in
     let value_is : q.value.value ≡ c.args.value = ap (λ z. z.value) c.in-Ok.ensures.ok ∙ c.new.ensures.value in
     let put = c.put_slot-found in
     let tried = subst (λ (z : StepKind × ℕ). IsSlotTried g.K.PartialEq.eq hash b w.begun.book write.place.table write.place.probe.i (Some z.0) write.old z.1 (Some q) (names.Pair q) log put.result.0 put.new.self.sight.log put.result.1) (λ i. (c.kind.ensures i, word i)) put.ensures.tried in
@@ -64,8 +60,7 @@ returns-clause-put g c = λ begun r.
     let w = c.args.window.now.book.now in let b = begun_of w.parts in let log = c.args.window.now.sight.log in let key = c.args.key in let write = c.args.spot.write in let q = c.in-Ok.pair in
     let key_is : key_of q ≡ key = ap (λ z. z.key.value) c.in-Ok.ensures.ok ∙ ap (λ z. z.value) c.new.ensures.key in
     let hash = hash_of g.K.Hash.hash_input g.S.BuildHasher.build_hasher g.S.Hasher.Hasher.write g.S.Hasher.Hasher.finish in
-    let byte : c.h2.result ≡ top_byte (hash b.hasher key) = c.h2.ensures.value ∙ ap top_byte c.requires.hashed in
-    let word : c.live.result.0 ≡ new_word (hash b.hasher key) q.index = c.live.ensures ∙ (λ i. live_word (byte i) (c.index-2.ensures i)) in
+    let word : c.live.result.0 ≡ live_word q.index = c.live.ensures ∙ ap live_word c.index-2.ensures in
     let value_is : q.value.value ≡ c.args.value = ap (λ z. z.value) c.in-Ok.ensures.ok ∙ c.new.ensures.value in
     let put = c.put_slot-found in
     let tried = subst (λ (z : StepKind × ℕ). IsSlotTried g.K.PartialEq.eq hash b w.begun.book write.place.table write.place.probe.i (Some z.0) write.old z.1 (Some q) (names.Pair q) log put.result.0 put.new.self.sight.log put.result.1) (λ i. (c.kind.ensures i, word i)) put.ensures.tried in
@@ -77,8 +72,7 @@ returns-in-Some-clause-made g c =
     let w = c.args.window.now.book.now in let b = begun_of w.parts in let log = c.args.window.now.sight.log in let key = c.args.key in let write = c.args.spot.write in let q = c.in-Ok.pair in
     let key_is : key_of q ≡ key = ap (λ z. z.key.value) c.in-Ok.ensures.ok ∙ ap (λ z. z.value) c.new.ensures.key in
     let hash = hash_of g.K.Hash.hash_input g.S.BuildHasher.build_hasher g.S.Hasher.Hasher.write g.S.Hasher.Hasher.finish in
-    let byte : c.h2.result ≡ top_byte (hash b.hasher key) = c.h2.ensures.value ∙ ap top_byte c.requires.hashed in
-    let word : c.live.result.0 ≡ new_word (hash b.hasher key) q.index = c.live.ensures ∙ (λ i. live_word (byte i) (c.index-2.ensures i)) in
+    let word : c.live.result.0 ≡ live_word q.index = c.live.ensures ∙ ap live_word c.index-2.ensures in
     let value_is : q.value.value ≡ c.args.value = ap (λ z. z.value) c.in-Ok.ensures.ok ∙ c.new.ensures.value in
     let put = c.put_slot-found in
     let tried = subst (λ (z : StepKind × ℕ). IsSlotTried g.K.PartialEq.eq hash b w.begun.book write.place.table write.place.probe.i (Some z.0) write.old z.1 (Some q) (names.Pair q) log put.result.0 put.new.self.sight.log put.result.1) (λ i. (c.kind.ensures i, word i)) put.ensures.tried in
@@ -94,8 +88,7 @@ returns-clause-made g c =
     let w = c.args.window.now.book.now in let b = begun_of w.parts in let log = c.args.window.now.sight.log in let key = c.args.key in let write = c.args.spot.write in let q = c.in-Ok.pair in
     let key_is : key_of q ≡ key = ap (λ z. z.key.value) c.in-Ok.ensures.ok ∙ ap (λ z. z.value) c.new.ensures.key in
     let hash = hash_of g.K.Hash.hash_input g.S.BuildHasher.build_hasher g.S.Hasher.Hasher.write g.S.Hasher.Hasher.finish in
-    let byte : c.h2.result ≡ top_byte (hash b.hasher key) = c.h2.ensures.value ∙ ap top_byte c.requires.hashed in
-    let word : c.live.result.0 ≡ new_word (hash b.hasher key) q.index = c.live.ensures ∙ (λ i. live_word (byte i) (c.index-2.ensures i)) in
+    let word : c.live.result.0 ≡ live_word q.index = c.live.ensures ∙ ap live_word c.index-2.ensures in
     let value_is : q.value.value ≡ c.args.value = ap (λ z. z.value) c.in-Ok.ensures.ok ∙ c.new.ensures.value in
     let put = c.put_slot-found in
     let tried = subst (λ (z : StepKind × ℕ). IsSlotTried g.K.PartialEq.eq hash b w.begun.book write.place.table write.place.probe.i (Some z.0) write.old z.1 (Some q) (names.Pair q) log put.result.0 put.new.self.sight.log put.result.1) (λ i. (c.kind.ensures i, word i)) put.ensures.tried in
