@@ -10,7 +10,6 @@ use Rattle.papaya_words.specs.Mode.{IsChunked}
 use Rattle.papaya_words.specs.Word.{hint_of, kind_of, live_word, may_hold, pair_of}
 use Rattle.papaya_words.specs.declared.word.Kind.{Kind}
 use Rattle.papaya_words.specs.declared.word.Kind.TheVariants as kinds
-use Rattle.papaya_words.proofs.WordLemmas.{pair_of-filled_word}
 use Rattle.papaya_ask.specs.declared.ask.At.TheVariants.{Root, Slot}
 use Rattle.papaya_ask.specs.declared.ask.Ask.TheVariants.{MakeKey, MakePair}
 use Rattle.papaya_ask.specs.declared.ask.Answer.TheVariants.{Exchanged, Made as Made_number}
@@ -55,7 +54,7 @@ use Rattle.papaya_lookup.specs.History.{Change, changes_of, history_of, key_of}
 use Rattle.papaya_lookup.proofs.Driving.{can_put}
 use Rattle.papaya_lookup.proofs.Histories.{changes-append, history_since}
 use Rattle.papaya_lookup.proofs.Readings.{IsQuery}
-use Rattle.papaya_lookup.proofs.Turning.{compared_look}
+use Rattle.papaya_lookup.proofs.Turning.{compared_look, read_hinted}
 use Rattle.papaya_change.specs.Changes.{IsPut}
 use Rattle.papaya_change.specs.Changing.{HasChanged, IsCalling}
 use Rattle.papaya_change.specs.Seeking.{IsInsertingAt, insertion_at, led_by, left_at, left_to}
@@ -110,9 +109,6 @@ written_as : (z : Bool) (claimed : Claimed) (old : ℕ) → (change : Option ℕ
 written_as true claimed old = ((None, Some claimed.pair), refl, refl)
 written_as false claimed old = ((Some old, Some claimed.pair), refl, refl)
 
-pub word_pair : (n : ℕ) → pair_of (live_word n) ≡ n
-word_pair n = pair_of-filled_word 1 n (omega arith)
-
 module _ {K V S H : Type 0} (eq : K → K → Bool) (input : K → List (List ℕ)) (build : S → H) (write : H → List ℕ → H) (finish : H → ℕ) (classes : IsEquivalence eq) (respects : (x y : K) → eq x y ≡ true → input x ≡ input y)
     (b : Begun K V S) (name : Book) (key : K) (begun : List (Event K V S)) where
   abbrev hash : S → K → ℕ
@@ -150,6 +146,10 @@ module _ {K V S H : Type 0} (eq : K → K → Bool) (input : K → List (List �
   pub hint_seen : (log log' : List (Event K V S)) → IsPrefix log log' → (at : Place) (table : Sheet) → At log (Searching (Looking at)) table → (hint : ℕ) → IsSlotHint eq hash b at.table at.probe.i hint log' → At log' (led_by b.mode (hinted at h hint)) table
   hint_seen log log' pre at table r hint told =
       (r.0, r.1, r.2, hint_loaded eq input build write finish classes respects b (eq key) (input key) query (Some key) name begun log log' pre told.lawful (insertion_at h b.mode 1 Nothing (Searching (Looking at))) (Some r.0) r.2 None [] None None None r.3 at.table at.probe.i hint refl told)
+
+  -- its word is loaded next, where the hint says nothing or is the key's
+  pub word_next : (log log' : List (Event K V S)) → IsPrefix log log' → (at : Place) (table : Sheet) → At log (Searching (Looking at)) table → (hint : ℕ) → IsSlotHint eq hash b at.table at.probe.i hint log' → (a : Place) → hinted at h hint ≡ On (Reading a) → At log' (Searching (Reading at)) table
+  word_next log log' pre at table r hint told a e = subst (λ (s : Seen). At log' (led_by b.mode s) table) (read_hinted at h hint a e) (hint_seen log log' pre at table r hint told)
 
   -- the table has a place whose word is loaded
   pub place_there : (log : List (Event K V S)) (at : Place) (table : Sheet) → At log (Searching (Reading at)) table → IsTable log at.table table × (at.probe.i < length table.slots)

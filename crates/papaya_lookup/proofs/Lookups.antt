@@ -236,7 +236,7 @@ module _ (hash initial : ℕ) (mode : ResizeMode) (made : Made) (held : Remember
   yes_step (Ended reply) stands n same e = absurd (cc e)
 
   -- the number of a table was loaded, from a state with more to do
-  numbered : (s : State) (word : ℕ) → 0 < left_of s → ((word ≡ 0 → ⊥) → left_in word (2 ^ 33 + 4) < left_of s) → IsStepTo word s (if word == 0 then Ended Absent else Searching (Sizing word))
+  numbered : (s : State) (word : ℕ) → 0 < left_of s → ((word ≡ 0 → ⊥) → left_in word (3 * 2 ^ 32 + 5) < left_of s) → IsStepTo word s (if word == 0 then Ended Absent else Searching (Sizing word))
   numbered s word some less =
       chosen (IsStepTo word s) (word == 0) (Ended Absent) (Searching (Sizing word))
       (λ e. record { table = λ v h. absurd (cc h); fewer = omega (arith, some); unfound = λ n h. cc h })

@@ -73,7 +73,7 @@ onward_hinted at hash hint =
 read_not : (at a : Place) → go_on at ≡ On (Reading a) → ⊥
 read_not at a = chosen (λ s. s ≡ On (Reading a) → ⊥) (nat_lt at.probe.len at.limit) (On (Looking (next_place at))) (Over at.table) (λ e h. cc h) (λ e h. cc h)
 
-read_hinted : (at : Place) (hash hint : ℕ) (a : Place) → hinted at hash hint ≡ On (Reading a) → hinted at hash hint ≡ On (Reading at)
+pub read_hinted : (at : Place) (hash hint : ℕ) (a : Place) → hinted at hash hint ≡ On (Reading a) → hinted at hash hint ≡ On (Reading at)
 read_hinted at hash hint a =
     chosen (λ seen. seen ≡ On (Reading a) → seen ≡ On (Reading at)) (may_hold hint hash) (On (Reading at)) (go_on at) (λ e h. refl) (λ e h. absurd (read_not at a h))
 
