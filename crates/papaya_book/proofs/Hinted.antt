@@ -95,5 +95,5 @@ module _ {K V S H : Type 0} (eq : K → K → Bool) (input : K → List (List �
         (⊎_elim
         (λ e. nothing t x (hint_in (hint_word s.table s.place s.hint) t x) e)
         (λ e. subst (λ z. IsSlotHint eq hash b t x z log) (sym e.2)
-            (subst (λ (z : ℕ × ℕ). IsSlotHint eq hash b z.0 z.1 s.hint log) (λ i. (e.0 i, e.1 i)) (is_by_now s.table s.place s.hint s.was)))
+        (subst (λ (z : ℕ × ℕ). IsSlotHint eq hash b z.0 z.1 s.hint log) (λ i. (e.0 i, e.1 i)) (is_by_now s.table s.place s.hint s.was)))
         (said_in s.table s.place s.hint t x s.low s.near near))

@@ -24,6 +24,6 @@ said_in t x hint u y low near near' =
     let n = hint_word t x hint in let test = n / 256 == y + 2 ^ 32 * u in
     ⊎_elim
     (λ e. let same = one_slot t x u y near near' (sym (number_slot t x hint low) ∙ eqb-true (n / 256) (y + 2 ^ 32 * u) e) in
-        inr (same.0, same.1, cond-true test (n % 256) 0 e ∙ number_hint t x hint low))
+    inr (same.0, same.1, cond-true test (n % 256) 0 e ∙ number_hint t x hint low))
     (λ e. inl (cond-false test (n % 256) 0 e))
     (cases_Bool test)

@@ -112,7 +112,8 @@ impl<'a, K: Hash + Eq, V, S: BuildHasher> Window<'a, K, V, S> {
         requires place { place < length table.now.slots }
         requires hint { MayHint self.now number place hint }
     {
-        self.book.write_hint(table, number, place, hint, &self.sight)
+        self.book
+            .write_hint(table, number, place, hint, &self.sight)
     }
 
     /// One atomic load of a table's slot: the word, and what gains the token of the pair that it

@@ -92,13 +92,7 @@ impl<'a, K: Hash + Eq + Drop, V: Drop, S: BuildHasher> Writer<'a, K, V, S> {
     }
 
     /// Writes the hint of a slot, where it has none.
-    pub fn note(
-        &self,
-        number: u64,
-        place: usize,
-        hint: u8,
-        window: &Window<'a, K, V, S>,
-    ) -> Answer
+    pub fn note(&self, number: u64, place: usize, hint: u8, window: &Window<'a, K, V, S>) -> Answer
         requires can { CanWrite window.now self.now }
         requires asks { ask_of self.now.call.machine ≡ Call (WriteHint number place hint) }
         ensures unsaid { IsUnsaid self.now.call.given.done result }

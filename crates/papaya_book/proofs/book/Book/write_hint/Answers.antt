@@ -18,6 +18,8 @@ compare_exchange_hint-requires g c =
     let lawful : IsLawfulLog g.K.PartialEq.eq hash b v = subst (λ (z : _). IsLawfulLog g.K.PartialEq.eq hash z v) (opened_with g.K.PartialEq.eq hash b held.1.begun v (prefix_trans (Begin b ∷ []) w.begun.log v (first_prefix (Begin b) w.begun.log w.begins) c.learn.ensures.3) held.1.lawful) held.1.lawful in
     let called = name_since w.begun.log v w.begun.book c.learn.ensures.3 w.called in
     let came = table_since c.args.sight.now.log v c.args.number c.args.table.now (subst (λ z. IsPrefix z.log v) c.again-seen.ensures c.learn.ensures.2) c.requires.table in
-    let book = table_book g.K.PartialEq.eq hash b v w.begun.book lawful called c.args.number c.args.table.now came in
-    (c.hint-word.ensures.kind, c.learn.ensures.0 ∙ (ap (λ z. z.book) c.again-seen.ensures ∙ (c.requires.book ∙ (sym book ∙ sym c.hint-word.ensures.book))),
-        may_say g.K.PartialEq.eq hash b c.args.number c.args.place c.args.hint c.args.sight.now.log v c.requires.hint (subst (λ z. IsPrefix z.log v) c.again-seen.ensures c.learn.ensures.2) c.hint-word.ensures.near c.ranges.hint.fits c.hint_number-number.result c.hint_number-number.ensures)
+    let book = table_book g.K.PartialEq.eq hash b v w.begun.book lawful called c.args.number c.args.table.now came in (
+      c.hint-word.ensures.kind,
+      c.learn.ensures.0 ∙ (ap (λ z. z.book) c.again-seen.ensures ∙ (c.requires.book ∙ (sym book ∙ sym c.hint-word.ensures.book))),
+      may_say g.K.PartialEq.eq hash b c.args.number c.args.place c.args.hint c.args.sight.now.log v c.requires.hint (subst (λ z. IsPrefix z.log v) c.again-seen.ensures c.learn.ensures.2) c.hint-word.ensures.near c.ranges.hint.fits c.hint_number-number.result c.hint_number-number.ensures,
+    )
