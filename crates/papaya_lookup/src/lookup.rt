@@ -85,7 +85,8 @@ fn read_at<'a, K: Hash + Eq, V, S: BuildHasher, Q: Equivalent<K>>(
         table.now result }
     ensures fewer { left_after window.old result < left_of (Searching (Reading at)) }
 {
-    let _ = (began, hash);
+    let _ = began;
+    let _ = hash;
     let (word, trade) = window.slot_word(table, at.table, at.probe.i);
     let seen = at.look(word);
     match seen {
