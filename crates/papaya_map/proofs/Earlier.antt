@@ -79,12 +79,15 @@ module _ {K V : Type 0} (old new : History K V) where
     none_stays said (Err e) = tt
 
     pub kept : {A F : Type 0} (judges : F → Stored K V → Bool → F → Type 0) (first : F) (r : Result A Refused) → (made : History K V) × HasKept eq old new [] made judges first r → (made : History K V) × HasKept eq [] new [] made judges first r
-    kept judges first r (made, k) = (made, record {
-      left = k.left;
-      said = k.said;
-      shown = record { has_said = k.shown.has_said; had = each_shown had k.said k.shown.had; changes = k.shown.changes; made_is = k.shown.made_is; dropped = k.shown.dropped };
-      leaves = none_stays k.said r;
-    })
+    kept judges first r (made, k) = (
+      made,
+      record {
+        left = k.left;
+        said = k.said;
+        shown = record { has_said = k.shown.has_said; had = each_shown had k.said k.shown.had; changes = k.shown.changes; made_is = k.shown.made_is; dropped = k.shown.dropped };
+        leaves = none_stays k.said r;
+      },
+    )
 
     module _ (key : K) where
       operated : {T : Type 0} (said : List (Option (Stored K V) × Operation V T)) (r : Result (Computed K V T) Refused) → IsOperated eq key old new said r → IsOperated eq key [] new said r

@@ -183,7 +183,8 @@ impl<'a, K: Hash + Eq + Drop, V: Drop, S: BuildHasher> HashMapRef<'a, K, V, S> {
         ensures book { result.book ≡ self.now.map.book }
         ensures legal { IsLegalHistory K.eq key_of (history_of result.log) }
         ensures seen { IsPrefix self.now.seen (history_of result.log) }
-        ensures tried { IfOk result.answer (IsTried K.eq key self.now.seen (history_of result.log) value) }
+        ensures tried { IfOk result.answer (IsTried K.eq key self.now.seen
+            (history_of result.log) value) }
         ensures refused { IfErr result.answer IsMemoryOrCapacity }
     {
         let mut pass = self.begun(self.map.number());
@@ -224,7 +225,8 @@ impl<'a, K: Hash + Eq + Drop, V: Drop, S: BuildHasher> HashMapRef<'a, K, V, S> {
         ensures book { result.book ≡ self.now.map.book }
         ensures legal { IsLegalHistory K.eq key_of (history_of result.log) }
         ensures seen { IsPrefix self.now.seen (history_of result.log) }
-        ensures tried { IfOk result.answer (IsTriedWith K.eq key self.now.seen (history_of result.log) (F.post f)) }
+        ensures tried { IfOk result.answer (IsTriedWith K.eq key self.now.seen
+            (history_of result.log) (F.post f)) }
         ensures refused { IfErr result.answer IsMemoryOrCapacity }
     {
         let mut pass = self.begun(self.map.number());
@@ -265,7 +267,8 @@ impl<'a, K: Hash + Eq + Drop, V: Drop, S: BuildHasher> HashMapRef<'a, K, V, S> {
         ensures book { result.book ≡ self.now.map.book }
         ensures legal { IsLegalHistory K.eq key_of (history_of result.log) }
         ensures seen { IsPrefix self.now.seen (history_of result.log) }
-        ensures there { IfOk result.answer (IsThere K.eq key self.now.seen (history_of result.log) (λ w. w ≡ value)) }
+        ensures there { IfOk result.answer (IsThere K.eq key self.now.seen
+            (history_of result.log) (λ w. w ≡ value)) }
         ensures refused { IfErr result.answer IsMemoryOrCapacity }
     {
         let mut pass = self.begun(self.map.number());
@@ -300,7 +303,8 @@ impl<'a, K: Hash + Eq + Drop, V: Drop, S: BuildHasher> HashMapRef<'a, K, V, S> {
         ensures book { result.book ≡ self.now.map.book }
         ensures legal { IsLegalHistory K.eq key_of (history_of result.log) }
         ensures seen { IsPrefix self.now.seen (history_of result.log) }
-        ensures there { IfOk result.answer (IsThere K.eq key self.now.seen (history_of result.log) (F.post f)) }
+        ensures there { IfOk result.answer (IsThere K.eq key self.now.seen
+            (history_of result.log) (F.post f)) }
         ensures refused { IfErr result.answer IsMemoryOrCapacity }
     {
         let mut pass = self.begun(self.map.number());

@@ -150,7 +150,8 @@ impl<'a, K: Hash + Eq, V, S: BuildHasher> Drop for HashMapRef<'a, K, V, S> {
 }
 
 impl<K: Hash + Eq, V, S: BuildHasher> HashMap<K, V, S> {
-    /// The map, as calls take it. It writes no word.
+    /// The map, as calls take it. It writes no word. What had been seen by then is what had been seen
+    /// when the map was made.
     #[inline]
     pub fn pin(&self) -> HashMapRef<'_, K, V, S>
         ensures { result.map ≡ self.now }

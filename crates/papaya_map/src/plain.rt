@@ -1,6 +1,8 @@
 //! The calls that take no pass. Each is the call of that name by a pass made for it alone, so what
-//! it says is so of a history that no caller is shown. `remove_entry_as`, which takes one, stands
-//! beside the call that is made of it.
+//! it says is so of a history that no caller is shown. The starred clause says that this history is
+//! the map's own and begins with what had been seen when it was pinned; a private call, which tells
+//! its answer with what its pass has seen, stands before each for that. `remove_entry_as`, which
+//! takes a pass, stands beside the call that is made of it.
 ghost use Rattle.std.specs.Prelude.{◌≡◌, [], true, is_some, Option, Err, IfOk, IfErr, ◌⊎◌};
 ghost use Rattle.std.specs.Borrow.{Bor, sem};
 ghost use mathlib.Core.List.{IsPrefix};
@@ -80,7 +82,8 @@ impl<'a, K: Hash + Eq, V, S: BuildHasher> HashMapRef<'a, K, V, S> {
         ensures book { result.book ≡ self.now.map.book }
         ensures legal { IsLegalHistory K.eq key_of (history_of result.log) }
         ensures seen { IsPrefix self.now.seen (history_of result.log) }
-        ensures answered { IsPairAnsweredBetween K.eq (Q.matches key.now) self.now.seen (history_of result.log) result.answer }
+        ensures answered { IsPairAnsweredBetween K.eq (Q.matches key.now) self.now.seen
+            (history_of result.log) result.answer }
     {
         let mut pass = self.begun(0);
         let found = self.get_key_value_as(key, &mut pass);
@@ -107,7 +110,8 @@ impl<'a, K: Hash + Eq, V, S: BuildHasher> HashMapRef<'a, K, V, S> {
         ensures book { result.book ≡ self.now.map.book }
         ensures legal { IsLegalHistory K.eq key_of (history_of result.log) }
         ensures seen { IsPrefix self.now.seen (history_of result.log) }
-        ensures answered { IsContained K.eq (Q.matches key.now) self.now.seen (history_of result.log) result.answer }
+        ensures answered { IsContained K.eq (Q.matches key.now) self.now.seen
+            (history_of result.log) result.answer }
     {
         let mut pass = self.begun(0);
         let found = self.get_as(key, &mut pass).is_some();
@@ -137,7 +141,8 @@ impl<'a, K: Hash + Eq, V, S: BuildHasher> HashMapRef<'a, K, V, S> {
         ensures book { result.book ≡ self.now.map.book }
         ensures legal { IsLegalHistory K.eq key_of (history_of result.log) }
         ensures seen { IsPrefix self.now.seen (history_of result.log) }
-        ensures removed { IsRemoved K.eq (Q.matches key.now) self.now.seen (history_of result.log) result.answer }
+        ensures removed { IsRemoved K.eq (Q.matches key.now) self.now.seen
+            (history_of result.log) result.answer }
     {
         let mut pass = self.begun(self.map.number());
         let answer = self.remove_as(rt, key, &mut pass);
@@ -173,7 +178,8 @@ impl<'a, K: Hash + Eq, V, S: BuildHasher> HashMapRef<'a, K, V, S> {
         ensures book { result.book ≡ self.now.map.book }
         ensures legal { IsLegalHistory K.eq key_of (history_of result.log) }
         ensures seen { IsPrefix self.now.seen (history_of result.log) }
-        ensures removed { IsRemovalBy K.eq (Q.matches key.now) self.now.seen (history_of result.log) (Judges F.FnMut)
+        ensures removed { IsRemovalBy K.eq (Q.matches key.now) self.now.seen
+            (history_of result.log) (Judges F.FnMut)
             should_remove result.answer }
     {
         let mut pass = self.begun(self.map.number());
@@ -212,7 +218,8 @@ impl<'a, K: Hash + Eq, V, S: BuildHasher> HashMapRef<'a, K, V, S> {
         ensures book { result.book ≡ self.now.map.book }
         ensures legal { IsLegalHistory K.eq key_of (history_of result.log) }
         ensures seen { IsPrefix self.now.seen (history_of result.log) }
-        ensures removed { IsEntryRemoved K.eq (Q.matches key.now) self.now.seen (history_of result.log) result.answer }
+        ensures removed { IsEntryRemoved K.eq (Q.matches key.now) self.now.seen
+            (history_of result.log) result.answer }
     {
         let mut pass = self.begun(self.map.number());
         let answer = self.remove_entry_as(rt, key, &mut pass);
@@ -283,7 +290,8 @@ impl<'a, K: Hash + Eq + Drop, V: Drop, S: BuildHasher> HashMapRef<'a, K, V, S> {
         ensures book { result.book ≡ self.now.map.book }
         ensures legal { IsLegalHistory K.eq key_of (history_of result.log) }
         ensures seen { IsPrefix self.now.seen (history_of result.log) }
-        ensures put { IfOk result.answer (IsPut K.eq key value self.now.seen (history_of result.log)) }
+        ensures put { IfOk result.answer (IsPut K.eq key value self.now.seen
+            (history_of result.log)) }
         ensures refused { IfErr result.answer (λ refused. (refused ≡ Refused.Memory)
             ⊎ (refused ≡ Refused.Capacity)) }
     {
@@ -321,7 +329,8 @@ impl<'a, K: Hash + Eq + Drop, V: Drop, S: BuildHasher> HashMapRef<'a, K, V, S> {
         ensures book { result.book ≡ self.now.map.book }
         ensures legal { IsLegalHistory K.eq key_of (history_of result.log) }
         ensures seen { IsPrefix self.now.seen (history_of result.log) }
-        ensures computed { IsComputeBy K.eq key self.now.seen (history_of result.log) (Operates F.FnMut) f result.answer }
+        ensures computed { IsComputeBy K.eq key self.now.seen
+            (history_of result.log) (Operates F.FnMut) f result.answer }
     {
         let mut pass = self.begun(self.map.number());
         let answer = self.compute_as(rt, key, f, &mut pass);

@@ -53,7 +53,8 @@ impl<'a, K: Hash + Eq, V, S: BuildHasher> HashMapRef<'a, K, V, S> {
         ensures book { result.book ≡ self.now.map.book }
         ensures legal { IsLegalHistory K.eq key_of (history_of result.log) }
         ensures seen { IsPrefix self.now.seen (history_of result.log) }
-        ensures cleared { IfOk result.answer (λ _. IsCleared K.eq self.now.seen (history_of result.log)) }
+        ensures cleared { IfOk result.answer (λ _. IsCleared K.eq self.now.seen
+            (history_of result.log)) }
         ensures refused { IfErr result.answer IsMemoryOrCapacity }
     {
         let mut pass = self.begun(self.map.number());
@@ -85,7 +86,8 @@ impl<'a, K: Hash + Eq, V, S: BuildHasher> HashMapRef<'a, K, V, S> {
         ensures book { result.book ≡ self.now.map.book }
         ensures legal { IsLegalHistory K.eq key_of (history_of result.log) }
         ensures seen { IsPrefix self.now.seen (history_of result.log) }
-        ensures kept { (made : _) × HasKept K.eq self.now.seen (history_of result.log) [] made (Judges F.FnMut) stays
+        ensures kept { (made : _) × HasKept K.eq self.now.seen
+            (history_of result.log) [] made (Judges F.FnMut) stays
             result.answer }
         ensures refused { IfErr result.answer IsMemoryOrCapacity }
     {

@@ -156,7 +156,8 @@ impl<'a, K: Hash + Eq + Drop, V: Drop, S: BuildHasher> HashMapRef<'a, K, V, S> {
         ensures book { result.book ≡ self.now.map.book }
         ensures legal { IsLegalHistory K.eq key_of (history_of result.log) }
         ensures seen { IsPrefix self.now.seen (history_of result.log) }
-        ensures updated { IfOk result.answer (IsUpdated K.eq key self.now.seen (history_of result.log) (FnReturnsAt F.Fn f)) }
+        ensures updated { IfOk result.answer (IsUpdated K.eq key self.now.seen
+            (history_of result.log) (FnReturnsAt F.Fn f)) }
         ensures refused { IfErr result.answer IsMemoryOrCapacity }
     {
         let mut pass = self.begun(self.map.number());
@@ -200,7 +201,8 @@ impl<'a, K: Hash + Eq + Drop, V: Drop, S: BuildHasher> HashMapRef<'a, K, V, S> {
         ensures book { result.book ≡ self.now.map.book }
         ensures legal { IsLegalHistory K.eq key_of (history_of result.log) }
         ensures seen { IsPrefix self.now.seen (history_of result.log) }
-        ensures upserted { IfOk result.answer (IsUpserted K.eq key self.now.seen (history_of result.log) (FnReturnsAt F.Fn update)
+        ensures upserted { IfOk result.answer (IsUpserted K.eq key self.now.seen
+            (history_of result.log) (FnReturnsAt F.Fn update)
             (λ w. w ≡ value)) }
         ensures refused { IfErr result.answer IsMemoryOrCapacity }
     {
@@ -246,7 +248,8 @@ impl<'a, K: Hash + Eq + Drop, V: Drop, S: BuildHasher> HashMapRef<'a, K, V, S> {
         ensures book { result.book ≡ self.now.map.book }
         ensures legal { IsLegalHistory K.eq key_of (history_of result.log) }
         ensures seen { IsPrefix self.now.seen (history_of result.log) }
-        ensures upserted { IfOk result.answer (IsUpserted K.eq key self.now.seen (history_of result.log) (FnReturnsAt U.Fn update)
+        ensures upserted { IfOk result.answer (IsUpserted K.eq key self.now.seen
+            (history_of result.log) (FnReturnsAt U.Fn update)
             (F.post f)) }
         ensures refused { IfErr result.answer IsMemoryOrCapacity }
     {
