@@ -248,21 +248,24 @@ def full(runs):
 
 
 # How many steps a call of key 7 makes. In a new map an insertion loads the root, makes a table, opens
-# it, learns its size, loads the slot, makes the key and the pair, claims the slot, and counts. Where
-# the key is there any call loads the root, learns the size, loads the slot and compares the key. A
-# lookup is over then. An update shows the pair, makes the key and the new pair, and replaces the old
-# one; a removal shows the pair, buries it, and counts.
-STEPS = {"i": 9, "g": 4, "u": 8, "r": 7}
+# it, learns its size, loads the hint and the slot, makes the key and the pair, claims the slot, counts,
+# and writes the hint. Where the key is there any call loads the root, learns the size, loads the hint
+# and the slot and compares the key. A lookup is over then. An update shows the pair, makes the key and
+# the new pair, and replaces the old one; a removal shows the pair, buries it, and counts.
+STEPS = {"i": 11, "g": 5, "u": 9, "r": 8}
+
+# The step in which an insertion into a new map claims the slot.
+CLAIM = 9
 
 # A call that is stopped, another one, and the step in which the first one looks or changes the map.
 # Then what is printed for each of them and what is found after both, where the first is stopped before
 # that step, and where it is stopped later.
 STOPPED = [
-    ("i 7 100", "i 7 200", 8, ("old 200", "none", "some 100"), ("none", "old 100", "some 200")),
-    ("u 7", "i 7 5", 8, ("new 6", "old 1", "some 6"), ("new 2", "old 2", "some 5")),
-    ("r 7", "g 7", 6, ("removed 1", "some 1", "none"), ("removed 1", "none", "none")),
-    ("g 7", "r 7", 3, ("none", "removed 1", "none"), ("some 1", "removed 1", "none")),
-    ("r 7", "i 7 2", 6, ("removed 2", "old 1", "none"), ("removed 1", "none", "some 2")),
+    ("i 7 100", "i 7 200", CLAIM, ("old 200", "none", "some 100"), ("none", "old 100", "some 200")),
+    ("u 7", "i 7 5", 9, ("new 6", "old 1", "some 6"), ("new 2", "old 2", "some 5")),
+    ("r 7", "g 7", 7, ("removed 1", "some 1", "none"), ("removed 1", "none", "none")),
+    ("g 7", "r 7", 4, ("none", "removed 1", "none"), ("some 1", "removed 1", "none")),
+    ("r 7", "i 7 2", 7, ("removed 2", "old 1", "none"), ("removed 1", "none", "some 2")),
 ]
 
 
@@ -286,11 +289,36 @@ def without_memory(runs, rest):
     table, the key or the pair."""
     for made in range(STEPS["i"]):
         lines = ["begin 0 i 7 100", *["step 0"] * made, "refuse 0"]
-        is_refused = made in (1, 5, 6)
+        is_refused = made in (1, 6, 7)
         is_over = is_refused or made == STEPS["i"] - 1
         lines += [*([] if is_over else ["finish 0"]), "begin 2 g 7", "finish 2"]
         printed = ["0: refused 1 Memory", "2: none"] if is_refused else ["0: none", "2: some 100"]
         runs.run(f"core {rest}", lines, printed)
+
+
+# A key whose path begins in the slot of key 7. By `id` its hash has another byte.
+NAMESAKE = 7 + 2**57
+
+
+def before_its_hint(runs, rest):
+    """Caller 0 is stopped after each number of steps of an insertion: between two of them its pair stands in
+    its slot, whose hint is not written yet. Caller 1 finds the pair, replaces and removes it, beside a
+    namesake of its key, and caller 0 goes on. Each call has the answer that it has whole, the insertion
+    before those of caller 1 from its claim on, and after them till then."""
+    others = [f"i {NAMESAKE} 1", "g 7", "i 7 200", "g 7", f"g {NAMESAKE}", "r 7", "g 7", f"r {NAMESAKE}"]
+    later = ["g 7", f"g {NAMESAKE}", "u 7", "r 7", "g 7"]
+    for made in range(STEPS["i"]):
+        plain = Plain()
+        said = around(plain, "i 7 100", made >= CLAIM, others)
+        lines = ["begin 0 i 7 100", *["step 0"] * made, *wholes(1, others), "finish 0", *wholes(2, later)]
+        runs.run(f"core {rest}", lines, [*said, *(f"2: {plain.call(it)}" for it in later)])
+
+
+def around(plain, own, is_first, others):
+    """What is printed for a call of caller 0 and the calls that caller 1 makes while it is stopped, where the
+    first one's change is before theirs, or after."""
+    first = plain.call(own) if is_first else None
+    return [*(f"1: {plain.call(it)}" for it in others), f"0: {first or plain.call(own)}"]
 
 
 # Two calls on a map that has the keys below the first number, each with its own value.
@@ -381,6 +409,10 @@ def whole(caller, call):
     return [f"begin {caller} {call}", f"finish {caller}"]
 
 
+def wholes(caller, calls):
+    return [line for call in calls for line in whole(caller, call)]
+
+
 def filled(keys):
     """Keys from 0 on, each with itself for a value."""
     return [line for key in range(keys) for line in whole(0, f"i {key} {key}")]
@@ -420,6 +452,7 @@ def growing(runs):
             stopped = [*begun, *["step 0"] * made]
             store_more(runs, args, stopped, stored)
             clear_or_walk(runs, args, stopped, stored)
+            change_each(runs, args, stopped, stored)
 
 
 def store_more(runs, args, stopped, stored):
@@ -440,6 +473,24 @@ def clear_or_walk(runs, args, stopped, stored):
     lines = [*stopped, *whole(2, "walk"), *whole(1, "r 0"), "finish 0", *whole(1, "g 0"), *looked_up(1, FULL + 1)]
     printed = ["1: removed 0", "0: none", "1: none", *found(1, FULL + 1)]
     runs.run_one_of(args, lines, [[*stored, walk_of(range(end)), *printed] for end in (FULL, FULL + 1)])
+
+
+def change_each(runs, args, stopped, stored):
+    """Caller 1 finds each key, replaces and removes it, also one that caller 0 is copying, whose pair may stand
+    in the longer table without a hint. What caller 0 stores may be there before these calls or not."""
+    keys = range(FULL + 1)
+    own = f"i {FULL} {FULL}"
+    others = [call for key in keys for call in (f"g {key}", f"i {key} 0", f"r {key}")]
+    looks = [f"g {key}" for key in keys]
+    lines = [*stopped, *wholes(1, others), "finish 0", *wholes(2, looks)]
+    printed = []
+    for is_first in (True, False):
+        plain = Plain()
+        for key in range(FULL):
+            plain.call(f"i {key} {key}")
+        said = around(plain, own, is_first, others)
+        printed.append([*stored, *said, *(f"2: {plain.call(it)}" for it in looks)])
+    runs.run_one_of(args, lines, printed)
 
 
 def walking(runs):
@@ -509,6 +560,7 @@ def main(program):
     looking_up_beside_a_copy(runs)
     for rest in ["inc:64 id", "block zero"]:
         stopped(runs, rest)
+        before_its_hint(runs, rest)
         without_memory(runs, rest)
     print(f"runs.py: {runs.passed} passed, {runs.failed} failed")
     return 0 if runs.passed and not runs.failed else 1
