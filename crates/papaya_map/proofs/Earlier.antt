@@ -1,6 +1,6 @@
 -- What is so between a history and a later one is so from the empty history on.
 use Rattle.std.proofs.Common.{◌≡◌, ◌⊎◌, inl, inr, Bool, true, false, MatchOption, Option, None, Some, Result, Ok, Err, List, [], ◌∷◌, refl}
-use Rattle.std.specs.Prelude.{IfOk}
+use Rattle.std.specs.Prelude.{IfOk, is_ok}
 use mathlib.Core.List.{IsPrefix}
 use denote.Bor.{Bor}
 use Rattle.papaya_words.specs.declared.probe.Refused.{Refused}
@@ -17,7 +17,7 @@ use Rattle.papaya_lookup.specs.Answers.{IsFoundBetween}
 use Rattle.papaya_lookup.specs.History.{Change, IsLegalHistory, key_of}
 use Rattle.papaya_sweep.specs.Leaving.{HasKept, IsRetained}
 use Rattle.papaya_sweep.specs.Meeting.{HadPair}
-use Rattle.papaya_map.specs.Plain.{IsContained, IsOfHistory}
+use Rattle.papaya_map.specs.Plain.{IsContained, IsDone, IsOfHistory}
 use Rattle.papaya_map.specs.Storing.{IsCurrent, IsInPlace, IsStored, IsThere, IsThereBy, IsTried, IsTriedWith, IsUpdated, IsUpserted}
 
 abbrev pub History : Type 0 → Type 0 → Type 0
@@ -35,6 +35,11 @@ each_shown f (last ∷ before) all = (f last.0 all.0, each_shown f before all.1)
 pub ok_of : {K V A E : Type 0} (eq : K → K → Bool) {h : History K V} → IsLegalHistory eq key_of h → {P : A → Type 0} (Q : History K V → A → Type 0) → ((a : A) → P a → Q h a) → (r : Result A E) → IfOk r P → IfOk r (λ a. IsOfHistory eq (λ hs. Q hs a))
 ok_of eq {h} legal Q f (Ok a) is = record { history = h; legal = legal; told = f a is }
 ok_of eq legal Q f (Err e) is = tt
+
+-- where a call is not refused, and this is so then, it is done and that is so
+pub done_of : {A : Type 0} {P Q : A → Type 0} → ((a : A) → P a → Q a) → (r : Result A Refused) → IfOk r P → is_ok r ≡ true → IsDone r Q
+done_of f (Ok a) is ok = f a is
+done_of f (Err e) is ok = let no : ⊥ = cc ok in absurd no
 
 module _ {K V : Type 0} (old new : History K V) where
   module _ (eq : K → K → Bool) (matches : K → Bool) where

@@ -126,7 +126,7 @@ module _ (E A P : RattleType) (g : Ghosts P.Denot E.Denot A.Denot) (T : Ended) w
         (walk y are).runs ((walk_of 𝓛 T none c).pre y) ((triple_of 𝓛 asked.signature (closing 𝓛 asked ck)).post (z y)) (Left y) ((walk_of 𝓛 T none c).post y)
         (via 𝓤 ((triple_of 𝓛 asked.signature (closing 𝓛 asked ck)).pre (z y)) (mono_r 𝓤 Pre (asks y.0.0 y.0.3 y.1).1) (met (z y))) (gives y) (λ w good. ends y w))
 
--- What shows a log that tells this shows that there is one: beside no other clause, and beside one or two.
+-- What shows a log that tells this shows that there is one: beside no other clause, and beside one, two or three.
 module _ {M : Type 1} {𝓤 : Ura M} (𝓛 : Logic 𝓤) {E : Type 0} (code : E → Gv) (rule : Rules E) {b : Book} (names : List ℕ) (log : List E) (φ : List E → Type 0) where
   pub handed : {b' : Book} → b ≡ b' → φ log → ent 𝓤 (sem 𝓛 (seen_owns code rule b names log)) (sem 𝓛 (fex (List ℕ × List E) (λ s. fsep (seen_owns code rule b' s.0 s.1) (said (φ s.1)))))
   handed {b'} same is = qed 𝓛 (‵ (seen_owns code rule b names log) ∷ []) ∵ rewrite ! 0 (λ (c : Book). ‵ (seen_owns code rule c names log)) same refl $
@@ -141,13 +141,23 @@ module _ {M : Type 1} {𝓤 : Ura M} (𝓛 : Logic 𝓤) {E : Type 0} (code : E 
   handed_2 {b'} same is {φ₁} {φ₂} x₁ x₂ = qed 𝓛 (‵ (seen_owns code rule b names log) ∷ []) ∵
       use1 𝓛 (‵ (fex (List ℕ × List E) (λ s. fsep (seen_owns code rule b' s.0 s.1) (said (φ s.1))))) (handed same is) $ frame ! $ so ! x₂ $ use0 𝓛 (raw (fact 𝓤 φ₁)) (fact_i 𝓤 φ₁ (emp 𝓤) x₁) $ done !
 
+  pub handed_3 : {b' : Book} → b ≡ b' → φ log → {φ₁ φ₂ φ₃ : Type 0} → φ₁ → φ₂ → φ₃
+      → ent 𝓤 (sem 𝓛 (seen_owns code rule b names log)) (sep 𝓤 (sem 𝓛 (fex (List ℕ × List E) (λ s. fsep (seen_owns code rule b' s.0 s.1) (said (φ s.1))))) (sep 𝓤 (fact 𝓤 φ₁) (sep 𝓤 (fact 𝓤 φ₂) (fact 𝓤 φ₃))))
+  handed_3 {b'} same is {φ₁} {φ₂} {φ₃} x₁ x₂ x₃ = qed 𝓛 (‵ (seen_owns code rule b names log) ∷ []) ∵
+      use1 𝓛 (‵ (fex (List ℕ × List E) (λ s. fsep (seen_owns code rule b' s.0 s.1) (said (φ s.1))))) (handed same is) $ frame ! $ use0 𝓛 (raw (fact 𝓤 φ₁)) (fact_i 𝓤 φ₁ (emp 𝓤) x₁) $ frame ! $ so ! x₃ $ use0 𝓛 (raw (fact 𝓤 φ₂)) (fact_i 𝓤 φ₂ (emp 𝓤) x₂) $ done !
+
 -- four clauses of facts, as one
 pub four_facts : {M : Type 1} (𝓤 : Ura M) {φ₁ φ₂ φ₃ φ₄ : Type 0} → ent 𝓤 (sep 𝓤 (fact 𝓤 φ₁) (sep 𝓤 (fact 𝓤 φ₂) (sep 𝓤 (fact 𝓤 φ₃) (fact 𝓤 φ₄)))) (fact 𝓤 (φ₁ × φ₂ × φ₃ × φ₄))
 four_facts 𝓤 {φ₁} {φ₂} {φ₃} {φ₄} = let rest₃ : SProp 𝓤 = sep 𝓤 (fact 𝓤 φ₃) (fact 𝓤 φ₄) in let rest₂ : SProp 𝓤 = sep 𝓤 (fact 𝓤 φ₂) rest₃ in
     fact_use 𝓤 φ₁ (fst∗ 𝓤 (fact 𝓤 φ₁) rest₂) (λ x₁. via 𝓤 rest₂ (snd∗ 𝓤 (fact 𝓤 φ₁) rest₂) (fact_use 𝓤 φ₂ (fst∗ 𝓤 (fact 𝓤 φ₂) rest₃) (λ x₂. via 𝓤 rest₃ (snd∗ 𝓤 (fact 𝓤 φ₂) rest₃)
     (fact_use 𝓤 φ₃ (fst∗ 𝓤 (fact 𝓤 φ₃) (fact 𝓤 φ₄)) (λ x₃. via 𝓤 (fact 𝓤 φ₄) (snd∗ 𝓤 (fact 𝓤 φ₃) (fact 𝓤 φ₄)) (fact_use 𝓤 φ₄ (id⊢ 𝓤 (fact 𝓤 φ₄)) (λ x₄. fact_i 𝓤 (φ₁ × φ₂ × φ₃ × φ₄) (fact 𝓤 φ₄) (x₁, x₂, x₃, x₄))))))))
 
--- and five
+-- five
 pub five_facts : {M : Type 1} (𝓤 : Ura M) {φ₁ φ₂ φ₃ φ₄ φ₅ : Type 0} → ent 𝓤 (sep 𝓤 (fact 𝓤 φ₁) (sep 𝓤 (fact 𝓤 φ₂) (sep 𝓤 (fact 𝓤 φ₃) (sep 𝓤 (fact 𝓤 φ₄) (fact 𝓤 φ₅))))) (fact 𝓤 (φ₁ × φ₂ × φ₃ × φ₄ × φ₅))
 five_facts 𝓤 {φ₁} {φ₂} {φ₃} {φ₄} {φ₅} = let rest : SProp 𝓤 = sep 𝓤 (fact 𝓤 φ₂) (sep 𝓤 (fact 𝓤 φ₃) (sep 𝓤 (fact 𝓤 φ₄) (fact 𝓤 φ₅))) in
     fact_use 𝓤 φ₁ (fst∗ 𝓤 (fact 𝓤 φ₁) rest) (λ x₁. via 𝓤 rest (snd∗ 𝓤 (fact 𝓤 φ₁) rest) (fact_use 𝓤 (φ₂ × φ₃ × φ₄ × φ₅) (four_facts 𝓤) (λ x. fact_i 𝓤 (φ₁ × φ₂ × φ₃ × φ₄ × φ₅) rest (x₁, x.0, x.1, x.2, x.3))))
+
+-- and six
+pub six_facts : {M : Type 1} (𝓤 : Ura M) {φ₁ φ₂ φ₃ φ₄ φ₅ φ₆ : Type 0} → ent 𝓤 (sep 𝓤 (fact 𝓤 φ₁) (sep 𝓤 (fact 𝓤 φ₂) (sep 𝓤 (fact 𝓤 φ₃) (sep 𝓤 (fact 𝓤 φ₄) (sep 𝓤 (fact 𝓤 φ₅) (fact 𝓤 φ₆)))))) (fact 𝓤 (φ₁ × φ₂ × φ₃ × φ₄ × φ₅ × φ₆))
+six_facts 𝓤 {φ₁} {φ₂} {φ₃} {φ₄} {φ₅} {φ₆} = let rest : SProp 𝓤 = sep 𝓤 (fact 𝓤 φ₂) (sep 𝓤 (fact 𝓤 φ₃) (sep 𝓤 (fact 𝓤 φ₄) (sep 𝓤 (fact 𝓤 φ₅) (fact 𝓤 φ₆)))) in
+    fact_use 𝓤 φ₁ (fst∗ 𝓤 (fact 𝓤 φ₁) rest) (λ x₁. via 𝓤 rest (snd∗ 𝓤 (fact 𝓤 φ₁) rest) (fact_use 𝓤 (φ₂ × φ₃ × φ₄ × φ₅ × φ₆) (five_facts 𝓤) (λ x. fact_i 𝓤 (φ₁ × φ₂ × φ₃ × φ₄ × φ₅ × φ₆) rest (x₁, x.0, x.1, x.2, x.3, x.4))))

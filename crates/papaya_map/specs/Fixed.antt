@@ -11,8 +11,8 @@ use Rattle.papaya_lookup.specs.History.{Change}
 
 -- Which book it has; what that was opened with: the hasher, how the map resizes, and the logs of
 -- pairs and of tables; the initial capacity, in slots, by which its first table is sized; over how
--- many shards it counts; the number of the collector whose guards its calls take; and how many slots
--- each table has that had come when it was made, oldest first.
+-- many shards it counts; the number of the collector whose guards its calls take; how many slots each
+-- table has that had come when it was made, oldest first; and what had been seen of its history then.
 pub record Fixed (K V S : Type 0) : Type 0 where
   pub book : Book
   pub begun : Begun K V S
@@ -20,6 +20,7 @@ pub record Fixed (K V S : Type 0) : Type 0 where
   pub shards : ℕ
   pub collector : ℕ
   pub opened : List ℕ
+  pub seen : List (Change K (Stored K V))
 
 -- What a map shows that is pinned: what of it is fixed, and what had been seen of its history when it
 -- was pinned.

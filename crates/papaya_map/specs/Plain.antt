@@ -11,7 +11,7 @@ use Rattle.papaya_lookup.specs.Answers.{IsAnsweredBetween}
 use Rattle.papaya_lookup.specs.History.{Change, IsLegalHistory, history_of, key_of}
 use Rattle.papaya_book.specs.Logs.{Stored}
 use Rattle.papaya_book.specs.declared.rule.entry.Event.{Event}
-use Rattle.papaya_map.specs.Fixed.{Pinned}
+use Rattle.papaya_map.specs.Fixed.{Fixed, Pinned}
 
 -- This is so of a history, as of the one that a pass has seen which is made for that call alone.
 pub record IsOfHistory {K V : Type 0} (eq : K → K → Bool)
@@ -40,6 +40,10 @@ abbrev pub of_its_history : {K V S : Type 0} → (Event K V S → Gv) → Rules 
     → Pinned K V S → (eq : K → K → Bool) → (tells : List (Change K (Stored K V)) → Type 0) → Fml
 of_its_history {K} {V} {S} code rule map eq tells = fex (List ℕ × List (Event K V S)) (λ s. fsep
     (seen_owns code rule map.map.book s.0 s.1) (fact (IsSince map eq tells (history_of s.1))))
+
+-- a map that is not pinned, by what had been seen of its history when it was made
+abbrev pub unpinned : {K V S : Type 0} → Fixed K V S → Pinned K V S
+unpinned map = record { map = map; seen = map.seen }
 
 -- a matching key had a pair between the two histories, or none had one
 abbrev pub IsContained : {K V : Type 0} → (K → K → Bool) → (K → Bool)

@@ -7,7 +7,7 @@ ghost use Rattle.papaya_book.specs.Limits.{HasNoRoom};
 ghost use Rattle.papaya_keys.specs.declared.occupied.NotInserted.TheVariants.{Logged, Value};
 ghost use Rattle.papaya_change.specs.Writing.{IsMemoryOrCapacity};
 ghost use Rattle.papaya_lookup.specs.History.{IsLegalHistory, Makes, history_of, key_of};
-ghost use Rattle.papaya_map.specs.Plain.{IsOfHistory, of_its_history, rule_of};
+ghost use Rattle.papaya_map.specs.Plain.{IsOfHistory, of_its_history, rule_of, unpinned};
 ghost use Rattle.papaya_map.specs.Storing.{IsThere, IsThereBy, IsTried, IsTriedWith, stored};
 
 use crate::map::{HashMap, HashMapRef, Pass};
@@ -336,6 +336,35 @@ impl<'a, K: Hash + Eq + Drop, V: Drop, S: BuildHasher> HashMapRef<'a, K, V, S> {
 }
 
 impl<K: Hash + Eq + Drop, V: Drop, S: BuildHasher> HashMap<K, V, S> {
+    /// The same, with what was seen.
+    #[inline(always)]
+    fn try_insert_told<'g, R: Wait, G: Guard>(
+        &'g self,
+        rt: &R,
+        key: K,
+        value: V,
+        guard: &'g G,
+    ) -> Saying<Result<Result<&'g V, OccupiedError<'g, V>>, Refused>, K, V, S>
+        ensures book { result.book ≡ self.now.book }
+        ensures legal { IsLegalHistory K.eq key_of (history_of result.log) }
+        ensures seen { IsPrefix self.now.seen (history_of result.log) }
+        ensures tried { IfOk result.answer (λ tried. IsTried K.eq key self.now.seen
+            (history_of result.log) value tried) }
+        ensures right { G.collector_number guard.now ≡ self.now.collector
+            → IfErr result.answer IsMemoryOrCapacity }
+        ensures wrong { (G.collector_number guard.now ≡ self.now.collector → ⊥)
+            → result.answer ≡ Err Refused.WrongGuard }
+    {
+        match self.verify(guard) {
+            Ok(()) => {
+                let mut pass = self.begun(guard.number());
+                let answer = self.pin().try_insert_as(rt, key, value, &mut pass);
+                pass.tell(answer)
+            }
+            Err(refused) => self.tell_refused(refused),
+        }
+    }
+
     /// Stores a pair where the key has none, and answers its value: `try_insert` of 0.2.5. It answers
     /// as [`HashMapRef::try_insert`], and is refused as that is and for a wrong guard.
     pub fn try_insert<'g, R: Wait, G: Guard>(
@@ -345,6 +374,9 @@ impl<K: Hash + Eq + Drop, V: Drop, S: BuildHasher> HashMap<K, V, S> {
         value: V,
         guard: &'g G,
     ) -> Result<Result<&'g V, OccupiedError<'g, V>>, Refused>
+        ensures* own { sem 𝓛 (of_its_history (EventOf K.row V.row S.row).coded.code
+            (rule_of ⟦<Law<K, V, S> as Rule<Event<K, V, S>, Named<K, V>>>⟧) (unpinned self.now) K.eq
+            (λ h. IfOk result (λ tried. IsTried K.eq key self.now.seen h value tried))) }
         ensures tried { IfOk result (λ tried. IsOfHistory K.eq (λ h. IsTried K.eq key [] h value
             tried)) }
         ensures right { G.collector_number guard.now ≡ self.now.collector
@@ -352,9 +384,38 @@ impl<K: Hash + Eq + Drop, V: Drop, S: BuildHasher> HashMap<K, V, S> {
         ensures wrong { (G.collector_number guard.now ≡ self.now.collector → ⊥)
             → result ≡ Err Refused.WrongGuard }
     {
-        self.verify(guard)?;
-        let mut pass = self.numbered(guard.number());
-        self.pin().try_insert_as(rt, key, value, &mut pass)
+        let Told { answer, marker: _ } = self.try_insert_told(rt, key, value, guard);
+        answer
+    }
+
+    /// The same, with what was seen.
+    #[inline(always)]
+    fn try_insert_with_told<'g, R: Wait, F: FnOnce() -> V + Drop, G: Guard>(
+        &'g self,
+        rt: &R,
+        key: K,
+        f: F,
+        guard: &'g G,
+    ) -> Saying<Result<Result<&'g V, &'g V>, Refused>, K, V, S>
+        requires { F.IsAlwaysCallable f }
+        ensures book { result.book ≡ self.now.book }
+        ensures legal { IsLegalHistory K.eq key_of (history_of result.log) }
+        ensures seen { IsPrefix self.now.seen (history_of result.log) }
+        ensures tried { IfOk result.answer (λ tried. IsTriedWith K.eq key self.now.seen
+            (history_of result.log) (F.post f) tried) }
+        ensures right { G.collector_number guard.now ≡ self.now.collector
+            → IfErr result.answer IsMemoryOrCapacity }
+        ensures wrong { (G.collector_number guard.now ≡ self.now.collector → ⊥)
+            → result.answer ≡ Err Refused.WrongGuard }
+    {
+        match self.verify(guard) {
+            Ok(()) => {
+                let mut pass = self.begun(guard.number());
+                let answer = self.pin().try_insert_with_as(rt, key, f, &mut pass);
+                pass.tell(answer)
+            }
+            Err(refused) => self.tell_refused(refused),
+        }
     }
 
     /// The same with a closure that makes the value where it is to be stored: `try_insert_with` of
@@ -368,6 +429,9 @@ impl<K: Hash + Eq + Drop, V: Drop, S: BuildHasher> HashMap<K, V, S> {
         guard: &'g G,
     ) -> Result<Result<&'g V, &'g V>, Refused>
         requires { F.IsAlwaysCallable f }
+        ensures* own { sem 𝓛 (of_its_history (EventOf K.row V.row S.row).coded.code
+            (rule_of ⟦<Law<K, V, S> as Rule<Event<K, V, S>, Named<K, V>>>⟧) (unpinned self.now) K.eq
+            (λ h. IfOk result (λ tried. IsTriedWith K.eq key self.now.seen h (F.post f) tried))) }
         ensures tried { IfOk result (λ tried. IsOfHistory K.eq (λ h. IsTriedWith K.eq key [] h
             (F.post f) tried)) }
         ensures right { G.collector_number guard.now ≡ self.now.collector
@@ -375,9 +439,37 @@ impl<K: Hash + Eq + Drop, V: Drop, S: BuildHasher> HashMap<K, V, S> {
         ensures wrong { (G.collector_number guard.now ≡ self.now.collector → ⊥)
             → result ≡ Err Refused.WrongGuard }
     {
-        self.verify(guard)?;
-        let mut pass = self.numbered(guard.number());
-        self.pin().try_insert_with_as(rt, key, f, &mut pass)
+        let Told { answer, marker: _ } = self.try_insert_with_told(rt, key, f, guard);
+        answer
+    }
+
+    /// The same, with what was seen.
+    #[inline(always)]
+    fn get_or_insert_told<'g, R: Wait, G: Guard>(
+        &'g self,
+        rt: &R,
+        key: K,
+        value: V,
+        guard: &'g G,
+    ) -> Saying<Result<&'g V, Refused>, K, V, S>
+        ensures book { result.book ≡ self.now.book }
+        ensures legal { IsLegalHistory K.eq key_of (history_of result.log) }
+        ensures seen { IsPrefix self.now.seen (history_of result.log) }
+        ensures there { IfOk result.answer (IsThere K.eq key self.now.seen (history_of result.log)
+            (λ w. w ≡ value)) }
+        ensures right { G.collector_number guard.now ≡ self.now.collector
+            → IfErr result.answer IsMemoryOrCapacity }
+        ensures wrong { (G.collector_number guard.now ≡ self.now.collector → ⊥)
+            → result.answer ≡ Err Refused.WrongGuard }
+    {
+        match self.verify(guard) {
+            Ok(()) => {
+                let mut pass = self.begun(guard.number());
+                let answer = self.pin().get_or_insert_as(rt, key, value, &mut pass);
+                pass.tell(answer)
+            }
+            Err(refused) => self.tell_refused(refused),
+        }
     }
 
     /// The value of a key, which is stored where the key has none: `get_or_insert` of 0.2.5.
@@ -389,6 +481,9 @@ impl<K: Hash + Eq + Drop, V: Drop, S: BuildHasher> HashMap<K, V, S> {
         value: V,
         guard: &'g G,
     ) -> Result<&'g V, Refused>
+        ensures* own { sem 𝓛 (of_its_history (EventOf K.row V.row S.row).coded.code
+            (rule_of ⟦<Law<K, V, S> as Rule<Event<K, V, S>, Named<K, V>>>⟧) (unpinned self.now) K.eq
+            (λ h. IfOk result (IsThere K.eq key self.now.seen h (λ w. w ≡ value)))) }
         ensures there { IfOk result (λ there. IsOfHistory K.eq (λ h. IsThere K.eq key [] h
             (λ w. w ≡ value) there)) }
         ensures right { G.collector_number guard.now ≡ self.now.collector
@@ -396,10 +491,37 @@ impl<K: Hash + Eq + Drop, V: Drop, S: BuildHasher> HashMap<K, V, S> {
         ensures wrong { (G.collector_number guard.now ≡ self.now.collector → ⊥)
             → result ≡ Err Refused.WrongGuard }
     {
-        match self.try_insert(rt, key, value, guard) {
-            Ok(Ok(stored)) => Ok(stored),
-            Ok(Err(occupied)) => Ok(occupied.current),
-            Err(refused) => Err(refused),
+        let Told { answer, marker: _ } = self.get_or_insert_told(rt, key, value, guard);
+        answer
+    }
+
+    /// The same, with what was seen.
+    #[inline(always)]
+    fn get_or_insert_with_told<'g, R: Wait, F: FnOnce() -> V + Drop, G: Guard>(
+        &'g self,
+        rt: &R,
+        key: K,
+        f: F,
+        guard: &'g G,
+    ) -> Saying<Result<&'g V, Refused>, K, V, S>
+        requires { F.IsAlwaysCallable f }
+        ensures book { result.book ≡ self.now.book }
+        ensures legal { IsLegalHistory K.eq key_of (history_of result.log) }
+        ensures seen { IsPrefix self.now.seen (history_of result.log) }
+        ensures there { IfOk result.answer (IsThere K.eq key self.now.seen (history_of result.log)
+            (F.post f)) }
+        ensures right { G.collector_number guard.now ≡ self.now.collector
+            → IfErr result.answer IsMemoryOrCapacity }
+        ensures wrong { (G.collector_number guard.now ≡ self.now.collector → ⊥)
+            → result.answer ≡ Err Refused.WrongGuard }
+    {
+        match self.verify(guard) {
+            Ok(()) => {
+                let mut pass = self.begun(guard.number());
+                let answer = self.pin().get_or_insert_with_as(rt, key, f, &mut pass);
+                pass.tell(answer)
+            }
+            Err(refused) => self.tell_refused(refused),
         }
     }
 
@@ -413,6 +535,9 @@ impl<K: Hash + Eq + Drop, V: Drop, S: BuildHasher> HashMap<K, V, S> {
         guard: &'g G,
     ) -> Result<&'g V, Refused>
         requires { F.IsAlwaysCallable f }
+        ensures* own { sem 𝓛 (of_its_history (EventOf K.row V.row S.row).coded.code
+            (rule_of ⟦<Law<K, V, S> as Rule<Event<K, V, S>, Named<K, V>>>⟧) (unpinned self.now) K.eq
+            (λ h. IfOk result (IsThere K.eq key self.now.seen h (F.post f)))) }
         ensures there { IfOk result (λ there. IsOfHistory K.eq (λ h. IsThere K.eq key [] h
             (F.post f) there)) }
         ensures right { G.collector_number guard.now ≡ self.now.collector
@@ -420,10 +545,7 @@ impl<K: Hash + Eq + Drop, V: Drop, S: BuildHasher> HashMap<K, V, S> {
         ensures wrong { (G.collector_number guard.now ≡ self.now.collector → ⊥)
             → result ≡ Err Refused.WrongGuard }
     {
-        match self.try_insert_with(rt, key, f, guard) {
-            Ok(Ok(stored)) => Ok(stored),
-            Ok(Err(current)) => Ok(current),
-            Err(refused) => Err(refused),
-        }
+        let Told { answer, marker: _ } = self.get_or_insert_with_told(rt, key, f, guard);
+        answer
     }
 }

@@ -50,7 +50,7 @@ use std::sync::Wait;
 
 /// A map that threads share. Contracts see what of it is fixed when it is made: which book it has,
 /// the hasher, how it resizes, its logs, the initial capacity by which its first table is sized, over
-/// how many shards it counts, and which tables it had at once.
+/// how many shards it counts, which tables it had at once, and what had been seen of its history then.
 #[derive(Drop)]
 pub struct HashMap<K: Hash + Eq, V, S: BuildHasher = BuildHasherDefault<FoldHasher>> {
     alloc: Global,
@@ -73,7 +73,10 @@ impl<K: Hash + Eq, V, S: BuildHasher> Model for HashMap<K, V, S> {
       shards = m.count;
       collector = m.collector;
       opened = tables_of m.opened.log;
+      seen = history_of m.opened.log;
     } };
+
+    ghost invariant = { λ m. IsLegalHistory K.eq key_of (history_of m.opened.log) };
 }
 
 /// What a caller has seen of a map's history, and what it changed itself. Of all this it keeps no
@@ -109,9 +112,10 @@ impl<K: Hash + Eq, V, S: BuildHasher> Model for Pass<K, V, S> {
 }
 
 impl<K: Hash + Eq, V, S: BuildHasher> Pass<K, V, S> {
-    /// An answer, with what shows the history that the pass has seen.
+    /// An answer, with what shows the history that the pass has seen. A call that makes a pass of its
+    /// own tells by this which history its answer is of: see [`Told`].
     #[inline(always)]
-    pub(crate) fn tell<B>(&self, answer: B) -> Told<B, Event<K, V, S>, Named<K, V>, Law<K, V, S>>
+    pub fn tell<B>(&self, answer: B) -> Told<B, Event<K, V, S>, Named<K, V>, Law<K, V, S>>
         ensures answer { result.answer ≡ answer }
         ensures book { result.book ≡ self.now.book }
         ensures history { history_of result.log ≡ self.now.history }
@@ -195,8 +199,8 @@ impl<K: Hash + Eq, V, S: BuildHasher> HashMap<K, V, S> {
         self.numbered(self.number())
     }
 
-    /// The number by which a call's pass picks a shard of the count.
-    pub(crate) fn number(&self) -> u64 {
+    /// The number by which a pass picks a shard of the count, where no guard gives one.
+    pub fn number(&self) -> u64 {
         self.collector.enter().number()
     }
 
@@ -214,8 +218,8 @@ impl<K: Hash + Eq, V, S: BuildHasher> HashMap<K, V, S> {
         pass.sight.learn(&self.opened);
     }
 
-    /// A new pass of this map, whose calls pick the count's shard by this number.
-    pub(crate) fn numbered(&self, number: u64) -> Pass<K, V, S>
+    /// A new pass of this map, whose calls pick the count's shard by this number, as that of a guard.
+    pub fn numbered(&self, number: u64) -> Pass<K, V, S>
         ensures book { result.book ≡ self.now.book }
         ensures new { result.history ≡ [] }
         ensures made { result.made ≡ [] }
@@ -230,12 +234,30 @@ impl<K: Hash + Eq, V, S: BuildHasher> HashMap<K, V, S> {
             given: Own::nothing(),
         }
     }
+
+    /// A new pass of this map, which has seen what had been seen when the map was made. Its calls pick
+    /// the count's shard by this number. A call that takes a guard makes its pass by this.
+    #[inline(always)]
+    pub fn begun(&self, number: u64) -> Pass<K, V, S>
+        ensures book { result.book ≡ self.now.book }
+        ensures seen { result.history ≡ self.now.seen }
+        ensures made { result.made ≡ [] }
+        ensures given { result.given ≡ [] }
+    {
+        Pass {
+            number,
+            sight: self.opened.again(),
+            own: Own::nothing(),
+            given: Own::nothing(),
+        }
+    }
 }
 
 impl<'a, K: Hash + Eq, V, S: BuildHasher> HashMapRef<'a, K, V, S> {
-    /// A new pass of this map, which has seen what had been seen when the map was pinned.
+    /// A new pass of this map, which has seen what had been seen when the map was pinned. Its calls
+    /// pick the count's shard by this number. A call that takes no pass makes its own by this.
     #[inline(always)]
-    pub(crate) fn begun(&self, number: u64) -> Pass<K, V, S>
+    pub fn begun(&self, number: u64) -> Pass<K, V, S>
         ensures book { result.book ≡ self.now.map.book }
         ensures seen { result.history ≡ self.now.seen }
         ensures made { result.made ≡ [] }

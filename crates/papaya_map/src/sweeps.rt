@@ -6,7 +6,7 @@ ghost use Rattle.papaya_change.specs.Writing.{IsMemoryOrCapacity};
 ghost use Rattle.std.specs.Borrow.{sem};
 ghost use Rattle.papaya_book.specs.contracts.rule.entry.Event.{the_row as EventOf};
 ghost use Rattle.papaya_lookup.specs.History.{IsLegalHistory, history_of, key_of};
-ghost use Rattle.papaya_map.specs.Plain.{IsOfHistory, of_its_history, rule_of};
+ghost use Rattle.papaya_map.specs.Plain.{IsOfHistory, of_its_history, rule_of, unpinned};
 ghost use mathlib.Core.List.{IsPrefix};
 ghost use Rattle.papaya_sweep.specs.Leaving.{HasDropped, HasKept, IsCleared};
 
@@ -148,15 +148,76 @@ impl<'a, K: Hash + Eq, V, S: BuildHasher> HashMapRef<'a, K, V, S> {
 }
 
 impl<K: Hash + Eq, V, S: BuildHasher> HashMap<K, V, S> {
+    /// The same, with what was seen.
+    #[inline(always)]
+    fn clear_told<R: Wait, G: Guard>(
+        &self,
+        rt: &R,
+        guard: &G,
+    ) -> Saying<Result<(), Refused>, K, V, S>
+        ensures book { result.book ≡ self.now.book }
+        ensures legal { IsLegalHistory K.eq key_of (history_of result.log) }
+        ensures seen { IsPrefix self.now.seen (history_of result.log) }
+        ensures cleared { IfOk result.answer (λ _. IsCleared K.eq self.now.seen
+            (history_of result.log)) }
+        ensures right { G.collector_number guard.now ≡ self.now.collector
+            → IfErr result.answer IsMemoryOrCapacity }
+        ensures wrong { (G.collector_number guard.now ≡ self.now.collector → ⊥)
+            → result.answer ≡ Err Refused.WrongGuard }
+    {
+        match self.verify(guard) {
+            Ok(()) => {
+                let mut pass = self.begun(guard.number());
+                let answer = self.pin().clear_as(rt, &mut pass);
+                pass.tell(answer)
+            }
+            Err(refused) => self.tell_refused(refused),
+        }
+    }
+
     /// Removes the pairs that the map has: `clear` of 0.2.5. Refused for a wrong guard, and as
     /// [`HashMapRef::clear`] is.
     pub fn clear<R: Wait, G: Guard>(&self, rt: &R, guard: &G) -> Result<(), Refused>
+        ensures* own { sem 𝓛 (of_its_history (EventOf K.row V.row S.row).coded.code
+            (rule_of ⟦<Law<K, V, S> as Rule<Event<K, V, S>, Named<K, V>>>⟧) (unpinned self.now) K.eq
+            (λ h. IfOk result (λ _. IsCleared K.eq self.now.seen h))) }
         ensures right { G.collector_number guard.now ≡ self.now.collector
             → IfErr result (λ refused. IsMemoryOrCapacity refused) }
         ensures wrong { (G.collector_number guard.now ≡ self.now.collector → ⊥)
             → result ≡ Err Refused.WrongGuard }
     {
-        self.retain(rt, |_, _| { false }, guard)
+        let Told { answer, marker: _ } = self.clear_told(rt, guard);
+        answer
+    }
+
+    /// The same, with what was seen.
+    #[inline(always)]
+    fn retain_told<R: Wait, F: FnMut(&K, &V) -> bool, G: Guard>(
+        &self,
+        rt: &R,
+        stays: F,
+        guard: &G,
+    ) -> Saying<Result<(), Refused>, K, V, S>
+        requires { F.IsAlwaysCallable stays }
+        ensures book { result.book ≡ self.now.book }
+        ensures legal { IsLegalHistory K.eq key_of (history_of result.log) }
+        ensures seen { IsPrefix self.now.seen (history_of result.log) }
+        ensures kept { G.collector_number guard.now ≡ self.now.collector
+            → (made : _) × HasKept K.eq self.now.seen (history_of result.log) [] made
+            (Judges F.FnMut) stays result.answer }
+        ensures right { G.collector_number guard.now ≡ self.now.collector
+            → IfErr result.answer IsMemoryOrCapacity }
+        ensures wrong { (G.collector_number guard.now ≡ self.now.collector → ⊥)
+            → result.answer ≡ Err Refused.WrongGuard }
+    {
+        match self.verify(guard) {
+            Ok(()) => {
+                let mut pass = self.begun(guard.number());
+                let answer = self.pin().retain_as(rt, stays, &mut pass);
+                pass.tell(answer)
+            }
+            Err(refused) => self.tell_refused(refused),
+        }
     }
 
     /// Removes the pairs for which the closure, which is shown each, answers false: `retain` of 0.2.5.
@@ -168,6 +229,10 @@ impl<K: Hash + Eq, V, S: BuildHasher> HashMap<K, V, S> {
         guard: &G,
     ) -> Result<(), Refused>
         requires { F.IsAlwaysCallable stays }
+        ensures* own { sem 𝓛 (of_its_history (EventOf K.row V.row S.row).coded.code
+            (rule_of ⟦<Law<K, V, S> as Rule<Event<K, V, S>, Named<K, V>>>⟧) (unpinned self.now) K.eq
+            (λ h. G.collector_number guard.now ≡ self.now.collector
+            → (made : _) × HasKept K.eq self.now.seen h [] made (Judges F.FnMut) stays result)) }
         ensures kept { G.collector_number guard.now ≡ self.now.collector
             → IsOfHistory K.eq (λ h. (made : _) × HasKept K.eq [] h [] made (Judges F.FnMut) stays
             result) }
@@ -176,9 +241,8 @@ impl<K: Hash + Eq, V, S: BuildHasher> HashMap<K, V, S> {
         ensures wrong { (G.collector_number guard.now ≡ self.now.collector → ⊥)
             → result ≡ Err Refused.WrongGuard }
     {
-        self.verify(guard)?;
-        let mut pass = self.numbered(guard.number());
-        self.pin().retain_as(rt, stays, &mut pass)
+        let Told { answer, marker: _ } = self.retain_told(rt, stays, guard);
+        answer
     }
 
     /// The pairs of the map, one by one: `iter` of 0.2.5. Refused for a wrong guard, and as

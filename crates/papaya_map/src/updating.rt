@@ -8,7 +8,7 @@ ghost use Rattle.papaya_book.specs.Limits.{HasNoRoom};
 ghost use Rattle.papaya_change.specs.RemovalAnswers.{took};
 ghost use Rattle.papaya_change.specs.Writing.{IsMemoryOrCapacity};
 ghost use Rattle.papaya_lookup.specs.History.{IsLegalHistory, Makes, history_of, key_of};
-ghost use Rattle.papaya_map.specs.Plain.{IsOfHistory, of_its_history, rule_of};
+ghost use Rattle.papaya_map.specs.Plain.{IsOfHistory, of_its_history, rule_of, unpinned};
 ghost use Rattle.papaya_map.specs.Storing.{IsUpdated, IsUpserted};
 
 use crate::map::{HashMap, HashMapRef, Pass};
@@ -285,6 +285,36 @@ impl<'a, K: Hash + Eq + Drop, V: Drop, S: BuildHasher> HashMapRef<'a, K, V, S> {
 }
 
 impl<K: Hash + Eq + Drop, V: Drop, S: BuildHasher> HashMap<K, V, S> {
+    /// The same, with what was seen.
+    #[inline(always)]
+    fn update_told<'g, R: Wait, F: Fn(&V) -> V, G: Guard>(
+        &'g self,
+        rt: &R,
+        key: K,
+        f: F,
+        guard: &'g G,
+    ) -> Saying<Result<Option<&'g V>, Refused>, K, V, S>
+        requires { F.IsAlwaysCallable f }
+        ensures book { result.book ≡ self.now.book }
+        ensures legal { IsLegalHistory K.eq key_of (history_of result.log) }
+        ensures seen { IsPrefix self.now.seen (history_of result.log) }
+        ensures updated { IfOk result.answer (IsUpdated K.eq key self.now.seen
+            (history_of result.log) (FnReturnsAt F.Fn f)) }
+        ensures right { G.collector_number guard.now ≡ self.now.collector
+            → IfErr result.answer IsMemoryOrCapacity }
+        ensures wrong { (G.collector_number guard.now ≡ self.now.collector → ⊥)
+            → result.answer ≡ Err Refused.WrongGuard }
+    {
+        match self.verify(guard) {
+            Ok(()) => {
+                let mut pass = self.begun(guard.number());
+                let answer = self.pin().update_as(rt, key, f, &mut pass);
+                pass.tell(answer)
+            }
+            Err(refused) => self.tell_refused(refused),
+        }
+    }
+
     /// Puts what the closure makes of the key's value in its place, and answers it: `update` of
     /// 0.2.5. It answers as [`HashMapRef::update`], and is refused as that is and for a wrong guard.
     pub fn update<'g, R: Wait, F: Fn(&V) -> V, G: Guard>(
@@ -295,6 +325,9 @@ impl<K: Hash + Eq + Drop, V: Drop, S: BuildHasher> HashMap<K, V, S> {
         guard: &'g G,
     ) -> Result<Option<&'g V>, Refused>
         requires { F.IsAlwaysCallable f }
+        ensures* own { sem 𝓛 (of_its_history (EventOf K.row V.row S.row).coded.code
+            (rule_of ⟦<Law<K, V, S> as Rule<Event<K, V, S>, Named<K, V>>>⟧) (unpinned self.now) K.eq
+            (λ h. IfOk result (IsUpdated K.eq key self.now.seen h (FnReturnsAt F.Fn f)))) }
         ensures updated { IfOk result (λ updated. IsOfHistory K.eq (λ h. IsUpdated K.eq key [] h
             (FnReturnsAt F.Fn f) updated)) }
         ensures right { G.collector_number guard.now ≡ self.now.collector
@@ -302,9 +335,41 @@ impl<K: Hash + Eq + Drop, V: Drop, S: BuildHasher> HashMap<K, V, S> {
         ensures wrong { (G.collector_number guard.now ≡ self.now.collector → ⊥)
             → result ≡ Err Refused.WrongGuard }
     {
-        self.verify(guard)?;
-        let mut pass = self.numbered(guard.number());
-        self.pin().update_as(rt, key, f, &mut pass)
+        let Told { answer, marker: _ } = self.update_told(rt, key, f, guard);
+        answer
+    }
+
+    /// The same, with what was seen.
+    #[inline(always)]
+    fn update_or_insert_told<'g, R: Wait, F: Fn(&V) -> V, G: Guard>(
+        &'g self,
+        rt: &R,
+        key: K,
+        update: F,
+        value: V,
+        guard: &'g G,
+    ) -> Saying<Result<&'g V, Refused>, K, V, S>
+        requires { F.IsAlwaysCallable update }
+        ensures book { result.book ≡ self.now.book }
+        ensures legal { IsLegalHistory K.eq key_of (history_of result.log) }
+        ensures seen { IsPrefix self.now.seen (history_of result.log) }
+        ensures upserted { IfOk result.answer (IsUpserted K.eq key self.now.seen
+            (history_of result.log) (FnReturnsAt F.Fn update) (λ w. w ≡ value)) }
+        ensures right { G.collector_number guard.now ≡ self.now.collector
+            → IfErr result.answer IsMemoryOrCapacity }
+        ensures wrong { (G.collector_number guard.now ≡ self.now.collector → ⊥)
+            → result.answer ≡ Err Refused.WrongGuard }
+    {
+        match self.verify(guard) {
+            Ok(()) => {
+                let mut pass = self.begun(guard.number());
+                let answer = self
+                    .pin()
+                    .update_or_insert_as(rt, key, update, value, &mut pass);
+                pass.tell(answer)
+            }
+            Err(refused) => self.tell_refused(refused),
+        }
     }
 
     /// The same, and where the key has no value this one is stored: `update_or_insert` of 0.2.5.
@@ -318,6 +383,10 @@ impl<K: Hash + Eq + Drop, V: Drop, S: BuildHasher> HashMap<K, V, S> {
         guard: &'g G,
     ) -> Result<&'g V, Refused>
         requires { F.IsAlwaysCallable update }
+        ensures* own { sem 𝓛 (of_its_history (EventOf K.row V.row S.row).coded.code
+            (rule_of ⟦<Law<K, V, S> as Rule<Event<K, V, S>, Named<K, V>>>⟧) (unpinned self.now) K.eq
+            (λ h. IfOk result (IsUpserted K.eq key self.now.seen h (FnReturnsAt F.Fn update)
+            (λ w. w ≡ value)))) }
         ensures upserted { IfOk result (λ stored. IsOfHistory K.eq (λ h. IsUpserted K.eq key [] h
             (FnReturnsAt F.Fn update) (λ w. w ≡ value) stored)) }
         ensures right { G.collector_number guard.now ≡ self.now.collector
@@ -325,10 +394,42 @@ impl<K: Hash + Eq + Drop, V: Drop, S: BuildHasher> HashMap<K, V, S> {
         ensures wrong { (G.collector_number guard.now ≡ self.now.collector → ⊥)
             → result ≡ Err Refused.WrongGuard }
     {
-        self.verify(guard)?;
-        let mut pass = self.numbered(guard.number());
-        self.pin()
-            .upsert_as(rt, key, update, Ready { value }, &mut pass)
+        let Told { answer, marker: _ } = self.update_or_insert_told(rt, key, update, value, guard);
+        answer
+    }
+
+    /// The same, with what was seen.
+    #[inline(always)]
+    fn update_or_insert_with_told<'g, R: Wait, U: Fn(&V) -> V, F: FnOnce() -> V + Drop, G: Guard>(
+        &'g self,
+        rt: &R,
+        key: K,
+        update: U,
+        f: F,
+        guard: &'g G,
+    ) -> Saying<Result<&'g V, Refused>, K, V, S>
+        requires update { U.IsAlwaysCallable update }
+        requires make { F.IsAlwaysCallable f }
+        ensures book { result.book ≡ self.now.book }
+        ensures legal { IsLegalHistory K.eq key_of (history_of result.log) }
+        ensures seen { IsPrefix self.now.seen (history_of result.log) }
+        ensures upserted { IfOk result.answer (IsUpserted K.eq key self.now.seen
+            (history_of result.log) (FnReturnsAt U.Fn update) (F.post f)) }
+        ensures right { G.collector_number guard.now ≡ self.now.collector
+            → IfErr result.answer IsMemoryOrCapacity }
+        ensures wrong { (G.collector_number guard.now ≡ self.now.collector → ⊥)
+            → result.answer ≡ Err Refused.WrongGuard }
+    {
+        match self.verify(guard) {
+            Ok(()) => {
+                let mut pass = self.begun(guard.number());
+                let answer = self
+                    .pin()
+                    .update_or_insert_with_as(rt, key, update, f, &mut pass);
+                pass.tell(answer)
+            }
+            Err(refused) => self.tell_refused(refused),
+        }
     }
 
     /// The same with a closure that makes the value where the key has none:
@@ -343,6 +444,10 @@ impl<K: Hash + Eq + Drop, V: Drop, S: BuildHasher> HashMap<K, V, S> {
     ) -> Result<&'g V, Refused>
         requires update { U.IsAlwaysCallable update }
         requires make { F.IsAlwaysCallable f }
+        ensures* own { sem 𝓛 (of_its_history (EventOf K.row V.row S.row).coded.code
+            (rule_of ⟦<Law<K, V, S> as Rule<Event<K, V, S>, Named<K, V>>>⟧) (unpinned self.now) K.eq
+            (λ h. IfOk result (IsUpserted K.eq key self.now.seen h (FnReturnsAt U.Fn update)
+            (F.post f)))) }
         ensures upserted { IfOk result (λ stored. IsOfHistory K.eq (λ h. IsUpserted K.eq key [] h
             (FnReturnsAt U.Fn update) (F.post f) stored)) }
         ensures right { G.collector_number guard.now ≡ self.now.collector
@@ -350,9 +455,7 @@ impl<K: Hash + Eq + Drop, V: Drop, S: BuildHasher> HashMap<K, V, S> {
         ensures wrong { (G.collector_number guard.now ≡ self.now.collector → ⊥)
             → result ≡ Err Refused.WrongGuard }
     {
-        self.verify(guard)?;
-        let mut pass = self.numbered(guard.number());
-        self.pin()
-            .upsert_as(rt, key, update, Made { make: f }, &mut pass)
+        let Told { answer, marker: _ } = self.update_or_insert_with_told(rt, key, update, f, guard);
+        answer
     }
 }

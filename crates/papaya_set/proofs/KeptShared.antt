@@ -1,12 +1,11 @@
 -- What a retain of the map that threads share leaves whose closure asks one of keys.
-use Rattle.std.proofs.Common.{◌≡◌, Bool, List, [], ◌∷◌, Result, ap}
+use Rattle.std.proofs.Common.{◌≡◌, Bool, List, [], ◌∷◌, Result, ap, subst}
 use denote.Ref.{Bor}
 use Rattle.std.specs.Fn.{Called, Mut}
 use Rattle.papaya_words.specs.declared.probe.Refused.{Refused}
 use Rattle.papaya_book.specs.Logs.{Stored}
 use Rattle.papaya_change.specs.Showings.{HasSaid, Judges}
 use Rattle.papaya_lookup.specs.History.{Change}
-use Rattle.papaya_map.specs.Plain.{IsOfHistory}
 use Rattle.papaya_sweep.specs.Leaving.{HasKept}
 use Rattle.papaya_set.specs.Shared.{JudgesKey}
 
@@ -32,9 +31,7 @@ module _ {F W K : Type 0} (g : Mut F (Bor K × Unit {0}) Bool) (h : Mut W (Bor K
     leaves = k.leaves;
   }
 
-  pub kept_so : {A : Type 0} (eq : K → K → Bool) (first : W) (result : Result A Refused) → IsOfHistory eq (λ hs. (made : List (Change K (Stored K (Unit {0})))) × HasKept eq [] hs [] made (Judges h) first result) → IsOfHistory eq (λ hs. (made : List (Change K (Stored K (Unit {0})))) × HasKept eq [] hs [] made (JudgesKey g) (of first) result)
-  kept_so eq first result is = record {
-    history = is.history;
-    legal = is.legal;
-    told = (is.told.0, kept eq [] is.history [] is.told.0 first result is.told.1);
-  }
+  -- by a pass that had made no change
+  pub kept_since : {A : Type 0} (eq : K → K → Bool) (old new made made' : List (Change K (Stored K (Unit {0})))) (first : W) (result : Result A Refused) → made ≡ [] → HasKept eq old new made made' (Judges h) first result
+      → (made'' : List (Change K (Stored K (Unit {0})))) × HasKept eq old new [] made'' (JudgesKey g) (of first) result
+  kept_since eq old new made made' first result none k = (made', subst (λ z. HasKept eq old new z made' (JudgesKey g) (of first) result) none (kept eq old new made made' first result k))

@@ -1,16 +1,27 @@
 //! The calls of a set that is not pinned, which take a guard. Each looks whether the guard is of the
-//! set's collector, and is then the call of that name of [`HashSetRef`](crate::set::HashSetRef). With
-//! another guard it is refused, and changes nothing.
-ghost use Rattle.std.specs.Prelude.{◌≡◌, [], Ok, Err, IfErr, IfOk};
+//! set's collector, and is then the call of that name of [`HashSetRef`](crate::set::HashSetRef), but
+//! that what it says begins with what had been seen when the set was made. With another guard it is
+//! refused, and changes nothing.
+ghost use Rattle.std.specs.Prelude.{◌≡◌, [], true, Ok, Err, IfErr, IfOk, is_ok};
+ghost use Rattle.std.specs.Borrow.{sem};
+ghost use denote.Struct.Field.{unit-field};
+ghost use mathlib.Core.List.{IsPrefix};
+ghost use Rattle.papaya_book.specs.contracts.rule.entry.Event.{the_row as EventOf};
 ghost use Rattle.papaya_change.specs.Writing.{IsMemoryOrCapacity};
-ghost use Rattle.papaya_map.specs.Plain.{IsDone, IsOfHistory};
-ghost use Rattle.papaya_sweep.specs.Leaving.{HasKept};
+ghost use Rattle.papaya_lookup.specs.History.{IsLegalHistory, history_of, key_of};
+ghost use Rattle.papaya_map.specs.Plain.{IsDone, IsOfHistory, of_its_history, rule_of, unpinned};
+ghost use Rattle.papaya_sweep.specs.Leaving.{HasKept, IsCleared};
 ghost use Rattle.papaya_set.specs.Shared.{IsContained, IsInserted, IsKeyFound, IsRemovedKey};
-ghost use Rattle.papaya_set.specs.Shared.{JudgesKey};
+ghost use Rattle.papaya_set.specs.Shared.{IsContainedBetween, IsInsertedBetween};
+ghost use Rattle.papaya_set.specs.Shared.{IsKeyFoundBetween, IsRemovedKeyBetween, JudgesKey};
 
 use crate::iter::Iter;
 use crate::set::HashSet;
+use logbook::Rule;
+use papaya_book::rule::entry::{Event, Named};
+use papaya_book::rule::law::Law;
 use papaya_keys::guard::{Equivalent, Guard, LocalGuard, OwnedGuard};
+use papaya_map::told::{Saying, Told};
 use papaya_words::probe::Refused;
 use std::hash::{BuildHasher, Hash};
 use std::sync::Wait;
@@ -41,17 +52,85 @@ impl<K: Hash + Eq, S: BuildHasher> HashSet<K, S> {
         self.map.verify(guard)
     }
 
+    /// A refusal, with what had been seen when the set was made.
+    #[inline(always)]
+    fn tell_refused<B>(&self, refused: Refused) -> Saying<Result<B, Refused>, K, (), S>
+        ensures answer { result.answer ≡ Err refused }
+        ensures book { result.book ≡ self.now.book }
+        ensures legal { IsLegalHistory K.eq key_of (history_of result.log) }
+        ensures seen { IsPrefix self.now.seen (history_of result.log) }
+    {
+        let pass = self.map.begun(0);
+        pass.tell(Err(refused))
+    }
+
+    /// The same, with what was seen.
+    #[inline(always)]
+    fn contains_told<Q: Equivalent<K>, G: Guard>(
+        &self,
+        key: &Q,
+        guard: &G,
+    ) -> Saying<Result<bool, Refused>, K, (), S>
+        ensures book { result.book ≡ self.now.book }
+        ensures legal { IsLegalHistory K.eq key_of (history_of result.log) }
+        ensures seen { IsPrefix self.now.seen (history_of result.log) }
+        ensures contained { IfOk result.answer (IsContainedBetween K.eq (Q.matches key.now)
+            self.now.seen (history_of result.log)) }
+        ensures right { G.collector_number guard.now ≡ self.now.collector
+            → is_ok result.answer ≡ true }
+        ensures wrong { (G.collector_number guard.now ≡ self.now.collector → ⊥)
+            → result.answer ≡ Err Refused.WrongGuard }
+    {
+        if let Err(refused) = self.verify(guard) {
+            return self.tell_refused(refused);
+        }
+        let mut pass = self.map.begun(0);
+        let found = self.map.pin().get_as(key, &mut pass).is_some();
+        pass.tell(Ok(found))
+    }
+
     /// Is the key in the set? `contains` of 0.2.5. It waits for nobody, and takes no lock and no
     /// memory. `Refused::WrongGuard` alone.
     #[inline]
     pub fn contains<Q: Equivalent<K>, G: Guard>(&self, key: &Q, guard: &G) -> Result<bool, Refused>
+        ensures* own { sem 𝓛 (of_its_history (EventOf K.row unit-field.row S.row).coded.code
+            (rule_of ⟦<Law<K, (), S> as Rule<Event<K, (), S>, Named<K, ()>>>⟧) (unpinned self.now)
+            K.eq (λ h. IfOk result (IsContainedBetween K.eq (Q.matches key.now)
+            self.now.seen h))) }
         ensures right { G.collector_number guard.now ≡ self.now.collector
             → IsDone result (IsContained K.eq (Q.matches key.now)) }
         ensures wrong { (G.collector_number guard.now ≡ self.now.collector → ⊥)
             → result ≡ Err Refused.WrongGuard }
     {
-        self.verify(guard)?;
-        Ok(self.pin().contains(key))
+        let Told { answer, marker: _ } = self.contains_told(key, guard);
+        answer
+    }
+
+    /// The same, with what was seen.
+    #[inline(always)]
+    fn get_told<'g, Q: Equivalent<K>, G: Guard>(
+        &'g self,
+        key: &Q,
+        guard: &'g G,
+    ) -> Saying<Result<Option<&'g K>, Refused>, K, (), S>
+        ensures book { result.book ≡ self.now.book }
+        ensures legal { IsLegalHistory K.eq key_of (history_of result.log) }
+        ensures seen { IsPrefix self.now.seen (history_of result.log) }
+        ensures found { IfOk result.answer (IsKeyFoundBetween K.eq (Q.matches key.now)
+            self.now.seen (history_of result.log)) }
+        ensures right { G.collector_number guard.now ≡ self.now.collector
+            → is_ok result.answer ≡ true }
+        ensures wrong { (G.collector_number guard.now ≡ self.now.collector → ⊥)
+            → result.answer ≡ Err Refused.WrongGuard }
+    {
+        if let Err(refused) = self.verify(guard) {
+            return self.tell_refused(refused);
+        }
+        let mut pass = self.map.begun(0);
+        match self.map.pin().get_key_value_as(key, &mut pass) {
+            Some((stored, _)) => pass.tell(Ok(Some(stored))),
+            None => pass.tell(Ok(None)),
+        }
     }
 
     /// The stored key that is equal to this one: `get` of 0.2.5. As [`HashSet::contains`], it waits
@@ -62,13 +141,45 @@ impl<K: Hash + Eq, S: BuildHasher> HashSet<K, S> {
         key: &Q,
         guard: &'g G,
     ) -> Result<Option<&'g K>, Refused>
+        ensures* own { sem 𝓛 (of_its_history (EventOf K.row unit-field.row S.row).coded.code
+            (rule_of ⟦<Law<K, (), S> as Rule<Event<K, (), S>, Named<K, ()>>>⟧) (unpinned self.now)
+            K.eq (λ h. IfOk result (IsKeyFoundBetween K.eq (Q.matches key.now)
+            self.now.seen h))) }
         ensures right { G.collector_number guard.now ≡ self.now.collector
             → IsDone result (IsKeyFound K.eq (Q.matches key.now)) }
         ensures wrong { (G.collector_number guard.now ≡ self.now.collector → ⊥)
             → result ≡ Err Refused.WrongGuard }
     {
-        self.verify(guard)?;
-        Ok(self.pin().get(key))
+        let Told { answer, marker: _ } = self.get_told(key, guard);
+        answer
+    }
+
+    /// The same, with what was seen.
+    #[inline(always)]
+    fn remove_told<R: Wait, Q: Equivalent<K>, G: Guard>(
+        &self,
+        rt: &R,
+        key: &Q,
+        guard: &G,
+    ) -> Saying<Result<bool, Refused>, K, (), S>
+        ensures book { result.book ≡ self.now.book }
+        ensures legal { IsLegalHistory K.eq key_of (history_of result.log) }
+        ensures seen { IsPrefix self.now.seen (history_of result.log) }
+        ensures removed { IfOk result.answer (IsRemovedKeyBetween K.eq (Q.matches key.now)
+            self.now.seen (history_of result.log)) }
+        ensures right { G.collector_number guard.now ≡ self.now.collector
+            → IfErr result.answer IsMemoryOrCapacity }
+        ensures wrong { (G.collector_number guard.now ≡ self.now.collector → ⊥)
+            → result.answer ≡ Err Refused.WrongGuard }
+    {
+        if let Err(refused) = self.verify(guard) {
+            return self.tell_refused(refused);
+        }
+        let mut pass = self.map.begun(guard.number());
+        match self.map.pin().remove_as(rt, key, &mut pass) {
+            Ok(removed) => pass.tell(Ok(removed.is_some())),
+            Err(refused) => pass.tell(Err(refused)),
+        }
     }
 
     /// Removes a key, and answers whether it was there: `remove` of 0.2.5. Refused for a wrong guard,
@@ -79,6 +190,10 @@ impl<K: Hash + Eq, S: BuildHasher> HashSet<K, S> {
         key: &Q,
         guard: &G,
     ) -> Result<bool, Refused>
+        ensures* own { sem 𝓛 (of_its_history (EventOf K.row unit-field.row S.row).coded.code
+            (rule_of ⟦<Law<K, (), S> as Rule<Event<K, (), S>, Named<K, ()>>>⟧) (unpinned self.now)
+            K.eq (λ h. IfOk result (IsRemovedKeyBetween K.eq (Q.matches key.now)
+            self.now.seen h))) }
         ensures removed { G.collector_number guard.now ≡ self.now.collector
             → IfOk result (IsRemovedKey K.eq (Q.matches key.now)) }
         ensures right { G.collector_number guard.now ≡ self.now.collector
@@ -86,10 +201,8 @@ impl<K: Hash + Eq, S: BuildHasher> HashSet<K, S> {
         ensures wrong { (G.collector_number guard.now ≡ self.now.collector → ⊥)
             → result ≡ Err Refused.WrongGuard }
     {
-        match self.map.remove(rt, key, guard) {
-            Ok(removed) => Ok(removed.is_some()),
-            Err(refused) => Err(refused),
-        }
+        let Told { answer, marker: _ } = self.remove_told(rt, key, guard);
+        answer
     }
 
     /// Makes room for so many keys more than the set counts: `reserve` of 0.2.5. Refused for a wrong
@@ -108,15 +221,75 @@ impl<K: Hash + Eq, S: BuildHasher> HashSet<K, S> {
         self.map.reserve(rt, additional, guard)
     }
 
+    /// The same, with what was seen.
+    #[inline(always)]
+    fn clear_told<R: Wait, G: Guard>(
+        &self,
+        rt: &R,
+        guard: &G,
+    ) -> Saying<Result<(), Refused>, K, (), S>
+        ensures book { result.book ≡ self.now.book }
+        ensures legal { IsLegalHistory K.eq key_of (history_of result.log) }
+        ensures seen { IsPrefix self.now.seen (history_of result.log) }
+        ensures cleared { IfOk result.answer (λ _. IsCleared K.eq self.now.seen
+            (history_of result.log)) }
+        ensures right { G.collector_number guard.now ≡ self.now.collector
+            → IfErr result.answer IsMemoryOrCapacity }
+        ensures wrong { (G.collector_number guard.now ≡ self.now.collector → ⊥)
+            → result.answer ≡ Err Refused.WrongGuard }
+    {
+        if let Err(refused) = self.verify(guard) {
+            return self.tell_refused(refused);
+        }
+        let mut pass = self.map.begun(guard.number());
+        let answer = self.map.pin().clear_as(rt, &mut pass);
+        pass.tell(answer)
+    }
+
     /// Removes the keys that the set has: `clear` of 0.2.5. Refused for a wrong guard, and as
     /// [`HashSetRef::clear`](crate::set::HashSetRef::clear).
     pub fn clear<R: Wait, G: Guard>(&self, rt: &R, guard: &G) -> Result<(), Refused>
+        ensures* own { sem 𝓛 (of_its_history (EventOf K.row unit-field.row S.row).coded.code
+            (rule_of ⟦<Law<K, (), S> as Rule<Event<K, (), S>, Named<K, ()>>>⟧) (unpinned self.now)
+            K.eq (λ h. IfOk result (λ _. IsCleared K.eq self.now.seen h))) }
         ensures right { G.collector_number guard.now ≡ self.now.collector
             → IfErr result IsMemoryOrCapacity }
         ensures wrong { (G.collector_number guard.now ≡ self.now.collector → ⊥)
             → result ≡ Err Refused.WrongGuard }
     {
-        self.map.clear(rt, guard)
+        let Told { answer, marker: _ } = self.clear_told(rt, guard);
+        answer
+    }
+
+    /// The same, with what was seen.
+    #[inline(always)]
+    fn retain_told<R: Wait, F: FnMut(&K) -> bool, G: Guard>(
+        &self,
+        rt: &R,
+        mut stays: F,
+        guard: &G,
+    ) -> Saying<Result<(), Refused>, K, (), S>
+        requires { F.IsAlwaysCallable stays }
+        ensures book { result.book ≡ self.now.book }
+        ensures legal { IsLegalHistory K.eq key_of (history_of result.log) }
+        ensures seen { IsPrefix self.now.seen (history_of result.log) }
+        ensures kept { G.collector_number guard.now ≡ self.now.collector
+            → (made : _) × HasKept K.eq self.now.seen (history_of result.log) [] made
+            (JudgesKey F.FnMut) stays result.answer }
+        ensures right { G.collector_number guard.now ≡ self.now.collector
+            → IfErr result.answer IsMemoryOrCapacity }
+        ensures wrong { (G.collector_number guard.now ≡ self.now.collector → ⊥)
+            → result.answer ≡ Err Refused.WrongGuard }
+    {
+        if let Err(refused) = self.verify(guard) {
+            return self.tell_refused(refused);
+        }
+        let mut pass = self.map.begun(guard.number());
+        let answer = self
+            .map
+            .pin()
+            .retain_as(rt, move |key, _| stays(key), &mut pass);
+        pass.tell(answer)
     }
 
     /// Removes the keys for which the closure, which is shown each, answers false: `retain` of 0.2.5.
@@ -124,10 +297,14 @@ impl<K: Hash + Eq, S: BuildHasher> HashSet<K, S> {
     pub fn retain<R: Wait, F: FnMut(&K) -> bool, G: Guard>(
         &self,
         rt: &R,
-        mut stays: F,
+        stays: F,
         guard: &G,
     ) -> Result<(), Refused>
         requires { F.IsAlwaysCallable stays }
+        ensures* own { sem 𝓛 (of_its_history (EventOf K.row unit-field.row S.row).coded.code
+            (rule_of ⟦<Law<K, (), S> as Rule<Event<K, (), S>, Named<K, ()>>>⟧) (unpinned self.now)
+            K.eq (λ h. G.collector_number guard.now ≡ self.now.collector
+            → (made : _) × HasKept K.eq self.now.seen h [] made (JudgesKey F.FnMut) stays result)) }
         ensures kept { G.collector_number guard.now ≡ self.now.collector
             → IsOfHistory K.eq (λ h. (made : _) × HasKept K.eq [] h [] made (JudgesKey F.FnMut)
             stays result) }
@@ -136,7 +313,8 @@ impl<K: Hash + Eq, S: BuildHasher> HashSet<K, S> {
         ensures wrong { (G.collector_number guard.now ≡ self.now.collector → ⊥)
             → result ≡ Err Refused.WrongGuard }
     {
-        self.map.retain(rt, move |key, _| stays(key), guard)
+        let Told { answer, marker: _ } = self.retain_told(rt, stays, guard);
+        answer
     }
 
     /// The keys of the set, one by one: `iter` of 0.2.5. Refused for a wrong guard, and as
@@ -157,19 +335,48 @@ impl<K: Hash + Eq, S: BuildHasher> HashSet<K, S> {
 }
 
 impl<K: Hash + Eq + Drop, S: BuildHasher> HashSet<K, S> {
+    /// The same, with what was seen.
+    #[inline(always)]
+    fn insert_told<R: Wait, G: Guard>(
+        &self,
+        rt: &R,
+        key: K,
+        guard: &G,
+    ) -> Saying<Result<bool, Refused>, K, (), S>
+        ensures book { result.book ≡ self.now.book }
+        ensures legal { IsLegalHistory K.eq key_of (history_of result.log) }
+        ensures seen { IsPrefix self.now.seen (history_of result.log) }
+        ensures put { IfOk result.answer (IsInsertedBetween K.eq key self.now.seen
+            (history_of result.log)) }
+        ensures right { G.collector_number guard.now ≡ self.now.collector
+            → IfErr result.answer IsMemoryOrCapacity }
+        ensures wrong { (G.collector_number guard.now ≡ self.now.collector → ⊥)
+            → result.answer ≡ Err Refused.WrongGuard }
+    {
+        if let Err(refused) = self.verify(guard) {
+            return self.tell_refused(refused);
+        }
+        let mut pass = self.map.begun(guard.number());
+        match self.map.pin().insert_as(rt, key, (), &mut pass) {
+            Ok(old) => pass.tell(Ok(old.is_none())),
+            Err(refused) => pass.tell(Err(refused)),
+        }
+    }
+
     /// Stores a key, and answers whether it was absent: `insert` of 0.2.5. As there, the new key
     /// takes the place of an equal one. Refused for a wrong guard, and as
     /// [`HashSetRef::insert`](crate::set::HashSetRef::insert).
     pub fn insert<R: Wait, G: Guard>(&self, rt: &R, key: K, guard: &G) -> Result<bool, Refused>
+        ensures* own { sem 𝓛 (of_its_history (EventOf K.row unit-field.row S.row).coded.code
+            (rule_of ⟦<Law<K, (), S> as Rule<Event<K, (), S>, Named<K, ()>>>⟧) (unpinned self.now)
+            K.eq (λ h. IfOk result (IsInsertedBetween K.eq key self.now.seen h))) }
         ensures put { IfOk result (IsInserted K.eq key) }
         ensures right { G.collector_number guard.now ≡ self.now.collector
             → IfErr result IsMemoryOrCapacity }
         ensures wrong { (G.collector_number guard.now ≡ self.now.collector → ⊥)
             → result ≡ Err Refused.WrongGuard }
     {
-        match self.map.insert(rt, key, (), guard) {
-            Ok(old) => Ok(old.is_none()),
-            Err(refused) => Err(refused),
-        }
+        let Told { answer, marker: _ } = self.insert_told(rt, key, guard);
+        answer
     }
 }

@@ -1,15 +1,26 @@
-//! The calls of a set that is pinned. What they say is so of a history that no caller is shown; for
-//! calls whose histories go on from one to the next take [`HashSet::map`] and its calls by a pass.
+//! The calls of a set that is pinned. Each makes a pass for itself, which has seen what had been seen
+//! when the set was pinned, and what it says is so of that very set's own history since. For calls
+//! whose histories go on from one to the next take [`HashSet::map`] and its calls by a pass.
 ghost use Rattle.std.specs.Prelude.{◌≡◌, [], IfErr, IfOk};
+ghost use Rattle.std.specs.Borrow.{sem};
+ghost use denote.Struct.Field.{unit-field};
+ghost use mathlib.Core.List.{IsPrefix};
+ghost use Rattle.papaya_book.specs.contracts.rule.entry.Event.{the_row as EventOf};
 ghost use Rattle.papaya_change.specs.Writing.{IsMemoryOrCapacity};
-ghost use Rattle.papaya_map.specs.Plain.{IsOfHistory};
-ghost use Rattle.papaya_sweep.specs.Leaving.{HasKept};
+ghost use Rattle.papaya_lookup.specs.History.{IsLegalHistory, history_of, key_of};
+ghost use Rattle.papaya_map.specs.Plain.{IsOfHistory, of_its_history, rule_of};
+ghost use Rattle.papaya_sweep.specs.Leaving.{HasKept, IsCleared};
 ghost use Rattle.papaya_set.specs.Shared.{IsContained, IsInserted, IsKeyFound, IsRemovedKey};
-ghost use Rattle.papaya_set.specs.Shared.{JudgesKey};
+ghost use Rattle.papaya_set.specs.Shared.{IsContainedBetween, IsInsertedBetween};
+ghost use Rattle.papaya_set.specs.Shared.{IsKeyFoundBetween, IsRemovedKeyBetween, JudgesKey};
 
 use crate::iter::Iter;
 use crate::set::{HashSet, HashSetRef};
+use logbook::Rule;
+use papaya_book::rule::entry::{Event, Named};
+use papaya_book::rule::law::Law;
 use papaya_keys::guard::Equivalent;
+use papaya_map::told::{Saying, Told};
 use papaya_words::probe::Refused;
 use std::hash::{BuildHasher, Hash};
 use std::sync::Wait;
@@ -17,7 +28,7 @@ use std::sync::Wait;
 impl<'a, K: Hash + Eq, S: BuildHasher> HashSetRef<'a, K, S> {
     /// The set that was pinned: `set` of 0.2.5.
     pub fn set(&self) -> &'a HashSet<K, S>
-        ensures { result.now ≡ self.now }
+        ensures { result.now ≡ self.now.map }
     {
         self.set
     }
@@ -32,24 +43,80 @@ impl<'a, K: Hash + Eq, S: BuildHasher> HashSetRef<'a, K, S> {
         self.set.is_empty()
     }
 
+    /// The same, with what was seen.
+    #[inline(always)]
+    fn contains_told<Q: Equivalent<K>>(&self, key: &Q) -> Saying<bool, K, (), S>
+        ensures book { result.book ≡ self.now.map.book }
+        ensures legal { IsLegalHistory K.eq key_of (history_of result.log) }
+        ensures seen { IsPrefix self.now.seen (history_of result.log) }
+        ensures contained { IsContainedBetween K.eq (Q.matches key.now) self.now.seen
+            (history_of result.log) result.answer }
+    {
+        let mut pass = self.keys.begun(0);
+        let answer = self.keys.get_as(key, &mut pass).is_some();
+        pass.tell(answer)
+    }
+
     /// Is the key in the set? `contains` of 0.2.5. It waits for nobody, and takes no lock and no
     /// memory.
     #[inline]
     pub fn contains<Q: Equivalent<K>>(&self, key: &Q) -> bool
-        ensures { IsContained K.eq (Q.matches key.now) result }
+        ensures* own { sem 𝓛 (of_its_history (EventOf K.row unit-field.row S.row).coded.code
+            (rule_of ⟦<Law<K, (), S> as Rule<Event<K, (), S>, Named<K, ()>>>⟧) self.now K.eq
+            (λ h. IsContainedBetween K.eq (Q.matches key.now) self.now.seen h result)) }
+        ensures contained { IsContained K.eq (Q.matches key.now) result }
     {
-        self.keys.contains_key(key)
+        let Told { answer, marker: _ } = self.contains_told(key);
+        answer
+    }
+
+    /// The same, with what was seen.
+    #[inline(always)]
+    fn get_told<Q: Equivalent<K>>(&self, key: &Q) -> Saying<Option<&'a K>, K, (), S>
+        ensures book { result.book ≡ self.now.map.book }
+        ensures legal { IsLegalHistory K.eq key_of (history_of result.log) }
+        ensures seen { IsPrefix self.now.seen (history_of result.log) }
+        ensures found { IsKeyFoundBetween K.eq (Q.matches key.now) self.now.seen
+            (history_of result.log) result.answer }
+    {
+        let mut pass = self.keys.begun(0);
+        match self.keys.get_key_value_as(key, &mut pass) {
+            Some((stored, _)) => pass.tell(Some(stored)),
+            None => pass.tell(None),
+        }
     }
 
     /// The stored key that is equal to this one: `get` of 0.2.5. As [`HashSetRef::contains`], it
     /// waits for nobody.
     #[inline]
     pub fn get<Q: Equivalent<K>>(&self, key: &Q) -> Option<&'a K>
-        ensures { IsKeyFound K.eq (Q.matches key.now) result }
+        ensures* own { sem 𝓛 (of_its_history (EventOf K.row unit-field.row S.row).coded.code
+            (rule_of ⟦<Law<K, (), S> as Rule<Event<K, (), S>, Named<K, ()>>>⟧) self.now K.eq
+            (λ h. IsKeyFoundBetween K.eq (Q.matches key.now) self.now.seen h result)) }
+        ensures found { IsKeyFound K.eq (Q.matches key.now) result }
     {
-        match self.keys.get_key_value(key) {
-            Some((stored, _)) => Some(stored),
-            None => None,
+        let Told { answer, marker: _ } = self.get_told(key);
+        answer
+    }
+
+    /// The same, with what was seen.
+    #[inline(always)]
+    fn remove_told<R: Wait, Q: Equivalent<K>>(
+        &self,
+        rt: &R,
+        key: &Q,
+    ) -> Saying<Result<bool, Refused>, K, (), S>
+        ensures book { result.book ≡ self.now.map.book }
+        ensures legal { IsLegalHistory K.eq key_of (history_of result.log) }
+        ensures seen { IsPrefix self.now.seen (history_of result.log) }
+        ensures removed { IfOk result.answer (IsRemovedKeyBetween K.eq (Q.matches key.now)
+            self.now.seen (history_of result.log)) }
+        ensures refused { IfErr result.answer IsMemoryOrCapacity }
+    {
+        let mut pass = self.keys.begun(self.keys.map().number());
+        match self.keys.remove_as(rt, key, &mut pass) {
+            Ok(removed) => pass.tell(Ok(removed.is_some())),
+            Err(refused) => pass.tell(Err(refused)),
         }
     }
 
@@ -58,13 +125,14 @@ impl<'a, K: Hash + Eq, S: BuildHasher> HashSetRef<'a, K, S> {
     /// A removal makes nothing for itself. But where it helps to copy the table it may be refused as
     /// [`HashSetRef::insert`] is, and then it changes nothing.
     pub fn remove<R: Wait, Q: Equivalent<K>>(&self, rt: &R, key: &Q) -> Result<bool, Refused>
+        ensures* own { sem 𝓛 (of_its_history (EventOf K.row unit-field.row S.row).coded.code
+            (rule_of ⟦<Law<K, (), S> as Rule<Event<K, (), S>, Named<K, ()>>>⟧) self.now K.eq
+            (λ h. IfOk result (IsRemovedKeyBetween K.eq (Q.matches key.now) self.now.seen h))) }
         ensures removed { IfOk result (IsRemovedKey K.eq (Q.matches key.now)) }
         ensures refused { IfErr result IsMemoryOrCapacity }
     {
-        match self.keys.remove(rt, key) {
-            Ok(removed) => Ok(removed.is_some()),
-            Err(refused) => Err(refused),
-        }
+        let Told { answer, marker: _ } = self.remove_told(rt, key);
+        answer
     }
 
     /// Makes room for so many keys more than the set counts: `reserve` of 0.2.5. No key of the set
@@ -78,12 +146,51 @@ impl<'a, K: Hash + Eq, S: BuildHasher> HashSetRef<'a, K, S> {
         self.keys.reserve(rt, additional)
     }
 
+    /// The same, with what was seen.
+    #[inline(always)]
+    fn clear_told<R: Wait>(&self, rt: &R) -> Saying<Result<(), Refused>, K, (), S>
+        ensures book { result.book ≡ self.now.map.book }
+        ensures legal { IsLegalHistory K.eq key_of (history_of result.log) }
+        ensures seen { IsPrefix self.now.seen (history_of result.log) }
+        ensures cleared { IfOk result.answer (λ _. IsCleared K.eq self.now.seen
+            (history_of result.log)) }
+        ensures refused { IfErr result.answer IsMemoryOrCapacity }
+    {
+        let mut pass = self.keys.begun(self.keys.map().number());
+        let answer = self.keys.clear_as(rt, &mut pass);
+        pass.tell(answer)
+    }
+
     /// Removes the keys that the set has: `clear` of 0.2.5. A key that is stored meanwhile may stay.
     /// Refused as [`HashSetRef::retain`] is.
     pub fn clear<R: Wait>(&self, rt: &R) -> Result<(), Refused>
-        ensures { IfErr result IsMemoryOrCapacity }
+        ensures* own { sem 𝓛 (of_its_history (EventOf K.row unit-field.row S.row).coded.code
+            (rule_of ⟦<Law<K, (), S> as Rule<Event<K, (), S>, Named<K, ()>>>⟧) self.now K.eq
+            (λ h. IfOk result (λ _. IsCleared K.eq self.now.seen h))) }
+        ensures refused { IfErr result IsMemoryOrCapacity }
     {
-        self.keys.clear(rt)
+        let Told { answer, marker: _ } = self.clear_told(rt);
+        answer
+    }
+
+    /// The same, with what was seen.
+    #[inline(always)]
+    fn retain_told<R: Wait, F: FnMut(&K) -> bool>(
+        &self,
+        rt: &R,
+        mut stays: F,
+    ) -> Saying<Result<(), Refused>, K, (), S>
+        requires { F.IsAlwaysCallable stays }
+        ensures book { result.book ≡ self.now.map.book }
+        ensures legal { IsLegalHistory K.eq key_of (history_of result.log) }
+        ensures seen { IsPrefix self.now.seen (history_of result.log) }
+        ensures kept { (made : _) × HasKept K.eq self.now.seen (history_of result.log) [] made
+            (JudgesKey F.FnMut) stays result.answer }
+        ensures refused { IfErr result.answer IsMemoryOrCapacity }
+    {
+        let mut pass = self.keys.begun(self.keys.map().number());
+        let answer = self.keys.retain_as(rt, move |key, _| stays(key), &mut pass);
+        pass.tell(answer)
     }
 
     /// Removes the keys for which the closure, which is shown each, answers false: `retain` of 0.2.5.
@@ -93,13 +200,18 @@ impl<'a, K: Hash + Eq, S: BuildHasher> HashSetRef<'a, K, S> {
     /// Where it meets a copier's work it copies what is left to copy, and may be refused a table then:
     /// `Refused::Memory` where a growth was refused, and `Refused::Capacity` where there is no room.
     /// What was removed stays so.
-    pub fn retain<R: Wait, F: FnMut(&K) -> bool>(&self, rt: &R, mut stays: F) -> Result<(), Refused>
+    pub fn retain<R: Wait, F: FnMut(&K) -> bool>(&self, rt: &R, stays: F) -> Result<(), Refused>
         requires { F.IsAlwaysCallable stays }
+        ensures* own { sem 𝓛 (of_its_history (EventOf K.row unit-field.row S.row).coded.code
+            (rule_of ⟦<Law<K, (), S> as Rule<Event<K, (), S>, Named<K, ()>>>⟧) self.now K.eq
+            (λ h. (made : _) × HasKept K.eq self.now.seen h [] made (JudgesKey F.FnMut)
+            stays result)) }
         ensures kept { IsOfHistory K.eq (λ h. (made : _) × HasKept K.eq [] h [] made
             (JudgesKey F.FnMut) stays result) }
         ensures refused { IfErr result IsMemoryOrCapacity }
     {
-        self.keys.retain(rt, move |key, _| stays(key))
+        let Told { answer, marker: _ } = self.retain_told(rt, stays);
+        answer
     }
 
     /// The keys of the set, one by one: `iter` of 0.2.5. A key that is stored or removed meanwhile
@@ -116,6 +228,23 @@ impl<'a, K: Hash + Eq, S: BuildHasher> HashSetRef<'a, K, S> {
 }
 
 impl<'a, K: Hash + Eq + Drop, S: BuildHasher> HashSetRef<'a, K, S> {
+    /// The same, with what was seen.
+    #[inline(always)]
+    fn insert_told<R: Wait>(&self, rt: &R, key: K) -> Saying<Result<bool, Refused>, K, (), S>
+        ensures book { result.book ≡ self.now.map.book }
+        ensures legal { IsLegalHistory K.eq key_of (history_of result.log) }
+        ensures seen { IsPrefix self.now.seen (history_of result.log) }
+        ensures put { IfOk result.answer (IsInsertedBetween K.eq key self.now.seen
+            (history_of result.log)) }
+        ensures refused { IfErr result.answer IsMemoryOrCapacity }
+    {
+        let mut pass = self.keys.begun(self.keys.map().number());
+        match self.keys.insert_as(rt, key, (), &mut pass) {
+            Ok(old) => pass.tell(Ok(old.is_none())),
+            Err(refused) => pass.tell(Err(refused)),
+        }
+    }
+
     /// Stores a key, and answers whether it was absent: `insert` of 0.2.5. As there, the new key
     /// takes the place of an equal one. Of threads that store equal keys at once just one is answered
     /// true.
@@ -123,12 +252,13 @@ impl<'a, K: Hash + Eq + Drop, S: BuildHasher> HashSetRef<'a, K, S> {
     /// `Refused::Memory` where a growth was refused. `Refused::Capacity` where a log is full, or a
     /// further table would be too long. Refused, it changes nothing.
     pub fn insert<R: Wait>(&self, rt: &R, key: K) -> Result<bool, Refused>
+        ensures* own { sem 𝓛 (of_its_history (EventOf K.row unit-field.row S.row).coded.code
+            (rule_of ⟦<Law<K, (), S> as Rule<Event<K, (), S>, Named<K, ()>>>⟧) self.now K.eq
+            (λ h. IfOk result (IsInsertedBetween K.eq key self.now.seen h))) }
         ensures put { IfOk result (IsInserted K.eq key) }
         ensures refused { IfErr result IsMemoryOrCapacity }
     {
-        match self.keys.insert(rt, key, ()) {
-            Ok(old) => Ok(old.is_none()),
-            Err(refused) => Err(refused),
-        }
+        let Told { answer, marker: _ } = self.insert_told(rt, key);
+        answer
     }
 }

@@ -30,19 +30,21 @@ impl<K: Hash + Eq, S: BuildHasher> Model for HashSet<K, S> {
 }
 
 /// A set, as calls take it: `HashSetRef` of 0.2.5, but for the guard, which it needs none of. What it
-/// answers stays for as long as the set does. Contracts see what they see of the set.
+/// answers stays for as long as the set does. Contracts see what they see of the set, and what had
+/// been seen of its history when it was pinned.
 #[derive(Drop)]
 pub struct HashSetRef<'a, K: Hash + Eq, S: BuildHasher> {
     pub(crate) set: &'a HashSet<K, S>,
     pub(crate) keys: HashMapRef<'a, K, (), S>,
+    ghost of_set: { keys.map ≡ set.now },
 }
 
 impl<'a, K: Hash + Eq, S: BuildHasher> Model for HashSetRef<'a, K, S> {
-    ghost use Rattle.papaya_map.specs.Fixed.{Fixed};
+    ghost use Rattle.papaya_map.specs.Fixed.{Pinned};
 
-    ghost Value = { Fixed K (Unit {0}) S };
+    ghost Value = { Pinned K (Unit {0}) S };
 
-    ghost view = { λ r. r.set.now };
+    ghost view = { λ r. r.keys };
 }
 
 impl<K: Hash + Eq + Drop, S: BuildHasher + Drop> HashSet<K, S> {
@@ -167,7 +169,7 @@ impl<K: Hash + Eq, S: BuildHasher> HashSet<K, S> {
     /// The set, as calls take it: `pin` of 0.2.5. It writes no word.
     #[inline]
     pub fn pin(&self) -> HashSetRef<'_, K, S>
-        ensures { result ≡ self.now }
+        ensures { result.map ≡ self.now }
     {
         HashSetRef {
             set: self,
@@ -178,7 +180,7 @@ impl<K: Hash + Eq, S: BuildHasher> HashSet<K, S> {
     /// The same as [`HashSet::pin`]: `pin_owned` of 0.2.5, whose reference may go to another thread.
     /// Here each may, as it holds no guard.
     pub fn pin_owned(&self) -> HashSetRef<'_, K, S>
-        ensures { result ≡ self.now }
+        ensures { result.map ≡ self.now }
     {
         self.pin()
     }

@@ -5,6 +5,7 @@ ghost use Rattle.papaya_words.specs.declared.limits.TheConstants.{DEFAULT_CHUNK,
 ghost use Rattle.papaya_keys.specs.Sizes.{IsAllowed, IsSizeRefusal};
 ghost use Rattle.papaya_book.specs.Limits.{HasTableFrom, tables_of};
 ghost use Rattle.papaya_change.specs.Writing.{IsMemoryOrCapacity};
+ghost use Rattle.papaya_lookup.specs.History.{IsLegalHistory, history_of, key_of};
 ghost use Rattle.papaya_map.specs.Fixed.{HasSettingsOf, IsFor};
 
 use crate::map::HashMap;
@@ -32,12 +33,15 @@ fn first_table<R: Wait, K: Hash + Eq, V, S: BuildHasher>(
     ensures book { IfOk result (λ sight. sight.book ≡ book.now.begun.book) }
     ensures came { IfOk result (λ sight. 0 < capacity → HasTableFrom initial
         (tables_of sight.log)) }
+    ensures legal { IfOk result (λ sight. IsLegalHistory K.eq key_of (history_of sight.log)) }
     ensures err { IfErr result (λ e. e ≡ Refused.Memory) }
 {
     if capacity == 0 {
         return Ok(book.unseen());
     }
-    book.open_first(rt, alloc, capacity, initial)
+    let mut sight = book.open_first(rt, alloc, capacity, initial)?;
+    book.learn(&mut sight);
+    Ok(sight)
 }
 
 impl<K: Hash + Eq + Drop, V: Drop, S: BuildHasher + Drop> HashMap<K, V, S> {

@@ -1,0 +1,50 @@
+-- `clear` answers what it is told, and hands over what shows the log. Assumes `Logic`.
+use Rattle.std.proofs.Common.{◌≡◌, List, [], ◌∷◌, refl}
+use Rattle.std.specs.Prelude.{IfErr, IfOk, Err}
+use mathlib.Core.List.{IsPrefix}
+use mir.Syntax.{a_type, dcons, dnil, named}
+use mir.MapTy.{inst_fn}
+use base.Logic.{id⊢}
+use denote.Ref.{NamedLft}
+use denote.Param.{param, bounded}
+use denote.Struct.Field.{unit-field}
+use Rattle.std.proofs.result.Result.TheLaws.{the_row_laws as result_laws}
+use Rattle.papaya_words.proofs.probe.Refused.TheLaws.{the_row_laws as refused_laws}
+use Rattle.papaya_words.specs.contracts.probe.Refused.{the_row as RefusedRow}
+use Rattle.papaya_book.specs.contracts.rule.entry.Event as event
+use Rattle.papaya_book.specs.contracts.rule.entry.Named as naming
+use Rattle.papaya_book.specs.contracts.rule.law.Law as law
+use Rattle.papaya_book.specs.contracts.rule.law.LawRuleEventNamed.TheImpl as LawRule
+use Rattle.papaya_lookup.specs.History.{IsLegalHistory, history_of, key_of}
+use Rattle.papaya_change.specs.Writing.{IsMemoryOrCapacity}
+use Rattle.papaya_words.specs.declared.probe.Refused.TheVariants.{WrongGuard}
+use Rattle.papaya_map.specs.Plain.{unpinned, IsSince, rule_of}
+use Rattle.papaya_sweep.specs.Leaving.{IsCleared}
+use Rattle.papaya_map.proofs.Telling.{held_good, one_ref, unit_laws}
+use Rattle.papaya_map.proofs.ToldWalks.{walk_rrr}
+use Rattle.papaya_map.proofs.Handed.{meets, Answer, six_facts, handed_2}
+use Rattle.papaya_set.specs.contracts.set.HashSet as Owner
+use Rattle.papaya_set.specs.contracts.set.HashSet.clear_told as callee
+use Rattle.papaya_set.specs.contracts.set.HashSet.clear_told.Key.{name as #callee}
+use Rattle.papaya_set.proofs.set.HashSet.clear_told.Met.{met}
+use Rattle.papaya_set.specs.contracts.set.HashSet.clear.{ended, clauses}
+use Rattle.papaya_set.specs.contracts.set.HashSet.clear.Key.{name as #self}
+use Rattle.papaya_set.proofs.set.HashSet.clear.Statement.{statement}
+use Rattle.papaya_set.proofs.set.HashSet.clear.Code as code
+
+pub clear_spec : {M : Type 1} → statement M
+clear_spec 𝓤 𝓛 𝓜 𝓡 wired K S S-Hasher R G LK LS LH LR LG K-Hash K-Hash-dict K-Eq K-Eq-dict K-PartialEq K-PartialEq-dict S-BuildHasher S-BuildHasher-dict S-Hasher-Hasher S-Hasher-Hasher-dict S-Hasher-Destruct-dict R-Wait R-Wait-dict G-Guard G-Guard-dict m1 m2 m3 m4 m5 m6 m7 m8 =
+    let inst = bounded (a_type ∷ a_type ∷ a_type ∷ a_type ∷ a_type ∷ []) (K, (S, (S-Hasher, (R, (G, tt))))) (dcons K-Hash-dict (dcons K-Eq-dict (dcons K-PartialEq-dict (dcons S-BuildHasher-dict (dcons S-Hasher-Hasher-dict (dcons S-Hasher-Destruct-dict (dcons R-Wait-dict (dcons G-Guard-dict dnil)))))))) in
+    let E = event.the_row (param 0 K) unit-field.row (param 1 S) in let N = naming.the_row (param 0 K) unit-field.row in let P = law.the_row (param 0 K) unit-field.row (param 1 S) in let g = LawRule.ghosts (param 0 K) unit-field.row (param 1 S) (param 2 S-Hasher) K-Hash LawRule.no_dict K-Eq LawRule.no_dict K-PartialEq LawRule.no_dict S-BuildHasher LawRule.no_dict S-Hasher-Hasher LawRule.no_dict LawRule.no_dict in
+    let Ends = ended K S S-Hasher R G K-Hash K-Hash-dict K-Eq K-Eq-dict K-PartialEq K-PartialEq-dict S-BuildHasher S-BuildHasher-dict S-Hasher-Hasher S-Hasher-Hasher-dict S-Hasher-Destruct-dict R-Wait R-Wait-dict G-Guard G-Guard-dict in
+    meets E N P g Ends 𝓛 𝓜 𝓡 (clauses K S S-Hasher R G K-Hash K-Hash-dict K-Eq K-Eq-dict K-PartialEq K-PartialEq-dict S-BuildHasher S-BuildHasher-dict S-Hasher-Hasher S-Hasher-Hasher-dict S-Hasher-Destruct-dict R-Wait R-Wait-dict G-Guard G-Guard-dict 𝓛 𝓜.mem 𝓡.returns) (callee.clauses K S S-Hasher R G K-Hash K-Hash-dict K-Eq K-Eq-dict K-PartialEq K-PartialEq-dict S-BuildHasher S-BuildHasher-dict S-Hasher-Hasher S-Hasher-Hasher-dict S-Hasher-Destruct-dict R-Wait R-Wait-dict G-Guard G-Guard-dict 𝓛 𝓜.mem 𝓡.returns)
+    (λ κs a r. (r.book ≡ a.0.now.book) × IsLegalHistory K-PartialEq.eq key_of (history_of r.log) × IsPrefix a.0.now.seen (history_of r.log) × IfOk r.answer (λ _. IsCleared K-PartialEq.eq a.0.now.seen (history_of r.log)) × ((G-Guard.collector_number a.1.1.0.now ≡ a.0.now.collector) → IfErr r.answer IsMemoryOrCapacity) × (((G-Guard.collector_number a.1.1.0.now ≡ a.0.now.collector) → ⊥) → r.answer ≡ Err WrongGuard))
+    (λ κs a u. (tt, id⊢ 𝓤 _)) (λ κs a u r ws. six_facts 𝓤)
+    (λ κs a u r ws f. handed_2 𝓛 E.coded.code (rule_of g) r.names r.log (λ log. IsSince (unpinned a.0.now) K-PartialEq.eq (λ h. IfOk r.answer (λ _. IsCleared K-PartialEq.eq a.0.now.seen h)) (history_of log)) f.0 (f.1, f.2, f.3)
+    f.4
+    f.5)
+    (λ κs. let ℓ : NamedLft = record { mir = named 0; lft = κs.0 } in result_laws unit-field.row RefusedRow unit_laws refused_laws)
+    (λ κs x f. refl, (λ κs x f. refl, (λ κs x f. refl, tt))) (#self inst) (#callee inst) (inst_fn inst code.function) (code.unfolded 𝓤 𝓛.H 𝓜 𝓡 wired (K, (S, (S-Hasher, (R, (G, tt))))) K-Hash-dict K-Eq-dict K-PartialEq-dict S-BuildHasher-dict S-Hasher-Hasher-dict S-Hasher-Destruct-dict R-Wait-dict G-Guard-dict)
+    (met 𝓤 𝓛 𝓜 𝓡 (code.calls-papaya_set::set::HashSet::clear_told 𝓡.env wired) K S S-Hasher R G LK LS LH LR LG K-Hash K-Hash-dict K-Eq K-Eq-dict K-PartialEq K-PartialEq-dict S-BuildHasher S-BuildHasher-dict S-Hasher-Hasher S-Hasher-Hasher-dict S-Hasher-Destruct-dict R-Wait R-Wait-dict G-Guard G-Guard-dict m1 m2 m3 m4 m5 m6 m7 m8)
+    (λ y are. walk_rrr 𝓤 𝓛 𝓜 𝓡 (one_ref (named 0) y.0.0.0 (Owner.the_row (param 0 K) (param 1 S) (param 2 S-Hasher) K-Hash K-Eq K-PartialEq S-BuildHasher S-Hasher-Hasher) y.0.3.0 y.0.4.0 are.0 _ _) (one_ref (named 1) y.0.0.1.0 (param 3 R) y.0.3.1.0 y.0.4.1.0 are.1.0 _ _) (one_ref (named 2) y.0.0.1.1.0 (param 4 G) y.0.3.1.1.0 y.0.4.1.1.0 are.1.1.0 _ _)
+    (λ w good. (good, good, held_good (Answer E N P g Ends y.0.0) E N P g w good)))
