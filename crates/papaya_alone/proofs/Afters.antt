@@ -40,6 +40,7 @@ carry_called carry mode (Yes same) = carry_specs.at_yes carry mode same
 carry_called carry mode (Size slots limit) = carried.On (carry_specs.at_size carry slots limit)
 carry_called carry mode (Made_number n) = carried.On (carry_specs.at_made carry n)
 carry_called carry mode (Was_refused refused) = carry_specs.at_refused carry refused
+carry_called carry mode Ok_done = carry_specs.at_ok carry
 carry_called carry mode _ = carried.On carry
 
 abbrev pub carry_after : Carry → ResizeMode → (initial : ℕ) → Answer → Carried
@@ -56,6 +57,7 @@ settle_called settle slot mode (Yes same) = settle_specs.at_yes settle mode same
 settle_called settle slot mode (Size slots limit) = settled.On (settle_specs.at_size settle slots limit)
 settle_called settle slot mode (Made_number n) = settled.On (settle_specs.at_made settle n)
 settle_called settle slot mode (Was_refused refused) = settle_specs.at_refused settle mode refused
+settle_called settle slot mode Ok_done = settle_specs.at_ok settle mode
 settle_called settle slot mode _ = settled.On settle
 
 abbrev pub settle_after : Settle → Slot → ResizeMode → (initial : ℕ) → Answer → Settled
@@ -72,6 +74,7 @@ step_called step mode (Yes same) = step_specs.at_yes step mode same
 step_called step mode (Size slots limit) = stepped.On (step_specs.at_size step slots limit)
 step_called step mode (Made_number n) = stepped.On (step_specs.at_made step n)
 step_called step mode (Was_refused refused) = step_specs.at_refused step mode refused
+step_called step mode Ok_done = step_specs.at_ok step mode
 step_called step mode _ = stepped.On step
 
 abbrev pub step_after : Step → ResizeMode → (initial : ℕ) → Answer → Stepped

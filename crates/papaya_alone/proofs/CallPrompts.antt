@@ -3,16 +3,16 @@ use Rattle.std.proofs.Common.{◌≡◌, ⊎_elim, ℕ, ◌==◌, ◌&&◌, Bool
 use Rattle.std.specs.Prelude.{MatchBool}
 use Rattle.papaya_words.specs.Word.{live_word, pair_of, top_byte}
 use Rattle.papaya_ask.specs.declared.ask.Ask.{Ask}
-use Rattle.papaya_ask.specs.declared.ask.Ask.TheVariants.{Load, Exchange as Ask_exchange, SameKey, ShowNone, ShowPair, SizeOf, MakeKey, MakePair, MakeTable, AddToShard, Done as Ask_done}
+use Rattle.papaya_ask.specs.declared.ask.Ask.TheVariants.{Load, Exchange as Ask_exchange, SameKey, ShowNone, ShowPair, SizeOf, MakeKey, MakePair, MakeTable, AddToShard, Done as Ask_done, LoadHint, WriteHint}
 use Rattle.papaya_ask.specs.declared.ask.Answer.{Answer}
 use Rattle.papaya_ask.specs.declared.ask.At.{At}
 use Rattle.papaya_ask.specs.declared.ask.At.TheVariants as words_at
 use Rattle.papaya_ask.specs.declared.ask.StepKind.{StepKind}
 use Rattle.papaya_ask.specs.declared.ask.StepKind.TheVariants as kinds
-use Rattle.papaya_ask.specs.declared.search.Search.TheVariants.{Sizing, Looking, Comparing}
+use Rattle.papaya_ask.specs.declared.search.Search.TheVariants.{Sizing, Looking, Reading, Comparing}
 use Rattle.papaya_call.specs.declared.machine.Machine.{Machine}
 use Rattle.papaya_call.specs.declared.machine.State.{State as Stage}
-use Rattle.papaya_call.specs.declared.machine.State.TheVariants.{AtRoot, Making, Opening, Searching, Writing, Offering, Showing, Pairing, Putting, Burying, Counting, Uncounting, Leaving, Growing, Ended}
+use Rattle.papaya_call.specs.declared.machine.State.TheVariants.{AtRoot, Making, Opening, Searching, Writing, Offering, Showing, Pairing, Putting, Burying, Counting, Noting, Uncounting, Leaving, Growing, Ended}
 use Rattle.papaya_call.specs.declared.write.Made.{Made}
 use Rattle.papaya_call.specs.declared.write.Made.TheVariants.{Nothing, Key, Pair}
 use Rattle.papaya_call.specs.Machine.{ask_of, asks, kind_of_ask}
@@ -41,9 +41,8 @@ module _ {K P : Type 0} (g : Setting K P) (c : Coding K P) (s : State P) (k : K)
   -- pairs that the call made are named by one word
   own_alike : (new : ℕ) (p q : P) → IsOwnWord c hands new p → IsOwnWord c hands new q → code g c (Live p) ≡ code g c (Live q)
   own_alike new p q a b =
-      let one : g.key p ≡ g.key q = keys p a.made ∙ sym (keys q b.made) in
       let number : c.number p ≡ c.number q = a.named ∙ sym b.named in
-      ap (λ n. live_word (top_byte (c.hash (g.key p))) n) number ∙ ap (λ y. live_word (top_byte (c.hash y)) (c.number q)) one
+      ap live_word number
 
   -- so a slot has one number either way
   slots_alike : (t x : ℕ) (v w : Word P) → code g c v ≡ code g c w → (a : At) → word_of g c (slot_put s t x v) a ≡ word_of g c (slot_put s t x w) a
@@ -91,7 +90,8 @@ module _ {K P : Type 0} (g : Setting K P) (c : Coding K P) (hashed : IsHashed g 
     compared_in made (Opening u) x n e = absurd cc
     compared_in made (Searching (Sizing u)) x n e = absurd cc
     compared_in made (Searching (Looking at)) x n e = absurd cc
-    compared_in made (Searching (Comparing at word)) x n e = let is : pair_of word ≡ n = cc e in (x.0, x.1, sym (ap pair_of x.2.loaded ∙ (code_pair g c hashed.coding x.2.was x.0 x.2.names).0) ∙ is)
+    compared_in made (Searching (Reading at)) x n e = absurd cc
+    compared_in made (Searching (Comparing at word)) x n e = let is : pair_of word ≡ n = cc e in (x.0, x.1, sym (ap pair_of x.2.loaded ∙ (code_pair g c hashed.coding x.2.was x.0 x.2.names)) ∙ is)
     compared_in Nothing (Writing write) x n e = absurd cc
     compared_in Key (Writing write) x n e = absurd cc
     compared_in (Pair i) (Writing write) x n e = absurd cc
@@ -103,6 +103,7 @@ module _ {K P : Type 0} (g : Setting K P) (c : Coding K P) (hashed : IsHashed g 
     compared_in made (Putting put) x n e = absurd cc
     compared_in made (Burying removal) x n e = absurd cc
     compared_in made (Counting i) x n e = absurd cc
+    compared_in made (Noting i) x n e = absurd cc
     compared_in made (Uncounting i) x n e = absurd cc
     compared_in made (Leaving u) x n e = absurd cc
     compared_in made (Growing u) x n e = absurd cc
@@ -116,6 +117,8 @@ module _ {K P : Type 0} (g : Setting K P) (c : Coding K P) (hashed : IsHashed g 
     number_in (Load (words_at.Done t)) named = tt
     number_in (Load (words_at.Slot t x)) named = tt
     number_in (Ask_exchange at old new) named = tt
+    number_in (LoadHint t x) named = tt
+    number_in (WriteHint t x hint) named = tt
     number_in (SameKey n) named = tt
     number_in ShowNone named = tt
     number_in (ShowPair n) named = tt
@@ -140,6 +143,8 @@ module _ {K P : Type 0} (g : Setting K P) (c : Coding K P) (hashed : IsHashed g 
         let alike : (b : At) → word_of g c (run es now) b ≡ word_of g c (after now made.0) b = λ b. ap (λ l. word_of g c (run l now) b) one ∙ asked_alike g c now k hands r.made.keys (kind_of_ask m) at new x made.0 asked made.1 b in
         (a, record { here = alike at ∙ made.3.here; others = λ other differs. alike other ∙ made.3.others other differs }))
         (λ e (a, none, h'). (a, same_none es none)) told
+    prompt_of (LoadHint t x) is answer es hands' served told = ((told.0.0, told.0.2), same_none es told.1.0)
+    prompt_of (WriteHint t x hint) is answer es hands' served told = (told.0, same_none es told.1.0)
     prompt_of (SameKey n) is answer es hands' served told =
         let (p, was, number) = compared_in m.made m.state r.stage n is in
         ((g.same k (g.key p), told.0 p was number), same_none es told.1.0)

@@ -1,7 +1,7 @@
 -- What each answer leaves to a call in a table that it has come to.
 use Rattle.std.proofs.Common.{◌≡◌, ◌⊎◌, inl, inr, ⊎_elim, ℕ, ◌+◌, ◌*◌, ◌-◌, ◌^◌, ◌<◌, ◌≤◌, ◌==◌, nat_lt, ltb-true, Bool, true, false, Option, Some, None, refl, sym, ap, ◌∙◌, subst, arith}
 use Rattle.std.proofs.lemmas.Bool.{cond_both}
-use Rattle.papaya_words.specs.Word.{kind_of, byte_of, pair_of, top_byte}
+use Rattle.papaya_words.specs.Word.{kind_of, pair_of, top_byte, may_hold}
 use Rattle.papaya_words.specs.declared.probe.Refused.{Refused}
 use Rattle.papaya_words.specs.declared.probe.ResizeMode.{ResizeMode}
 use Rattle.papaya_words.specs.declared.probe.ResizeMode.TheVariants.{Incremental, Blocking}
@@ -28,7 +28,7 @@ use Rattle.papaya_call.specs.declared.compute.Put.{Put}
 use Rattle.papaya_call.specs.declared.compute.Remembered.{Remembered}
 use Rattle.papaya_call.specs.declared.remove.Removal.{Removal}
 use Rattle.papaya_ask.specs.declared.search.Place.{Place}
-use Rattle.papaya_ask.specs.declared.search.Search.TheVariants.{Sizing, Looking, Comparing}
+use Rattle.papaya_ask.specs.declared.search.Search.TheVariants.{Sizing, Looking, Reading, Comparing}
 use Rattle.papaya_ask.specs.declared.search.Seen.{Seen}
 use Rattle.papaya_ask.specs.declared.search.Seen.TheVariants as seen
 use Rattle.papaya_call.specs.declared.write.Made.{Made}
@@ -36,8 +36,8 @@ use Rattle.papaya_call.specs.declared.write.Made.TheVariants.{Nothing, Key, Pair
 use Rattle.papaya_call.specs.declared.write.Write.{Write}
 use Rattle.papaya_call.specs.declared.machine.Machine.{Machine}
 use Rattle.papaya_call.specs.declared.machine.State.{State}
-use Rattle.papaya_call.specs.declared.machine.State.TheVariants.{AtRoot, Making, Opening, Searching, Writing, Offering, Showing, Pairing, Putting, Burying, Counting, Uncounting, Leaving, Growing, Ended}
-use Rattle.papaya_ask.specs.Search.{IsSize, next_place, go_on, look_at, match_at, look, at_yes as search_compared}
+use Rattle.papaya_call.specs.declared.machine.State.TheVariants.{AtRoot, Making, Opening, Searching, Writing, Offering, Showing, Pairing, Putting, Burying, Counting, Noting, Uncounting, Leaving, Growing, Ended}
+use Rattle.papaya_ask.specs.Search.{IsSize, next_place, go_on, look_at, match_at, look, at_yes as search_compared, hinted}
 use Rattle.papaya_call.specs.Compute.{fills, lacks, offered, chosen, provides, recalls}
 use Rattle.papaya_call.specs.Machine.{after, ask_of, asks, absent, at_root, left as next_or_end, passes, replaces, removes, computes, goes_as, written, agreed}
 use Rattle.papaya_rests.proofs.Leads.{occupies_leads}
@@ -48,6 +48,7 @@ use Rattle.papaya_alone.specs.Current.{IsIncremental}
 use Rattle.papaya_alone.specs.Measure.{further}
 use Rattle.papaya_alone.specs.Prompt.{IsNumber}
 use Rattle.papaya_alone.specs.Rank.{hops_of, left_of_search, rank, rank_in, rank_to_serve, table_of, unmade}
+use Rattle.papaya_call.specs.Write.{claimed_by}
 
 -- what a search saw, with as much as may come of it
 abbrev rank_of_seen : Seen → ℕ
@@ -68,29 +69,29 @@ abbrev SeesIn : ℕ → ℕ → Seen → Type 0
 SeesIn most t s = (rank_of_seen s ≤ most) × (seen_in s ≡ t)
 
 -- a search goes on one place nearer its limit
-go_on_sees : (at : Place) → SeesIn (rank 2 (further at.table) (2 ^ 68 + 2 * (at.limit - at.probe.len) + 16)) at.table (go_on at)
+go_on_sees : (at : Place) → SeesIn (rank 2 (further at.table) (2 ^ 68 + 3 * (at.limit - at.probe.len) + 16)) at.table (go_on at)
 go_on_sees at =
     cond_both (nat_lt at.probe.len at.limit) (seen.On (Looking (next_place at))) (seen.Over at.table)
-    (SeesIn (rank 2 (further at.table) (2 ^ 68 + 2 * (at.limit - at.probe.len) + 16)) at.table)
+    (SeesIn (rank 2 (further at.table) (2 ^ 68 + 3 * (at.limit - at.probe.len) + 16)) at.table)
     (λ more. let l : at.probe.len < at.limit = ltb-true at.probe.len at.limit more in (omega arith, refl))
     (λ _. (omega arith, refl))
 
--- a pair whose byte is the key's is compared first
-byte_sees : (at : Place) (hash word : ℕ) → SeesIn (rank 2 (further at.table) (2 ^ 68 + 2 * (at.limit - at.probe.len) + 17)) at.table (look_at word_kinds.Live at hash word)
-byte_sees at hash word =
-    cond_both (byte_of word == top_byte hash) (seen.On (Comparing at word)) (go_on at)
-    (SeesIn (rank 2 (further at.table) (2 ^ 68 + 2 * (at.limit - at.probe.len) + 17)) at.table)
+-- a hint spares the word, or the word is loaded next
+hinted_sees : (at : Place) (hash hint : ℕ) → SeesIn (rank 2 (further at.table) (2 ^ 68 + 3 * (at.limit - at.probe.len) + 18)) at.table (hinted at hash hint)
+hinted_sees at hash hint =
+    cond_both (may_hold hint hash) (seen.On (Reading at)) (go_on at)
+    (SeesIn (rank 2 (further at.table) (2 ^ 68 + 3 * (at.limit - at.probe.len) + 18)) at.table)
     (λ _. (omega arith, refl))
     (λ _. let f = go_on_sees at in let l = f.0 in (omega (arith, l), f.1))
 
 -- what the word at a place tells
-look_sees : (kind : Kind) (at : Place) (hash word : ℕ) → SeesIn (rank 2 (further at.table) (2 ^ 68 + 2 * (at.limit - at.probe.len) + 17)) at.table (look_at kind at hash word)
-look_sees word_kinds.Empty at hash word = (omega arith, refl)
-look_sees word_kinds.Live at hash word = byte_sees at hash word
-look_sees word_kinds.Marked at hash word = byte_sees at hash word
-look_sees word_kinds.Copied at hash word = byte_sees at hash word
-look_sees word_kinds.Buried at hash word = let f = go_on_sees at in let l = f.0 in (omega (arith, l), f.1)
-look_sees word_kinds.Closed at hash word = let f = go_on_sees at in let l = f.0 in (omega (arith, l), f.1)
+look_sees : (kind : Kind) (at : Place) (word : ℕ) → SeesIn (rank 2 (further at.table) (2 ^ 68 + 3 * (at.limit - at.probe.len) + 17)) at.table (look_at kind at word)
+look_sees word_kinds.Empty at word = (omega arith, refl)
+look_sees word_kinds.Live at word = (omega arith, refl)
+look_sees word_kinds.Marked at word = (omega arith, refl)
+look_sees word_kinds.Copied at word = (omega arith, refl)
+look_sees word_kinds.Buried at word = let f = go_on_sees at in let l = f.0 in (omega (arith, l), f.1)
+look_sees word_kinds.Closed at word = let f = go_on_sees at in let l = f.0 in (omega (arith, l), f.1)
 
 -- a matching key ends the search
 match_sees : (kind : Kind) (at : Place) (word : ℕ) → SeesIn (rank 2 (further at.table) (2 ^ 68 + 16)) at.table (match_at kind at word)
@@ -102,7 +103,7 @@ match_sees word_kinds.Buried at word = (omega arith, refl)
 match_sees word_kinds.Closed at word = (omega arith, refl)
 
 -- and one that was compared
-compared_sees : (at : Place) (word : ℕ) (same : Bool) → SeesIn (rank 2 (further at.table) (2 ^ 68 + 2 * (at.limit - at.probe.len) + 16)) at.table (search_compared (Comparing at word) same)
+compared_sees : (at : Place) (word : ℕ) (same : Bool) → SeesIn (rank 2 (further at.table) (2 ^ 68 + 3 * (at.limit - at.probe.len) + 16)) at.table (search_compared (Comparing at word) same)
 compared_sees at word true = let f = match_sees (kind_of word) at word in let l = f.0 in (omega (arith, l), f.1)
 compared_sees at word false = go_on_sees at
 
@@ -230,7 +231,7 @@ module _ (made : Made) (how : ResizeMode) (words : At → ℕ) where
 
   -- a pair was written
   written_leads : (write : Write) (n : ℕ) → Leads made how words (rank 1 0 0) (written write n)
-  written_leads write n = cond_both (write.old == 0) (Counting n) (Ended (Replaced (pair_of write.old) n)) (Leads made how words (rank 1 0 0)) (λ _. (omega arith, tt)) (λ _. (omega arith, tt))
+  written_leads write n = cond_both (write.old == 0) (Counting (claimed_by write n)) (Ended (Replaced (pair_of write.old) n)) (Leads made how words (rank 1 0 0)) (λ _. (omega arith, tt)) (λ _. (omega arith, tt))
 
   -- what its closure answered leads on
   offered_leads : (gap : Gap) (kind : OpKind) → IsGapAhead how words gap → Leads made how words (rank 2 (hops_of gap) (2 ^ 68 + 7)) (offered gap kind)
@@ -338,12 +339,19 @@ module _ (words words' : At → ℕ) (m : Machine) where
       subst (Ends made (Opening t)) (sym done.0) (inl tt, at_root_ahead made m.mode words' m.mode t done.1.here)
   ends_in made (Searching (Sizing t)) answer read h number told = size_ends made t answer told.0 (still_ahead m.mode t (told.1 Root) h)
   ends_in made (Searching (Looking at)) answer read h number told =
-      let word : ℕ = words (Slot at.table at.probe.i) in
-      let a = look_sees (kind_of word) at m.hash word in
-      let b = goes_leads made m.mode words' m.task m.remembered (look at m.hash word) (subst (IsAhead m.mode words') (sym a.1) (still_ahead m.mode at.table (told.1 Root) h)) in
+      let hint : ℕ = told.0.0 in
+      let a = hinted_sees at m.hash hint in
+      let b = goes_leads made m.mode words' m.task m.remembered (hinted at m.hash hint) (subst (IsAhead m.mode words') (sym a.1) (still_ahead m.mode at.table (told.1 Root) h)) in
       let i = a.0 in
       let j = b.0 in
-      subst (Ends made (Searching (Looking at))) (sym told.0) (inr (omega (arith, i, j)), b.1)
+      subst (Ends made (Searching (Looking at))) (sym told.0.1) (inr (omega (arith, i, j)), b.1)
+  ends_in made (Searching (Reading at)) answer read h number told =
+      let word : ℕ = words (Slot at.table at.probe.i) in
+      let a = look_sees (kind_of word) at word in
+      let b = goes_leads made m.mode words' m.task m.remembered (look at word) (subst (IsAhead m.mode words') (sym a.1) (still_ahead m.mode at.table (told.1 Root) h)) in
+      let i = a.0 in
+      let j = b.0 in
+      subst (Ends made (Searching (Reading at))) (sym told.0) (inr (omega (arith, i, j)), b.1)
   ends_in made (Searching (Comparing at word)) answer read h number told =
       let same : Bool = told.0.0 in
       let a = compared_sees at word same in
@@ -369,6 +377,7 @@ module _ (words words' : At → ℕ) (m : Machine) where
       let done : (answer ≡ Exchanged) × IsPut words at _ words' = exchange_done _ _ (words at) removal.word read told in
       subst (Ends made (Burying removal)) (sym done.0) (inr (omega arith), tt)
   ends_in made (Counting n) answer read h number told = subst (Ends made (Counting n)) (sym told.0) (inr (omega arith), tt)
+  ends_in made (Noting n) answer read h number told = subst (Ends made (Noting n)) (sym told.0) (inr (omega arith), tt)
   ends_in made (Uncounting n) answer read h number told = subst (Ends made (Uncounting n)) (sym told.0) (inr (omega arith), tt)
   ends_in made (Leaving t) answer read h number told =
       let f = next_ends made m.mode t (words (Next t)) h.0 (still_ahead m.mode t (told.1 Root) h.1) number in

@@ -1,7 +1,7 @@
 -- What each answer leaves to the carry of a pair.
 use Rattle.std.proofs.Common.{◌≡◌, ◌⊎◌, inl, inr, ℕ, ◌+◌, ◌*◌, ◌-◌, ◌^◌, ◌<◌, ◌≤◌, ◌==◌, nat_lt, ltb-true, Bool, true, false, refl, sym, ap, ◌∙◌, subst, arith, eqb-true}
 use Rattle.std.proofs.lemmas.Bool.{cond_both}
-use Rattle.papaya_words.specs.Word.{kind_of, byte_of, top_byte}
+use Rattle.papaya_words.specs.Word.{kind_of, top_byte, may_hold}
 use Rattle.papaya_words.specs.declared.word.Kind.{Kind}
 use Rattle.papaya_words.specs.declared.word.Kind.TheVariants as word_kinds
 use Rattle.papaya_words.specs.declared.probe.ResizeMode.{ResizeMode}
@@ -19,7 +19,7 @@ use Rattle.papaya_copy.specs.declared.link.Link.TheVariants as links
 use Rattle.papaya_copy.specs.declared.link.Linked.{Linked}
 use Rattle.papaya_copy.specs.declared.link.Linked.TheVariants as linked
 use Rattle.papaya_copy.specs.declared.settle.Slot.{Slot}
-use Rattle.papaya_copy.specs.Carry.{carried_on, carry_ask, compare_byte, compared, fills, goes_on, look_at, passed}
+use Rattle.papaya_copy.specs.Carry.{carried_on, carry_ask, compared, fills, goes_on, hinted, look_at, passed}
 use Rattle.papaya_copy.specs.Link.{link_ask}
 use Rattle.papaya_chain.specs.declared.ask.Answer.{Answer}
 use Rattle.papaya_chain.specs.declared.ask.Answer.TheVariants as answers
@@ -48,8 +48,10 @@ pub carry_puts : (carry : Carry) (word : ℕ) (other : At) → IsOfRoot other �
 carry_puts (carries.Hashing table) word other h e = e
 carry_puts (carries.Sizing hash table) word other h e = e
 carry_puts (carries.Looking hash at) word other h e = e
+carry_puts (carries.Reading hash at) word other h e = e
 carry_puts (carries.Comparing hash at found) word other h e = e
 carry_puts (carries.Placing hash at) word other h e = subst IsOfRoot e h
+carry_puts (carries.Placed hash at) word other h e = e
 carry_puts (carries.Passing hash table) word other h e = e
 carry_puts (carries.Linking hash link) word other h e = link_puts link other (no_next other h) e
   where
@@ -85,30 +87,30 @@ module _ (mode : ResizeMode) (words : At → ℕ) (bare : IsBare words) (slot : 
   filled Blocking hash table here alive = (omega arith, ap (λ t. words (words_at.Aborted t)) here ∙ alive)
 
   -- the key is not at this place
-  goes_within : (hash : ℕ) (at : Place) → IsAtTarget mode slot at.table → Within (further at.table * 2 ^ 34 + 2 * (at.limit - at.probe.len) + 5) (goes_on hash at mode)
+  goes_within : (hash : ℕ) (at : Place) → IsAtTarget mode slot at.table → Within (further at.table * 2 ^ 34 + 3 * (at.limit - at.probe.len) + 5) (goes_on hash at mode)
   goes_within hash at here =
-      cond_both (nat_lt at.probe.len at.limit) (carried.On (carries.Looking hash (next_place at))) (carried.On (fills hash at.table mode)) (Within (further at.table * 2 ^ 34 + 2 * (at.limit - at.probe.len) + 5))
+      cond_both (nat_lt at.probe.len at.limit) (carried.On (carries.Looking hash (next_place at))) (carried.On (fills hash at.table mode)) (Within (further at.table * 2 ^ 34 + 3 * (at.limit - at.probe.len) + 5))
       (λ more. let l : at.probe.len < at.limit = ltb-true at.probe.len at.limit more in (omega arith, (h, here)))
       (λ over. let f = filled mode hash at.table here h.alive in let l = f.0 in (omega (arith, l), (h, f.1)))
 
-  -- a word with the hash byte is compared
-  byte_within : (hash : ℕ) (at : Place) (found : ℕ) → IsAtTarget mode slot at.table → Within (further at.table * 2 ^ 34 + 2 * (at.limit - at.probe.len) + 6) (compare_byte hash at mode found)
-  byte_within hash at found here =
-      cond_both (byte_of found == top_byte hash) (carried.On (carries.Comparing hash at found)) (goes_on hash at mode) (Within (further at.table * 2 ^ 34 + 2 * (at.limit - at.probe.len) + 6))
+  -- a hint spares the word, or the word is loaded next
+  hinted_within : (hash : ℕ) (at : Place) (hint : ℕ) → IsAtTarget mode slot at.table → Within (further at.table * 2 ^ 34 + 3 * (at.limit - at.probe.len) + 7) (hinted hash at mode hint)
+  hinted_within hash at hint here =
+      cond_both (may_hold hint hash) (carried.On (carries.Reading hash at)) (goes_on hash at mode) (Within (further at.table * 2 ^ 34 + 3 * (at.limit - at.probe.len) + 7))
       (λ same. (omega arith, (h, here)))
       (λ other. let f = goes_within hash at here in let l = f.0 in (omega (arith, l), f.1))
 
   -- what the word at a place tells
-  look_within : (kind : Kind) (hash : ℕ) (at : Place) (found : ℕ) → words (words_at.Slot at.table at.probe.i) ≡ found → (kind ≡ word_kinds.Empty → found ≡ 0) → IsAtTarget mode slot at.table → Within (further at.table * 2 ^ 34 + 2 * (at.limit - at.probe.len) + 6) (look_at kind hash at mode found)
+  look_within : (kind : Kind) (hash : ℕ) (at : Place) (found : ℕ) → words (words_at.Slot at.table at.probe.i) ≡ found → (kind ≡ word_kinds.Empty → found ≡ 0) → IsAtTarget mode slot at.table → Within (further at.table * 2 ^ 34 + 3 * (at.limit - at.probe.len) + 6) (look_at kind hash at mode found)
   look_within word_kinds.Empty hash at found stands none here = (omega arith, (h, stands ∙ none refl))
-  look_within word_kinds.Live hash at found stands none here = byte_within hash at found here
-  look_within word_kinds.Marked hash at found stands none here = byte_within hash at found here
-  look_within word_kinds.Copied hash at found stands none here = byte_within hash at found here
-  look_within word_kinds.Buried hash at found stands none here = byte_within hash at found here
+  look_within word_kinds.Live hash at found stands none here = (omega arith, (h, here))
+  look_within word_kinds.Marked hash at found stands none here = (omega arith, (h, here))
+  look_within word_kinds.Copied hash at found stands none here = (omega arith, (h, here))
+  look_within word_kinds.Buried hash at found stands none here = (omega arith, (h, here))
   look_within word_kinds.Closed hash at found stands none here = let f = goes_within hash at here in let l = f.0 in (omega (arith, l), f.1)
 
   -- the keys match, or they do not
-  compared_within : (hash : ℕ) (at : Place) (same : Bool) → IsAtTarget mode slot at.table → Within (further at.table * 2 ^ 34 + 2 * (at.limit - at.probe.len) + 5) (compared hash at mode same)
+  compared_within : (hash : ℕ) (at : Place) (same : Bool) → IsAtTarget mode slot at.table → Within (further at.table * 2 ^ 34 + 3 * (at.limit - at.probe.len) + 5) (compared hash at mode same)
   compared_within hash at true here = (omega arith, h)
   compared_within hash at false here = goes_within hash at here
 
@@ -146,10 +148,14 @@ module _ (mode : ResizeMode) (initial : ℕ) (words words' : At → ℕ) (bare :
       let (slots, limit, size, e) = told.0 in
       subst (CarryEnds (carries.Sizing hash table)) (sym e) (inr (let few = size.few in omega (arith, few)), (same_still mode words words' slot word h told.1, read))
   carry_ends (carries.Looking hash at) answer h read told =
+      let f = hinted_within mode words' bare slot word (same_still mode words words' slot word h told.1) hash at told.0.0 read in
+      let l = f.0 in
+      subst (CarryEnds (carries.Looking hash at)) (sym told.0.1) (inr (omega (arith, l)), f.1)
+  carry_ends (carries.Reading hash at) answer h read told =
       let there : At = words_at.Slot at.table at.probe.i in
       let f = look_within mode words' bare slot word (same_still mode words words' slot word h told.1) (kind_of (words there)) hash at (words there) (told.1 there) (λ e. sym (told.1 there) ∙ bare at.table at.probe.i (ap kind_of (told.1 there) ∙ e)) read in
       let l = f.0 in
-      subst (CarryEnds (carries.Looking hash at)) (sym told.0.0) (inr (omega (arith, l)), f.1)
+      subst (CarryEnds (carries.Reading hash at)) (sym told.0.0) (inr (omega (arith, l)), f.1)
   carry_ends (carries.Comparing hash at found) answer h read told =
       let f = compared_within mode words' bare slot word (same_still mode words words' slot word h told.1) hash at told.0.0 read in
       let l = f.0 in
@@ -159,9 +165,13 @@ module _ (mode : ResizeMode) (initial : ℕ) (words words' : At → ℕ) (bare :
       let done : (answer ≡ answers.Call Exchanged) × IsPut words there _ words' = exchange_done _ _ (words there) 0 read told in
       subst (CarryEnds (carries.Placing hash at)) (sym done.0) (
         inl tt,
-        still mode words words' slot word h (done.1.others (words_at.Aborted slot.to) (λ e. cc))
-            (done.1.others (words_at.Slot slot.from slot.index) (λ (e : words_at.Slot slot.from slot.index ≡ there). let s = h.stands in let z : words (words_at.Slot slot.from slot.index) ≡ 0 = ap words e ∙ read in marked_some word h.marked (sym s ∙ z))),
+        (
+          still mode words words' slot word h (done.1.others (words_at.Aborted slot.to) (λ e. cc))
+              (done.1.others (words_at.Slot slot.from slot.index) (λ (e : words_at.Slot slot.from slot.index ≡ there). let s = h.stands in let z : words (words_at.Slot slot.from slot.index) ≡ 0 = ap words e ∙ read in marked_some word h.marked (sym s ∙ z))),
+          tt,
+        ),
       )
+  carry_ends (carries.Placed hash at) answer h read told = subst (CarryEnds (carries.Placed hash at)) (sym told.0) (inr (omega arith), same_still mode words words' slot word h told.1)
   carry_ends (carries.Passing hash table) answer h read told =
       let f = passed_within mode words' bare slot word (same_still mode words words' slot word h told.1) hash table (words (words_at.Next table)) read (told.1 (words_at.Next table)) (subst (λ n. (n ≡ 0) ⊎ ((table < n) × (n ≤ 2 ^ 32))) (sym (told.1 (words_at.Next table))) told.0.1) in
       let l = f.0 in

@@ -8,7 +8,7 @@ use Rattle.papaya_ask.specs.declared.ask.At.{At}
 use Rattle.papaya_ask.specs.declared.ask.At.TheVariants as words_at
 use Rattle.papaya_ask.specs.declared.ask.StepKind.{StepKind}
 use Rattle.papaya_ask.specs.declared.copy_ask.CopyAsk.{CopyAsk}
-use Rattle.papaya_ask.specs.declared.copy_ask.CopyAsk.TheVariants.{Load, Exchange as Ask_exchange, SizeOf, HashOf, SamePair, Count, MakeTable}
+use Rattle.papaya_ask.specs.declared.copy_ask.CopyAsk.TheVariants.{Load, Exchange as Ask_exchange, SizeOf, HashOf, SamePair, Count, MakeTable, LoadHint, WriteHint}
 use Rattle.papaya_chain.specs.declared.ask.Answer.{Answer}
 use Rattle.papaya_chain.specs.declared.ask.Answer.TheVariants as answers
 use Rattle.papaya_law.specs.Allows.{Allows}
@@ -81,6 +81,8 @@ module _ {K P : Type 0} (g : Setting K P) (c : Coding K P) (hashed : IsHashed g 
         let put : IsWritten g c s at new (run es s) = subst (λ l. IsWritten g c s at new (run l s)) (sym one) (subst (λ y. IsWritten g c s at new (after s y)) same made.3) in
         (a, record { here = put.here; others = put.others }))
         (λ e (a, none, h'). (a, same_none es none)) told
+    told_prompt (LoadHint t x) there may answer es hands' told = ((told.0.0, told.0.2), same_none es told.1.0)
+    told_prompt (WriteHint t x hint) there may answer es hands' told = (told.0, same_none es told.1.0)
     told_prompt (SizeOf t) there may answer es hands' told =
         let (limit, most, e) = told.0 in
         ((g.size t, limit, bounded.size t limit there most, e), same_none es told.1.0)

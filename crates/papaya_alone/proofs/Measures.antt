@@ -3,13 +3,13 @@ use Rattle.std.proofs.Common.{◌≡◌, ◌⊎◌, inl, inr, ℕ, ◌+◌, ◌*
 use Rattle.std.proofs.lemmas.Bool.{cond_both}
 use Rattle.papaya_ask.specs.declared.call.Task.{Task}
 use Rattle.papaya_ask.specs.declared.search.Search.{Search}
-use Rattle.papaya_ask.specs.declared.search.Search.TheVariants.{Sizing, Looking, Comparing}
+use Rattle.papaya_ask.specs.declared.search.Search.TheVariants.{Sizing, Looking, Reading, Comparing}
 use Rattle.papaya_ask.specs.Search.{IsSearching}
 use Rattle.papaya_call.specs.declared.compute.Gap.TheVariants as gaps
 use Rattle.papaya_call.specs.declared.compute.Purpose.{Purpose}
 use Rattle.papaya_call.specs.declared.compute.Purpose.TheVariants as purposes
 use Rattle.papaya_call.specs.declared.machine.State.{State}
-use Rattle.papaya_call.specs.declared.machine.State.TheVariants.{AtRoot, Making, Opening, Searching, Writing, Offering, Showing, Pairing, Putting, Burying, Counting, Uncounting, Leaving, Growing, Ended}
+use Rattle.papaya_call.specs.declared.machine.State.TheVariants.{AtRoot, Making, Opening, Searching, Writing, Offering, Showing, Pairing, Putting, Burying, Counting, Noting, Uncounting, Leaving, Growing, Ended}
 use Rattle.papaya_call.specs.declared.write.Made.{Made}
 use Rattle.papaya_call.specs.Machine.{IsStandingState}
 use Rattle.papaya_copy.specs.declared.carry.Carry.{Carry}
@@ -40,6 +40,7 @@ use Rattle.papaya_alone.proofs.CallRanks.{unmade_most}
 search_small : (search : Search) → IsSearching search → left_of_search search < 2 ^ 70
 search_small (Sizing t) h = omega arith
 search_small (Looking at) h = let few = h.size.few in omega (arith, few)
+search_small (Reading at) h = let few = h.size.few in omega (arith, few)
 search_small (Comparing at word) h = let few = h.size.few in omega (arith, few)
 
 serve_small : (made : Made) (purpose : Purpose) → rank_to_serve made purpose < 2 ^ 190
@@ -62,6 +63,7 @@ state_small task made (Pairing purpose) h = serve_small made purpose
 state_small task made (Putting put) h = omega arith
 state_small task made (Burying removal) h = omega arith
 state_small task made (Counting n) h = omega arith
+state_small task made (Noting n) h = omega arith
 state_small task made (Uncounting n) h = omega arith
 state_small task made (Leaving t) h = omega arith
 state_small task made (Growing need) h = omega arith
@@ -71,8 +73,10 @@ carry_small : (carry : Carry) → IsStandingCarry carry → left_of_carry carry 
 carry_small (carries.Hashing table) h = omega arith
 carry_small (carries.Sizing hash table) h = omega arith
 carry_small (carries.Looking hash at) h = let few = h.size.few in omega (arith, few)
+carry_small (carries.Reading hash at) h = let few = h.size.few in omega (arith, few)
 carry_small (carries.Comparing hash at word) h = let few = h.size.few in omega (arith, few)
 carry_small (carries.Placing hash at) h = omega arith
+carry_small (carries.Placed hash at) h = omega arith
 carry_small (carries.Passing hash table) h = omega arith
 carry_small (carries.Linking hash link) h = let l = link_most link in omega (arith, l)
 carry_small (carries.Aborting table) h = omega arith
@@ -80,6 +84,7 @@ carry_small (carries.Aborting table) h = omega arith
 settle_small : (settle : Settle) → IsStandingSettle settle → left_of_settle settle < 2 ^ 68
 settle_small settles.Looking h = omega arith
 settle_small settles.Closing h = omega arith
+settle_small settles.Shutting h = omega arith
 settle_small (settles.Marking word) h = omega arith
 settle_small (settles.Carrying word carry) h = let c = carry_small carry h in omega (arith, c)
 settle_small (settles.Finishing word) h = omega arith

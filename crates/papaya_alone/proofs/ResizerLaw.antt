@@ -10,7 +10,7 @@ use Rattle.papaya_ask.specs.declared.ask.At.{At}
 use Rattle.papaya_ask.specs.declared.ask.At.TheVariants as words_at
 use Rattle.papaya_ask.specs.declared.ask.StepKind.{StepKind}
 use Rattle.papaya_ask.specs.declared.copy_ask.CopyAsk.{CopyAsk}
-use Rattle.papaya_ask.specs.declared.copy_ask.CopyAsk.TheVariants.{Load, Exchange as Ask_exchange, SizeOf, HashOf, SamePair, Count, MakeTable}
+use Rattle.papaya_ask.specs.declared.copy_ask.CopyAsk.TheVariants.{Load, Exchange as Ask_exchange, SizeOf, HashOf, SamePair, Count, MakeTable, LoadHint, WriteHint}
 use Rattle.papaya_copy.specs.declared.copying.Copied.{Copied}
 use Rattle.papaya_copy.specs.declared.copying.Copied.TheVariants as copied_to
 use Rattle.papaya_copy.specs.declared.copying.Copying.{Copying as Root_copying}
@@ -247,6 +247,8 @@ module _ {K P : Type 0} (g : Setting K P) (c : Coding K P) (s : State P) (kind :
       (es ≡ []) told
       (λ e h. absurd (spends (subst IsSpending (sym h.0) tt)))
       (λ e h. h.1)
+  told_none (LoadHint t x) answer es hands' told spends = told.1.0
+  told_none (WriteHint t x hint) answer es hands' told spends = told.1.0
   told_none (SizeOf t) answer es hands' told spends = told.1.0
   told_none (HashOf n) answer es hands' told spends = told.1
   told_none (SamePair i n) answer es hands' told spends = told.1.0

@@ -1,6 +1,6 @@
 -- What each answer leaves to the copy of a slot.
 use Rattle.std.proofs.Common.{◌≡◌, inl, inr, ℕ, ◌+◌, ◌%◌, ◌^◌, ◌≤◌, refl, sym, ap, ◌∙◌, subst, arith}
-use Rattle.papaya_words.specs.Word.{kind_of, kind_of_code, byte_of, pair_of, filled_word}
+use Rattle.papaya_words.specs.Word.{kind_of, kind_of_code, pair_of, filled_word}
 use Rattle.papaya_words.specs.declared.word.Kind.{Kind}
 use Rattle.papaya_words.specs.declared.word.Kind.TheVariants as word_kinds
 use Rattle.papaya_words.specs.declared.probe.ResizeMode.{ResizeMode}
@@ -27,7 +27,7 @@ use Rattle.papaya_alone.proofs.Telling.{IsPutAt, Nears, nearer}
 
 -- a word that is marked is marked
 marked_kind : (word : ℕ) → kind_of (marked_as word) ≡ word_kinds.Marked
-marked_kind word = ap kind_of_code (let e : filled_word 2 (byte_of word) (pair_of word) % 8 ≡ 2 = omega arith in e)
+marked_kind word = ap kind_of_code (let e : filled_word 2 (pair_of word) % 1024 ≡ 2 = omega arith in e)
 
 module _ (mode : ResizeMode) (words : At → ℕ) (slot : Slot) where
   -- a pair is carried to the target first
@@ -61,6 +61,7 @@ module _ (mode : ResizeMode) (words : At → ℕ) (slot : Slot) where
 pub settle_puts : (settle : Settle) (slot : Slot) (other : At) → IsOfRoot other → IsPutAt (settle_ask settle slot) other → ⊥
 settle_puts settles.Looking slot other h e = e
 settle_puts settles.Closing slot other h e = subst IsOfRoot e h
+settle_puts settles.Shutting slot other h e = e
 settle_puts (settles.Marking word) slot other h e = subst IsOfRoot e h
 settle_puts (settles.Carrying word carry) slot other h e = carry_puts carry word other h e
 settle_puts (settles.Finishing word) slot other h e = subst IsOfRoot e h
@@ -87,6 +88,8 @@ module _ (mode : ResizeMode) (initial : ℕ) (words words' : At → ℕ) (bare :
   settle_ends settles.Closing answer read told =
       let done : (answer ≡ answers.Call Exchanged) × IsPut words here 5 words' = exchange_done _ _ (words here) 0 read.1 told in
       subst (SettleEnds settles.Closing) (sym done.0) (inl tt, left_alive 5 read.0 done.1)
+  settle_ends settles.Shutting answer read told =
+      subst (SettleEnds settles.Shutting) (sym told.0) (inr (omega arith), still_alive mode words words' slot 0 mode read (told.1 (words_at.Aborted slot.to)))
   settle_ends (settles.Marking word) answer read told =
       let done : (answer ≡ answers.Call Exchanged) × IsPut words here _ words' = exchange_done _ _ (words here) word read.1 told in
       subst (SettleEnds (settles.Marking word)) (sym done.0) (inl tt, (record { alive = left_alive _ read.0 done.1; stands = done.1.here; marked = marked_kind word }, to_target mode words' slot mode))

@@ -4,7 +4,7 @@ use Rattle.papaya_words.specs.declared.probe.Refused.{Refused}
 use Rattle.papaya_ask.specs.declared.ask.At.{At}
 use Rattle.papaya_ask.specs.declared.ask.Answer.TheVariants.{Exchanged, Found as Found_instead, Made as Made_number, Refused as Was_refused}
 use Rattle.papaya_ask.specs.declared.copy_ask.CopyAsk.{CopyAsk}
-use Rattle.papaya_ask.specs.declared.copy_ask.CopyAsk.TheVariants.{Load, Exchange, SizeOf, HashOf, SamePair, Count, MakeTable}
+use Rattle.papaya_ask.specs.declared.copy_ask.CopyAsk.TheVariants.{Load, Exchange, SizeOf, HashOf, SamePair, Count, MakeTable, LoadHint, WriteHint}
 use Rattle.papaya_chain.specs.declared.ask.Answer.{Answer}
 use Rattle.papaya_chain.specs.declared.ask.Answer.TheVariants as answers
 use Rattle.papaya_rests.specs.Alone.{IsPut, IsSame}
@@ -39,6 +39,8 @@ module _ (words words' : At → ℕ) (answer : Answer) where
   stays_at (Exchange at old new) told other else =
       by_test (words at == old) ((answer ≡ answers.Call Exchanged) × IsPut words at new words') ((answer ≡ answers.Call (Found_instead (words at))) × IsSame words words') (words' other ≡ words other) told
       (λ e h. h.1.others other else) (λ e h. h.1 other)
+  stays_at (LoadHint t x) told other else = told.1 other
+  stays_at (WriteHint t x hint) told other else = told.1 other
   stays_at (SizeOf t) told other else = told.1 other
   stays_at (HashOf n) told other else = told.1 other
   stays_at (SamePair m n) told other else = told.1 other
@@ -65,6 +67,8 @@ module _ (words words' : At → ℕ) (before later : Budget) where
       by_test (words at == old) ((answer ≡ answers.Call Exchanged) × IsPut words at new words') ((answer ≡ answers.Call (Found_instead (words at))) × IsSame words words') (Spent (Exchange at old new) answer) told
       (λ e h. subst (Spent (Exchange at old new)) (sym h.0) (λ less. inl (inr less)))
       (λ e h. subst (Spent (Exchange at old new)) (sym h.0) (λ same. inr (same, λ x. x)))
+  spent_by (LoadHint t x) answer told = subst (Spent (LoadHint t x)) (sym told.0.1) (λ same. inr (same, λ h. h))
+  spent_by (WriteHint t x hint) answer told = subst (Spent (WriteHint t x hint)) (sym told.0) (λ same. inr (same, λ h. h))
   spent_by (SizeOf t) answer told =
       let (slots, limit, size, e) = told.0 in
       subst (Spent (SizeOf t)) (sym e) (λ same. inr (same, λ h. h))

@@ -61,8 +61,10 @@ module _ (mode : ResizeMode) (words : At → ℕ) where
   IsCarryRead slot (carries.Hashing table) = IsAtTarget mode slot table
   IsCarryRead slot (carries.Sizing hash table) = IsAtTarget mode slot table
   IsCarryRead slot (carries.Looking hash at) = IsAtTarget mode slot at.table
+  IsCarryRead slot (carries.Reading hash at) = IsAtTarget mode slot at.table
   IsCarryRead slot (carries.Comparing hash at word) = IsAtTarget mode slot at.table
   IsCarryRead slot (carries.Placing hash at) = words (words_at.Slot at.table at.probe.i) ≡ 0
+  IsCarryRead slot (carries.Placed hash at) = Unit {0}
   IsCarryRead slot (carries.Passing hash table) = IsIncremental mode
   IsCarryRead slot (carries.Linking hash link) = IsIncremental mode × IsLinkRead words link
   IsCarryRead slot (carries.Aborting table) = words (words_at.Aborted table) ≡ 0
@@ -85,6 +87,7 @@ module _ (mode : ResizeMode) (words : At → ℕ) where
   abbrev pub IsSettleRead : Slot → Settle → Type 0
   IsSettleRead slot settles.Looking = IsAlive mode words slot.to
   IsSettleRead slot settles.Closing = IsAlive mode words slot.to × (word_in slot ≡ 0)
+  IsSettleRead slot settles.Shutting = IsAlive mode words slot.to
   IsSettleRead slot (settles.Marking word) = IsAlive mode words slot.to × (word_in slot ≡ word)
   IsSettleRead slot (settles.Carrying word carry) = IsCarrying slot word × IsCarryRead slot carry
   IsSettleRead slot (settles.Finishing word) = IsAlive mode words slot.to × (word_in slot ≡ word)

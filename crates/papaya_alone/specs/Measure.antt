@@ -45,10 +45,13 @@ abbrev pub left_of_carry : Carry → ℕ
 left_of_carry (carries.Hashing table) = further table * 2 ^ 34 + 2 ^ 34 + 2
 left_of_carry (carries.Sizing hash table) = further table * 2 ^ 34 + 2 ^ 34 + 1
 left_of_carry (carries.Looking hash at) = further at.table * 2 ^ 34
-    + 2 * (at.limit - at.probe.len) + 7
+    + 3 * (at.limit - at.probe.len) + 8
+left_of_carry (carries.Reading hash at) = further at.table * 2 ^ 34
+    + 3 * (at.limit - at.probe.len) + 7
 left_of_carry (carries.Comparing hash at word) = further at.table * 2 ^ 34
-    + 2 * (at.limit - at.probe.len) + 6
+    + 3 * (at.limit - at.probe.len) + 6
 left_of_carry (carries.Placing hash at) = 1
+left_of_carry (carries.Placed hash at) = 1
 left_of_carry (carries.Passing hash table) = further table * 2 ^ 34 + 5
 left_of_carry (carries.Linking hash link) = left_of_link link
 left_of_carry (carries.Aborting table) = 1

@@ -3,9 +3,9 @@ use Rattle.std.specs.Prelude.{◌≡◌, ◌⊎◌, ℕ, ◌+◌, ◌<◌, ◌�
 use Rattle.papaya_words.specs.declared.probe.Refused.{Refused}
 use Rattle.papaya_ask.specs.declared.ask.At.{At}
 use Rattle.papaya_ask.specs.declared.ask.At.TheVariants.{Next}
-use Rattle.papaya_ask.specs.declared.ask.Answer.TheVariants.{Word as Word_read, Exchanged, Found as Found_instead, Yes, Size, Made as Made_number, Refused as Was_refused}
+use Rattle.papaya_ask.specs.declared.ask.Answer.TheVariants.{Word as Word_read, Exchanged, Found as Found_instead, Yes, Size, Made as Made_number, Refused as Was_refused, Ok as Ok_done}
 use Rattle.papaya_ask.specs.declared.copy_ask.CopyAsk.{CopyAsk}
-use Rattle.papaya_ask.specs.declared.copy_ask.CopyAsk.TheVariants.{Load, Exchange, SizeOf, HashOf, SamePair, Count, MakeTable}
+use Rattle.papaya_ask.specs.declared.copy_ask.CopyAsk.TheVariants.{Load, Exchange, LoadHint, WriteHint, SizeOf, HashOf, SamePair, Count, MakeTable}
 use Rattle.papaya_ask.specs.Search.{IsSize}
 use Rattle.papaya_ask.specs.declared.ask.Ask.{Ask as Call_ask}
 use Rattle.papaya_ask.specs.declared.ask.Ask.TheVariants as call_asks
@@ -45,6 +45,10 @@ IsCopyPrompt words (Load at) answer words' =
 IsCopyPrompt words (Exchange at old new) answer words' =
     MatchBool (words at == old) ((answer ≡ answers.Call Exchanged) × IsPut words at new words')
     ((answer ≡ answers.Call (Found_instead (words at))) × IsSame words words')
+IsCopyPrompt words (LoadHint t x) answer words' =
+    ((hint : ℕ) × (answer ≡ answers.Call (Word_read hint))) × IsSame words words'
+IsCopyPrompt words (WriteHint t x hint) answer words' = (answer ≡ answers.Call Ok_done)
+    × IsSame words words'
 IsCopyPrompt words (SizeOf t) answer words' =
     ((slots : ℕ) × (limit : ℕ) × IsSize slots limit × (answer ≡ answers.Call (Size slots limit)))
     × IsSame words words'

@@ -2,14 +2,14 @@
 -- a call goes on from phase to phase, in a phase from table to table, and in a table step by step.
 use Rattle.std.specs.Prelude.{ℕ, ◌+◌, ◌*◌, ◌-◌, ◌^◌, ◌==◌, ◌||◌, if◌then◌else◌}
 use Rattle.papaya_ask.specs.declared.search.Search.{Search}
-use Rattle.papaya_ask.specs.declared.search.Search.TheVariants.{Sizing, Looking, Comparing}
+use Rattle.papaya_ask.specs.declared.search.Search.TheVariants.{Sizing, Looking, Reading, Comparing}
 use Rattle.papaya_call.specs.declared.compute.Gap.{Gap}
 use Rattle.papaya_call.specs.declared.compute.Gap.TheVariants.{NoRoot, At as At_place, After}
 use Rattle.papaya_call.specs.declared.compute.Purpose.{Purpose}
 use Rattle.papaya_call.specs.declared.compute.Purpose.TheVariants.{Fill, Replace}
 use Rattle.papaya_call.specs.declared.machine.Machine.{Machine as Call_machine}
 use Rattle.papaya_call.specs.declared.machine.State.{State}
-use Rattle.papaya_call.specs.declared.machine.State.TheVariants.{AtRoot, Making, Opening, Searching, Writing, Offering, Showing, Pairing, Putting, Burying, Counting, Uncounting, Leaving, Growing, Ended}
+use Rattle.papaya_call.specs.declared.machine.State.TheVariants.{AtRoot, Making, Opening, Searching, Writing, Offering, Showing, Pairing, Putting, Burying, Counting, Noting, Uncounting, Leaving, Growing, Ended}
 use Rattle.papaya_call.specs.declared.write.Made.{Made}
 use Rattle.papaya_call.specs.declared.write.Made.TheVariants.{Nothing, Key, Pair}
 use Rattle.papaya_call.specs.Machine.{needed}
@@ -33,13 +33,15 @@ rank phase hops left = (phase * 2 ^ 33 + hops) * 2 ^ 128 + left
 abbrev pub table_of : Search → ℕ
 table_of (Sizing t) = t
 table_of (Looking at) = at.table
+table_of (Reading at) = at.table
 table_of (Comparing at word) = at.table
 
 -- a search of a table, and what comes of it
 abbrev pub left_of_search : Search → ℕ
 left_of_search (Sizing t) = 2 * 2 ^ 68
-left_of_search (Looking at) = 2 ^ 68 + 2 * (at.limit - at.probe.len) + 18
-left_of_search (Comparing at word) = 2 ^ 68 + 2 * (at.limit - at.probe.len) + 17
+left_of_search (Looking at) = 2 ^ 68 + 3 * (at.limit - at.probe.len) + 19
+left_of_search (Reading at) = 2 ^ 68 + 3 * (at.limit - at.probe.len) + 18
+left_of_search (Comparing at word) = 2 ^ 68 + 3 * (at.limit - at.probe.len) + 17
 
 -- what is to be made for a write
 abbrev pub unmade : Made → ℕ
@@ -69,7 +71,8 @@ rank_in made (Showing removal) = rank 1 0 9
 rank_in made (Pairing purpose) = rank_to_serve made purpose
 rank_in made (Putting put) = rank 1 0 1
 rank_in made (Burying removal) = rank 1 0 1
-rank_in made (Counting n) = rank 0 0 1
+rank_in made (Counting claimed) = rank 0 0 2
+rank_in made (Noting claimed) = rank 0 0 1
 rank_in made (Uncounting n) = rank 0 0 1
 rank_in made (Leaving t) = rank 2 (further t) (2 ^ 68 + 16)
 rank_in made (Growing need) = rank 2 (further (needed need)) (2 ^ 68 + 3)

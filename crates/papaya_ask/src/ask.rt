@@ -19,9 +19,8 @@ pub enum At {
     Slot(u64, usize),
 }
 
-/// What a machine asks next: one atomic step on one word at most. Each kind of ask has its own
-/// kinds
-/// of answer.
+/// What a machine asks next: one atomic step on one word or hint at most. Each kind of ask has its
+/// own kinds of answer.
 #[derive(Clone, Copy, PartialEq)]
 pub enum Ask {
     /// The word that stands there. Answered by `Word`.
@@ -29,6 +28,11 @@ pub enum Ask {
     /// The second word in place of the first, if the first stands there. Answered by `Exchanged`,
     /// or by `Found` with the word that stands there instead.
     Exchange(At, u64, u64),
+    /// The hint of a slot: the table, and the slot's place in it from 0. Answered by `Word`.
+    LoadHint(u64, usize),
+    /// This hint for a slot that has none: the table, the slot's place, the hint. Answered by `Ok`,
+    /// also where the slot had one, which stays.
+    WriteHint(u64, usize, u8),
     /// Has the pair of this number a key that equals the call's? Answered by `Yes`.
     SameKey(u64),
     /// The call's closure is shown that its key is absent. Answered by `Op`.
@@ -54,7 +58,7 @@ pub enum Ask {
 /// What a machine is answered.
 #[derive(Clone, Copy)]
 pub enum Answer {
-    /// The word of a load.
+    /// The word of a load, or the hint.
     Word(u64),
     /// The exchange was made.
     Exchanged,
@@ -68,7 +72,7 @@ pub enum Answer {
     Size { len: usize, limit: usize },
     /// The number of what was made.
     Made(u64),
-    /// The count was added to.
+    /// The count was added to, or a hint was written or stood there.
     Ok,
     /// What was to be made was refused: for memory, or at a limit of `papaya_words::limits`.
     Refused(Refused),

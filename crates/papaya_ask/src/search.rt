@@ -1,10 +1,10 @@
 //! The search of one table for a key.
 ghost use Rattle.std.specs.Prelude.{◌≡◌, ◌<◌, ◌^◌};
-ghost use Rattle.papaya_ask.specs.Search.{IsSize, IsWithin, IsSearching, IsSeen, first_place, go_on, look, ask_of, at_size, at_word, at_yes};
+ghost use Rattle.papaya_ask.specs.Search.{IsSize, IsWithin, IsSearching, IsSeen, first_place, go_on, hinted, look, ask_of, at_size, at_word, at_yes};
 
 use crate::ask::{Ask, At};
 use papaya_words::probe::Probe;
-use papaya_words::word::{Kind, Word, h1, h2};
+use papaya_words::word::{Kind, Word, h1, may_hold};
 
 /// A place of a key in a table. A search carries its table's size along, which never changes, so
 /// that the size is asked for once a table.
@@ -25,8 +25,10 @@ pub struct Place {
 pub enum Search {
     /// It asks for the size of this table.
     Sizing(u64),
-    /// It loads the word at this place.
+    /// It loads the hint of this place.
     Looking(Place),
+    /// The hint says nothing, or is the key's, so it loads the word at this place.
+    Reading(Place),
     /// It compares the key of the pair that this word names, which was loaded at this place.
     Comparing(Place, u64),
 }
@@ -75,23 +77,30 @@ impl Place {
         }
     }
 
-    /// This word stands at the place. Its key is compared only where the hash byte agrees, so that
-    /// a pair is rarely read in vain.
+    /// This hint stands at the place. One of another key, or of a slot that is shut, saves the word.
     #[inline(always)]
-    pub fn look(self, hash: u64, word: u64) -> Seen
+    pub fn hinted(self, hash: u64, found: u64) -> Seen
         requires { IsWithin self }
-        ensures value { result ≡ look self hash word }
+        ensures value { result ≡ hinted self hash found }
+        ensures seen { IsSeen result }
+    {
+        if may_hold(found, hash) {
+            Seen::On(Search::Reading(self))
+        } else {
+            self.go_on()
+        }
+    }
+
+    /// This word stands at the place.
+    #[inline(always)]
+    pub fn look(self, word: u64) -> Seen
+        requires { IsWithin self }
+        ensures value { result ≡ look self word }
         ensures seen { IsSeen result }
     {
         match Word(word).kind() {
             Kind::Empty => Seen::Empty(self),
-            Kind::Live | Kind::Marked | Kind::Copied => {
-                if Word(word).hash_byte() == h2(hash) {
-                    Seen::On(Search::Comparing(self, word))
-                } else {
-                    self.go_on()
-                }
-            }
+            Kind::Live | Kind::Marked | Kind::Copied => Seen::On(Search::Comparing(self, word)),
             Kind::Buried | Kind::Closed => self.go_on(),
         }
     }
@@ -105,7 +114,8 @@ impl Search {
     {
         match self {
             Search::Sizing(table) => Ask::SizeOf(table),
-            Search::Looking(place) => Ask::Load(At::Slot(place.table, place.probe.i)),
+            Search::Looking(place) => Ask::LoadHint(place.table, place.probe.i),
+            Search::Reading(place) => Ask::Load(At::Slot(place.table, place.probe.i)),
             Search::Comparing(_, word) => Ask::SameKey(Word(word).pair()),
         }
     }
@@ -124,7 +134,7 @@ impl Search {
         }
     }
 
-    /// This word was loaded.
+    /// This word, or this hint, was loaded.
     #[inline(always)]
     pub fn at_word(self, hash: u64, word: u64) -> Seen
         requires { IsSearching self }
@@ -132,7 +142,8 @@ impl Search {
         ensures seen { IsSeen result }
     {
         match self {
-            Search::Looking(place) => place.look(hash, word),
+            Search::Looking(place) => place.hinted(hash, word),
+            Search::Reading(place) => place.look(word),
             search => Seen::On(search),
         }
     }

@@ -107,4 +107,4 @@ module _ {K P : Type 0} (g : Setting K P) (c : Coding K P) (lawful : IsLawfulCod
   pub names_some : (w : Word P) (n : ℕ) → code g c w ≡ n → (kind_of n ≡ kinds.Empty → ⊥) → (kind_of n ≡ kinds.Closed → ⊥) → (p : P) × (named w ≡ Some p) × (pair_of n ≡ c.number p)
   names_some w n is m o =
       let k : kind_of n ≡ kind w = sym (ap kind_of is) ∙ code_kind g c w in
-      let h = some_pair w (λ i. m (k ∙ i)) (λ i. o (k ∙ i)) in (h.0, h.1, sym (ap pair_of is) ∙ (code_pair g c lawful w h.0 h.1).0)
+      let h = some_pair w (λ i. m (k ∙ i)) (λ i. o (k ∙ i)) in (h.0, h.1, sym (ap pair_of is) ∙ (code_pair g c lawful w h.0 h.1))

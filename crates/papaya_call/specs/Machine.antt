@@ -11,7 +11,7 @@ use Rattle.papaya_words.specs.declared.word.Kind.{Kind}
 use Rattle.papaya_words.specs.declared.word.Kind.TheVariants.{Live, Buried}
 use Rattle.papaya_ask.specs.declared.ask.At.TheVariants.{Root, Next}
 use Rattle.papaya_ask.specs.declared.ask.Ask.{Ask}
-use Rattle.papaya_ask.specs.declared.ask.Ask.TheVariants.{Load, Exchange, SameKey, ShowNone, SizeOf, MakeKey, MakePair, MakeTable, AddToShard, Done}
+use Rattle.papaya_ask.specs.declared.ask.Ask.TheVariants.{Load, Exchange, LoadHint, SameKey, ShowNone, SizeOf, MakeKey, MakePair, MakeTable, AddToShard, Done}
 use Rattle.papaya_ask.specs.declared.ask.Answer.{Answer}
 use Rattle.papaya_ask.specs.declared.ask.Answer.TheVariants.{Word as Word_read, Exchanged, Found as Found_instead, Yes, Op, Size, Made as Made_number, Ok as Ok_done, Refused as Was_refused}
 use Rattle.papaya_ask.specs.declared.ask.OpKind.{OpKind}
@@ -35,13 +35,13 @@ use Rattle.papaya_call.specs.declared.write.Made.{Made}
 use Rattle.papaya_call.specs.declared.write.Made.TheVariants.{Nothing, Key, Pair}
 use Rattle.papaya_call.specs.declared.write.Write.{Write}
 use Rattle.papaya_call.specs.declared.machine.State.{State}
-use Rattle.papaya_call.specs.declared.machine.State.TheVariants.{AtRoot, Making, Opening, Searching, Writing, Offering, Showing, Pairing, Putting, Burying, Counting, Uncounting, Leaving, Growing, Ended}
+use Rattle.papaya_call.specs.declared.machine.State.TheVariants.{AtRoot, Making, Opening, Searching, Writing, Offering, Showing, Pairing, Putting, Burying, Counting, Noting, Uncounting, Leaving, Growing, Ended}
 use Rattle.papaya_call.specs.declared.machine.Machine.{Machine}
 use Rattle.papaya_ask.specs.Search.{IsSize, IsWithin, IsSearching, look}
 use Rattle.papaya_ask.specs.Search.{ask_of as search_ask, at_size as search_sized, at_word as search_loaded, at_yes as search_compared}
 use Rattle.papaya_call.specs.Compute.{IsGap, IsPurpose, IsPut, IsRemembered, chosen, lacks, meets, nothing, offered, provides, with_choice, with_pair}
 use Rattle.papaya_call.specs.Remove.{removal_ask, show_ask}
-use Rattle.papaya_call.specs.Write.{IsMade, write_ask, write_kind}
+use Rattle.papaya_call.specs.Write.{IsMade, claimed_by, note_ask, write_ask, write_kind}
 
 -- a call that begins
 abbrev pub started : Task → ℕ → ResizeMode → ℕ → Machine
@@ -72,13 +72,14 @@ asks made hash AtRoot = Load Root
 asks made hash Making = MakeTable FIRST_TABLE_LEN FIRST_TABLE_LIMIT
 asks made hash (Opening table) = Exchange Root 0 table
 asks made hash (Searching search) = search_ask search
-asks made hash (Writing write) = write_ask write made hash
+asks made hash (Writing write) = write_ask write made
 asks made hash (Offering gap) = ShowNone
 asks made hash (Showing removal) = show_ask removal
 asks made hash (Pairing purpose) = pairing_ask made
-asks made hash (Putting put) = write_ask put.write (Pair put.pair) hash
+asks made hash (Putting put) = write_ask put.write (Pair put.pair)
 asks made hash (Burying removal) = removal_ask removal
-asks made hash (Counting pair) = AddToShard (pos 1)
+asks made hash (Counting claimed) = AddToShard (pos 1)
+asks made hash (Noting claimed) = note_ask claimed hash
 asks made hash (Uncounting pair) = AddToShard (negsuc 0)
 asks made hash (Leaving table) = Load (Next table)
 asks made hash (Growing need) = Load (Next (needed need))
@@ -177,7 +178,8 @@ goes m seen = goes_as m.task m.mode m.remembered seen
 
 -- the pair of this number was written: it was claimed, or took the place of another
 abbrev pub written : Write → ℕ → State
-written write n = if write.old == 0 then Counting n else Ended (Replaced (pair_of write.old) n)
+written write n = if write.old == 0 then Counting (claimed_by write n)
+    else Ended (Replaced (pair_of write.old) n)
 
 abbrev pub exchanged : Made → Write → State
 exchanged Nothing write = Writing write
@@ -188,10 +190,10 @@ exchanged (Pair n) write = written write n
 -- call buried its pair
 abbrev pub beaten_by : Kind → Machine → Place → ℕ → State
 beaten_by Buried m at word = Ended Absent
-beaten_by _ m at word = goes m (look at m.hash word)
+beaten_by _ m at word = goes m (look at word)
 
 abbrev pub beaten_as : Task → Machine → Place → ℕ → State
-beaten_as Compute m at word = goes m (look at m.hash word)
+beaten_as Compute m at word = goes m (look at word)
 beaten_as _ m at word = beaten_by (kind_of word) m at word
 
 abbrev pub beaten : Machine → Removal → ℕ → State
@@ -233,8 +235,8 @@ at_exchanged made state = state
 -- a lost exchange of a slot goes on with the word that was found there
 abbrev pub at_found : Machine → ℕ → State → State
 at_found m word (Opening table) = Searching (Sizing word)
-at_found m word (Writing write) = goes m (look write.place m.hash word)
-at_found m word (Putting put) = goes m (look put.write.place m.hash word)
+at_found m word (Writing write) = goes m (look write.place word)
+at_found m word (Putting put) = goes m (look put.write.place word)
 at_found m word (Burying removal) = beaten m removal word
 at_found m word state = state
 
@@ -248,7 +250,8 @@ at_size hash slots limit (Searching search) = Searching (search_sized search has
 at_size hash slots limit state = state
 
 abbrev pub at_ok : State → State
-at_ok (Counting pair) = Ended (Inserted pair)
+at_ok (Counting claimed) = Noting claimed
+at_ok (Noting claimed) = Ended (Inserted claimed.pair)
 at_ok (Uncounting pair) = Ended (Removed pair)
 at_ok state = state
 
@@ -382,7 +385,8 @@ IsStandingState task (Showing removal) = HasClosure task × IsWithin removal.pla
 IsStandingState task (Pairing purpose) = IsComputer task × IsPurpose purpose
 IsStandingState task (Putting put) = IsComputer task × IsPut put
 IsStandingState task (Burying removal) = HasClosure task × IsWithin removal.place
-IsStandingState task (Counting pair) = MayInsert task
+IsStandingState task (Counting claimed) = MayInsert task
+IsStandingState task (Noting claimed) = MayInsert task
 IsStandingState task (Uncounting pair) = HasClosure task
 IsStandingState task (Growing need) = IsChanger task
 IsStandingState task _ = Unit {0}
@@ -406,6 +410,7 @@ IsFitAsk _ = Unit {0}
 -- what a lookup asks: it changes nothing and makes nothing
 abbrev pub IsLookup : Ask → Type 0
 IsLookup (Load at) = Unit {0}
+IsLookup (LoadHint table x) = Unit {0}
 IsLookup (SameKey n) = Unit {0}
 IsLookup (SizeOf n) = Unit {0}
 IsLookup (Done reply) = Unit {0}

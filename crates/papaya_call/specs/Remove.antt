@@ -1,7 +1,7 @@
 -- The removal of the pair that a word names: it is shown to the closure, and its word becomes
 -- Buried.
 use Rattle.std.specs.Prelude.{ℕ}
-use Rattle.papaya_words.specs.Word.{buried_word, byte_of, pair_of}
+use Rattle.papaya_words.specs.Word.{buried_word, pair_of}
 use Rattle.papaya_ask.specs.declared.ask.At.TheVariants.{Slot}
 use Rattle.papaya_ask.specs.declared.ask.Ask.{Ask}
 use Rattle.papaya_ask.specs.declared.ask.Ask.TheVariants.{Exchange, ShowPair}
@@ -11,9 +11,9 @@ use Rattle.papaya_call.specs.declared.remove.Removal.{Removal}
 abbrev pub show_ask : Removal → Ask
 show_ask removal = ShowPair (pair_of removal.word)
 
--- the word of a removed pair: its number and its key's byte stay
+-- the word of a removed pair: its number stays
 abbrev pub grave_word : ℕ → ℕ
-grave_word word = buried_word (byte_of word) (pair_of word)
+grave_word word = buried_word (pair_of word)
 
 -- the pair is buried where its word stands
 abbrev pub removal_ask : Removal → Ask

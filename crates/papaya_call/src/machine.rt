@@ -11,7 +11,7 @@ ghost use Rattle.papaya_call.specs.Machine.{at_exchanged, at_found, at_yes, at_o
 use crate::compute::{Gap, Purpose, Put, Remembered};
 use crate::need::Need;
 use crate::remove::Removal;
-use crate::write::{Made, Write};
+use crate::write::{Claimed, Made, Write};
 use papaya_ask::ask::{Answer, Ask, At, OpKind, StepKind};
 use papaya_ask::call::{Reply, Task};
 use papaya_ask::search::{Place, Search, Seen};
@@ -42,8 +42,10 @@ pub enum State {
     Putting(Put),
     /// Its closure would have this pair removed, and it removes it.
     Burying(Removal),
-    /// Its pair of this number was claimed, and is to be counted.
-    Counting(u64),
+    /// Its pair was claimed, and is to be counted.
+    Counting(Claimed),
+    /// Its pair was claimed and counted, and it writes the hint of its key.
+    Noting(Claimed),
     /// The pair of this number was buried, and is to be counted out.
     Uncounting(u64),
     /// Its key is not in this table, and it loads the number of the next.
@@ -107,13 +109,14 @@ impl Machine {
             },
             State::Opening(table) => Ask::Exchange(At::Root, 0, table),
             State::Searching(search) => search.ask(),
-            State::Writing(write) => write.ask(self.made, self.hash),
+            State::Writing(write) => write.ask(self.made),
             State::Offering(_) => Ask::ShowNone,
             State::Showing(removal) => removal.show(),
             State::Pairing(_) => self.made.pairing_ask(),
-            State::Putting(put) => put.write.ask(Made::Pair(put.pair), self.hash),
+            State::Putting(put) => put.write.ask(Made::Pair(put.pair)),
             State::Burying(removal) => removal.ask(),
             State::Counting(_) => Ask::AddToShard(1),
+            State::Noting(claimed) => claimed.note(self.hash),
             State::Uncounting(_) => Ask::AddToShard(-1),
             State::Leaving(table) => Ask::Load(At::Next(table)),
             State::Growing(need) => Ask::Load(At::Next(need.table())),
@@ -203,7 +206,10 @@ impl Machine {
         ensures standing { IsStandingState self.now.task result }
     {
         if write.old == 0 {
-            State::Counting(pair)
+            State::Counting(Claimed {
+                place: write.place,
+                pair,
+            })
         } else {
             State::Ended(Reply::Replaced {
                 old: Word(write.old).pair(),
@@ -220,8 +226,8 @@ impl Machine {
     {
         match self.state {
             State::Opening(_) => State::Searching(Search::Sizing(word)),
-            State::Writing(write) => self.goes(write.place.look(self.hash, word)),
-            State::Putting(put) => self.goes(put.write.place.look(self.hash, word)),
+            State::Writing(write) => self.goes(write.place.look(word)),
+            State::Putting(put) => self.goes(put.write.place.look(word)),
             State::Burying(removal) => self.beaten(removal, word),
             state => state,
         }
@@ -239,7 +245,7 @@ impl Machine {
         if Word(word).kind() == Kind::Buried && self.task != Task::Compute {
             return State::Ended(Reply::Absent);
         }
-        self.goes(removal.place.look(self.hash, word))
+        self.goes(removal.place.look(word))
     }
 
     #[inline(always)]
@@ -322,7 +328,8 @@ impl Machine {
         ensures standing { IsStandingState self.now.task result }
     {
         match self.state {
-            State::Counting(pair) => State::Ended(Reply::Inserted(pair)),
+            State::Counting(claimed) => State::Noting(claimed),
+            State::Noting(claimed) => State::Ended(Reply::Inserted(claimed.pair)),
             State::Uncounting(pair) => State::Ended(Reply::Removed(pair)),
             state => state,
         }

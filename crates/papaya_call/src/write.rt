@@ -1,11 +1,11 @@
 //! The write of an insertion at one place.
 ghost use Rattle.std.specs.Prelude.{◌≡◌};
 ghost use Rattle.papaya_call.specs.Machine.{pairing_ask};
-ghost use Rattle.papaya_call.specs.Write.{IsMade, write_ask, write_kind};
+ghost use Rattle.papaya_call.specs.Write.{IsMade, note_ask, write_ask, write_kind};
 
 use papaya_ask::ask::{Ask, At, StepKind};
 use papaya_ask::search::Place;
-use papaya_words::word::{Word, h2};
+use papaya_words::word::{Word, hint};
 
 /// What a call has made so far. A key and a pair are made once a call, before the first word that
 /// names the pair, and serve each exchange that it tries.
@@ -44,9 +44,9 @@ pub struct Write {
 impl Write {
     /// What is asked next: a key, then a pair, then the exchange.
     #[inline(always)]
-    pub fn ask(self, made: Made, hash: u64) -> Ask
+    pub fn ask(self, made: Made) -> Ask
         requires { IsMade made }
-        ensures { result ≡ write_ask self made hash }
+        ensures { result ≡ write_ask self made }
     {
         match made {
             Made::Nothing => Ask::MakeKey,
@@ -54,7 +54,7 @@ impl Write {
             Made::Pair(pair) => Ask::Exchange(
                 At::Slot(self.place.table, self.place.probe.i),
                 self.old,
-                Word::live(h2(hash), pair).0,
+                Word::live(pair).0,
             ),
         }
     }
@@ -69,5 +69,24 @@ impl Write {
         } else {
             StepKind::Replace
         }
+    }
+}
+
+/// A pair that was claimed, and where it stands.
+#[derive(Clone, Copy)]
+pub struct Claimed {
+    pub place: Place,
+    /// The pair's number.
+    pub pair: u64,
+}
+
+impl Claimed {
+    /// The hint of the pair's key, which has this hash, is written once the pair stands there, so
+    /// that no hint names a key that a slot may not hold.
+    #[inline(always)]
+    pub fn note(self, hash: u64) -> Ask
+        ensures { result ≡ note_ask self hash }
+    {
+        Ask::WriteHint(self.place.table, self.place.probe.i, hint(hash))
     }
 }

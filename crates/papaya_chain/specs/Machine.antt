@@ -6,7 +6,7 @@ use Rattle.papaya_words.specs.declared.probe.Refused.{Refused}
 use Rattle.papaya_words.specs.declared.probe.ResizeMode.{ResizeMode}
 use Rattle.papaya_words.specs.declared.probe.ResizeMode.TheVariants.{Incremental, Blocking}
 use Rattle.papaya_ask.specs.declared.ask.Answer.{Answer as Call_answer}
-use Rattle.papaya_ask.specs.declared.ask.Answer.TheVariants.{Word as Word_read, Exchanged, Found as Found_instead, Yes, Size, Made as Made_number, Refused as Was_refused}
+use Rattle.papaya_ask.specs.declared.ask.Answer.TheVariants.{Word as Word_read, Exchanged, Found as Found_instead, Yes, Size, Made as Made_number, Ok as Ok_done, Refused as Was_refused}
 use Rattle.papaya_ask.specs.declared.ask.StepKind.{StepKind}
 use Rattle.papaya_ask.specs.declared.call.Reply.TheVariants.{Refused as Reply_refused}
 use Rattle.papaya_ask.specs.declared.call.Task.{Task}
@@ -173,6 +173,7 @@ copying_called copying mode (Size slots limit) =
     copied_to.On (copyings.at_size copying slots limit)
 copying_called copying mode (Made_number n) = copied_to.On (copyings.at_made copying n)
 copying_called copying mode (Was_refused refused) = copyings.at_refused copying mode refused
+copying_called copying mode Ok_done = copyings.at_ok copying mode
 copying_called copying mode _ = copied_to.On copying
 
 abbrev pub copying_after : Copying → ResizeMode → (initial : ℕ) → Answer → Copied

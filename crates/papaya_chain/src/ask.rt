@@ -2,7 +2,7 @@
 use papaya_ask::ask::{Answer as CallAnswer, Ask as CallAsk};
 use papaya_ask::copy_ask::CopyAsk;
 
-/// What is asked next: one atomic step on one word at most.
+/// What is asked next: one atomic step on one word or hint at most.
 #[derive(Clone, Copy)]
 pub enum Ask {
     /// The call asks, in a table that it has come to.

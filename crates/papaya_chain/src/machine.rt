@@ -74,10 +74,11 @@ pub(crate) fn copying_after(
         Answer::Call(CallAnswer::Yes(yes)) => copying.at_yes(mode, yes),
         Answer::Call(CallAnswer::Size { len, limit }) => Copied::On(copying.at_size(len, limit)),
         Answer::Call(CallAnswer::Made(number)) => Copied::On(copying.at_made(number)),
+        Answer::Call(CallAnswer::Ok) => copying.at_ok(mode),
         Answer::Call(CallAnswer::Refused(refused)) => copying.at_refused(mode, refused),
         Answer::Hash(hash) => Copied::On(copying.at_hash(hash)),
         Answer::Count(count) => copying.at_count(mode, count, initial),
-        Answer::Call(CallAnswer::Op(_) | CallAnswer::Ok) => Copied::On(copying),
+        Answer::Call(CallAnswer::Op(_)) => Copied::On(copying),
     }
 }
 

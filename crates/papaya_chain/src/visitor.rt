@@ -84,7 +84,7 @@ impl Spot {
     fn bury(self, word: u64) -> CopyAsk
         ensures { result ≡ buries self word }
     {
-        let buried = Word::buried(Word(word).hash_byte(), Word(word).pair());
+        let buried = Word::buried(Word(word).pair());
         CopyAsk::Exchange(At::Slot(self.table, self.slot), word, buried.0)
     }
 

@@ -1,7 +1,7 @@
 -- A copy ends refused only where a table that it makes is, or would be too long.
 use Rattle.std.proofs.Common.{◌≡◌, ℕ, ◌==◌, ◌||◌, nat_lt, nat_le, not, Bool, true, false, Option, None, Some, refl, ap, ◌∙◌}
 use Rattle.std.proofs.lemmas.Bool.{cond_both}
-use Rattle.papaya_words.specs.Word.{kind_of, byte_of, top_byte}
+use Rattle.papaya_words.specs.Word.{kind_of, top_byte, may_hold}
 use Rattle.papaya_words.specs.declared.probe.Refused.{Refused}
 use Rattle.papaya_words.specs.declared.probe.ResizeMode.{ResizeMode}
 use Rattle.papaya_words.specs.declared.probe.ResizeMode.TheVariants.{Incremental, Blocking}
@@ -145,19 +145,20 @@ link_found_none (links.Making behind slots limit) word = refl
 goes_on_none : (hash : ℕ) (at : Place) (mode : ResizeMode) → of_carried (carry.goes_on hash at mode) ≡ None
 goes_on_none hash at mode = cond_both (nat_lt at.probe.len at.limit) (carried.On (carries.Looking hash (next_place at))) (carried.On (carry.fills hash at.table mode)) (λ y. of_carried y ≡ None) (λ _. refl) (λ _. refl)
 
-byte_none : (hash : ℕ) (at : Place) (mode : ResizeMode) (word : ℕ) → of_carried (carry.compare_byte hash at mode word) ≡ None
-byte_none hash at mode word = cond_both (byte_of word == top_byte hash) (carried.On (carries.Comparing hash at word)) (carry.goes_on hash at mode) (λ y. of_carried y ≡ None) (λ _. refl) (λ _. goes_on_none hash at mode)
+hinted_none : (hash : ℕ) (at : Place) (mode : ResizeMode) (hint : ℕ) → of_carried (carry.hinted hash at mode hint) ≡ None
+hinted_none hash at mode hint = cond_both (may_hold hint hash) (carried.On (carries.Reading hash at)) (carry.goes_on hash at mode) (λ y. of_carried y ≡ None) (λ _. refl) (λ _. goes_on_none hash at mode)
 
 look_none : (kind : Kind) (hash : ℕ) (at : Place) (mode : ResizeMode) (word : ℕ) → of_carried (carry.look_at kind hash at mode word) ≡ None
 look_none word_kinds.Empty hash at mode word = refl
 look_none word_kinds.Closed hash at mode word = goes_on_none hash at mode
-look_none word_kinds.Buried hash at mode word = byte_none hash at mode word
-look_none word_kinds.Live hash at mode word = byte_none hash at mode word
-look_none word_kinds.Marked hash at mode word = byte_none hash at mode word
-look_none word_kinds.Copied hash at mode word = byte_none hash at mode word
+look_none word_kinds.Buried hash at mode word = refl
+look_none word_kinds.Live hash at mode word = refl
+look_none word_kinds.Marked hash at mode word = refl
+look_none word_kinds.Copied hash at mode word = refl
 
 carry_word_none : (goes : Carry) (mode : ResizeMode) (word : ℕ) → of_carried (carry.at_word goes mode word) ≡ None
-carry_word_none (carries.Looking hash at) mode word = look_none (kind_of word) hash at mode word
+carry_word_none (carries.Looking hash at) mode word = hinted_none hash at mode word
+carry_word_none (carries.Reading hash at) mode word = look_none (kind_of word) hash at mode word
 carry_word_none (carries.Passing hash table) mode word = refl
 carry_word_none goes mode word = refl
 
@@ -168,9 +169,14 @@ carry_yes_none goes mode same = refl
 
 carry_exchanged_none : (goes : Carry) → of_carried (carry.at_exchanged goes) ≡ None
 carry_exchanged_none (carries.Placing hash at) = refl
+carry_exchanged_none (carries.Placed hash at) = refl
 carry_exchanged_none (carries.Linking hash made) = carried_on_as hash (link.at_exchanged made) ∙ link_exchanged_none made
 carry_exchanged_none (carries.Aborting table) = refl
 carry_exchanged_none goes = refl
+
+carry_ok_none : (goes : Carry) → of_carried (carry.at_ok goes) ≡ None
+carry_ok_none (carries.Placed hash at) = refl
+carry_ok_none goes = refl
 
 carry_found_none : (goes : Carry) (mode : ResizeMode) (word : ℕ) → of_carried (carry.at_found goes mode word) ≡ None
 carry_found_none (carries.Placing hash at) mode word = look_none (kind_of word) hash at mode word
@@ -207,13 +213,20 @@ settle_yes_none goes mode same = refl
 settle_exchanged_none : (goes : Settle) (slot : Slot) (mode : ResizeMode) → of_settled (settle.at_exchanged goes slot mode) ≡ None
 settle_exchanged_none settles.Looking slot mode = refl
 settle_exchanged_none settles.Closing slot mode = refl
+settle_exchanged_none settles.Shutting slot mode = refl
 settle_exchanged_none (settles.Marking word) slot mode = refl
 settle_exchanged_none (settles.Carrying marked goes) slot mode = settled_by_as marked mode (carry.at_exchanged goes) ∙ carry_exchanged_none goes
 settle_exchanged_none (settles.Finishing word) slot mode = refl
 
+settle_ok_none : (goes : Settle) (mode : ResizeMode) → of_settled (settle.at_ok goes mode) ≡ None
+settle_ok_none settles.Shutting mode = refl
+settle_ok_none (settles.Carrying marked goes) mode = settled_by_as marked mode (carry.at_ok goes) ∙ carry_ok_none goes
+settle_ok_none goes mode = refl
+
 settle_found_none : (goes : Settle) (slot : Slot) (mode : ResizeMode) (word : ℕ) → of_settled (settle.at_found goes slot mode word) ≡ None
 settle_found_none settles.Looking slot mode word = refl
 settle_found_none settles.Closing slot mode word = seen_none (kind_of word) slot word
+settle_found_none settles.Shutting slot mode word = refl
 settle_found_none (settles.Marking old) slot mode word = seen_none (kind_of word) slot word
 settle_found_none (settles.Carrying marked goes) slot mode word = settled_by_as marked mode (carry.at_found goes mode word) ∙ carry_found_none goes mode word
 settle_found_none (settles.Finishing old) slot mode word = refl
@@ -250,6 +263,10 @@ step_exchanged_none (steps.Settling chunk goes) mode = settled_to_as chunk (sett
 step_exchanged_none (steps.Advancing chunk) mode = advanced_none chunk chunk.end
 step_exchanged_none goes mode = refl
 
+step_ok_none : (goes : Step) (mode : ResizeMode) → of_stepped (step.at_ok goes mode) ≡ None
+step_ok_none (steps.Settling chunk goes) mode = settled_to_as chunk (settle.at_ok goes mode) ∙ settle_ok_none goes mode
+step_ok_none goes mode = refl
+
 step_found_none : (goes : Step) (mode : ResizeMode) (word : ℕ) → of_stepped (step.at_found goes mode word) ≡ None
 step_found_none (steps.Linking from made) mode word = linked_to_as from (link.at_found made word) ∙ link_found_none made word
 step_found_none (steps.Settling chunk goes) mode word = settled_to_as chunk (settle.at_found goes (step.slot_of chunk) mode word) ∙ settle_found_none goes (step.slot_of chunk) mode word
@@ -278,6 +295,10 @@ copying_yes_none (Lone slot goes) mode same = lone_as slot (settle.at_yes goes m
 pub copying_exchanged_none : (goes : Copying) (mode : ResizeMode) → of_copied (copying.at_exchanged goes mode) ≡ None
 copying_exchanged_none (Stepping aim goes) mode = leads_as aim mode (step.at_exchanged goes mode) ∙ step_exchanged_none goes mode
 copying_exchanged_none (Lone slot goes) mode = lone_as slot (settle.at_exchanged goes slot mode) ∙ settle_exchanged_none goes slot mode
+
+pub copying_ok_none : (goes : Copying) (mode : ResizeMode) → of_copied (copying.at_ok goes mode) ≡ None
+copying_ok_none (Stepping aim goes) mode = leads_as aim mode (step.at_ok goes mode) ∙ step_ok_none goes mode
+copying_ok_none (Lone slot goes) mode = lone_as slot (settle.at_ok goes mode) ∙ settle_ok_none goes mode
 
 pub copying_found_none : (goes : Copying) (mode : ResizeMode) (word : ℕ) → of_copied (copying.at_found goes mode word) ≡ None
 copying_found_none (Stepping aim goes) mode word = leads_as aim mode (step.at_found goes mode word) ∙ step_found_none goes mode word

@@ -6,7 +6,7 @@ use Rattle.std.specs.Int.{IsPowerOfTwo}
 use Rattle.papaya_words.specs.Mode.{IsChunked}
 use Rattle.papaya_words.specs.Probe.{limit_of, log_upto, triangular}
 use Rattle.papaya_words.specs.Table.{length_after, limit_after}
-use Rattle.papaya_words.specs.Word.{byte_of, kind_of, top_byte}
+use Rattle.papaya_words.specs.Word.{kind_of, top_byte, may_hold}
 use Rattle.papaya_words.specs.declared.probe.Refused.{Refused}
 use Rattle.papaya_words.specs.declared.probe.Refused.TheVariants.{Capacity}
 use Rattle.papaya_words.specs.declared.probe.ResizeMode.{ResizeMode}
@@ -14,7 +14,7 @@ use Rattle.papaya_words.specs.declared.probe.ResizeMode.TheVariants.{Incremental
 use Rattle.papaya_words.specs.declared.word.Kind.{Kind}
 use Rattle.papaya_words.specs.declared.word.Kind.TheVariants as word_kinds
 use Rattle.papaya_words.proofs.Lengths.{table_power}
-use Rattle.papaya_ask.specs.declared.ask.Answer.TheVariants.{Word as Word_read, Exchanged, Found as Found_instead, Yes, Size, Made as Made_number, Refused as Was_refused}
+use Rattle.papaya_ask.specs.declared.ask.Answer.TheVariants.{Word as Word_read, Exchanged, Found as Found_instead, Yes, Size, Made as Made_number, Refused as Was_refused, Ok as Ok_done}
 use Rattle.papaya_ask.specs.declared.search.Place.{Place}
 use Rattle.papaya_ask.specs.Search.{IsSize, IsWithin, next_place}
 use Rattle.papaya_copy.specs.declared.carry.Carried.{Carried}
@@ -117,16 +117,16 @@ carry_goes_on hash at mode within =
     (λ more. next_within at within (ltb-true at.probe.len at.limit more))
     (λ _. fills_stands hash at.table mode)
 
-carry_compares : (hash : ℕ) (at : Place) (mode : ResizeMode) (word : ℕ) → IsWithin at → IsStandingCarried (carries.compare_byte hash at mode word)
-carry_compares hash at mode word within = cond_both (byte_of word == top_byte hash) (carried.On (carry_states.Comparing hash at word)) (carries.goes_on hash at mode) IsStandingCarried (λ _. within) (λ _. carry_goes_on hash at mode within)
+carry_hints : (hash : ℕ) (at : Place) (mode : ResizeMode) (hint : ℕ) → IsWithin at → IsStandingCarried (carries.hinted hash at mode hint)
+carry_hints hash at mode hint within = cond_both (may_hold hint hash) (carried.On (carry_states.Reading hash at)) (carries.goes_on hash at mode) IsStandingCarried (λ _. within) (λ _. carry_goes_on hash at mode within)
 
 carry_looks : (kind : Kind) (hash : ℕ) (at : Place) (mode : ResizeMode) (word : ℕ) → IsWithin at → IsStandingCarried (carries.look_at kind hash at mode word)
 carry_looks word_kinds.Empty hash at mode word within = within
 carry_looks word_kinds.Closed hash at mode word within = carry_goes_on hash at mode within
-carry_looks word_kinds.Buried hash at mode word within = carry_compares hash at mode word within
-carry_looks word_kinds.Live hash at mode word within = carry_compares hash at mode word within
-carry_looks word_kinds.Marked hash at mode word within = carry_compares hash at mode word within
-carry_looks word_kinds.Copied hash at mode word within = carry_compares hash at mode word within
+carry_looks word_kinds.Buried hash at mode word within = within
+carry_looks word_kinds.Live hash at mode word within = within
+carry_looks word_kinds.Marked hash at mode word within = within
+carry_looks word_kinds.Copied hash at mode word within = within
 
 carry_links : (hash : ℕ) (end : Linked) → IsStandingLinked end → IsStandingCarried (carries.carried_on hash end)
 carry_links hash (linked.On link) stands = stands
@@ -143,7 +143,8 @@ carry_size (carry_states.Linking hash link) slots limit size stands = link_size 
 carry_size carry slots limit size stands = stands
 
 carry_word : (carry : Carry) (mode : ResizeMode) (word : ℕ) → IsStandingCarry carry → IsStandingCarried (carries.at_word carry mode word)
-carry_word (carry_states.Looking hash at) mode word stands = carry_looks (kind_of word) hash at mode word stands
+carry_word (carry_states.Looking hash at) mode word stands = carry_hints hash at mode word stands
+carry_word (carry_states.Reading hash at) mode word stands = carry_looks (kind_of word) hash at mode word stands
 carry_word (carry_states.Passing hash table) mode word stands = cond_both (word == 0) (carry_states.Linking hash (link_states.Sizing table true)) (carry_states.Sizing hash word) IsStandingCarry (λ _. tt) (λ _. tt)
 carry_word carry mode word stands = stands
 
@@ -153,10 +154,14 @@ carry_yes (carry_states.Comparing hash at word) mode false stands = carry_goes_o
 carry_yes carry mode same stands = stands
 
 carry_exchanged : (carry : Carry) → IsStandingCarry carry → IsStandingCarried (carries.at_exchanged carry)
-carry_exchanged (carry_states.Placing hash at) stands = tt
+carry_exchanged (carry_states.Placing hash at) stands = stands
 carry_exchanged (carry_states.Linking hash link) stands = carry_links hash (links.at_exchanged link) (link_exchanged link stands)
 carry_exchanged (carry_states.Aborting table) stands = tt
 carry_exchanged carry stands = stands
+
+carry_ok : (carry : Carry) → IsStandingCarry carry → IsStandingCarried (carries.at_ok carry)
+carry_ok (carry_states.Placed hash at) stands = tt
+carry_ok carry stands = stands
 
 carry_found : (carry : Carry) (mode : ResizeMode) (word : ℕ) → IsStandingCarry carry → IsStandingCarried (carries.at_found carry mode word)
 carry_found (carry_states.Placing hash at) mode word stands = carry_looks (kind_of word) hash at mode word stands
@@ -216,9 +221,15 @@ settle_exchanged : (settle : Settle) (slot : Slot) (mode : ResizeMode) → IsSta
 settle_exchanged (settle_states.Carrying marked carry) slot mode stands = settle_by marked mode (carries.at_exchanged carry) (carry_exchanged carry stands)
 settle_exchanged settle slot mode stands = tt
 
+settle_ok : (settle : Settle) (mode : ResizeMode) → IsStandingSettle settle → IsStandingSettled (settles.at_ok settle mode)
+settle_ok settle_states.Shutting mode stands = tt
+settle_ok (settle_states.Carrying marked carry) mode stands = settle_by marked mode (carries.at_ok carry) (carry_ok carry stands)
+settle_ok settle mode stands = stands
+
 settle_found : (settle : Settle) (slot : Slot) (mode : ResizeMode) (word : ℕ) → IsStandingSettle settle → IsStandingSettled (settles.at_found settle slot mode word)
 settle_found settle_states.Looking slot mode word stands = tt
 settle_found settle_states.Closing slot mode word stands = settle_looks (kind_of word) slot word
+settle_found settle_states.Shutting slot mode word stands = tt
 settle_found (settle_states.Marking old) slot mode word stands = settle_looks (kind_of word) slot word
 settle_found (settle_states.Carrying marked carry) slot mode word stands = settle_by marked mode (carries.at_found carry mode word) (carry_found carry mode word stands)
 settle_found (settle_states.Finishing old) slot mode word stands = tt
@@ -306,6 +317,10 @@ step_exchanged (step_states.Advancing chunk) mode stands = step_advances chunk c
 step_exchanged (step_states.Promoting from to) mode stands = tt
 step_exchanged step mode stands = stands
 
+step_ok : (step : Step) (mode : ResizeMode) → IsStandingStep step → IsStandingStepped (steps.at_ok step mode)
+step_ok (step_states.Settling chunk settle) mode stands = step_settles chunk (settles.at_ok settle mode) stands.0 (settle_ok settle mode stands.1)
+step_ok step mode stands = stands
+
 step_found : (step : Step) (mode : ResizeMode) (word : ℕ) → IsStandingStep step → IsStandingStepped (steps.at_found step mode word)
 step_found (step_states.Linking from link) mode word stands = step_links from (links.at_found link word) (link_found link word stands)
 step_found (step_states.Settling chunk settle) mode word stands = step_settles chunk (settles.at_found settle (steps.slot_of chunk) mode word) stands.0 (settle_found settle (steps.slot_of chunk) mode word stands.1)
@@ -370,6 +385,7 @@ copying_stands (Stepping aim step) mode initial (answers.Call (Yes same)) chunke
 copying_stands (Stepping aim step) mode initial (answers.Call (Size slots limit)) chunked power fit stands = step_size step slots limit fit stands
 copying_stands (Stepping aim step) mode initial (answers.Call (Made_number n)) chunked power fit stands = step_made step n stands
 copying_stands (Stepping aim step) mode initial (answers.Call (Was_refused refused)) chunked power fit stands = leads_stands aim mode (steps.at_refused step mode refused) (step_refused step mode refused stands)
+copying_stands (Stepping aim step) mode initial (answers.Call Ok_done) chunked power fit stands = leads_stands aim mode (steps.at_ok step mode) (step_ok step mode stands)
 copying_stands (Stepping aim step) mode initial (answers.Call other) chunked power fit stands = stands
 copying_stands (Stepping aim step) mode initial (answers.Hash hash) chunked power fit stands = step_hash step hash stands
 copying_stands (Stepping aim step) mode initial (answers.Count count) chunked power fit stands = leads_stands aim mode (steps.at_count step mode count initial) (step_count step mode count initial power stands)
@@ -380,6 +396,7 @@ copying_stands (Lone slot settle) mode initial (answers.Call (Yes same)) chunked
 copying_stands (Lone slot settle) mode initial (answers.Call (Size slots limit)) chunked power fit stands = settle_size settle slots limit fit stands
 copying_stands (Lone slot settle) mode initial (answers.Call (Made_number n)) chunked power fit stands = settle_made settle n stands
 copying_stands (Lone slot settle) mode initial (answers.Call (Was_refused refused)) chunked power fit stands = lone_stands slot (settles.at_refused settle mode refused) (settle_refused settle mode refused stands)
+copying_stands (Lone slot settle) mode initial (answers.Call Ok_done) chunked power fit stands = lone_stands slot (settles.at_ok settle mode) (settle_ok settle mode stands)
 copying_stands (Lone slot settle) mode initial (answers.Call other) chunked power fit stands = stands
 copying_stands (Lone slot settle) mode initial (answers.Hash hash) chunked power fit stands = settle_hash settle hash stands
 copying_stands (Lone slot settle) mode initial (answers.Count count) chunked power fit stands = lone_stands slot (settles.at_count settle mode count initial) (settle_count settle mode count initial power stands)

@@ -4,10 +4,10 @@ use Rattle.std.proofs.lemmas.Bool.{eqb-false}
 use Rattle.papaya_words.specs.Mode.{IsChunked}
 use Rattle.papaya_words.specs.declared.probe.Refused.{Refused}
 use Rattle.papaya_words.specs.declared.probe.ResizeMode.{ResizeMode}
-use Rattle.papaya_ask.specs.declared.ask.Answer.TheVariants.{Word as Word_read, Exchanged, Found as Found_instead, Yes, Size, Made as Made_number, Refused as Was_refused}
+use Rattle.papaya_ask.specs.declared.ask.Answer.TheVariants.{Word as Word_read, Exchanged, Found as Found_instead, Yes, Size, Made as Made_number, Ok as Ok_done, Refused as Was_refused}
 use Rattle.papaya_ask.specs.declared.ask.At.{At}
 use Rattle.papaya_ask.specs.declared.copy_ask.CopyAsk.{CopyAsk}
-use Rattle.papaya_ask.specs.declared.copy_ask.CopyAsk.TheVariants.{Load, Exchange as Ask_exchange, SizeOf, HashOf, SamePair, Count, MakeTable}
+use Rattle.papaya_ask.specs.declared.copy_ask.CopyAsk.TheVariants.{Load, Exchange as Ask_exchange, LoadHint, WriteHint, SizeOf, HashOf, SamePair, Count, MakeTable}
 use Rattle.papaya_copy.specs.declared.copying.Aim.{Aim}
 use Rattle.papaya_copy.specs.declared.copying.Aim.TheVariants as aims
 use Rattle.papaya_copy.specs.declared.copying.Copying.{Copying}
@@ -22,7 +22,7 @@ use Rattle.papaya_law.specs.Invariant.{IsKeeping}
 use Rattle.papaya_rests.specs.Copier.{AreThere, IsCopyAsked, IsStillAimed, RestsCopied, RestsCopying, aim_of, last_after, told_last}
 use Rattle.papaya_rests.specs.Rests.{IsModeOf}
 use Rattle.papaya_rests.specs.Told.{word_of}
-use Rattle.papaya_rests.proofs.CopierCopies.{copying_compared, copying_counted, copying_exchanged, copying_found, copying_hashed, copying_loaded, copying_made, copying_refused, copying_sized, copying_there}
+use Rattle.papaya_rests.proofs.CopierCopies.{copying_compared, copying_counted, copying_exchanged, copying_found, copying_hashed, copying_hinted, copying_loaded, copying_made, copying_noted, copying_refused, copying_sized, copying_there}
 use Rattle.papaya_rests.proofs.CopierExchange.{asked_allowed}
 use Rattle.papaya_rests.proofs.RestsLearn.{by_test}
 use Rattle.papaya_chain_rests.specs.Told.{Hands, IsCopyTold, told_of}
@@ -83,6 +83,13 @@ module _ {K P : Type 0} (g : Setting K P) (c : Coding K P) (hashed : IsHashed g 
         (λ other (a, none, h').
         quiet copying answer (answers.Call (Found_instead (word_of g c s at))) es hands' (told_of (told_last s at last) hands) a none h'
         (copying_found g c hashed s m keeps mode moded last kept copying r at old new is (eqb-false (word_of g c s at) old other)))
+    learns_of answer es hands' (LoadHint t x) is h =
+        let hint : ℕ = h.0.0 in
+        quiet copying answer (answers.Call (Word_read hint)) es hands' hands h.0.2 h.1.0 h.1.1
+        (copying_hinted g c hashed s m keeps mode moded last kept copying r t x is hint h.0.1)
+    learns_of answer es hands' (WriteHint t x n) is h =
+        quiet copying answer (answers.Call Ok_done) es hands' hands h.0 h.1.0 h.1.1
+        (copying_noted g c hashed s m keeps mode moded last kept copying r t x n is).1
     learns_of answer es hands' (SizeOf t) is h =
         let size = h.0 in
         let sized = copying_sized g c hashed s m keeps mode moded last kept copying r t size.0 is size.1 in

@@ -16,7 +16,7 @@ use Rattle.papaya_call.specs.declared.need.Need.{Need}
 use Rattle.papaya_call.specs.Machine.{IsChanger, needed}
 use Rattle.papaya_call.specs.Machine as call_machine
 use Rattle.papaya_ask.specs.declared.copy_ask.CopyAsk.{CopyAsk}
-use Rattle.papaya_ask.specs.declared.copy_ask.CopyAsk.TheVariants.{Load, Exchange as Ask_exchange, SizeOf, HashOf, SamePair, Count, MakeTable}
+use Rattle.papaya_ask.specs.declared.copy_ask.CopyAsk.TheVariants.{Load, Exchange as Ask_exchange, SizeOf, HashOf, SamePair, Count, MakeTable, LoadHint, WriteHint}
 use Rattle.papaya_copy.specs.declared.copying.Aim.TheVariants as aims
 use Rattle.papaya_copy.specs.declared.copying.Copying.{Copying}
 use Rattle.papaya_copy.specs.declared.copying.Copying.TheVariants.{Stepping}
@@ -72,6 +72,8 @@ copy_hands {P = P} g c s kind n hands (Ask_exchange at old new) answer es hands'
     ((last : Option P) × (hands'.call ≡ record hands.call { last = last })) h
     (λ stands (a, (e, asked, one, h')). (last_after e hands.call.last, ap (λ y. y.call) h'))
     (λ other (a, none, h'). (told_last s at hands.call.last, ap (λ y. y.call) h'))
+copy_hands g c s kind n hands (LoadHint t x) answer es hands' h = (hands.call.last, ap (λ y. y.call) h.1.1)
+copy_hands g c s kind n hands (WriteHint t x hint) answer es hands' h = (hands.call.last, ap (λ y. y.call) h.1.1)
 copy_hands g c s kind n hands (SizeOf t) answer es hands' h = (hands.call.last, ap (λ y. y.call) h.1.1)
 copy_hands g c s kind n hands (HashOf i) answer es hands' h = (hands.call.last, ap (λ y. y.call) h.2)
 copy_hands g c s kind n hands (SamePair i j) answer es hands' h = (hands.call.last, ap (λ y. y.call) h.1.1)

@@ -5,7 +5,7 @@ use Rattle.papaya_words.specs.declared.probe.Refused.{Refused}
 use Rattle.papaya_words.specs.declared.probe.Refused.TheVariants.{Capacity}
 use Rattle.papaya_words.specs.declared.probe.ResizeMode.{ResizeMode}
 use Rattle.papaya_ask.specs.declared.ask.Answer.{Answer as Call_answer}
-use Rattle.papaya_ask.specs.declared.ask.Answer.TheVariants.{Word as Word_read, Exchanged, Found as Found_instead, Yes, Refused as Was_refused}
+use Rattle.papaya_ask.specs.declared.ask.Answer.TheVariants.{Word as Word_read, Exchanged, Found as Found_instead, Yes, Refused as Was_refused, Ok as Ok_done}
 use Rattle.papaya_ask.specs.declared.copy_ask.CopyAsk.TheVariants.{MakeTable}
 use Rattle.papaya_copy.specs.declared.copying.Copying.{Copying}
 use Rattle.papaya_copy.specs.declared.link.Link.{Link}
@@ -17,7 +17,7 @@ use Rattle.papaya_chain.specs.declared.ask.Answer.{Answer}
 use Rattle.papaya_chain.specs.declared.ask.Answer.TheVariants as answers
 use Rattle.papaya_chain.specs.Machine.{copying_after, link_after}
 use Rattle.papaya_chain_rests.specs.Goes.{link_in_copying}
-use Rattle.papaya_chain_rests.proofs.CopyRefusals.{copying_count_as, copying_exchanged_none, copying_found_none, copying_refused_as, copying_word_none, copying_yes_none, of_copied, of_link, of_linked}
+use Rattle.papaya_chain_rests.proofs.CopyRefusals.{copying_count_as, copying_exchanged_none, copying_found_none, copying_ok_none, copying_refused_as, copying_word_none, copying_yes_none, of_copied, of_link, of_linked}
 
 -- the copy of the root ends refused where the making of its table does
 pub copying_ends : (goes : Copying) (mode : ResizeMode) (initial : ℕ) (answer : Answer) (refused : Refused) → of_copied (copying_after goes mode initial answer) ≡ Some refused → of_link (λ made. link_after made initial answer) (link_in_copying goes) ≡ Some refused
@@ -25,6 +25,7 @@ copying_ends goes mode initial (answers.Call (Word_read word)) refused e = absur
 copying_ends goes mode initial (answers.Call Exchanged) refused e = absurd (cc (copying_exchanged_none goes mode, e))
 copying_ends goes mode initial (answers.Call (Found_instead word)) refused e = absurd (cc (copying_found_none goes mode word, e))
 copying_ends goes mode initial (answers.Call (Yes same)) refused e = absurd (cc (copying_yes_none goes mode same, e))
+copying_ends goes mode initial (answers.Call Ok_done) refused e = absurd (cc (copying_ok_none goes mode, e))
 copying_ends goes mode initial (answers.Call (Was_refused other)) refused e = sym (copying_refused_as goes mode other) ∙ e
 copying_ends goes mode initial (answers.Count count) refused e = sym (copying_count_as goes mode count initial) ∙ e
 copying_ends goes mode initial answer refused e = absurd cc

@@ -1,7 +1,7 @@
 -- What is said of a table that is made for a copy, from one answer to the next.
 use Rattle.std.proofs.Common.{sym, ◌∙◌, ◌≡◌, ℕ, ◌==◌, ◌||◌, nat_lt, nat_le, not, Bool, true, false, Option, None, Some, refl, ap}
 use Rattle.std.proofs.lemmas.Bool.{cond_both}
-use Rattle.papaya_words.specs.Word.{kind_of, byte_of, top_byte}
+use Rattle.papaya_words.specs.Word.{kind_of, top_byte, may_hold}
 use Rattle.papaya_words.specs.declared.probe.Refused.{Refused}
 use Rattle.papaya_words.specs.declared.probe.ResizeMode.{ResizeMode}
 use Rattle.papaya_words.specs.declared.probe.ResizeMode.TheVariants.{Incremental, Blocking}
@@ -122,16 +122,16 @@ module _ (Holds : Link → Type 0) (Told New : Link → ℕ → Type 0) (stable 
   goes_on : (hash : ℕ) (at : Place) (mode : ResizeMode) → Carried_holds (carry.goes_on hash at mode)
   goes_on hash at mode = cond_both (nat_lt at.probe.len at.limit) (carried.On (carries.Looking hash (next_place at))) (carried.On (carry.fills hash at.table mode)) Carried_holds (λ _. tt) (λ _. fills hash at.table mode)
 
-  byte : (hash : ℕ) (at : Place) (mode : ResizeMode) (word : ℕ) → Carried_holds (carry.compare_byte hash at mode word)
-  byte hash at mode word = cond_both (byte_of word == top_byte hash) (carried.On (carries.Comparing hash at word)) (carry.goes_on hash at mode) Carried_holds (λ _. tt) (λ _. goes_on hash at mode)
+  hinted : (hash : ℕ) (at : Place) (mode : ResizeMode) (hint : ℕ) → Carried_holds (carry.hinted hash at mode hint)
+  hinted hash at mode hint = cond_both (may_hold hint hash) (carried.On (carries.Reading hash at)) (carry.goes_on hash at mode) Carried_holds (λ _. tt) (λ _. goes_on hash at mode)
 
   looked : (kind : Kind) (hash : ℕ) (at : Place) (mode : ResizeMode) (word : ℕ) → Carried_holds (carry.look_at kind hash at mode word)
   looked word_kinds.Empty hash at mode word = tt
   looked word_kinds.Closed hash at mode word = goes_on hash at mode
-  looked word_kinds.Buried hash at mode word = byte hash at mode word
-  looked word_kinds.Live hash at mode word = byte hash at mode word
-  looked word_kinds.Marked hash at mode word = byte hash at mode word
-  looked word_kinds.Copied hash at mode word = byte hash at mode word
+  looked word_kinds.Buried hash at mode word = tt
+  looked word_kinds.Live hash at mode word = tt
+  looked word_kinds.Marked hash at mode word = tt
+  looked word_kinds.Copied hash at mode word = tt
 
   passed : (hash table next : ℕ) → HoldsIn (link_in_carry (carry.passed hash table next))
   passed hash table next = cond_both (next == 0) (carries.Linking hash (links.Sizing table true)) (carries.Sizing hash next) (λ goes. HoldsIn (link_in_carry goes)) (λ _. stable.fresh table true) (λ _. tt)
@@ -146,7 +146,8 @@ module _ (Holds : Link → Type 0) (Told New : Link → ℕ → Type 0) (stable 
   carry_size other slots limit new h = h
 
   carry_word : (goes : Carry) (mode : ResizeMode) (word : ℕ) → HoldsIn (link_in_carry goes) → Carried_holds (carry.at_word goes mode word)
-  carry_word (carries.Looking hash at) mode word h = looked (kind_of word) hash at mode word
+  carry_word (carries.Looking hash at) mode word h = hinted hash at mode word
+  carry_word (carries.Reading hash at) mode word h = looked (kind_of word) hash at mode word
   carry_word (carries.Passing hash table) mode word h = passed hash table word
   carry_word other mode word h = h
 
@@ -157,9 +158,14 @@ module _ (Holds : Link → Type 0) (Told New : Link → ℕ → Type 0) (stable 
 
   carry_exchanged : (goes : Carry) → HoldsIn (link_in_carry goes) → Carried_holds (carry.at_exchanged goes)
   carry_exchanged (carries.Placing hash at) h = tt
+  carry_exchanged (carries.Placed hash at) h = tt
   carry_exchanged (carries.Linking hash made) h = carried_on hash (link.at_exchanged made) (stable.exchanges made h)
   carry_exchanged (carries.Aborting table) h = tt
   carry_exchanged other h = h
+
+  carry_ok : (goes : Carry) → HoldsIn (link_in_carry goes) → Carried_holds (carry.at_ok goes)
+  carry_ok (carries.Placed hash at) h = tt
+  carry_ok other h = h
 
   carry_found : (goes : Carry) (mode : ResizeMode) (word : ℕ) → HoldsIn (link_in_carry goes) → Carried_holds (carry.at_found goes mode word)
   carry_found (carries.Placing hash at) mode word h = looked (kind_of word) hash at mode word
@@ -215,13 +221,20 @@ module _ (Holds : Link → Type 0) (Told New : Link → ℕ → Type 0) (stable 
   settle_exchanged : (goes : Settle) (slot : Slot) (mode : ResizeMode) → HoldsIn (link_in_settle goes) → Settled_holds (settle.at_exchanged goes slot mode)
   settle_exchanged settles.Looking slot mode h = tt
   settle_exchanged settles.Closing slot mode h = tt
+  settle_exchanged settles.Shutting slot mode h = tt
   settle_exchanged (settles.Marking word) slot mode h = tt
   settle_exchanged (settles.Carrying marked goes) slot mode h = settled_by marked mode (carry.at_exchanged goes) (carry_exchanged goes h)
   settle_exchanged (settles.Finishing word) slot mode h = tt
 
+  settle_ok : (goes : Settle) (mode : ResizeMode) → HoldsIn (link_in_settle goes) → Settled_holds (settle.at_ok goes mode)
+  settle_ok settles.Shutting mode h = tt
+  settle_ok (settles.Carrying marked goes) mode h = settled_by marked mode (carry.at_ok goes) (carry_ok goes h)
+  settle_ok other mode h = h
+
   settle_found : (goes : Settle) (slot : Slot) (mode : ResizeMode) (word : ℕ) → HoldsIn (link_in_settle goes) → Settled_holds (settle.at_found goes slot mode word)
   settle_found settles.Looking slot mode word h = tt
   settle_found settles.Closing slot mode word h = seen (kind_of word) slot word
+  settle_found settles.Shutting slot mode word h = tt
   settle_found (settles.Marking old) slot mode word h = seen (kind_of word) slot word
   settle_found (settles.Carrying marked goes) slot mode word h = settled_by marked mode (carry.at_found goes mode word) (carry_found goes mode word h)
   settle_found (settles.Finishing old) slot mode word h = tt
@@ -294,6 +307,10 @@ module _ (Holds : Link → Type 0) (Told New : Link → ℕ → Type 0) (stable 
   step_exchanged (steps.Advancing chunk) mode h = advanced chunk chunk.end
   step_exchanged (steps.Promoting from to) mode h = tt
   step_exchanged other mode h = h
+
+  step_ok : (goes : Step) (mode : ResizeMode) → HoldsIn (link_in_step goes) → Stepped_holds (step.at_ok goes mode)
+  step_ok (steps.Settling chunk goes) mode h = settled_to chunk (settle.at_ok goes mode) (settle_ok goes mode h)
+  step_ok other mode h = h
 
   step_found : (goes : Step) (mode : ResizeMode) (word : ℕ) → HoldsIn (link_in_step goes) → Stepped_holds (step.at_found goes mode word)
   step_found (steps.Linking from made) mode word h = linked_to from (link.at_found made word) (stable.finds made word h)
@@ -370,7 +387,8 @@ module _ (Holds : Link → Type 0) (Told New : Link → ℕ → Type 0) (stable 
   copying_called (Stepping aim goes) mode (Was_refused refused) told new h = leads aim mode (step.at_refused goes mode refused) (step_refused goes mode refused h)
   copying_called (Lone slot goes) mode (Was_refused refused) told new h = lone slot (settle.at_refused goes mode refused) (settle_refused goes mode refused h)
   copying_called goes mode (Op kind) told new h = h
-  copying_called goes mode Ok_done told new h = h
+  copying_called (Stepping aim goes) mode Ok_done told new h = leads aim mode (step.at_ok goes mode) (step_ok goes mode h)
+  copying_called (Lone slot goes) mode Ok_done told new h = lone slot (settle.at_ok goes mode) (settle_ok goes mode h)
 
   pub copying_after : (goes : Copying) (mode : ResizeMode) (initial : ℕ) (answer : Answer) → ((slots limit : ℕ) → answer ≡ answers.Call (Size slots limit) → ToldIn (link_in_copying goes) slots) → ((n : ℕ) → answer ≡ answers.Call (Made_number n) → NewIn (link_in_copying goes) n) → HoldsIn (link_in_copying goes) → Copied_holds (machine.copying_after goes mode initial answer)
   copying_after goes mode initial (answers.Call answer) told new h = copying_called goes mode answer (λ slots limit e. told slots limit (ap answers.Call e)) (λ n e. new n (ap answers.Call e)) h

@@ -4,7 +4,7 @@ use Rattle.papaya_ask.specs.declared.ask.Ask.{Ask as Call_ask}
 use Rattle.papaya_ask.specs.declared.ask.At.{At}
 use Rattle.papaya_ask.specs.declared.ask.StepKind.{StepKind}
 use Rattle.papaya_ask.specs.declared.copy_ask.CopyAsk.{CopyAsk}
-use Rattle.papaya_ask.specs.declared.copy_ask.CopyAsk.TheVariants.{Exchange as Ask_exchange}
+use Rattle.papaya_ask.specs.declared.copy_ask.CopyAsk.TheVariants.{Exchange as Ask_exchange, WriteHint}
 use Rattle.papaya_call.specs.Machine as call_machine
 use Rattle.papaya_copy.specs.declared.copying.Copying.{Copying}
 use Rattle.papaya_copy.specs.Copying.{copying_ask}
@@ -22,10 +22,12 @@ use Rattle.papaya_law.specs.Meaning.{map_left}
 use Rattle.papaya_law.proofs.OneMap.{keeping}
 use Rattle.papaya_rests.specs.Copier.{AreThere, IsCopyAsked, RestsCopying}
 use Rattle.papaya_rests.specs.Told.{IsWritten, word_of}
-use Rattle.papaya_rests.proofs.CopierCopies.{copying_there, link_there}
+use Rattle.papaya_rests.proofs.CopierCopies.{copying_there, link_there, copying_noted}
 use Rattle.papaya_rests.proofs.CopierExchange.{copying_may, link_may}
 use Rattle.papaya_chain_rests.specs.Rests.{Rests, RestsPhase}
 use Rattle.papaya_chain_rests.specs.Told.{Hands}
+use Rattle.papaya_rests.proofs.CopierCarries.{no_note}
+use Rattle.papaya_law.specs.Hints.{IsHint}
 
 -- what a machine asks as its call asks is what its call asks
 own_ask : (m : Machine) (phase : Phase) (ask : Call_ask) → asks_in m.call phase ≡ asks.Call ask → (phase ≡ Calling) × (call_machine.ask_of m.call ≡ ask)
@@ -69,3 +71,14 @@ module _ {K P : Type 0} (g : Setting K P) (c : Coding K P) (hashed : IsHashed g 
 
   pub copies_may : (at : At) (old new : ℕ) → ask_of m ≡ asks.Copy (Ask_exchange at old new) → May (kind_of_ask m) at old new
   copies_may at old new e = may_in m.phase r.phase at old new e
+
+  -- and a hint that is written may be there
+  may_hint_in : (phase : Phase) → RestsPhase g c begun since k m hands phase → (t x n : ℕ) → asks_in m.call phase ≡ asks.Copy (WriteHint t x n) → IsHint g c now t x n
+  may_hint_in Calling at t x n e = absurd cc
+  may_hint_in (Linking link) at t x n e = let is : link_ask link ≡ WriteHint t x n = cc e in absurd (no_note link t x n is)
+  may_hint_in (Copying_root copying) at t x n e =
+      let is : copying_ask copying ≡ WriteHint t x n = cc e in
+      (copying_noted g c hashed now (map_left g (begun ++ since)) keeps m.call.mode r.call.mode hands.call.last hands.kept copying (copy_rests copying at) t x n is).0
+
+  pub copies_may_hint : (t x n : ℕ) → ask_of m ≡ asks.Copy (WriteHint t x n) → IsHint g c now t x n
+  copies_may_hint t x n e = may_hint_in m.phase r.phase t x n e

@@ -20,7 +20,6 @@ use Rattle.papaya_call.specs.declared.machine.State.TheVariants.{Making, Writing
 use Rattle.papaya_call.specs.declared.need.Need.{Need}
 use Rattle.papaya_call.specs.declared.write.Made.{Made}
 use Rattle.papaya_call.specs.declared.write.Made.TheVariants.{Nothing, Key, Pair}
-use Rattle.papaya_call.specs.Write.{new_word}
 use Rattle.papaya_call.specs.Machine.{asks, needed}
 use Rattle.papaya_call.specs.Machine as call_machine
 use Rattle.papaya_copy.specs.declared.copying.Aim.{Aim}
@@ -53,6 +52,7 @@ use Rattle.papaya_chain_rests.proofs.CopyRefusals.{copying_asks, of_copied, of_l
 use Rattle.papaya_chain_rests.proofs.LinkRefusals.{HasCountedTooMany, HasNotMade, copying_ends, link_why}
 use Rattle.papaya_chain_rests.proofs.Names.{call_asks}
 use Rattle.papaya_chain_rests.proofs.Replies.{anew, aside_asks}
+use Rattle.papaya_words.specs.Word.{live_word}
 
 -- the refusal that an ask ends a call with
 abbrev of_reply : Reply → Option Refused
@@ -193,7 +193,7 @@ module _ {K P : Type 0} (g : Setting K P) (c : Coding K P) (k : K) (s : State P)
   making_told (Pair n) hash kind call' (Writing write) makes h =
       let at : At = Slot write.place.table write.place.probe.i in
       by_test (call_told.word_of g c s at == write.old)
-      ((Was_refused refused ≡ Exchanged) × ((e : Exchange P) × call_told.IsAsked c kind at (new_word hash n) s hands.call e × (es ≡ e ∷ [])) × (call' ≡ hands.call))
+      ((Was_refused refused ≡ Exchanged) × ((e : Exchange P) × call_told.IsAsked c kind at (live_word n) s hands.call e × (es ≡ e ∷ [])) × (call' ≡ hands.call))
       ((Was_refused refused ≡ Found_instead (call_told.word_of g c s at)) × (es ≡ []) × (call' ≡ call_told.told_of s at hands.call))
       ⊥ h (λ stands told. absurd (cc told.0)) (λ other told. absurd (cc told.0))
   making_told Nothing hash kind call' (Pairing purpose) makes h = tt

@@ -8,7 +8,7 @@ use Rattle.papaya_ask.specs.declared.ask.Answer.TheVariants.{Word as Word_read, 
 use Rattle.papaya_ask.specs.declared.ask.At.{At}
 use Rattle.papaya_ask.specs.declared.ask.At.TheVariants.{Root, Next}
 use Rattle.papaya_ask.specs.declared.copy_ask.CopyAsk.{CopyAsk}
-use Rattle.papaya_ask.specs.declared.copy_ask.CopyAsk.TheVariants.{Load, Exchange as Ask_exchange, SizeOf, Count, MakeTable}
+use Rattle.papaya_ask.specs.declared.copy_ask.CopyAsk.TheVariants.{Load, Exchange as Ask_exchange, SizeOf, Count, MakeTable, WriteHint}
 use Rattle.papaya_copy.specs.declared.copying.Aim.{Aim}
 use Rattle.papaya_copy.specs.declared.copying.Aim.TheVariants as aims
 use Rattle.papaya_copy.specs.declared.copying.Copied.{Copied}
@@ -40,7 +40,7 @@ use Rattle.papaya_law.proofs.OneMap.{keeping_sound}
 use Rattle.papaya_rests.specs.Copier.{AreThere, IsStillAimed, RestsCopied, RestsLinked, aim_of}
 use Rattle.papaya_rests.specs.Rests.{IsModeOf}
 use Rattle.papaya_rests.specs.Told.{IsWritten, word_of}
-use Rattle.papaya_rests.proofs.CopierCopies.{copying_there, link_there}
+use Rattle.papaya_rests.proofs.CopierCopies.{copying_there, link_there, copying_noted}
 use Rattle.papaya_rests.proofs.CopierExchange.{copying_may, link_may}
 use Rattle.papaya_rests.proofs.CopierStays.{copying_stays}
 use Rattle.papaya_rests.proofs.CopierTables.{copying_carries}
@@ -49,6 +49,8 @@ use Rattle.papaya_chain_rests.specs.Resizers.{IsOwnAim, IsStageAsked, IsStageTol
 use Rattle.papaya_chain_rests.specs.Told.{Hands, IsCopyTold, Quiet}
 use Rattle.papaya_chain_rests.proofs.CopyTold.{copying_learns}
 use Rattle.papaya_chain_rests.proofs.Making.{link_learns}
+use Rattle.papaya_rests.proofs.CopierCarries.{no_note}
+use Rattle.papaya_law.specs.Hints.{IsHint}
 
 -- it goes on copying a chunk, or all
 still_own : (aim aim' : Aim) → IsOwnAim aim → IsStillAimed aim aim' → IsOwnAim aim'
@@ -72,7 +74,7 @@ module _ {K P : Type 0} (g : Setting K P) (c : Coding K P) where
   stage_stays hashed s m keeps es may hands (Looking root room) r = on_run g hashed.lawful es s m keeps may root r
   stage_stays hashed s m keeps es may hands (Linking link) r = record { on = on_run g hashed.lawful es s m keeps may (follows link) r.on; rises = r.rises }
   stage_stays hashed s m keeps es may hands (Copying from copying) (own, r) =
-      (own, copying_stays g c hashed.lawful s (run es s) (next_zero s.next (keeping_sound g s m keeps).rises) (later_run g hashed.lawful es s may) (on_run g hashed.lawful es s m keeps may) hands.call.last hands.kept copying r)
+      (own, copying_stays g c hashed s (run es s) (next_zero s.next (keeping_sound g s m keeps).rises) (later_run g hashed.lawful es s may) (on_run g hashed.lawful es s m keeps may) hands.call.last hands.kept copying r)
   stage_stays hashed s m keeps es may hands Done r = tt
   stage_stays hashed s m keeps es may hands (Ended_refused refused) r = tt
 
@@ -126,6 +128,12 @@ module _ {K P : Type 0} (g : Setting K P) (c : Coding K P) where
     stage_may (Linking link) r at old new e = let is : link_ask link ≡ Ask_exchange at old new = cc e in link_may g c hashed s m keeps hands.call.last hands.kept link r at old new is
     stage_may (Copying from copying) (own, r) at old new e = let is : copying_ask copying ≡ Ask_exchange at old new = cc e in copying_may g c hashed s m keeps hands.call.last hands.kept copying r at old new is
     stage_may stage r at old new e = absurd cc
+
+    -- and a hint that it writes may be there
+    pub stage_may_hint : (mode : ResizeMode) → IsModeOf mode g.blocking → (stage : Stage) → RestsStage g c s hands stage → (t x n : ℕ) → asks_in stage ≡ Some (WriteHint t x n) → IsHint g c s t x n
+    stage_may_hint mode moded (Linking link) r t x n e = let is : link_ask link ≡ WriteHint t x n = cc e in absurd (no_note link t x n is)
+    stage_may_hint mode moded (Copying from copying) (own, r) t x n e = let is : copying_ask copying ≡ WriteHint t x n = cc e in (copying_noted g c hashed s m keeps mode moded hands.call.last hands.kept copying r t x n is).0
+    stage_may_hint mode moded stage r t x n e = absurd cc
 
   module _ (s : State P) (hands : Hands P) where
     -- what it is told, where it asks as a copy does

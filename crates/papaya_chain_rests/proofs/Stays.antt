@@ -73,7 +73,7 @@ module _ {K P : Type 0} (g : Setting K P) (c : Coding K P) (hashed : IsHashed g 
     mode = r.mode;
     changes = r.changes;
     left = r.left;
-    rests = link_stays g c hashed.lawful before (now g c begun (since ++ es) k) no_first later_words on_stays hands.call.last hands.kept link r.rests;
+    rests = link_stays g c hashed before (now g c begun (since ++ es) k) no_first later_words on_stays hands.call.last hands.kept link r.rests;
   }
   phase_stays m hands (Copying copying) (inr r) = inr (record {
     mode = r.mode;
@@ -82,7 +82,7 @@ module _ {K P : Type 0} (g : Setting K P) (c : Coding K P) (hashed : IsHashed g 
     left = r.left;
     met = r.met;
     aim = r.aim;
-    rests = copying_stays g c hashed.lawful before (now g c begun (since ++ es) k) no_first later_words on_stays hands.call.last hands.kept copying r.rests;
+    rests = copying_stays g c hashed before (now g c begun (since ++ es) k) no_first later_words on_stays hands.call.last hands.kept copying r.rests;
   })
   phase_stays m hands (Copying copying) (inl r) =
       let same : (now g c begun (since ++ es) k).next r.table ≡ before.next r.table = later_words.next r.table r.next in
@@ -93,7 +93,7 @@ module _ {K P : Type 0} (g : Setting K P) (c : Coding K P) (hashed : IsHashed g 
         left = r.left;
         next = subst (λ n. 0 < n) (sym same) r.next;
         aim = subst (λ n. aim_of copying ≡ aim_for m.call.state n) (sym same) r.aim;
-        rests = copying_stays g c hashed.lawful before (now g c begun (since ++ es) k) no_first later_words on_stays hands.call.last hands.kept copying r.rests;
+        rests = copying_stays g c hashed before (now g c begun (since ++ es) k) no_first later_words on_stays hands.call.last hands.kept copying r.rests;
       })
 
   -- all that it rests on

@@ -1,11 +1,11 @@
 -- What a visit names is there, and what it exchanges is allowed.
 use Rattle.std.proofs.Common.{◌≡◌, ℕ, ◌<◌, true, Option, None, Some, List, ◌++◌, append_assoc, refl, sym, ap, ◌∙◌, subst}
-use Rattle.papaya_words.specs.Word.{buried_word, byte_of, kind_of, pair_of}
+use Rattle.papaya_words.specs.Word.{buried_word, kind_of, pair_of}
 use Rattle.papaya_words.specs.declared.word.Kind.TheVariants as kinds
 use Rattle.papaya_ask.specs.declared.ask.At.{At}
 use Rattle.papaya_ask.specs.declared.ask.At.TheVariants.{Root, Next, Aborted, Done as Done_word, Slot}
 use Rattle.papaya_ask.specs.declared.copy_ask.CopyAsk.{CopyAsk}
-use Rattle.papaya_ask.specs.declared.copy_ask.CopyAsk.TheVariants.{Load, Exchange as Ask_exchange, SizeOf}
+use Rattle.papaya_ask.specs.declared.copy_ask.CopyAsk.TheVariants.{Load, Exchange as Ask_exchange, SizeOf, WriteHint}
 use Rattle.papaya_call.specs.Remove.{grave_word}
 use Rattle.papaya_chain.specs.declared.resizer.State.{State as Stage}
 use Rattle.papaya_chain.specs.Resizer as resizers
@@ -23,7 +23,7 @@ use Rattle.papaya_law.proofs.OneMap.{keeping_sound, run_keeps}
 use Rattle.papaya_law.proofs.Slots.{put_elsewhere, put_there}
 use Rattle.papaya_rests.specs.Told.{IsWritten, word_of}
 use Rattle.papaya_chain_rests.specs.Resizers.{RestsStage}
-use Rattle.papaya_chain_rests.proofs.ResizerRests.{stage_may, stage_there}
+use Rattle.papaya_chain_rests.proofs.ResizerRests.{stage_may, stage_there, stage_may_hint}
 use Rattle.papaya_chain.specs.declared.visit_ask.VisitAsk.{VisitAsk}
 use Rattle.papaya_chain.specs.declared.visit_ask.VisitAsk.TheVariants.{Copy, Show, Give, AddToShard}
 use Rattle.papaya_chain.specs.declared.visitor.Spot.{Spot}
@@ -34,6 +34,9 @@ use Rattle.papaya_chain.specs.Visitor.{asks_in, buries, copy_asks}
 use Rattle.papaya_chain_rests.specs.VisitTold.{Hands}
 use Rattle.papaya_chain_rests.specs.Visits.{HadPair, IsMeeting, IsNamed, IsSpot, IsTaking, IsVisitAsked, RestsState}
 use Rattle.papaya_chain_rests.proofs.VisitSlots.{reached_now, was_now}
+use Rattle.papaya_rests.specs.Rests.{IsModeOf}
+use Rattle.papaya_words.specs.declared.probe.ResizeMode.{ResizeMode}
+use Rattle.papaya_law.specs.Hints.{IsHint}
 
 -- a word that is put into a slot is the only one that changes
 slot_written : {K P : Type 0} → (g : Setting K P) (c : Coding K P) (s : Words P) (t x : ℕ) (w : Word P) → IsWritten g c s (Slot t x) (code g c w) (slot_put s t x w)
@@ -137,9 +140,7 @@ module _ {K P : Type 0} (g : Setting K P) (c : Coding K P) (hashed : IsHashed g 
 
     -- a buried pair's word is the code of its Buried word
     grave_code : (p : P) (word : ℕ) → code g c (Live p) ≡ word → code g c (Buried p) ≡ grave_word word
-    grave_code p word e =
-        let parts = code_pair g c hashed.coding (Live p) p refl in
-        ap (λ b. buried_word b (c.number p)) (sym parts.1) ∙ ap (buried_word (byte_of (code g c (Live p)))) (sym parts.0) ∙ ap grave_word e
+    grave_code p word e = ap buried_word (sym (code_pair g c hashed.coding (Live p) p refl)) ∙ ap grave_word e
 
     -- the pair that stands in the slot is buried
     pub bury_may : (spot : Spot) (word : ℕ) → RestsState g c s m since visit hands (Burying spot word) → (p : P) → now.slot spot.table spot.slot ≡ Live p → Allows g now (Bury spot.table spot.slot p)
@@ -152,7 +153,7 @@ module _ {K P : Type 0} (g : Setting K P) (c : Coding K P) (hashed : IsHashed g 
         let live : IsOfKind kinds.Live (now.slot t x) = subst (λ y. IsOfKind y (now.slot t x)) (ap kind_of stands ∙ r.1) (word_of_kind g c (now.slot t x)) in
         let p : P = live.0 in
         let is : code g c (Live p) ≡ word = ap (code g c) (sym live.1) ∙ stands in
-        let number : c.number p ≡ pair_of word = sym (code_pair g c hashed.coding (Live p) p refl).0 ∙ ap pair_of is in (
+        let number : c.number p ≡ pair_of word = sym (code_pair g c hashed.coding (Live p) p refl) ∙ ap pair_of is in (
           Bury t x p,
           (r.2, (p, live.1, number, refl)),
           bury_may spot word r p live.1,
@@ -181,3 +182,22 @@ module _ {K P : Type 0} (g : Setting K P) (c : Coding K P) (hashed : IsHashed g 
     state_may (Uncounting spot) r at old new e = absurd cc
     state_may Done r at old new e = absurd cc
     state_may (Refused refused) r at old new e = absurd cc
+
+    -- a hint that the copy writes may be there
+    copy_hint : (stage : Stage) → RestsState g c s m since visit hands (Copying stage) → (mode : ResizeMode) → IsModeOf mode g.blocking → (o : Option CopyAsk) → resizers.asks_in stage ≡ o → (t x n : ℕ) → copy_asks o ≡ Some (Copy (WriteHint t x n)) → IsHint g c now t x n
+    copy_hint stage r mode moded None is t x n e = absurd cc
+    copy_hint stage r mode moded (Some ask) is t x n e =
+        let same : ask ≡ WriteHint t x n = cc e in
+        stage_may_hint g c hashed now (map_of g m since) keeps_since hands.copy mode moded stage r.2 t x n (is ∙ ap Some same)
+
+    pub state_may_hint : (mode : ResizeMode) → IsModeOf mode g.blocking → (state : State) → RestsState g c s m since visit hands state → (t x n : ℕ) → asks_in state ≡ Some (Copy (WriteHint t x n)) → IsHint g c now t x n
+    state_may_hint mode moded (Copying stage) r t x n e = copy_hint stage r mode moded (resizers.asks_in stage) refl t x n e
+    state_may_hint mode moded (Burying spot word) r t x n e = absurd cc
+    state_may_hint mode moded AtRoot r t x n e = absurd cc
+    state_may_hint mode moded (Sizing table) r t x n e = absurd cc
+    state_may_hint mode moded (Looking spot) r t x n e = absurd cc
+    state_may_hint mode moded (Giving spot word) r t x n e = absurd cc
+    state_may_hint mode moded (Showing spot word) r t x n e = absurd cc
+    state_may_hint mode moded (Uncounting spot) r t x n e = absurd cc
+    state_may_hint mode moded Done r t x n e = absurd cc
+    state_may_hint mode moded (Refused refused) r t x n e = absurd cc

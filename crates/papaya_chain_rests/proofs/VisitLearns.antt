@@ -153,7 +153,7 @@ module _ {K P : Type 0} (g : Setting K P) (c : Coding K P) (hashed : IsHashed g 
         taken = taking_handed hands hands_now.copy spot.table v.es v.fs v.taken;
         pair = p;
         told = ap (λ o. or_last o (last_of hands)) name_now;
-        number = sym (code_pair g c hashed.coding (now.slot spot.table spot.slot) p name_now).0;
+        number = sym (code_pair g c hashed.coding (now.slot spot.table spot.slot) p name_now);
         had = met_had g hashed.lawful (run v.es s) (map_of g m v.es) (keeps_then g c hashed s m keeps since may spot.table hands v.es v.fs v.taken) spot.table v.taken.root v.taken.some v.taken.last v.fs (may_then g c hashed s m keeps since may spot.table hands v.es v.fs v.taken) spot.slot w p (slot_then w e) has;
         each = λ k.
             ⊎_elim

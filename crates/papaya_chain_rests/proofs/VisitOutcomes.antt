@@ -12,7 +12,7 @@ use Rattle.papaya_ask.specs.declared.ask.StepKind.{StepKind}
 use Rattle.papaya_ask.specs.declared.ask.StepKind.TheVariants as steps
 use Rattle.papaya_ask.specs.declared.call.Reply.TheVariants.{Refused as Reply_refused}
 use Rattle.papaya_ask.specs.declared.copy_ask.CopyAsk.{CopyAsk}
-use Rattle.papaya_ask.specs.declared.copy_ask.CopyAsk.TheVariants.{Load, Exchange as Ask_exchange, SizeOf, HashOf, SamePair, Count, MakeTable}
+use Rattle.papaya_ask.specs.declared.copy_ask.CopyAsk.TheVariants.{Load, Exchange as Ask_exchange, SizeOf, HashOf, SamePair, Count, MakeTable, LoadHint, WriteHint}
 use Rattle.papaya_chain.specs.declared.ask.Answer.{Answer}
 use Rattle.papaya_chain.specs.declared.ask.Answer.TheVariants as answers
 use Rattle.papaya_chain.specs.declared.resizer.Resize.TheVariants.{CopyAll}
@@ -129,6 +129,8 @@ module _ {K P : Type 0} (g : Setting K P) (c : Coding K P) where
   copy_told s kind follows hands (Ask_exchange at old new) answer es hands' h = by_test (word_of g c s at == old) _ _ (Left es) h
       (λ _ made. let (e, asked, one, handed) = made.1 in inr (e, one, copy_leaves kind at new s hands.kept e asked))
       (λ _ lost. inl lost.1)
+  copy_told s kind follows hands (LoadHint t x) answer es hands' h = inl h.1.0
+  copy_told s kind follows hands (WriteHint t x hint) answer es hands' h = inl h.1.0
   copy_told s kind follows hands (SizeOf t) answer es hands' h = inl h.1.0
   copy_told s kind follows hands (HashOf n) answer es hands' h = inl h.1
   copy_told s kind follows hands (SamePair i n) answer es hands' h = inl h.1.0

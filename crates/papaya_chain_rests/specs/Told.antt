@@ -3,16 +3,17 @@ use Rattle.std.specs.Prelude.{◌≡◌, ◌⊎◌, ℕ, ◌+◌, ◌<◌, ◌==
 use Rattle.papaya_words.specs.declared.probe.Refused.{Refused}
 use Rattle.papaya_ask.specs.declared.ask.Ask.{Ask as Call_ask}
 use Rattle.papaya_ask.specs.declared.ask.Answer.{Answer as Call_answer}
-use Rattle.papaya_ask.specs.declared.ask.Answer.TheVariants.{Word as Word_read, Exchanged, Found as Found_instead, Yes, Size, Made as Made_number, Refused as Was_refused}
+use Rattle.papaya_ask.specs.declared.ask.Answer.TheVariants.{Word as Word_read, Exchanged, Found as Found_instead, Yes, Size, Made as Made_number, Ok as Ok_done, Refused as Was_refused}
 use Rattle.papaya_ask.specs.declared.ask.StepKind.{StepKind}
 use Rattle.papaya_ask.specs.declared.copy_ask.CopyAsk.{CopyAsk}
-use Rattle.papaya_ask.specs.declared.copy_ask.CopyAsk.TheVariants.{Load, Exchange as Ask_exchange, SizeOf, HashOf, SamePair, Count, MakeTable}
+use Rattle.papaya_ask.specs.declared.copy_ask.CopyAsk.TheVariants.{Load, Exchange as Ask_exchange, LoadHint, WriteHint, SizeOf, HashOf, SamePair, Count, MakeTable}
 use Rattle.papaya_chain.specs.declared.ask.Ask.{Ask}
 use Rattle.papaya_chain.specs.declared.ask.Ask.TheVariants as asks
 use Rattle.papaya_chain.specs.declared.ask.Answer.{Answer}
 use Rattle.papaya_chain.specs.declared.ask.Answer.TheVariants as answers
 use Rattle.papaya_law.specs.Code.{Coding}
 use Rattle.papaya_law.specs.Exchange.{Setting, State, Exchange}
+use Rattle.papaya_law.specs.Hints.{IsHint}
 use Rattle.papaya_rests.specs.Copier.{IsCopyAsked, last_after, told_last}
 use Rattle.papaya_rests.specs.Told.{word_of}
 use Rattle.papaya_rests.specs.Told as calls
@@ -35,8 +36,9 @@ module _ {K P : Type 0} (g : Setting K P) (c : Coding K P) where
   Quiet hands es hands' = (es ≡ []) × (hands' ≡ hands)
 
   -- The answer to what is asked for a copy is true of the words in s: a load and an exchange are
-  -- answered by the word that stands there, and a table that is made has a greater number than the
-  -- one that it is to follow. es has the exchange, if one was made.
+  -- answered by the word that stands there, and the load of a hint by one that may be there; a table
+  -- that is made has a greater number than the one that it is to follow. es has the exchange, if one
+  -- was made.
   abbrev pub IsCopyTold : State P → Option StepKind → (follows : ℕ) → Hands P → CopyAsk → Answer
       → List (Exchange P) → Hands P → Type 0
   IsCopyTold s kind follows hands (Load at) answer es hands' =
@@ -49,6 +51,10 @@ module _ {K P : Type 0} (g : Setting K P) (c : Coding K P) where
       × (hands' ≡ told_of (last_after e hands.call.last) hands)))
       ((answer ≡ answers.Call (Found_instead (word_of g c s at)))
       × (es ≡ []) × (hands' ≡ told_of (told_last s at hands.call.last) hands))
+  IsCopyTold s kind follows hands (LoadHint t x) answer es hands' =
+      ((n : ℕ) × IsHint g c s t x n × (answer ≡ answers.Call (Word_read n))) × Quiet hands es hands'
+  IsCopyTold s kind follows hands (WriteHint t x n) answer es hands' =
+      (answer ≡ answers.Call Ok_done) × Quiet hands es hands'
   IsCopyTold s kind follows hands (SizeOf t) answer es hands' =
       ((limit : ℕ) × (limit + 1 ≡ g.places t) × (answer ≡ answers.Call (Size (g.size t) limit)))
       × Quiet hands es hands'

@@ -11,6 +11,7 @@ ghost use Rattle.papaya_law.specs.Class.{IsOn};
 ghost use Rattle.papaya_law.specs.Code.{Coding, IsHashed};
 ghost use Rattle.papaya_law.specs.Exchange.{Setting, State, Exchange, after as state_after, run};
 ghost use Rattle.papaya_law.specs.Grows.{Agrees};
+ghost use Rattle.papaya_law.specs.Hints.{IsHint};
 ghost use Rattle.papaya_law.specs.Invariant.{IsKeeping};
 ghost use Rattle.papaya_rests.specs.Copier.{AreThere};
 ghost use Rattle.papaya_rests.specs.Rests.{IsModeOf};
@@ -41,9 +42,10 @@ pub fn resizers_rest<K, P>()
 {}
 
 /// A resizer names only what is there, and an exchange of it whose old word stands there is allowed
-/// and writes just its word. After an answer that is true of the words it rests again, and what was
-/// exchanged was allowed. It is refused for one of three reasons: a table was refused, the next one
-/// would be longer than a table may be, or room was asked for that no table has.
+/// and writes just its word. A hint that it writes may be there. After an answer that is true of the
+/// words it rests again, and what was exchanged was allowed. It is refused for one of three reasons: a
+/// table was refused, the next one would be longer than a table may be, or room was asked for that no
+/// table has.
 pub fn resizers_go_on<K, P>()
     ensures names { (g : Setting K P) (c : Coding K P) → IsHashed g c
         → (s : State P) (m : K → Option P) → IsKeeping g s m → (resizer : Resizer) (hands : Hands P)
@@ -55,6 +57,10 @@ pub fn resizers_go_on<K, P>()
         → ask_of resizer ≡ Some (Copy_exchange at old new) → word_of g c s at ≡ old
         → (e : Exchange P) × IsStageAsked g c s resizer.state at new hands e
         × Allows g s e × IsWritten g c s at new (state_after s e) }
+    ensures may_hint { (g : Setting K P) (c : Coding K P) → IsHashed g c
+        → (s : State P) (m : K → Option P) → IsKeeping g s m → (resizer : Resizer) (hands : Hands P)
+        → RestsResizer g c s resizer hands → (t x n : ℕ)
+        → ask_of resizer ≡ Some (CopyAsk.WriteHint t x n) → IsHint g c s t x n }
     ensures learns { (g : Setting K P) (c : Coding K P) → IsHashed g c
         → (s : State P) (m : K → Option P) → IsKeeping g s m → (resizer : Resizer) (hands : Hands P)
         → RestsResizer g c s resizer hands

@@ -10,6 +10,7 @@ ghost use Rattle.papaya_law.specs.Class.{IsOn};
 ghost use Rattle.papaya_law.specs.Code.{Coding, IsHashed};
 ghost use Rattle.papaya_law.specs.Exchange.{Setting, Exchange, after as state_after, run, start};
 ghost use Rattle.papaya_law.specs.Grows.{Agrees};
+ghost use Rattle.papaya_law.specs.Hints.{IsHint};
 ghost use Rattle.papaya_rests.specs.Copier.{AreThere, IsCopyAsked};
 ghost use Rattle.papaya_rests.specs.Rests.{IsModeOf, Rests as CallRests, change_in};
 ghost use Rattle.papaya_rests.specs.Says.{HasShownNone, IsSaidBy, Said, ShowsPairs, StandsOn};
@@ -73,6 +74,16 @@ pub fn copies_may_exchange<K, P>()
         × IsCopyAsked c (kind_of_ask m) at new (run (begun ++ since) start) hands.kept e
         × Allows g (run (begun ++ since) start) e × IsWritten g c (run (begun ++ since) start) at
         new (state_after (run (begun ++ since) start) e) }
+{}
+
+/// A hint that a copy writes may be there: a pair of its key was put into that slot, or the slot was
+/// shut.
+pub fn copies_may_hint<K, P>()
+    ensures { (g : Setting K P) (c : Coding K P) → IsHashed g c → (begun since : List (Exchange P))
+        → AllAllowed g start (begun ++ since) → (k : K) (m : Machine) (hands : Hands P)
+        → Rests g c begun since k m hands → (t x n : ℕ)
+        → ask_of m ≡ Ask.Copy (CopyAsk.WriteHint t x n)
+        → IsHint g c (run (begun ++ since) start) t x n }
 {}
 
 /// After an answer that is true of the words the call rests again, and what was exchanged was

@@ -6,12 +6,13 @@ ghost use Rattle.papaya_words.specs.declared.probe.ResizeMode.{ResizeMode};
 ghost use Rattle.papaya_words.specs.declared.probe.Refused.{Refused};
 ghost use Rattle.papaya_ask.specs.declared.ask.StepKind.TheVariants.{Bury};
 ghost use Rattle.papaya_ask.specs.declared.call.Reply.TheVariants.{Done, Refused as Reply_refused};
-ghost use Rattle.papaya_ask.specs.declared.copy_ask.CopyAsk.TheVariants.{Exchange as Ask_exchange};
+ghost use Rattle.papaya_ask.specs.declared.copy_ask.CopyAsk.TheVariants.{Exchange as Ask_exchange, WriteHint};
 ghost use Rattle.papaya_law.specs.Allows.{AllAllowed, Allows};
 ghost use Rattle.papaya_law.specs.Class.{IsOn};
 ghost use Rattle.papaya_law.specs.Code.{Coding, IsHashed};
 ghost use Rattle.papaya_law.specs.Exchange.{Setting, State, Exchange, after as state_after, run};
 ghost use Rattle.papaya_law.specs.Grows.{Agrees};
+ghost use Rattle.papaya_law.specs.Hints.{IsHint};
 ghost use Rattle.papaya_law.specs.Invariant.{IsKeeping};
 ghost use Rattle.papaya_rests.specs.Rests.{IsModeOf};
 ghost use Rattle.papaya_rests.specs.Told.{IsWritten, word_of};
@@ -47,7 +48,8 @@ pub fn visitors_rest<K, P>()
 {}
 
 /// A visitor names only what is there. An exchange of it whose old word stands there is allowed and
-/// writes just its word: it is one of the copy, or buries the pair that stands in its slot.
+/// writes just its word: it is one of the copy, or buries the pair that stands in its slot. A hint
+/// that it writes may be there.
 pub fn visitors_ask<K, P>()
     ensures names { (g : Setting K P) (c : Coding K P) → IsHashed g c
         → (s : State P) (m : K → Option P) → IsKeeping g s m → (since : List (Exchange P))
@@ -63,6 +65,11 @@ pub fn visitors_ask<K, P>()
         × IsVisitAsked g c s m since visitor.visit visitor.state at new hands e
         × Allows g (run since s) e
         × IsWritten g c (run since s) at new (state_after (run since s) e) }
+    ensures may_hint { (g : Setting K P) (c : Coding K P) → IsHashed g c
+        → (s : State P) (m : K → Option P) → IsKeeping g s m → (since : List (Exchange P))
+        → AllAllowed g s since → (visitor : Visitor) (hands : Hands P)
+        → RestsVisitor g c s m since visitor hands → (t x n : ℕ)
+        → ask_of visitor ≡ Some (Copy_ask (WriteHint t x n)) → IsHint g c (run since s) t x n }
 {}
 
 /// After an answer that is true of the words a visitor rests again, and what was exchanged was

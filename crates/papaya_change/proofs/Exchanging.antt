@@ -93,7 +93,7 @@ module _ {K V S H : Type 0} (eq : K → K → Bool) (input : K → List (List �
     numbered w is p has =
         let coding = (is_hashed eq input build write finish classes respects b before l).coding in
         let there : code (plain before) c w ≡ old = ap (code (plain before) c) (sym is) ∙ stood in
-        ap pair_of (sym there) ∙ (code_pair (plain before) c coding w p has).0
+        ap pair_of (sym there) ∙ (code_pair (plain before) c coding w p has)
 
     taken_of : (change : Option ℕ × Option ℕ) (class : K) (p : Stored K V) → pair ≡ Some p → change.0 ≡ Some p.index → class ≡ key_of p → MatchOption pair (change.0 ≡ None) (λ p. (change.0 ≡ Some p.index) × (class ≡ key_of p))
     taken_of change class p is number of = subst (λ (o : Option (Stored K V)). MatchOption o (change.0 ≡ None) (λ p. (change.0 ≡ Some p.index) × (class ≡ key_of p))) (sym is) (number, of)

@@ -1,7 +1,7 @@
 -- A copier puts the pair of a marked word into a table: what it asks, and where each answer leads
 -- it.
 use Rattle.std.specs.Prelude.{ℕ, ◌==◌, nat_lt, Bool, true, false, if◌then◌else◌, Option, Some, None}
-use Rattle.papaya_words.specs.Word.{kind_of, byte_of, pair_of, top_byte, live_word}
+use Rattle.papaya_words.specs.Word.{kind_of, pair_of, hint_of, may_hold, live_word}
 use Rattle.papaya_words.specs.declared.probe.Refused.{Refused}
 use Rattle.papaya_words.specs.declared.probe.ResizeMode.{ResizeMode}
 use Rattle.papaya_words.specs.declared.probe.ResizeMode.TheVariants.{Incremental, Blocking}
@@ -13,9 +13,9 @@ use Rattle.papaya_ask.specs.declared.ask.StepKind.TheVariants as kinds
 use Rattle.papaya_copy.specs.declared.carry.Carried.{Carried}
 use Rattle.papaya_copy.specs.declared.carry.Carried.TheVariants.{On, Carried as Was_carried, Unfit, Refused as Was_refused}
 use Rattle.papaya_copy.specs.declared.carry.Carry.{Carry}
-use Rattle.papaya_copy.specs.declared.carry.Carry.TheVariants.{Hashing, Sizing, Looking, Comparing, Placing, Passing, Linking, Aborting}
+use Rattle.papaya_copy.specs.declared.carry.Carry.TheVariants.{Hashing, Sizing, Looking, Reading, Comparing, Placing, Placed, Passing, Linking, Aborting}
 use Rattle.papaya_ask.specs.declared.copy_ask.CopyAsk.{CopyAsk}
-use Rattle.papaya_ask.specs.declared.copy_ask.CopyAsk.TheVariants.{Load, Exchange, SizeOf, HashOf, SamePair}
+use Rattle.papaya_ask.specs.declared.copy_ask.CopyAsk.TheVariants.{Load, Exchange, LoadHint, WriteHint, SizeOf, HashOf, SamePair}
 use Rattle.papaya_copy.specs.declared.link.Link.TheVariants.{Sizing as Link_sizing}
 use Rattle.papaya_copy.specs.declared.link.Linked.{Linked}
 use Rattle.papaya_copy.specs.declared.link.Linked.TheVariants.{On as Link_on, Table, Refused as Link_refused}
@@ -27,8 +27,10 @@ use Rattle.papaya_ask.specs.Search.{IsWithin, first_place, next_place}
 -- it stands within its table
 abbrev pub IsStandingCarry : Carry → Type 0
 IsStandingCarry (Looking hash at) = IsWithin at
+IsStandingCarry (Reading hash at) = IsWithin at
 IsStandingCarry (Comparing hash at word) = IsWithin at
 IsStandingCarry (Placing hash at) = IsWithin at
+IsStandingCarry (Placed hash at) = IsWithin at
 IsStandingCarry (Linking hash link) = IsStandingLink link
 IsStandingCarry _ = Unit {0}
 
@@ -40,10 +42,12 @@ IsStandingCarried _ = Unit {0}
 abbrev pub carry_ask : Carry → (marked : ℕ) → CopyAsk
 carry_ask (Hashing table) marked = HashOf (pair_of marked)
 carry_ask (Sizing hash table) marked = SizeOf table
-carry_ask (Looking hash at) marked = Load (Slot at.table at.probe.i)
+carry_ask (Looking hash at) marked = LoadHint at.table at.probe.i
+carry_ask (Reading hash at) marked = Load (Slot at.table at.probe.i)
 carry_ask (Comparing hash at word) marked = SamePair (pair_of marked) (pair_of word)
 carry_ask (Placing hash at) marked = Exchange (Slot at.table at.probe.i) 0
-    (live_word (byte_of marked) (pair_of marked))
+    (live_word (pair_of marked))
+carry_ask (Placed hash at) marked = WriteHint at.table at.probe.i (hint_of hash)
 carry_ask (Passing hash table) marked = Load (Next table)
 carry_ask (Linking hash link) marked = link_ask link
 carry_ask (Aborting table) marked = Exchange (Aborted table) 0 1
@@ -70,17 +74,16 @@ abbrev pub goes_on : (hash : ℕ) → Place → ResizeMode → Carried
 goes_on hash at mode = if nat_lt at.probe.len at.limit then On (Looking hash (next_place at))
     else On (fills hash at.table mode)
 
--- a word with the hash byte may be of the pair's key
-abbrev pub compare_byte : (hash : ℕ) → Place → ResizeMode → ℕ → Carried
-compare_byte hash at mode word = if byte_of word == top_byte hash then On (Comparing hash at word)
-    else goes_on hash at mode
+-- the hint of a place: where it says nothing, or is the key's, the word is loaded
+abbrev pub hinted : (hash : ℕ) → Place → ResizeMode → (hint : ℕ) → Carried
+hinted hash at mode hint = if may_hold hint hash then On (Reading hash at) else goes_on hash at mode
 
 -- what a word of this kind tells: one of the pair's key is met whatever its kind, Buried too
 abbrev pub look_at : Kind → (hash : ℕ) → Place → ResizeMode → ℕ → Carried
 look_at word_kinds.Empty hash at mode word = On (Placing hash at)
 look_at word_kinds.Closed hash at mode word = goes_on hash at mode
-look_at word_kinds.Buried hash at mode word = compare_byte hash at mode word
-look_at _ hash at mode word = compare_byte hash at mode word
+look_at word_kinds.Buried hash at mode word = On (Comparing hash at word)
+look_at _ hash at mode word = On (Comparing hash at word)
 
 abbrev pub look : (hash : ℕ) → Place → ResizeMode → ℕ → Carried
 look hash at mode word = look_at (kind_of word) hash at mode word
@@ -107,7 +110,8 @@ at_size (Linking hash link) slots limit = Linking hash (links.at_size link slots
 at_size carry slots limit = carry
 
 abbrev pub at_word : Carry → ResizeMode → ℕ → Carried
-at_word (Looking hash at) mode word = look hash at mode word
+at_word (Looking hash at) mode word = hinted hash at mode word
+at_word (Reading hash at) mode word = look hash at mode word
 at_word (Passing hash table) mode word = On (passed hash table word)
 at_word carry mode word = On carry
 
@@ -120,10 +124,14 @@ at_yes (Comparing hash at word) mode same = compared hash at mode same
 at_yes carry mode same = On carry
 
 abbrev pub at_exchanged : Carry → Carried
-at_exchanged (Placing hash at) = Was_carried
+at_exchanged (Placing hash at) = On (Placed hash at)
 at_exchanged (Linking hash link) = carried_on hash (links.at_exchanged link)
 at_exchanged (Aborting table) = Unfit table
 at_exchanged carry = On carry
+
+abbrev pub at_ok : Carry → Carried
+at_ok (Placed hash at) = Was_carried
+at_ok carry = On carry
 
 abbrev pub at_found : Carry → ResizeMode → ℕ → Carried
 at_found (Placing hash at) mode word = look hash at mode word

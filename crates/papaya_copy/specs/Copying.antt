@@ -106,6 +106,10 @@ abbrev pub at_exchanged : Copying → ResizeMode → Copied
 at_exchanged (Stepping aim step) mode = leads aim mode (steps.at_exchanged step mode)
 at_exchanged (Lone slot settle) mode = lone slot (settles.at_exchanged settle slot mode)
 
+abbrev pub at_ok : Copying → ResizeMode → Copied
+at_ok (Stepping aim step) mode = leads aim mode (steps.at_ok step mode)
+at_ok (Lone slot settle) mode = lone slot (settles.at_ok settle mode)
+
 abbrev pub at_found : Copying → ResizeMode → ℕ → Copied
 at_found (Stepping aim step) mode word = leads aim mode (steps.at_found step mode word)
 at_found (Lone slot settle) mode word = lone slot (settles.at_found settle slot mode word)

@@ -1,6 +1,6 @@
 -- The copy of one slot: what it asks, and where each answer leads it.
 use Rattle.std.specs.Prelude.{ℕ, Bool, Option, Some, None}
-use Rattle.papaya_words.specs.Word.{kind_of, byte_of, pair_of, marked_word, copied_word}
+use Rattle.papaya_words.specs.Word.{kind_of, pair_of, marked_word, copied_word, shut_hint}
 use Rattle.papaya_words.specs.declared.probe.Refused.{Refused}
 use Rattle.papaya_words.specs.declared.probe.ResizeMode.{ResizeMode}
 use Rattle.papaya_words.specs.declared.probe.ResizeMode.TheVariants.{Incremental, Blocking}
@@ -13,9 +13,9 @@ use Rattle.papaya_copy.specs.declared.carry.Carried.{Carried}
 use Rattle.papaya_copy.specs.declared.carry.Carried.TheVariants.{On as Carry_on, Carried as Was_carried, Unfit as Carry_unfit, Refused as Carry_refused}
 use Rattle.papaya_copy.specs.declared.carry.Carry.TheVariants.{Hashing}
 use Rattle.papaya_ask.specs.declared.copy_ask.CopyAsk.{CopyAsk}
-use Rattle.papaya_ask.specs.declared.copy_ask.CopyAsk.TheVariants.{Load, Exchange}
+use Rattle.papaya_ask.specs.declared.copy_ask.CopyAsk.TheVariants.{Load, Exchange, WriteHint}
 use Rattle.papaya_copy.specs.declared.settle.Settle.{Settle}
-use Rattle.papaya_copy.specs.declared.settle.Settle.TheVariants.{Looking, Closing, Marking, Carrying, Finishing}
+use Rattle.papaya_copy.specs.declared.settle.Settle.TheVariants.{Looking, Closing, Shutting, Marking, Carrying, Finishing}
 use Rattle.papaya_copy.specs.declared.settle.Settled.{Settled}
 use Rattle.papaya_copy.specs.declared.settle.Settled.TheVariants.{On, Settled as Was_settled, Unfit, Refused as Was_refused}
 use Rattle.papaya_copy.specs.declared.settle.Slot.{Slot}
@@ -33,15 +33,16 @@ IsStandingSettled _ = Unit {0}
 
 -- the word, with its pair marked, and with its pair copied
 abbrev pub marked_as : ℕ → ℕ
-marked_as word = marked_word (byte_of word) (pair_of word)
+marked_as word = marked_word (pair_of word)
 
 abbrev pub copied_as : ℕ → ℕ
-copied_as word = copied_word (byte_of word) (pair_of word)
+copied_as word = copied_word (pair_of word)
 
 -- what it asks
 abbrev pub settle_ask : Settle → Slot → CopyAsk
 settle_ask Looking slot = Load (words.Slot slot.from slot.index)
 settle_ask Closing slot = Exchange (words.Slot slot.from slot.index) 0 5
+settle_ask Shutting slot = WriteHint slot.from slot.index shut_hint
 settle_ask (Marking word) slot = Exchange (words.Slot slot.from slot.index) word (marked_as word)
 settle_ask (Carrying word carry) slot = carry_ask carry word
 settle_ask (Finishing word) slot = Exchange (words.Slot slot.from slot.index) word (copied_as word)
@@ -50,6 +51,7 @@ settle_ask (Finishing word) slot = Exchange (words.Slot slot.from slot.index) wo
 abbrev pub settle_kind : Settle → Option StepKind
 settle_kind Looking = None
 settle_kind Closing = Some kinds.Close
+settle_kind Shutting = None
 settle_kind (Marking word) = Some kinds.Mark
 settle_kind (Carrying word carry) = carry_kind carry
 settle_kind (Finishing word) = Some kinds.Finish
@@ -102,14 +104,21 @@ at_yes settle mode same = On settle
 
 abbrev pub at_exchanged : Settle → Slot → ResizeMode → Settled
 at_exchanged Looking slot mode = On Looking
-at_exchanged Closing slot mode = Was_settled
+at_exchanged Closing slot mode = On Shutting
+at_exchanged Shutting slot mode = On Shutting
 at_exchanged (Marking word) slot mode = On (Carrying (marked_as word) (Hashing slot.to))
 at_exchanged (Carrying marked carry) slot mode = settled_by marked mode (carries.at_exchanged carry)
 at_exchanged (Finishing word) slot mode = Was_settled
 
+abbrev pub at_ok : Settle → ResizeMode → Settled
+at_ok Shutting mode = Was_settled
+at_ok (Carrying marked carry) mode = settled_by marked mode (carries.at_ok carry)
+at_ok settle mode = On settle
+
 abbrev pub at_found : Settle → Slot → ResizeMode → ℕ → Settled
 at_found Looking slot mode word = On Looking
 at_found Closing slot mode word = look slot word
+at_found Shutting slot mode word = On Shutting
 at_found (Marking old) slot mode word = look slot word
 at_found (Carrying marked carry) slot mode word =
     settled_by marked mode (carries.at_found carry mode word)

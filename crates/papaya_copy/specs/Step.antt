@@ -165,6 +165,10 @@ at_exchanged (Advancing chunk) mode = advanced chunk chunk.end
 at_exchanged (Promoting from to) mode = Over
 at_exchanged step mode = On step
 
+abbrev pub at_ok : Step → ResizeMode → Stepped
+at_ok (Settling chunk settle) mode = settled_to chunk (settles.at_ok settle mode)
+at_ok step mode = On step
+
 abbrev pub at_found : Step → ResizeMode → ℕ → Stepped
 at_found (Linking from link) mode word = linked_to from (links.at_found link word)
 at_found (Settling chunk settle) mode word = settled_to chunk

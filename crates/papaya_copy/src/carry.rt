@@ -1,9 +1,9 @@
 //! A copier puts the pair of a marked word into a table.
 ghost use Rattle.std.specs.Prelude.{◌≡◌};
 ghost use Rattle.std.specs.Int.{IsPowerOfTwo};
-ghost use Rattle.papaya_copy.specs.Carry.{IsStandingCarry, IsStandingCarried, at_count, at_exchanged, at_found, at_hash};
+ghost use Rattle.papaya_copy.specs.Carry.{IsStandingCarry, IsStandingCarried, at_count, at_exchanged, at_found, at_hash, at_ok};
 ghost use Rattle.papaya_copy.specs.Carry.{at_made, at_refused, at_size, at_word, at_yes, carried_on};
-ghost use Rattle.papaya_copy.specs.Carry.{carry_ask, carry_follows, carry_kind, goes_on, look, passed};
+ghost use Rattle.papaya_copy.specs.Carry.{carry_ask, carry_follows, carry_kind, goes_on, hinted, look, passed};
 ghost use Rattle.papaya_copy.specs.Link.{IsFitCopyAsk, IsStandingLinked};
 ghost use Rattle.papaya_ask.specs.Search.{IsSize, IsWithin};
 
@@ -12,7 +12,7 @@ use papaya_ask::ask::{At, StepKind};
 use papaya_ask::copy_ask::CopyAsk;
 use papaya_ask::search::Place;
 use papaya_words::probe::{Refused, ResizeMode};
-use papaya_words::word::{Kind, Word, h2};
+use papaya_words::word::{Kind, Word, hint, may_hold};
 
 /// Where it stands, between two answers.
 ///
@@ -23,12 +23,16 @@ pub enum Carry {
     Hashing(u64),
     /// It asks for the size of this table.
     Sizing { hash: u64, table: u64 },
-    /// It loads the word at this place.
+    /// It loads the hint of this place.
     Looking { hash: u64, place: Place },
+    /// The hint says nothing, or is the key's, so it loads the word at this place.
+    Reading { hash: u64, place: Place },
     /// It compares the key of the pair that this word names, which was loaded at this place.
     Comparing { hash: u64, place: Place, word: u64 },
     /// It puts the pair into this place.
     Placing { hash: u64, place: Place },
+    /// It put the pair into this place, and writes the hint of its key.
+    Placed { hash: u64, place: Place },
     /// There is no place left in this table, and it loads the number of the next.
     Passing { hash: u64, table: u64 },
     /// It makes the next table.
@@ -62,13 +66,17 @@ impl Carry {
         match self {
             Carry::Hashing(_) => CopyAsk::HashOf(pair),
             Carry::Sizing { table, .. } => CopyAsk::SizeOf(table),
-            Carry::Looking { place, .. } => CopyAsk::Load(At::Slot(place.table, place.probe.i)),
+            Carry::Looking { place, .. } => CopyAsk::LoadHint(place.table, place.probe.i),
+            Carry::Reading { place, .. } => CopyAsk::Load(At::Slot(place.table, place.probe.i)),
             Carry::Comparing { word, .. } => CopyAsk::SamePair(pair, Word(word).pair()),
             Carry::Placing { place, .. } => CopyAsk::Exchange(
                 At::Slot(place.table, place.probe.i),
                 0,
-                Word::live(Word(marked).hash_byte(), pair).0,
+                Word::live(pair).0,
             ),
+            Carry::Placed { hash, place } => {
+                CopyAsk::WriteHint(place.table, place.probe.i, hint(hash))
+            }
             Carry::Passing { table, .. } => CopyAsk::Load(At::Next(table)),
             Carry::Linking { link, .. } => link.ask(),
             Carry::Aborting(table) => CopyAsk::Exchange(At::Aborted(table), 0, 1),
@@ -133,7 +141,7 @@ impl Carry {
         }
     }
 
-    /// This word was loaded.
+    /// This word, or this hint, was loaded.
     #[inline]
     pub fn at_word(self, mode: ResizeMode, word: u64) -> Carried
         requires { IsStandingCarry self }
@@ -141,7 +149,8 @@ impl Carry {
         ensures standing { IsStandingCarried result }
     {
         match self {
-            Carry::Looking { hash, place } => Carry::look(hash, place, mode, word),
+            Carry::Looking { hash, place } => Carry::hinted(hash, place, mode, word),
+            Carry::Reading { hash, place } => Carry::look(hash, place, mode, word),
             Carry::Passing { hash, table } => Carried::On(Carry::passed(hash, table, word)),
             carry => Carried::On(carry),
         }
@@ -174,9 +183,22 @@ impl Carry {
         ensures standing { IsStandingCarried result }
     {
         match self {
-            Carry::Placing { .. } => Carried::Carried,
+            Carry::Placing { hash, place } => Carried::On(Carry::Placed { hash, place }),
             Carry::Linking { hash, link } => Carry::linked(hash, link.at_exchanged()),
             Carry::Aborting(table) => Carried::Unfit(table),
+            carry => Carried::On(carry),
+        }
+    }
+
+    /// The hint was written, or one stood there.
+    #[inline]
+    pub fn at_ok(self) -> Carried
+        requires { IsStandingCarry self }
+        ensures value { result ≡ at_ok self }
+        ensures standing { IsStandingCarried result }
+    {
+        match self {
+            Carry::Placed { .. } => Carried::Carried,
             carry => Carried::On(carry),
         }
     }
@@ -241,6 +263,20 @@ impl Carry {
 }
 
 impl Carry {
+    /// This hint stands at the place. A slot that is buried keeps its key's, so it is met too.
+    #[inline]
+    fn hinted(hash: u64, place: Place, mode: ResizeMode, found: u64) -> Carried
+        requires { IsWithin place }
+        ensures value { result ≡ hinted hash place mode found }
+        ensures standing { IsStandingCarried result }
+    {
+        if may_hold(found, hash) {
+            Carried::On(Carry::Reading { hash, place })
+        } else {
+            Carry::goes_on(hash, place, mode)
+        }
+    }
+
     /// This word stands at the place. A word of the pair's key says that the pair came there
     /// before, also where it was removed since.
     #[inline]
@@ -253,11 +289,7 @@ impl Carry {
             Kind::Empty => Carried::On(Carry::Placing { hash, place }),
             Kind::Closed => Carry::goes_on(hash, place, mode),
             Kind::Live | Kind::Marked | Kind::Copied | Kind::Buried => {
-                if Word(word).hash_byte() == h2(hash) {
-                    Carried::On(Carry::Comparing { hash, place, word })
-                } else {
-                    Carry::goes_on(hash, place, mode)
-                }
+                Carried::On(Carry::Comparing { hash, place, word })
             }
         }
     }

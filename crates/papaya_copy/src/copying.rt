@@ -1,7 +1,7 @@
 //! The copy of the root, for what a call wants of it.
 ghost use Rattle.std.specs.Prelude.{◌≡◌};
 ghost use Rattle.std.specs.Int.{IsPowerOfTwo};
-ghost use Rattle.papaya_copy.specs.Copying.{IsStandingCopying, IsStandingCopied, at_count, at_exchanged, at_found, at_hash, at_made};
+ghost use Rattle.papaya_copy.specs.Copying.{IsStandingCopying, IsStandingCopied, at_count, at_exchanged, at_found, at_hash, at_made, at_ok};
 ghost use Rattle.papaya_copy.specs.Copying.{at_refused, at_root, at_size, at_word, at_yes, copying_ask, copying_follows};
 ghost use Rattle.papaya_copy.specs.Copying.{copying_kind, last, leads, lone, over};
 ghost use Rattle.papaya_copy.specs.Link.{IsFitCopyAsk};
@@ -119,7 +119,7 @@ impl Copying {
         }
     }
 
-    /// This word was loaded.
+    /// This word, or this hint, was loaded.
     #[inline]
     pub fn at_word(self, mode: ResizeMode, word: u64) -> Copied
         requires standing { IsStandingCopying self }
@@ -156,6 +156,19 @@ impl Copying {
         match self {
             Copying::Stepping(aim, step) => aim.leads(mode, step.at_exchanged(mode)),
             Copying::Lone(slot, settle) => Copying::lone(slot, settle.at_exchanged(slot, mode)),
+        }
+    }
+
+    /// A hint was written, or one stood there.
+    #[inline]
+    pub fn at_ok(self, mode: ResizeMode) -> Copied
+        requires standing { IsStandingCopying self }
+        ensures value { result ≡ at_ok self mode }
+        ensures standing { IsStandingCopied result }
+    {
+        match self {
+            Copying::Stepping(aim, step) => aim.leads(mode, step.at_ok(mode)),
+            Copying::Lone(slot, settle) => Copying::lone(slot, settle.at_ok(mode)),
         }
     }
 

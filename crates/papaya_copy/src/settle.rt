@@ -4,7 +4,7 @@ ghost use Rattle.std.specs.Int.{IsPowerOfTwo};
 ghost use Rattle.papaya_copy.specs.Carry.{IsStandingCarried};
 ghost use Rattle.papaya_copy.specs.Link.{IsFitCopyAsk};
 ghost use Rattle.papaya_ask.specs.Search.{IsSize};
-ghost use Rattle.papaya_copy.specs.Settle.{IsStandingSettle, IsStandingSettled, at_count, at_exchanged, at_found, at_hash};
+ghost use Rattle.papaya_copy.specs.Settle.{IsStandingSettle, IsStandingSettled, at_count, at_exchanged, at_found, at_hash, at_ok};
 ghost use Rattle.papaya_copy.specs.Settle.{at_made, at_refused, at_size, at_word, at_yes, look};
 ghost use Rattle.papaya_copy.specs.Settle.{marked_as, settle_ask, settle_follows, settle_kind, settled_by};
 
@@ -12,7 +12,7 @@ use crate::carry::{Carried, Carry};
 use papaya_ask::ask::{At, StepKind};
 use papaya_ask::copy_ask::CopyAsk;
 use papaya_words::probe::{Refused, ResizeMode};
-use papaya_words::word::{Kind, Word};
+use papaya_words::word::{Kind, SHUT, Word};
 
 /// A slot that is copied.
 #[derive(Clone, Copy)]
@@ -35,6 +35,8 @@ pub enum Settle {
     Looking,
     /// It shuts the slot, which is empty.
     Closing,
+    /// It shut the slot, and writes that into its hint.
+    Shutting,
     /// It marks this word.
     Marking(u64),
     /// It puts the pair of this word, which is marked, into another table.
@@ -68,13 +70,12 @@ impl Settle {
         match self {
             Settle::Looking => CopyAsk::Load(at),
             Settle::Closing => CopyAsk::Exchange(at, 0, Word::CLOSED.0),
+            Settle::Shutting => CopyAsk::WriteHint(slot.from, slot.index, SHUT),
             Settle::Marking(word) => CopyAsk::Exchange(at, word, Settle::marked(word)),
             Settle::Carrying(word, carry) => carry.ask(word),
-            Settle::Finishing(word) => CopyAsk::Exchange(
-                at,
-                word,
-                Word::copied(Word(word).hash_byte(), Word(word).pair()).0,
-            ),
+            Settle::Finishing(word) => {
+                CopyAsk::Exchange(at, word, Word::copied(Word(word).pair()).0)
+            }
         }
     }
 
@@ -88,7 +89,7 @@ impl Settle {
             Settle::Marking(_) => Some(StepKind::Mark),
             Settle::Carrying(_, carry) => carry.kind(),
             Settle::Finishing(_) => Some(StepKind::Finish),
-            Settle::Looking => None,
+            Settle::Looking | Settle::Shutting => None,
         }
     }
 
@@ -130,7 +131,7 @@ impl Settle {
         }
     }
 
-    /// This word was loaded.
+    /// This word, or this hint, was loaded.
     #[inline]
     pub fn at_word(self, slot: Slot, mode: ResizeMode, word: u64) -> Settled
         requires { IsStandingSettle self }
@@ -170,12 +171,28 @@ impl Settle {
     {
         match self {
             Settle::Looking => Settled::On(Settle::Looking),
-            Settle::Closing | Settle::Finishing(_) => Settled::Settled,
+            Settle::Closing => Settled::On(Settle::Shutting),
+            Settle::Shutting => Settled::On(Settle::Shutting),
+            Settle::Finishing(_) => Settled::Settled,
             Settle::Marking(word) => Settled::On(Settle::Carrying(
                 Settle::marked(word),
                 Carry::Hashing(slot.to),
             )),
             Settle::Carrying(marked, carry) => Settle::carried(marked, mode, carry.at_exchanged()),
+        }
+    }
+
+    /// The hint was written, or one stood there.
+    #[inline]
+    pub fn at_ok(self, mode: ResizeMode) -> Settled
+        requires { IsStandingSettle self }
+        ensures value { result ≡ at_ok self mode }
+        ensures standing { IsStandingSettled result }
+    {
+        match self {
+            Settle::Shutting => Settled::Settled,
+            Settle::Carrying(marked, carry) => Settle::carried(marked, mode, carry.at_ok()),
+            settle => Settled::On(settle),
         }
     }
 
@@ -189,6 +206,7 @@ impl Settle {
         match self {
             Settle::Looking => Settled::On(Settle::Looking),
             Settle::Closing | Settle::Marking(_) => Settle::look(slot, word),
+            Settle::Shutting => Settled::On(Settle::Shutting),
             Settle::Carrying(marked, carry) => {
                 Settle::carried(marked, mode, carry.at_found(mode, word))
             }
@@ -261,7 +279,7 @@ impl Settle {
     fn marked(word: u64) -> u64
         ensures { result ≡ marked_as word }
     {
-        Word::marked(Word(word).hash_byte(), Word(word).pair()).0
+        Word::marked(Word(word).pair()).0
     }
 
     /// The carry of the pair of this marked word leads here.

@@ -6,7 +6,7 @@ ghost use Rattle.papaya_words.specs.Mode.{IsChunked};
 ghost use Rattle.papaya_ask.specs.Search.{IsSize};
 ghost use Rattle.papaya_copy.specs.Settle.{IsStandingSettled};
 ghost use Rattle.papaya_copy.specs.Step.{IsStandingChunk, IsStandingStep, IsStandingStepped, advanced, aimed, at_count, at_exchanged, at_found};
-ghost use Rattle.papaya_copy.specs.Step.{at_hash, at_made, at_refused, at_size, at_word, at_yes, chunk_of, counted};
+ghost use Rattle.papaya_copy.specs.Step.{at_hash, at_made, at_ok, at_refused, at_size, at_word, at_yes, chunk_of, counted};
 ghost use Rattle.papaya_copy.specs.Step.{judged, linked_to, settled_to, slot_of, step_ask, step_follows, step_kind};
 
 use crate::link::{Link, Linked};
@@ -169,7 +169,7 @@ impl Step {
         }
     }
 
-    /// This word was loaded.
+    /// This word, or this hint, was loaded.
     #[inline]
     pub fn at_word(self, mode: ResizeMode, word: u64) -> Stepped
         requires standing { IsStandingStep self }
@@ -218,6 +218,19 @@ impl Step {
             }
             Step::Advancing(chunk) => Step::advanced(chunk, chunk.end),
             Step::Promoting { .. } => Stepped::Over,
+            step => Stepped::On(step),
+        }
+    }
+
+    /// A hint was written, or one stood there.
+    #[inline]
+    pub fn at_ok(self, mode: ResizeMode) -> Stepped
+        requires { IsStandingStep self }
+        ensures value { result ≡ at_ok self mode }
+        ensures standing { IsStandingStepped result }
+    {
+        match self {
+            Step::Settling(chunk, settle) => Step::settled(chunk, settle.at_ok(mode)),
             step => Stepped::On(step),
         }
     }

@@ -111,7 +111,7 @@ module _ {K V S A H : Type 0} (eq : K → K → Bool) (input : K → List (List 
         let (es, (tales, kept)) = lawful.law in
         let law = keys_lawful eq input build write finish classes respects s.store.hasher in
         let now = kept.resizers caller before (ap resizer_in was) in
-        let told = stage_left eq (hashes s.store.hasher) law hashes refuse s es (tales caller) lawful.core before refl kept.allowed kept.coded kept.made now before.state refl goes.ask goes.asked goes.answer s'.store goes.performs in
+        let told = stage_left eq (hashes s.store.hasher) law hashes refuse s es (tales caller) lawful.core before refl kept.allowed kept.coded kept.made kept.hints now before.state refl goes.ask goes.asked goes.answer s'.store goes.performs in
         let x : Resizes eq hashes refuse s caller s' event reply = record {
           before = before;
           was = ap resizer_in was;

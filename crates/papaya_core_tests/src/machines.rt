@@ -8,29 +8,34 @@ use papaya_ask::ask::{Answer, Ask, At, OpKind, StepKind};
 use papaya_ask::call::{Reply, Task};
 use papaya_call::machine::Machine;
 use papaya_words::probe::{Refused, ResizeMode};
+use papaya_words::word::SHUT;
 use std::process::Abort;
 
 /// A key whose hash byte is 5 and whose places in 8 slots are 2, 3, 5, 0, 4, 1, 7, 6.
 const HASH: u64 = 0x0a00_0000_0000_0002;
 
-/// The byte 6 and the pair 9.
-const LIVE_OF_ANOTHER_BYTE: u64 = 9265;
-/// From here on the byte is 5. The pair 3:
-const LIVE: u64 = 3113;
+/// Its hint.
+const HINT: u8 = 6;
 
-const BURIED: u64 = 3116;
+/// The hint of a key with another byte.
+const HINT_OF_ANOTHER: u64 = 7;
 
-const COPIED_3: u64 = 3115;
+/// The pair 3.
+const LIVE: u64 = 3073;
+
+const BURIED: u64 = 3076;
+
+const COPIED_3: u64 = 3075;
 /// The pair 4.
-const COPIED: u64 = 4139;
+const COPIED: u64 = 4099;
 /// The pair 7.
-const MARKED: u64 = 7210;
+const MARKED: u64 = 7170;
 
 const CLOSED: u64 = 5;
 
 const EMPTY: u64 = 0;
 /// What an insertion puts where its pair has the number 12.
-const LIVE_12: u64 = 12_329;
+const LIVE_12: u64 = 12_289;
 
 /// The machine asks this, and is answered.
 fn told(rt: &impl Abort, machine: &mut Machine, ask: Ask, answer: Answer)
@@ -59,11 +64,26 @@ fn enters(rt: &impl Abort, machine: &mut Machine, table: u64)
     told(rt, machine, Ask::SizeOf(table), size);
 }
 
-/// The machine loads a slot.
+/// The machine loads a hint.
+fn hints(rt: &impl Abort, machine: &mut Machine, table: u64, slot: usize, hint: u64)
+    requires { IsStanding machine.old }
+    ensures { IsStanding machine.new }
+{
+    told(rt, machine, Ask::LoadHint(table, slot), Answer::Word(hint));
+}
+
+/// The machine loads a slot, whose hint is its own, or, where there is no pair, says nothing.
 fn loads(rt: &impl Abort, machine: &mut Machine, table: u64, slot: usize, word: u64)
     requires { IsStanding machine.old }
     ensures { IsStanding machine.new }
 {
+    hints(
+        rt,
+        machine,
+        table,
+        slot,
+        if word < 8 { 0 } else { HINT as u64 },
+    );
     let ask = Ask::Load(At::Slot(table, slot));
     told(rt, machine, ask, Answer::Word(word));
 }
@@ -105,14 +125,15 @@ fn replies(rt: &impl Abort, machine: &Machine, reply: Reply)
 fn lookup_passes_each_kind_of_word(rt: HostRuntime) {
     let mut lookup = Machine::new(Task::Get, HASH, ResizeMode::Incremental(64), 1);
     enters_root(&rt, &mut lookup, 1);
-    loads(&rt, &mut lookup, 1, 2, LIVE_OF_ANOTHER_BYTE);
-    loads(&rt, &mut lookup, 1, 3, BURIED);
+    hints(&rt, &mut lookup, 1, 2, HINT_OF_ANOTHER);
+    hints(&rt, &mut lookup, 1, 3, SHUT as u64);
     loads(&rt, &mut lookup, 1, 5, CLOSED);
-    loads(&rt, &mut lookup, 1, 0, COPIED);
+    loads(&rt, &mut lookup, 1, 0, BURIED);
+    loads(&rt, &mut lookup, 1, 4, COPIED);
     compares(&rt, &mut lookup, 4, false);
-    loads(&rt, &mut lookup, 1, 4, LIVE);
+    loads(&rt, &mut lookup, 1, 1, LIVE);
     compares(&rt, &mut lookup, 3, false);
-    loads(&rt, &mut lookup, 1, 1, MARKED);
+    loads(&rt, &mut lookup, 1, 7, MARKED);
     compares(&rt, &mut lookup, 7, true);
     replies(&rt, &lookup, Reply::Found(7));
 }
@@ -205,6 +226,7 @@ fn compute_remembers_what_it_inserts(rt: HostRuntime) {
     loads(&rt, &mut compute, 1, 3, EMPTY);
     claims(&rt, &mut compute, 3, LIVE_12, Answer::Exchanged);
     told(&rt, &mut compute, Ask::AddToShard(1), Answer::Ok);
+    told(&rt, &mut compute, Ask::WriteHint(1, 3, HINT), Answer::Ok);
     replies(&rt, &compute, Reply::Inserted(12));
 }
 

@@ -17,7 +17,7 @@ use std::process::Abort;
 use std::test::Fail;
 
 /// More steps than an insertion into a full table of 8 slots makes, where it meets nobody.
-const STEPS_OF_GROWTH: usize = 110;
+const STEPS_OF_GROWTH: usize = 150;
 
 /// How many keys there are in a full table, from 0 on, each in a slot of its own.
 const KEYS: u64 = 8;

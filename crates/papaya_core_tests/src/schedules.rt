@@ -17,22 +17,24 @@ use std::process::Abort;
 use std::test::Fail;
 
 /// An insertion into a new map makes so many steps: it loads the root, makes a table and opens it,
-/// learns its size, loads a slot, makes the key and the pair, claims the slot, and counts.
-const STEPS_OF_INSERT: usize = 9;
+/// learns its size, loads a hint and its slot, makes the key and the pair, claims the slot, counts,
+/// and writes the hint.
+const STEPS_OF_INSERT: usize = 11;
 
 /// A removal of a pair that the map has, which agrees at once, makes so many steps: it loads the
-/// root, learns its size, loads the slot, compares the key, shows the pair, buries it, and counts.
-const STEPS_OF_REMOVAL: usize = 7;
+/// root, learns its size, loads the hint and the slot, compares the key, shows the pair, buries it,
+/// and counts.
+const STEPS_OF_REMOVAL: usize = 8;
 
 /// A compute of a pair that the map has, whose closure answers an insertion, makes so many steps:
-/// it loads the root, learns its size, loads the slot, compares the key, shows the pair, makes the
-/// key and the new pair, and replaces the old one.
-const STEPS_OF_UPDATE: usize = 8;
+/// it loads the root, learns its size, loads the hint and the slot, compares the key, shows the
+/// pair, makes the key and the new pair, and replaces the old one.
+const STEPS_OF_UPDATE: usize = 9;
 
 /// A compute in a new map, whose closure answers an insertion, makes so many steps: it loads the
 /// root, shows that there is none, makes the key, the pair and a table, opens that, learns its
-/// size, loads a slot, claims it, and counts.
-const STEPS_OF_FILL: usize = 10;
+/// size, loads a hint and its slot, claims that, counts, and writes the hint.
+const STEPS_OF_FILL: usize = 12;
 
 /// What is replied to callers 0 and 1, and to a lookup of 7 afterwards.
 type Replies = (Reply, Reply, Reply);
@@ -94,8 +96,8 @@ fn stopped(
 
 /// What two insertions come to that never replace, where the first is stopped after so many steps.
 fn kept_at(steps: usize) -> Replies {
-    // Caller 0 claims the slot in its eighth step.
-    if steps < 8 {
+    // Caller 0 claims the slot in its ninth step. Its hint comes later: the pair is found without.
+    if steps < 9 {
         (
             Reply::Occupied(200),
             Reply::Inserted(200),
@@ -112,12 +114,12 @@ fn kept_at(steps: usize) -> Replies {
 
 /// The values of the first two pairs then.
 fn made_at(steps: usize) -> (Option<u64>, Option<u64>) {
-    // Caller 0 loads the slot in its fifth step, and makes its pair in its seventh. Where the slot
+    // Caller 0 loads the slot in its sixth step, and makes its pair in its eighth. Where the slot
     // is taken, it makes no pair.
     match steps {
-        0..5 => (Some(200), None),
-        5 | 6 => (Some(200), Some(100)),
-        7 => (Some(100), Some(200)),
+        0..6 => (Some(200), None),
+        6 | 7 => (Some(200), Some(100)),
+        8 => (Some(100), Some(200)),
         _ => (Some(100), None),
     }
 }
@@ -139,11 +141,11 @@ fn keeps_one(rt: &impl Abort, alloc: Global, core: &mut Numbers, steps: usize) -
 /// What a removal comes to that is stopped so, where its pair is replaced meanwhile.
 fn removed_or_kept_at(steps: usize) -> Replies {
     let replaced = Reply::Replaced { old: 1, new: 2 };
-    // The removal loads the slot in its third step, and buries the pair in its sixth. Where
+    // The removal loads the slot in its fourth step, and buries the pair in its seventh. Where
     // another pair came between, its closure is shown that one too, and keeps it.
     match steps {
-        0..3 => (Reply::Removed(2), replaced, Reply::Absent),
-        3..6 => (Reply::Kept(2), replaced, Reply::Found(2)),
+        0..4 => (Reply::Removed(2), replaced, Reply::Absent),
+        4..7 => (Reply::Kept(2), replaced, Reply::Found(2)),
         _ => (Reply::Removed(1), Reply::Inserted(2), Reply::Found(2)),
     }
 }
@@ -160,8 +162,8 @@ fn removes_or_keeps(
     // The closure is shown each pair that stands there.
     let asked = answers_in(alloc, &trace)?;
     let wanted = match steps {
-        0..3 => vec![in alloc; (1, true)]?,
-        3..6 => vec![in alloc; (0, true), (1, false)]?,
+        0..4 => vec![in alloc; (1, true)]?,
+        4..7 => vec![in alloc; (0, true), (1, false)]?,
         _ => vec![in alloc; (0, true)]?,
     };
     is_at(rt, steps, asked, wanted);
@@ -172,15 +174,15 @@ fn removes_or_keeps(
 /// What a compute comes to that is stopped so, where another value is stored meanwhile.
 fn shown_at(steps: usize) -> Replies {
     let replaced = Reply::Replaced { old: 1, new: 2 };
-    // The compute loads the slot in its third step, and replaces the pair in its eighth. Where
+    // The compute loads the slot in its fourth step, and replaces the pair in its ninth. Where
     // 2 came between, its closure is shown first 1 and then 2, which it has removed.
     match steps {
-        0..3 => (
+        0..4 => (
             Reply::Replaced { old: 2, new: 10 },
             replaced,
             Reply::Found(10),
         ),
-        3..8 => (Reply::Removed(2), replaced, Reply::Absent),
+        4..9 => (Reply::Removed(2), replaced, Reply::Absent),
         _ => (
             Reply::Replaced { old: 1, new: 10 },
             Reply::Replaced { old: 10, new: 2 },
@@ -200,9 +202,9 @@ fn is_shown(rt: &impl Abort, alloc: Global, core: &mut Numbers, steps: usize) ->
 
 /// What a compute comes to that is stopped so, where a pair comes and goes meanwhile.
 fn filled_at(steps: usize) -> Replies {
-    // The compute claims a slot in its ninth step. Where 1 came and went before, its closure
+    // The compute claims a slot in its tenth step. Where 1 came and went before, its closure
     // is shown only once that there is none, before or after that.
-    let found = if steps < 9 {
+    let found = if steps < 10 {
         Reply::Found(10)
     } else {
         Reply::Absent

@@ -5,7 +5,7 @@ use papaya_words::counter::Counter;
 use papaya_words::limits::{DEFAULT_CHUNK, FIRST_TABLE_LEN, FIRST_TABLE_LIMIT, MAX_SHARDS};
 use papaya_words::probe::{Probe, Refused, ResizeMode, entries_for, limit};
 use papaya_words::table::{Table, next_len, next_limit, table_len};
-use papaya_words::word::{Kind, Word, h1, h2, legal};
+use papaya_words::word::{Kind, SHUT, Word, h1, hint, legal, may_hold};
 use std::test::Fail;
 
 #[test]
@@ -69,22 +69,21 @@ fn lengths_of_next_tables(rt: HostRuntime) {
 
 #[test]
 fn words_of_slots(rt: HostRuntime) {
-    is(&rt, Word::live(5, 3), Word(3113));
-    is(&rt, Word::marked(5, 3), Word(3114));
-    is(&rt, Word::copied(5, 3), Word(3115));
-    is(&rt, Word::buried(5, 3), Word(3116));
-    is(&rt, Word(3113).hash_byte(), 5);
-    is(&rt, Word(3113).pair(), 3);
+    is(&rt, Word::live(3), Word(3073));
+    is(&rt, Word::marked(3), Word(3074));
+    is(&rt, Word::copied(3), Word(3075));
+    is(&rt, Word::buried(3), Word(3076));
+    is(&rt, Word(3073).pair(), 3);
 }
 
 #[test]
 fn kinds_of_words(rt: HostRuntime) {
     for (word, kind) in [
         (Word::EMPTY, Kind::Empty),
-        (Word(3113), Kind::Live),
-        (Word(3114), Kind::Marked),
-        (Word(3115), Kind::Copied),
-        (Word(3116), Kind::Buried),
+        (Word(3073), Kind::Live),
+        (Word(3074), Kind::Marked),
+        (Word(3075), Kind::Copied),
+        (Word(3076), Kind::Buried),
         (Word::CLOSED, Kind::Closed),
     ] {
         is(&rt, word.kind(), kind);
@@ -92,24 +91,26 @@ fn kinds_of_words(rt: HostRuntime) {
 }
 
 #[test]
-fn hash_bytes(rt: HostRuntime) {
-    is(&rt, h2(0), 0);
-    is(&rt, h2(1 << 57), 1);
-    is(&rt, h2(u64::MAX), 127);
+fn hints_of_hashes(rt: HostRuntime) {
+    is(&rt, hint(0), 1);
+    is(&rt, hint(1 << 57), 2);
+    is(&rt, hint(u64::MAX), 128);
+    assert!(rt; may_hold(0, u64::MAX) && may_hold(128, u64::MAX) && !may_hold(1, u64::MAX));
+    assert!(rt; !may_hold(SHUT as u64, u64::MAX));
     is(&rt, h1(u64::MAX), usize::MAX);
 }
 
 #[test]
 fn steps_of_slots(rt: HostRuntime) {
-    let one = Word::live(5, 3);
-    let other = Word::live(5, 4);
+    let one = Word::live(3);
+    let other = Word::live(4);
     for (old, new) in [
         (Word::EMPTY, one),
         (Word::EMPTY, Word::CLOSED),
         (one, other),
-        (one, Word::buried(5, 3)),
-        (one, Word::marked(5, 3)),
-        (Word::marked(5, 3), Word::copied(5, 3)),
+        (one, Word::buried(3)),
+        (one, Word::marked(3)),
+        (Word::marked(3), Word::copied(3)),
     ] {
         assert!(rt; legal(old, new), "{old:?} to {new:?}");
         assert!(rt; !legal(new, old) || new == other, "{new:?} to {old:?}");
@@ -118,12 +119,11 @@ fn steps_of_slots(rt: HostRuntime) {
 
 #[test]
 fn no_steps_of_slots(rt: HostRuntime) {
-    let one = Word::live(5, 3);
+    let one = Word::live(3);
     for (old, new) in [
-        (one, Word::live(6, 3)),
-        (one, Word::buried(5, 4)),
+        (one, Word::buried(4)),
         (one, Word::CLOSED),
-        (Word::buried(5, 3), one),
+        (Word::buried(3), one),
     ] {
         assert!(rt; !legal(old, new), "{old:?} to {new:?}");
     }

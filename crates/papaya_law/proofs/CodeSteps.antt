@@ -1,6 +1,6 @@
 -- Each exchange of a slot is a legal step of the numbers that stand for its words.
-use Rattle.std.proofs.Common.{◌≡◌, ℕ, Some, refl, sym, ap, ◌∙◌, subst}
-use Rattle.papaya_words.specs.Word.{IsSlotStep, MayBecome, NamesSamePair, kind_of, top_byte}
+use Rattle.std.proofs.Common.{◌≡◌, ℕ, Some, refl, sym, ◌∙◌, subst}
+use Rattle.papaya_words.specs.Word.{IsSlotStep, MayBecome, NamesSamePair, kind_of}
 use Rattle.papaya_law.specs.Exchange.{Word, Empty, Closed, Live, Marked, Copied, Buried, Setting, State, Exchange, Open, Claim, Replace, Bury, Link, Mark, Close, Place, Finish, Advance, Promote, Abort, after, slot_put}
 use Rattle.papaya_law.specs.Allows.{Allows}
 use Rattle.papaya_law.specs.Invariant.{named}
@@ -25,15 +25,13 @@ module _ {K P : Type 0} (g : Setting K P) (c : Coding K P) where
   module _ (law : IsLawfulCoding g c) where
     -- two words that name one pair
     same_pair : (v w : Word P) (p : P) → named v ≡ Some p → named w ≡ Some p → NamesSamePair (code g c v) (code g c w)
-    same_pair v w p a b = let x = code_pair g c law v p a in let y = code_pair g c law w p b in (x.1 ∙ sym y.1, x.0 ∙ sym y.0)
+    same_pair v w p a b = code_pair g c law v p a ∙ sym (code_pair g c law w p b)
 
     -- the step of an allowed exchange
     pub code_step : (s : State P) (e : Exchange P) → Allows g s e → (t x : ℕ) → ChangesSlot e t x → IsSlotStep (code g c (s.slot t x)) (code g c ((after s e).slot t x))
     code_step s (Open u) may t x is = absurd is
     code_step s (Claim u y p) may t x is = step_there s u y Empty (Live p) t x may.empty is refl
-    code_step s (Replace u y p q) may t x is =
-        step_there s u y (Live p) (Live q) t x may.live is
-        (let a = code_pair g c law (Live p) p refl in let b = code_pair g c law (Live q) q refl in a.1 ∙ ap top_byte (law.respects (g.key p) (g.key q) may.same) ∙ sym b.1)
+    code_step s (Replace u y p q) may t x is = step_there s u y (Live p) (Live q) t x may.live is tt
     code_step s (Bury u y p) may t x is = step_there s u y (Live p) (Buried p) t x may.live is (same_pair (Live p) (Buried p) p refl refl)
     code_step s (Link u n) may t x is = absurd is
     code_step s (Mark u y p) may t x is = step_there s u y (Live p) (Marked p) t x may.live is (same_pair (Live p) (Marked p) p refl refl)

@@ -1,13 +1,13 @@
 -- What a search for a key learns from the number that it loads, and from comparing the key.
-use Rattle.std.proofs.Common.{◌≡◌, ⊎_elim, ◌==◌, true, false, Some, refl, sym, ap, ◌∙◌, subst, eq-eqb}
+use Rattle.std.proofs.Common.{◌≡◌, ⊎_elim, true, false, Some, refl, sym, ap, ◌∙◌, subst}
 use Rattle.std.proofs.lemmas.Bool.{cases_Bool, cond-true, cond-false}
 use Rattle.papaya_words.specs.declared.word.Kind.TheVariants as kinds
-use Rattle.papaya_words.specs.Word.{kind_of, byte_of, top_byte}
+use Rattle.papaya_words.specs.Word.{kind_of}
 use Rattle.papaya_law.specs.Exchange.{Word, Empty, Closed, Live, Marked, Copied, Buried, Setting}
 use Rattle.papaya_law.specs.View.{View, Foreign, Grave, view, beyond}
 use Rattle.papaya_law.specs.Invariant.{named}
-use Rattle.papaya_law.specs.Code.{Coding, IsLawfulCoding, IsOfKind, code, kind}
-use Rattle.papaya_law.proofs.Codes.{code_kind, code_pair}
+use Rattle.papaya_law.specs.Code.{Coding, IsOfKind, code, kind}
+use Rattle.papaya_law.proofs.Codes.{code_kind}
 
 -- a word is of its own kind
 own_kind : {P : Type 0} → (w : Word P) → IsOfKind (kind w) w
@@ -48,16 +48,3 @@ module _ {K P : Type 0} (g : Setting K P) where
     -- and a Closed one
     pub past_closed : (k : K) (w : Word P) → kind_of (code g c w) ≡ kinds.Closed → beyond (view g k w) ≡ true
     past_closed k w e = let r : w ≡ Closed = subst (λ a. IsOfKind a w) e (word_of_kind w) in ap (λ v. beyond (view g k v)) r
-
-    module _ (law : IsLawfulCoding g c) where
-      -- a word of the key has the key's hash byte
-      pub own_byte : (k : K) (w : Word P) (p : P) → named w ≡ Some p → g.same k (g.key p) ≡ true → byte_of (code g c w) ≡ top_byte (c.hash k)
-      own_byte k w p e y = (code_pair g c law w p e).1 ∙ ap top_byte (sym (law.respects k (g.key p) y))
-
-      -- so a word with another one is of another key
-      pub other_byte : (k : K) (w : Word P) (p : P) → named w ≡ Some p → (byte_of (code g c w) == top_byte (c.hash k)) ≡ false → view g k w ≡ Foreign
-      other_byte k w p e n =
-          ⊎_elim
-          (λ (y : g.same k (g.key p) ≡ true). absurd (let same = eq-eqb (byte_of (code g c w)) (top_byte (c.hash k)) (own_byte k w p e y) in cc (same, n)))
-          (λ (f : g.same k (g.key p) ≡ false). other_key k w p e f)
-          (cases_Bool (g.same k (g.key p)))

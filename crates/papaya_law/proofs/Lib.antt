@@ -34,6 +34,7 @@ pub mod Hashing
 pub mod Codes
 pub mod CodeSteps
 pub mod CodeViews
+pub mod Hints
 -- a table as a list of pairs
 pub mod Lists
 pub mod FiniteMaps

@@ -2,14 +2,13 @@
 use Rattle.std.specs.Prelude.{◌≡◌, ℕ, ◌<◌, ◌^◌, true, Some}
 use Rattle.papaya_words.specs.declared.word.Kind.{Kind}
 use Rattle.papaya_words.specs.declared.word.Kind.TheVariants as kinds
-use Rattle.papaya_words.specs.Word.{live_word, marked_word, copied_word, buried_word, top_byte}
+use Rattle.papaya_words.specs.Word.{live_word, marked_word, copied_word, buried_word}
 use Rattle.papaya_law.specs.Exchange.{Word, Empty, Closed, Live, Marked, Copied, Buried, Setting, Exchange, Claim, Replace, Bury, Mark, Close, Place, Finish}
 use Rattle.papaya_law.specs.Invariant.{named}
 use Rattle.papaya_law.specs.Meaning.{IsLawful}
 use Rattle.papaya_words.specs.Probe.{place}
 
--- How pairs are named in words: by a number, and by a byte of their key's hash. Nothing says that a
--- number names one pair.
+-- How pairs are named in words: by a number. Nothing says that a number names one pair.
 pub record Coding (K P : Type 0) : Type 0 where
   pub number : P → ℕ
   pub hash : K → ℕ
@@ -25,18 +24,14 @@ pub record IsHashed {K P : Type 0} (g : Setting K P) (c : Coding K P) : Type 0 w
   pub coding : IsLawfulCoding g c
   pub places : (k : K) (t j : ℕ) → g.place k t j ≡ place (c.hash k) (g.size t) j
 
--- the hash byte of a pair's key
-abbrev pub byte_of_pair : {K P : Type 0} → Setting K P → Coding K P → P → ℕ
-byte_of_pair g c p = top_byte (c.hash (g.key p))
-
 -- the number that stands in memory for a word
 abbrev pub code : {K P : Type 0} → Setting K P → Coding K P → Word P → ℕ
 code g c Empty = 0
 code g c Closed = 5
-code g c (Live p) = live_word (byte_of_pair g c p) (c.number p)
-code g c (Marked p) = marked_word (byte_of_pair g c p) (c.number p)
-code g c (Copied p) = copied_word (byte_of_pair g c p) (c.number p)
-code g c (Buried p) = buried_word (byte_of_pair g c p) (c.number p)
+code g c (Live p) = live_word (c.number p)
+code g c (Marked p) = marked_word (c.number p)
+code g c (Copied p) = copied_word (c.number p)
+code g c (Buried p) = buried_word (c.number p)
 
 -- the kind of a word
 abbrev pub kind : {P : Type 0} → Word P → Kind
@@ -47,11 +42,10 @@ kind (Marked p) = kinds.Marked
 kind (Copied p) = kinds.Copied
 kind (Buried p) = kinds.Buried
 
--- Two words are of one kind, and the pairs that they name have one number and one hash byte.
+-- Two words are of one kind, and the pairs that they name have one number.
 pub record AreAlike {K P : Type 0} (g : Setting K P) (c : Coding K P) (v w : Word P) : Type 0 where
   pub kind_is : kind v ≡ kind w
-  pub pair_is : (p q : P) → named v ≡ Some p → named w ≡ Some q
-      → (c.number p ≡ c.number q) × (byte_of_pair g c p ≡ byte_of_pair g c q)
+  pub pair_is : (p q : P) → named v ≡ Some p → named w ≡ Some q → c.number p ≡ c.number q
 
 -- the exchange changes slot y of table u
 abbrev pub ChangesSlot : {P : Type 0} → Exchange P → ℕ → ℕ → Type 0

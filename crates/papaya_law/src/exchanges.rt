@@ -3,7 +3,8 @@
 
 ghost use Rattle.papaya_law.specs.Allows.{AllAllowed, Allows, MayAbort, MayClaim, MayFinish, MayPlace};
 ghost use Rattle.papaya_law.specs.ChainContent.{chain_content, joined};
-ghost use Rattle.papaya_law.specs.Code.{AreAlike, ChangesSlot, Coding, IsLawfulCoding, IsOfKind, byte_of_pair, code, kind};
+ghost use Rattle.papaya_law.specs.Code.{AreAlike, ChangesSlot, Coding, IsLawfulCoding, IsOfKind, code, kind};
+ghost use Rattle.papaya_law.specs.Hints.{IsHint, IsHintOf};
 ghost use Rattle.papaya_law.specs.Content.{AreApart, IsCountAfter, content, lookup, pairs_in};
 ghost use Rattle.papaya_law.specs.Copying.{IsPutting, IsSettled, IsTaker, IsTarget};
 ghost use Rattle.papaya_law.specs.Example.{by_two, two_tables, of_one, three_tables};
@@ -17,7 +18,7 @@ ghost use Rattle.papaya_law.specs.Later.{IsLasting, IsLater};
 ghost use Rattle.papaya_law.specs.Meaning.{AllLegal, IsAtMoment, IsLawful, IsLegal, IsMeaning, map_after, map_left, map_of};
 ghost use Rattle.papaya_law.specs.View.{Foreign, Free, Gone, Grave, Here, HasWord, IsPassed, IsReached, Leaving, active, beyond, held, look, own, view};
 ghost use Rattle.papaya_law.specs.Code.{IsHashed};
-ghost use Rattle.papaya_words.specs.Word.{IsSlotStep, byte_of, kind_of, pair_of, top_byte};
+ghost use Rattle.papaya_words.specs.Word.{IsSlotStep, hint_of, kind_of, may_hold, pair_of, shut_hint};
 ghost use Rattle.papaya_words.specs.declared.word.Kind.TheVariants as kinds;
 ghost use Rattle.std.specs.Prelude.{◌≡◌, ◌⊎◌, ◌↔◌, ℕ, zero, suc, ◌*◌, ◌<◌, ◌≤◌, ◌^◌, ◌==◌};
 ghost use Rattle.std.specs.Prelude.{◌++◌, Bool, true, false, List, [], ◌∷◌, length, Option, None, Some};
@@ -198,8 +199,7 @@ pub fn codes<K, P>()
     ensures kind { (g : Setting K P) (c : Coding K P) (w : Word P) → kind_of (code g c w) ≡ kind w }
     ensures empty { (g : Setting K P) (c : Coding K P) (w : Word P) → code g c w ≡ 0 → w ≡ Empty }
     ensures pair { (g : Setting K P) (c : Coding K P) → IsLawfulCoding g c → (w : Word P) (p : P)
-        → named w ≡ Some p → (pair_of (code g c w) ≡ c.number p)
-        × (byte_of (code g c w) ≡ byte_of_pair g c p) }
+        → named w ≡ Some p → pair_of (code g c w) ≡ c.number p }
     ensures fits { (g : Setting K P) (c : Coding K P) → IsLawfulCoding g c → (w : Word P)
         → ((p : P) → named w ≡ Some p → c.number p < 2 ^ 54) → code g c w < 2 ^ 64 }
     ensures alike { (g : Setting K P) (c : Coding K P) → IsLawfulCoding g c → (v w : Word P)
@@ -219,14 +219,23 @@ pub fn words_in_a_search<K, P>()
         → kind_of (code g c w) ≡ kinds.Buried → beyond (view g k w) ≡ true }
     ensures past_closed { (g : Setting K P) (c : Coding K P) (k : K) (w : Word P)
         → kind_of (code g c w) ≡ kinds.Closed → beyond (view g k w) ≡ true }
-    ensures own_byte { (g : Setting K P) (c : Coding K P) → IsLawfulCoding g c
-        → (k : K) (w : Word P) (p : P) → named w ≡ Some p → g.same k (g.key p) ≡ true
-        → byte_of (code g c w) ≡ top_byte (c.hash k) }
-    ensures other_byte { (g : Setting K P) (c : Coding K P) → IsLawfulCoding g c
-        → (k : K) (w : Word P) (p : P) → named w ≡ Some p
-        → (byte_of (code g c w) == top_byte (c.hash k)) ≡ false → view g k w ≡ Foreign }
     ensures other_key { (g : Setting K P) (k : K) (w : Word P) (p : P) → named w ≡ Some p
         → g.same k (g.key p) ≡ false → view g k w ≡ Foreign }
+{}
+
+/// Hints: what one says lasts, a search that reads another byte than the key's, or that the slot is
+/// shut, goes past the slot without its word, and whoever fills or shuts a slot may write its hint.
+pub fn hints<K, P>()
+    ensures none { (g : Setting K P) (c : Coding K P) (w : Word P) → IsHintOf g c w 0 }
+    ensures lasts { (g : Setting K P) (c : Coding K P) → IsLawfulCoding g c → (s s' : State P)
+        → IsLater g s s' → (t x n : ℕ) → IsHint g c s t x n → IsHint g c s' t x n }
+    ensures passes { (g : Setting K P) (c : Coding K P) → IsLawfulCoding g c → (k : K) (w : Word P)
+        (n : ℕ) → IsHintOf g c w n → may_hold n (c.hash k) ≡ false → view g k w ≡ Foreign }
+    ensures fills { (g : Setting K P) (c : Coding K P) → IsLawfulCoding g c → (k : K) (w : Word P)
+        (p : P) → w ≡ Word.Live p → g.same k (g.key p) ≡ true
+        → IsHintOf g c w (hint_of (c.hash k)) }
+    ensures shut { (g : Setting K P) (c : Coding K P) (w : Word P) → w ≡ Word.Closed
+        → IsHintOf g c w shut_hint }
 {}
 
 /// Keys that are looked for by their hash have a lawful plan, and a lawful plan gives lawful

@@ -1,7 +1,7 @@
 -- What a machine has read stands there still after each answer, where nobody else changes the words.
 use Rattle.std.proofs.Common.{◌≡◌, ⊎_elim, ℕ, ◌<◌, ◌%◌, ◌==◌, nat_lt, Bool, true, false, Option, Some, None, refl, sym, ap, ◌∙◌, subst, arith}
 use Rattle.std.proofs.lemmas.Bool.{cond_both, eqb-true, cases_eq}
-use Rattle.papaya_words.specs.Word.{kind_of, kind_of_code, byte_of, pair_of, top_byte, filled_word}
+use Rattle.papaya_words.specs.Word.{kind_of, kind_of_code, pair_of, top_byte, filled_word, may_hold, live_word}
 use Rattle.papaya_words.specs.declared.probe.Refused.{Refused}
 use Rattle.papaya_words.specs.declared.probe.ResizeMode.{ResizeMode}
 use Rattle.papaya_words.specs.declared.probe.ResizeMode.TheVariants.{Incremental, Blocking}
@@ -26,7 +26,7 @@ use Rattle.papaya_call.specs.declared.compute.Put.{Put}
 use Rattle.papaya_call.specs.declared.compute.Remembered.{Remembered}
 use Rattle.papaya_call.specs.declared.remove.Removal.{Removal}
 use Rattle.papaya_ask.specs.declared.search.Place.{Place}
-use Rattle.papaya_ask.specs.declared.search.Search.TheVariants.{Sizing, Looking, Comparing}
+use Rattle.papaya_ask.specs.declared.search.Search.TheVariants.{Sizing, Looking, Reading, Comparing}
 use Rattle.papaya_ask.specs.declared.search.Seen.{Seen}
 use Rattle.papaya_ask.specs.declared.search.Seen.TheVariants as seen
 use Rattle.papaya_call.specs.declared.write.Made.{Made}
@@ -34,25 +34,25 @@ use Rattle.papaya_call.specs.declared.write.Made.TheVariants.{Nothing, Key, Pair
 use Rattle.papaya_call.specs.declared.write.Write.{Write}
 use Rattle.papaya_call.specs.declared.machine.Machine.{Machine}
 use Rattle.papaya_call.specs.declared.machine.State.{State}
-use Rattle.papaya_call.specs.declared.machine.State.TheVariants.{AtRoot, Making, Opening, Searching, Writing, Offering, Showing, Pairing, Putting, Burying, Counting, Uncounting, Leaving, Growing, Ended}
-use Rattle.papaya_ask.specs.Search.{next_place, go_on, look_at, match_at, look, at_yes as search_compared}
-use Rattle.papaya_call.specs.Write.{new_word}
+use Rattle.papaya_call.specs.declared.machine.State.TheVariants.{AtRoot, Making, Opening, Searching, Writing, Offering, Showing, Pairing, Putting, Burying, Counting, Noting, Uncounting, Leaving, Growing, Ended}
+use Rattle.papaya_ask.specs.Search.{next_place, go_on, look_at, match_at, look, at_yes as search_compared, hinted}
 use Rattle.papaya_call.specs.Remove.{grave_word}
 use Rattle.papaya_call.specs.Compute.{fills, lacks, offered, chosen, provides, recalls}
 use Rattle.papaya_call.specs.Machine.{after, ask_of, asks, absent, at_root, left as next_or_end, passes, replaces, removes, computes, goes_as, written, agreed}
 use Rattle.papaya_rests.specs.Alone.{IsSame, IsPut, IsMaking, IsSaying, IsPrompt, IsBare, IsRead, IsGapRead, IsPurposeRead, IsCurrent, word_of_place}
 use Rattle.papaya_rests.proofs.AloneSteps.{exchange_done, by_saying}
 use Rattle.papaya_rests.proofs.Leads.{occupies_leads}
+use Rattle.papaya_call.specs.Write.{claimed_by}
 
 -- the word of a pair is that of no empty slot
-filled_kind : (code byte pair : ℕ) → code < 8 → kind_of (filled_word code byte pair) ≡ kind_of_code code
-filled_kind code byte pair h = ap kind_of_code (let e : filled_word code byte pair % 8 ≡ code = omega arith in e)
+filled_kind : (code pair : ℕ) → code < 8 → kind_of (filled_word code pair) ≡ kind_of_code code
+filled_kind code pair h = ap kind_of_code (let e : filled_word code pair % 1024 ≡ code = omega arith in e)
 
-new_filled : (hash n : ℕ) → kind_of (new_word hash n) ≡ word_kinds.Empty → ⊥
-new_filled hash n e = let live : kind_of (new_word hash n) ≡ word_kinds.Live = filled_kind 1 (top_byte hash) n (omega arith) in cc
+new_filled : (n : ℕ) → kind_of (live_word n) ≡ word_kinds.Empty → ⊥
+new_filled n e = let live : kind_of (live_word n) ≡ word_kinds.Live = filled_kind 1 n (omega arith) in cc
 
 grave_filled : (word : ℕ) → kind_of (grave_word word) ≡ word_kinds.Empty → ⊥
-grave_filled word e = let buried : kind_of (grave_word word) ≡ word_kinds.Buried = filled_kind 4 (byte_of word) (pair_of word) (omega arith) in cc
+grave_filled word e = let buried : kind_of (grave_word word) ≡ word_kinds.Buried = filled_kind 4 (pair_of word) (omega arith) in cc
 
 module _ (words words' : At → ℕ) (bare : IsBare words) where
   -- a slot that stays is as bare as before
@@ -88,16 +88,16 @@ module _ (words : At → ℕ) where
   go_on_there : (at : Place) → IsSeenThere (go_on at)
   go_on_there at = cond_both (nat_lt at.probe.len at.limit) (seen.On (Looking (next_place at))) (seen.Over at.table) IsSeenThere (λ _. tt) (λ _. tt)
 
-  byte_there : (at : Place) (hash word : ℕ) → word_of_place words at ≡ word → IsSeenThere (look_at word_kinds.Live at hash word)
-  byte_there at hash word read = cond_both (byte_of word == top_byte hash) (seen.On (Comparing at word)) (go_on at) IsSeenThere (λ _. read) (λ _. go_on_there at)
+  hinted_there : (at : Place) (hash hint : ℕ) → IsSeenThere (hinted at hash hint)
+  hinted_there at hash hint = cond_both (may_hold hint hash) (seen.On (Reading at)) (go_on at) IsSeenThere (λ _. tt) (λ _. go_on_there at)
 
-  look_there : (kind : Kind) (at : Place) (hash word : ℕ) → word_of_place words at ≡ word → (kind ≡ word_kinds.Empty → word ≡ 0) → IsSeenThere (look_at kind at hash word)
-  look_there word_kinds.Empty at hash word read bare = read ∙ bare refl
-  look_there word_kinds.Live at hash word read bare = byte_there at hash word read
-  look_there word_kinds.Marked at hash word read bare = byte_there at hash word read
-  look_there word_kinds.Copied at hash word read bare = byte_there at hash word read
-  look_there word_kinds.Buried at hash word read bare = go_on_there at
-  look_there word_kinds.Closed at hash word read bare = go_on_there at
+  look_there : (kind : Kind) (at : Place) (word : ℕ) → word_of_place words at ≡ word → (kind ≡ word_kinds.Empty → word ≡ 0) → IsSeenThere (look_at kind at word)
+  look_there word_kinds.Empty at word read bare = read ∙ bare refl
+  look_there word_kinds.Live at word read bare = read
+  look_there word_kinds.Marked at word read bare = read
+  look_there word_kinds.Copied at word read bare = read
+  look_there word_kinds.Buried at word read bare = go_on_there at
+  look_there word_kinds.Closed at word read bare = go_on_there at
 
   match_there : (kind : Kind) (at : Place) (word : ℕ) → word_of_place words at ≡ word → IsSeenThere (match_at kind at word)
   match_there word_kinds.Empty at word read = read
@@ -196,7 +196,7 @@ module _ (words : At → ℕ) where
   agreed_read removal false read = tt
 
   written_read : (write : Write) (n : ℕ) → IsRead words (written write n)
-  written_read write n = cond_both (write.old == 0) (Counting n) (Ended (Replaced (pair_of write.old) n)) (IsRead words) (λ _. tt) (λ _. tt)
+  written_read write n = cond_both (write.old == 0) (Counting (claimed_by write n)) (Ended (Replaced (pair_of write.old) n)) (IsRead words) (λ _. tt) (λ _. tt)
 
   -- what the closure of a compute answered is of what it was shown
   offered_read : (gap : Gap) (kind : OpKind) → IsGapRead words gap → IsRead words (offered gap kind)
@@ -252,9 +252,9 @@ module _ (words words' : At → ℕ) (m : Machine) (bare : IsBare words) where
   writing_stays Key write answer read told = making_stays Key (Writing write) answer told (λ n. there write.place write.old told.1 read) (λ refused. tt)
   writing_stays (Pair n) write answer read told =
       let at : At = Slot write.place.table write.place.probe.i in
-      let done : (answer ≡ Exchanged) × IsPut words at (new_word m.hash n) words' = exchange_done _ _ (words at) write.old read told in
+      let done : (answer ≡ Exchanged) × IsPut words at (live_word n) words' = exchange_done _ _ (words at) write.old read told in
       subst (Stays (Pair n) (Writing write)) (sym done.0) (record {
-        bare = slot_put_bare words words' bare write.place.table write.place.probe.i (new_word m.hash n) (new_filled m.hash n) done.1;
+        bare = slot_put_bare words words' bare write.place.table write.place.probe.i (live_word n) (new_filled n) done.1;
         read = written_read words' write n;
       })
 
@@ -262,9 +262,9 @@ module _ (words words' : At → ℕ) (m : Machine) (bare : IsBare words) where
   putting_stays : (made : Made) (put : Put) (answer : Answer) → IsRead words (Putting put) → IsPrompt m.task words (asks made m.hash (Putting put)) answer words' → Stays made (Putting put) answer
   putting_stays made put answer read told =
       let at : At = Slot put.write.place.table put.write.place.probe.i in
-      let done : (answer ≡ Exchanged) × IsPut words at (new_word m.hash put.pair) words' = exchange_done _ _ (words at) put.write.old read told in
+      let done : (answer ≡ Exchanged) × IsPut words at (live_word put.pair) words' = exchange_done _ _ (words at) put.write.old read told in
       subst (Stays made (Putting put)) (sym done.0) (record {
-        bare = slot_put_bare words words' bare put.write.place.table put.write.place.probe.i (new_word m.hash put.pair) (new_filled m.hash put.pair) done.1;
+        bare = slot_put_bare words words' bare put.write.place.table put.write.place.probe.i (live_word put.pair) (new_filled put.pair) done.1;
         read = written_read words' put.write put.pair;
       })
 
@@ -290,12 +290,19 @@ module _ (words words' : At → ℕ) (m : Machine) (bare : IsBare words) where
         read = tt;
       })
 
-  -- a place was looked at
+  -- the hint of a place was loaded
   looking_stays : (made : Made) (at : Place) (answer : Answer) → IsPrompt m.task words (asks made m.hash (Searching (Looking at))) answer words' → Stays made (Searching (Looking at)) answer
   looking_stays made at answer told =
+      let hint : ℕ = told.0.0 in
+      quiet made (Searching (Looking at)) answer (Word_read hint) told.0.1 told.1
+      (goes_read words' m.task m.mode m.remembered (hinted at m.hash hint) (hinted_there words' at m.hash hint))
+
+  -- its word was loaded
+  reading_stays : (made : Made) (at : Place) (answer : Answer) → IsPrompt m.task words (asks made m.hash (Searching (Reading at))) answer words' → Stays made (Searching (Reading at)) answer
+  reading_stays made at answer told =
       let word : ℕ = word_of_place words at in
-      quiet made (Searching (Looking at)) answer (Word_read word) told.0 told.1
-      (goes_read words' m.task m.mode m.remembered (look at m.hash word) (look_there words' (kind_of word) at m.hash word (there at word told.1 refl) (bare at.table at.probe.i)))
+      quiet made (Searching (Reading at)) answer (Word_read word) told.0 told.1
+      (goes_read words' m.task m.mode m.remembered (look at word) (look_there words' (kind_of word) at word (there at word told.1 refl) (bare at.table at.probe.i)))
 
   -- in each state
   stays_in : (made : Made) (s : State) (answer : Answer) → IsRead words s → IsPrompt m.task words (asks made m.hash s) answer words' → Stays made s answer
@@ -306,6 +313,7 @@ module _ (words words' : At → ℕ) (m : Machine) (bare : IsBare words) where
       subst (Stays made (Opening t)) (sym done.0) (record { bare = root_put_bare words words' bare t done.1; read = tt })
   stays_in made (Searching (Sizing t)) answer read told = size_stays made t answer told
   stays_in made (Searching (Looking at)) answer read told = looking_stays made at answer told
+  stays_in made (Searching (Reading at)) answer read told = reading_stays made at answer told
   stays_in made (Searching (Comparing at word)) answer read told =
       quiet made (Searching (Comparing at word)) answer (Yes told.0.0) told.0.1 told.1
       (goes_read words' m.task m.mode m.remembered (search_compared (Comparing at word) told.0.0) (compared_there words' at word told.0.0 (there at word told.1 read)))
@@ -317,6 +325,7 @@ module _ (words words' : At → ℕ) (m : Machine) (bare : IsBare words) where
   stays_in made (Putting put) answer read told = putting_stays made put answer read told
   stays_in made (Burying removal) answer read told = burying_stays made removal answer read told
   stays_in made (Counting n) answer read told = quiet made (Counting n) answer _ told.0 told.1 tt
+  stays_in made (Noting n) answer read told = quiet made (Noting n) answer _ told.0 told.1 tt
   stays_in made (Uncounting n) answer read told = quiet made (Uncounting n) answer _ told.0 told.1 tt
   stays_in made (Leaving t) answer read told = quiet made (Leaving t) answer _ told.0 told.1 (next_read words' m.task m.remembered.fill t (words (Next t)))
   stays_in made (Growing t) answer read told = quiet made (Growing t) answer _ told.0 told.1 tt

@@ -3,7 +3,7 @@ use Rattle.std.proofs.Common.{◌≡◌, ⊎_elim, ℕ, ◌+◌, ◌*◌, ◌-�
 use Rattle.std.specs.Prelude.{MatchBool}
 use Rattle.std.proofs.lemmas.Bool.{cond_both, eq-eqb, ltb-true}
 use Rattle.std.proofs.lemmas.Bool.Decides.{when_true}
-use Rattle.papaya_words.specs.Word.{kind_of, byte_of, pair_of, top_byte}
+use Rattle.papaya_words.specs.Word.{kind_of, pair_of, top_byte, may_hold}
 use Rattle.papaya_words.specs.declared.probe.Refused.{Refused}
 use Rattle.papaya_words.specs.declared.probe.ResizeMode.{ResizeMode}
 use Rattle.papaya_words.specs.declared.probe.ResizeMode.TheVariants.{Incremental, Blocking}
@@ -28,7 +28,7 @@ use Rattle.papaya_call.specs.declared.compute.Put.{Put}
 use Rattle.papaya_call.specs.declared.compute.Remembered.{Remembered}
 use Rattle.papaya_call.specs.declared.remove.Removal.{Removal}
 use Rattle.papaya_ask.specs.declared.search.Place.{Place}
-use Rattle.papaya_ask.specs.declared.search.Search.TheVariants.{Sizing, Looking, Comparing}
+use Rattle.papaya_ask.specs.declared.search.Search.TheVariants.{Sizing, Looking, Reading, Comparing}
 use Rattle.papaya_ask.specs.declared.search.Seen.{Seen}
 use Rattle.papaya_ask.specs.declared.search.Seen.TheVariants as seen
 use Rattle.papaya_call.specs.declared.write.Made.{Made}
@@ -36,12 +36,13 @@ use Rattle.papaya_call.specs.declared.write.Made.TheVariants.{Nothing, Key, Pair
 use Rattle.papaya_call.specs.declared.write.Write.{Write}
 use Rattle.papaya_call.specs.declared.machine.Machine.{Machine}
 use Rattle.papaya_call.specs.declared.machine.State.{State}
-use Rattle.papaya_call.specs.declared.machine.State.TheVariants.{AtRoot, Making, Opening, Searching, Writing, Offering, Showing, Pairing, Putting, Burying, Counting, Uncounting, Leaving, Growing, Ended}
-use Rattle.papaya_ask.specs.Search.{IsSize, next_place, go_on, look_at, match_at, look, at_yes as search_compared}
+use Rattle.papaya_call.specs.declared.machine.State.TheVariants.{AtRoot, Making, Opening, Searching, Writing, Offering, Showing, Pairing, Putting, Burying, Counting, Noting, Uncounting, Leaving, Growing, Ended}
+use Rattle.papaya_ask.specs.Search.{IsSize, next_place, go_on, look_at, match_at, look, at_yes as search_compared, hinted}
 use Rattle.papaya_call.specs.Compute.{fills, lacks, offered, chosen, provides, recalls}
 use Rattle.papaya_call.specs.Machine.{after, ask_of, asks, absent, at_root, left as next_or_end, passes, replaces, removes, computes, goes_as, written, agreed}
 use Rattle.papaya_rests.specs.Alone.{IsPut, IsMaking, IsSaying, IsPrompt, IsRead, left, left_in, left_to_search, left_to_write, left_to_pair, left_to_fill, left_to_serve}
 use Rattle.papaya_rests.proofs.Leads.{occupies_leads}
+use Rattle.papaya_call.specs.Write.{claimed_by}
 
 -- the exchange of a word that stands there is done
 pub exchange_done : (P Q : Type 0) (word old : ℕ) → word ≡ old → MatchBool (word == old) P Q → P
@@ -57,35 +58,35 @@ by_saying P by_yes by_op Compute answer (kind, e) = subst (P Compute) (sym e) (b
 -- the steps that are left, at most, after a search saw this
 abbrev left_of_seen : Seen → ℕ
 left_of_seen (seen.On search) = left_to_search search
-left_of_seen (seen.Empty at) = 5
-left_of_seen (seen.Here at word) = 5
+left_of_seen (seen.Empty at) = 6
+left_of_seen (seen.Here at word) = 6
 left_of_seen (seen.Over t) = 5
 
 -- a search goes on one place nearer its limit
-go_on_left : (at : Place) → left_of_seen (go_on at) ≤ 7 + 2 * (at.limit - at.probe.len)
+go_on_left : (at : Place) → left_of_seen (go_on at) ≤ 7 + 3 * (at.limit - at.probe.len)
 go_on_left at =
     cond_both (nat_lt at.probe.len at.limit) (seen.On (Looking (next_place at))) (seen.Over at.table)
-    (λ s. left_of_seen s ≤ 7 + 2 * (at.limit - at.probe.len))
+    (λ s. left_of_seen s ≤ 7 + 3 * (at.limit - at.probe.len))
     (λ more. let l : at.probe.len < at.limit = ltb-true at.probe.len at.limit more in omega arith)
     (λ _. omega arith)
 
--- a pair whose byte is the key's is compared first
-byte_left : (at : Place) (hash word : ℕ) → left_of_seen (look_at word_kinds.Live at hash word) ≤ 8 + 2 * (at.limit - at.probe.len)
-byte_left at hash word =
-    cond_both (byte_of word == top_byte hash) (seen.On (Comparing at word)) (go_on at)
-    (λ s. left_of_seen s ≤ 8 + 2 * (at.limit - at.probe.len))
+-- a hint spares the word, or the word is loaded next
+hinted_left : (at : Place) (hash hint : ℕ) → left_of_seen (hinted at hash hint) ≤ 9 + 3 * (at.limit - at.probe.len)
+hinted_left at hash hint =
+    cond_both (may_hold hint hash) (seen.On (Reading at)) (go_on at)
+    (λ s. left_of_seen s ≤ 9 + 3 * (at.limit - at.probe.len))
     (λ _. omega arith)
     (λ _. omega (arith, go_on_left at))
 
-look_left : (kind : Kind) (at : Place) (hash word : ℕ) → left_of_seen (look_at kind at hash word) ≤ 8 + 2 * (at.limit - at.probe.len)
-look_left word_kinds.Empty at hash word = omega arith
-look_left word_kinds.Live at hash word = byte_left at hash word
-look_left word_kinds.Marked at hash word = byte_left at hash word
-look_left word_kinds.Copied at hash word = byte_left at hash word
-look_left word_kinds.Buried at hash word = omega (arith, go_on_left at)
-look_left word_kinds.Closed at hash word = omega (arith, go_on_left at)
+look_left : (kind : Kind) (at : Place) (word : ℕ) → left_of_seen (look_at kind at word) ≤ 8 + 3 * (at.limit - at.probe.len)
+look_left word_kinds.Empty at word = omega arith
+look_left word_kinds.Live at word = omega arith
+look_left word_kinds.Marked at word = omega arith
+look_left word_kinds.Copied at word = omega arith
+look_left word_kinds.Buried at word = omega (arith, go_on_left at)
+look_left word_kinds.Closed at word = omega (arith, go_on_left at)
 
-match_left : (kind : Kind) (at : Place) (word : ℕ) → left_of_seen (match_at kind at word) ≤ 5
+match_left : (kind : Kind) (at : Place) (word : ℕ) → left_of_seen (match_at kind at word) ≤ 6
 match_left word_kinds.Empty at word = omega arith
 match_left word_kinds.Live at word = omega arith
 match_left word_kinds.Marked at word = omega arith
@@ -93,17 +94,17 @@ match_left word_kinds.Copied at word = omega arith
 match_left word_kinds.Buried at word = omega arith
 match_left word_kinds.Closed at word = omega arith
 
-compared_left : (at : Place) (word : ℕ) (same : Bool) → left_of_seen (search_compared (Comparing at word) same) ≤ 7 + 2 * (at.limit - at.probe.len)
+compared_left : (at : Place) (word : ℕ) (same : Bool) → left_of_seen (search_compared (Comparing at word) same) ≤ 7 + 3 * (at.limit - at.probe.len)
 compared_left at word true = omega (arith, match_left (kind_of word) at word)
 compared_left at word false = go_on_left at
 
 module _ (made : Made) where
-  write_left : (m : Made) → left_to_write m ≤ 4
+  write_left : (m : Made) → left_to_write m ≤ 5
   write_left Nothing = omega arith
   write_left Key = omega arith
   write_left (Pair n) = omega arith
 
-  replaces_left : (kind : Kind) (at : Place) (word : ℕ) → left_in made (replaces kind at word) ≤ 4
+  replaces_left : (kind : Kind) (at : Place) (word : ℕ) → left_in made (replaces kind at word) ≤ 5
   replaces_left word_kinds.Empty at word = omega arith
   replaces_left word_kinds.Live at word = write_left made
   replaces_left word_kinds.Marked at word = omega arith
@@ -111,7 +112,7 @@ module _ (made : Made) where
   replaces_left word_kinds.Buried at word = omega arith
   replaces_left word_kinds.Closed at word = omega arith
 
-  removes_left : (kind : Kind) (at : Place) (word : ℕ) → left_in made (removes kind at word) ≤ 5
+  removes_left : (kind : Kind) (at : Place) (word : ℕ) → left_in made (removes kind at word) ≤ 6
   removes_left word_kinds.Empty at word = omega arith
   removes_left word_kinds.Live at word = omega arith
   removes_left word_kinds.Marked at word = omega arith
@@ -120,16 +121,16 @@ module _ (made : Made) where
   removes_left word_kinds.Closed at word = omega arith
 
   -- what is remembered of a pair is done, or its closure is shown it
-  recalls_left : (choice : Option Choice) (at : Place) (word n : ℕ) → left_in made (recalls choice at word n) ≤ 5
+  recalls_left : (choice : Option Choice) (at : Place) (word n : ℕ) → left_in made (recalls choice at word n) ≤ 6
   recalls_left None at word n = omega arith
   recalls_left (Some (choices.Replace old new)) at word n =
       let put : Put = record { write = record { place = at; old = word }; pair = new } in
-      cond_both (old == n) (Putting put) (Showing (record { place = at; word = word })) (λ s. left_in made s ≤ 5) (λ _. omega arith) (λ _. omega arith)
+      cond_both (old == n) (Putting put) (Showing (record { place = at; word = word })) (λ s. left_in made s ≤ 6) (λ _. omega arith) (λ _. omega arith)
   recalls_left (Some (choices.Remove old)) at word n =
       let removal : Removal = record { place = at; word = word } in
-      cond_both (old == n) (Burying removal) (Showing removal) (λ s. left_in made s ≤ 5) (λ _. omega arith) (λ _. omega arith)
+      cond_both (old == n) (Burying removal) (Showing removal) (λ s. left_in made s ≤ 6) (λ _. omega arith) (λ _. omega arith)
 
-  computes_left : (kind : Kind) (held : Remembered) (at : Place) (word : ℕ) → left_in made (computes kind held at word) ≤ 5
+  computes_left : (kind : Kind) (held : Remembered) (at : Place) (word : ℕ) → left_in made (computes kind held at word) ≤ 6
   computes_left word_kinds.Empty held at word = omega arith
   computes_left word_kinds.Live held at word = recalls_left held.choice at word (pair_of word)
   computes_left word_kinds.Marked held at word = omega arith
@@ -161,7 +162,7 @@ module _ (made : Made) where
   goes_left : (task : Task) (mode : ResizeMode) (held : Remembered) (s : Seen) → left_in made (goes_as task mode held s) ≤ left_of_seen s
   goes_left task mode held (seen.On search) = omega arith
   goes_left Get mode held (seen.Here at word) = omega arith
-  goes_left (Insert false) mode held (seen.Here at word) = occupies_leads (λ s. left_in made s ≤ 5) (kind_of word) at word (omega arith) (omega arith)
+  goes_left (Insert false) mode held (seen.Here at word) = occupies_leads (λ s. left_in made s ≤ 6) (kind_of word) at word (omega arith) (omega arith)
   goes_left (Insert true) mode held (seen.Here at word) = omega (arith, replaces_left (kind_of word) at word)
   goes_left RemoveIf mode held (seen.Here at word) = removes_left (kind_of word) at word
   goes_left Compute mode held (seen.Here at word) = computes_left (kind_of word) held at word
@@ -180,12 +181,12 @@ module _ (made : Made) where
   root_left RemoveIf fill word = cond_both (word == 0) (Ended Absent) (Searching (Sizing word)) (λ s. left_in made s < left_in made AtRoot) (λ _. omega arith) (λ _. omega arith)
   root_left Compute fill word = cond_both (word == 0) (lacks fill gaps.NoRoot) (Searching (Sizing word)) (λ s. left_in made s < left_in made AtRoot) (λ _. omega (arith, lacks_left fill gaps.NoRoot)) (λ _. omega arith)
 
-  agreed_left : (removal : Removal) (agrees : Bool) → left_in made (agreed removal agrees) < 5
+  agreed_left : (removal : Removal) (agrees : Bool) → left_in made (agreed removal agrees) < 6
   agreed_left removal true = omega arith
   agreed_left removal false = omega arith
 
-  written_left : (write : Write) (n : ℕ) → left_in made (written write n) < 2
-  written_left write n = cond_both (write.old == 0) (Counting n) (Ended (Replaced (pair_of write.old) n)) (λ s. left_in made s < 2) (λ _. omega arith) (λ _. omega arith)
+  written_left : (write : Write) (n : ℕ) → left_in made (written write n) < 3
+  written_left write n = cond_both (write.old == 0) (Counting (claimed_by write n)) (Ended (Replaced (pair_of write.old) n)) (λ s. left_in made s < 3) (λ _. omega arith) (λ _. omega arith)
 
   -- a compute makes its key and its pair in two steps at most
   pair_left : (m : Made) → left_to_pair m ≤ 2
@@ -199,7 +200,7 @@ module _ (made : Made) where
   offered_left gap op_kinds.Remove = omega arith
   offered_left gap (op_kinds.Abort t) = omega arith
 
-  chosen_left : (removal : Removal) (kind : OpKind) → left_in made (chosen removal kind) < 5
+  chosen_left : (removal : Removal) (kind : OpKind) → left_in made (chosen removal kind) < 6
   chosen_left removal op_kinds.Insert = omega (arith, pair_left made)
   chosen_left removal op_kinds.Remove = omega arith
   chosen_left removal (op_kinds.Abort t) = omega arith
@@ -242,7 +243,7 @@ module _ (words words' : At → ℕ) (m : Machine) where
   -- a closure was shown a pair
   showing_nears : (made : Made) (removal : Removal) (answer : Answer) → IsSaying m.task answer → Nears made (Showing removal) answer
   showing_nears made removal answer told =
-      by_saying (λ task said. left (after (record m { task = task; made = made; state = Showing removal }) said) < 5)
+      by_saying (λ task said. left (after (record m { task = task; made = made; state = Showing removal }) said) < 6)
       (agreed_left made removal) (chosen_left made removal) m.task answer told
 
   -- in each state
@@ -254,10 +255,15 @@ module _ (words words' : At → ℕ) (m : Machine) where
       subst (Nears made (Opening t)) (sym done.0) (omega arith)
   nears_in last made (Searching (Sizing t)) answer read told = size_nears made t answer told.0
   nears_in last made (Searching (Looking at)) answer read told =
+      let hint : ℕ = told.0.0 in
+      let a = hinted_left at m.hash hint in
+      let b = goes_left made m.task m.mode m.remembered (hinted at m.hash hint) in
+      subst (Nears made (Searching (Looking at))) (sym told.0.1) (omega (arith, a, b))
+  nears_in last made (Searching (Reading at)) answer read told =
       let word : ℕ = words (Slot at.table at.probe.i) in
-      let a = look_left (kind_of word) at m.hash word in
-      let b = goes_left made m.task m.mode m.remembered (look at m.hash word) in
-      subst (Nears made (Searching (Looking at))) (sym told.0) (omega (arith, a, b))
+      let a = look_left (kind_of word) at word in
+      let b = goes_left made m.task m.mode m.remembered (look at word) in
+      subst (Nears made (Searching (Reading at))) (sym told.0) (omega (arith, a, b))
   nears_in last made (Searching (Comparing at word)) answer read told =
       let same : Bool = told.0.0 in
       let a = compared_left at word same in
@@ -276,6 +282,7 @@ module _ (words words' : At → ℕ) (m : Machine) where
       let done : (answer ≡ Exchanged) × IsPut words at _ words' = exchange_done _ _ (words at) removal.word read told in
       subst (Nears made (Burying removal)) (sym done.0) (omega arith)
   nears_in last made (Counting n) answer read told = subst (Nears made (Counting n)) (sym told.0) (omega arith)
+  nears_in last made (Noting n) answer read told = subst (Nears made (Noting n)) (sym told.0) (omega arith)
   nears_in last made (Uncounting n) answer read told = subst (Nears made (Uncounting n)) (sym told.0) (omega arith)
   nears_in last made (Leaving t) answer read told =
       subst (Nears made (Leaving t)) (sym told.0)

@@ -1,7 +1,7 @@
 -- A call that looks for its key, and is told of no pair with it, meets none.
 use Rattle.std.proofs.Common.{◌≡◌, ℕ, ◌==◌, nat_lt, Option, refl, sym, subst}
 use Rattle.std.proofs.lemmas.Bool.{cond_both}
-use Rattle.papaya_words.specs.Word.{kind_of, byte_of, top_byte}
+use Rattle.papaya_words.specs.Word.{kind_of, top_byte, may_hold}
 use Rattle.papaya_words.specs.declared.probe.ResizeMode.{ResizeMode}
 use Rattle.papaya_words.specs.declared.probe.ResizeMode.TheVariants.{Incremental, Blocking}
 use Rattle.papaya_words.specs.declared.word.Kind.{Kind}
@@ -15,13 +15,13 @@ use Rattle.papaya_ask.specs.declared.call.Task.TheVariants.{Get, Insert, RemoveI
 use Rattle.papaya_call.specs.declared.compute.Gap.TheVariants.{After}
 use Rattle.papaya_call.specs.declared.compute.Remembered.{Remembered}
 use Rattle.papaya_ask.specs.declared.search.Place.{Place}
-use Rattle.papaya_ask.specs.declared.search.Search.TheVariants.{Sizing, Looking, Comparing}
+use Rattle.papaya_ask.specs.declared.search.Search.TheVariants.{Sizing, Looking, Reading, Comparing}
 use Rattle.papaya_ask.specs.declared.search.Seen.{Seen}
 use Rattle.papaya_ask.specs.declared.search.Seen.TheVariants as seen
 use Rattle.papaya_call.specs.declared.machine.Machine.{Machine}
 use Rattle.papaya_call.specs.declared.machine.State.{State}
-use Rattle.papaya_call.specs.declared.machine.State.TheVariants.{AtRoot, Making, Opening, Searching, Writing, Offering, Showing, Pairing, Putting, Burying, Counting, Uncounting, Leaving, Growing, Ended}
-use Rattle.papaya_ask.specs.Search.{next_place, go_on, look_at, look}
+use Rattle.papaya_call.specs.declared.machine.State.TheVariants.{AtRoot, Making, Opening, Searching, Writing, Offering, Showing, Pairing, Putting, Burying, Counting, Noting, Uncounting, Leaving, Growing, Ended}
+use Rattle.papaya_ask.specs.Search.{next_place, go_on, look_at, look, hinted}
 use Rattle.papaya_call.specs.Machine.{after, ask_of, asks, absent, at_root, left as next_or_end, passes, goes_as}
 use Rattle.papaya_rests.specs.Alone.{HasMetNone, IsSeeker, IsUnmatched}
 
@@ -35,17 +35,17 @@ HasSeenNone (seen.Over t) = Unit {0}
 go_on_none : (at : Place) → HasSeenNone (go_on at)
 go_on_none at = cond_both (nat_lt at.probe.len at.limit) (seen.On (Looking (next_place at))) (seen.Over at.table) HasSeenNone (λ _. tt) (λ _. tt)
 
-byte_none : (at : Place) (hash word : ℕ) → HasSeenNone (look_at word_kinds.Live at hash word)
-byte_none at hash word = cond_both (byte_of word == top_byte hash) (seen.On (Comparing at word)) (go_on at) HasSeenNone (λ _. tt) (λ _. go_on_none at)
+hinted_none : (at : Place) (hash hint : ℕ) → HasSeenNone (hinted at hash hint)
+hinted_none at hash hint = cond_both (may_hold hint hash) (seen.On (Reading at)) (go_on at) HasSeenNone (λ _. tt) (λ _. go_on_none at)
 
 -- a word alone shows no key
-look_none : (kind : Kind) (at : Place) (hash word : ℕ) → HasSeenNone (look_at kind at hash word)
-look_none word_kinds.Empty at hash word = tt
-look_none word_kinds.Live at hash word = byte_none at hash word
-look_none word_kinds.Marked at hash word = byte_none at hash word
-look_none word_kinds.Copied at hash word = byte_none at hash word
-look_none word_kinds.Buried at hash word = go_on_none at
-look_none word_kinds.Closed at hash word = go_on_none at
+look_none : (kind : Kind) (at : Place) (word : ℕ) → HasSeenNone (look_at kind at word)
+look_none word_kinds.Empty at word = tt
+look_none word_kinds.Live at word = tt
+look_none word_kinds.Marked at word = tt
+look_none word_kinds.Copied at word = tt
+look_none word_kinds.Buried at word = go_on_none at
+look_none word_kinds.Closed at word = go_on_none at
 
 -- a call that looks for its key ends where it is absent
 absent_none : (task : Task) (fill : Option ℕ) (t : ℕ) → IsSeeker task → HasMetNone (absent task fill (After t))
@@ -101,8 +101,8 @@ module _ (m : Machine) (seeker : IsSeeker m.task) (answer : Answer) where
   meets_none_in : (s : State) → HasMetNone s → IsUnmatched (asks m.made m.hash s) answer → MeetsNone s answer
   meets_none_in AtRoot none told = subst (MeetsNone AtRoot) (sym told.1) (root_none m.task m.remembered.fill told.0 seeker)
   meets_none_in (Searching (Sizing t)) none (slots, limit, e) = subst (MeetsNone (Searching (Sizing t))) (sym e) tt
-  meets_none_in (Searching (Looking at)) none (word, e) =
-      subst (MeetsNone (Searching (Looking at))) (sym e) (goes_none m.task m.mode m.remembered (look at m.hash word) seeker (look_none (kind_of word) at m.hash word))
+  meets_none_in (Searching (Looking at)) none (hint, e) = subst (MeetsNone (Searching (Looking at))) (sym e) (goes_none m.task m.mode m.remembered (hinted at m.hash hint) seeker (hinted_none at m.hash hint))
+  meets_none_in (Searching (Reading at)) none (word, e) = subst (MeetsNone (Searching (Reading at))) (sym e) (goes_none m.task m.mode m.remembered (look at word) seeker (look_none (kind_of word) at word))
   meets_none_in (Searching (Comparing at word)) none told =
       subst (MeetsNone (Searching (Comparing at word))) (sym told) (goes_none m.task m.mode m.remembered (go_on at) seeker (go_on_none at))
   meets_none_in (Leaving t) none told = subst (MeetsNone (Leaving t)) (sym told.1) (next_none m.task m.remembered.fill t told.0 seeker)
@@ -116,6 +116,7 @@ module _ (m : Machine) (seeker : IsSeeker m.task) (answer : Answer) where
   meets_none_in (Putting put) none told = absurd none
   meets_none_in (Burying removal) none told = absurd none
   meets_none_in (Counting n) none told = absurd none
+  meets_none_in (Noting n) none told = absurd none
   meets_none_in (Uncounting n) none told = absurd none
   meets_none_in (Growing t) none told = absurd none
 

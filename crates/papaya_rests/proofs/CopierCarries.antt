@@ -2,7 +2,7 @@
 use Rattle.std.proofs.Common.{◌≡◌, ⊎_elim, ℕ, suc, ◌+◌, ◌%◌, ◌<◌, ◌≤◌, ◌==◌, nat_lt, ltb-true, ltb-false, Bool, true, false, Option, Some, refl, sym, ap, ◌∙◌, subst, arith, eq-eqb}
 use Rattle.std.proofs.lemmas.Bool.{cases_lt, cond_both}
 use Rattle.papaya_words.specs.Probe.{place}
-use Rattle.papaya_words.specs.Word.{byte_of, top_byte}
+use Rattle.papaya_words.specs.Word.{hint_of, may_hold}
 use Rattle.papaya_words.specs.declared.probe.Refused.{Refused}
 use Rattle.papaya_words.specs.declared.probe.ResizeMode.{ResizeMode}
 use Rattle.papaya_words.specs.declared.probe.ResizeMode.TheVariants.{Incremental, Blocking}
@@ -12,13 +12,13 @@ use Rattle.papaya_ask.specs.declared.ask.At.TheVariants.{Aborted, Next, Slot as 
 use Rattle.papaya_copy.specs.declared.carry.Carried.TheVariants as carried
 use Rattle.papaya_copy.specs.declared.carry.Carry.{Carry}
 use Rattle.papaya_copy.specs.declared.carry.Carry.TheVariants as carries
-use Rattle.papaya_ask.specs.declared.copy_ask.CopyAsk.TheVariants.{Exchange as Ask_exchange, HashOf, Load, SamePair, SizeOf}
+use Rattle.papaya_ask.specs.declared.copy_ask.CopyAsk.TheVariants.{Exchange as Ask_exchange, HashOf, Load, LoadHint, SamePair, SizeOf, WriteHint}
 use Rattle.papaya_copy.specs.declared.link.Link.TheVariants as links
 use Rattle.papaya_copy.specs.declared.link.Linked.{Linked}
 use Rattle.papaya_copy.specs.declared.link.Linked.TheVariants as linked
 use Rattle.papaya_ask.specs.declared.search.Place.{Place}
 use Rattle.papaya_copy.specs.declared.settle.Slot.{Slot}
-use Rattle.papaya_copy.specs.Carry.{at_count, at_found, at_hash, at_made, at_refused, at_size, at_word, at_yes, carried_on, carry_ask, carry_follows, compare_byte, compared, fills, goes_on, look as look_word, look_at}
+use Rattle.papaya_copy.specs.Carry.{at_count, at_found, at_hash, at_made, at_ok, at_refused, at_size, at_word, at_yes, carried_on, carry_ask, carry_follows, compared, fills, goes_on, hinted, look as look_word, look_at}
 use Rattle.papaya_copy.specs.Link.{follows, link_ask, at_count as link_at_count, at_found as link_lost, at_refused as link_at_refused}
 use Rattle.papaya_ask.specs.Search.{next_place}
 use Rattle.papaya_copy.specs.declared.link.Link.{Link}
@@ -28,9 +28,10 @@ use Rattle.papaya_law.specs.Copying.{IsPutting}
 use Rattle.papaya_law.specs.Exchange.{Word, Empty, Closed, Live, Marked, Copied, Buried, Setting, State}
 use Rattle.papaya_law.specs.Invariant.{IsKeeping, named}
 use Rattle.papaya_law.specs.Later.{Becomes}
-use Rattle.papaya_law.specs.View.{foreign, look, view}
+use Rattle.papaya_law.specs.Hints.{IsHint}
+use Rattle.papaya_law.specs.View.{Foreign, foreign, look, view}
 use Rattle.papaya_law.proofs.Codes.{code_kind}
-use Rattle.papaya_law.proofs.CodeViews.{other_byte}
+use Rattle.papaya_law.proofs.Hints.{hint_passes}
 use Rattle.papaya_law.proofs.Copies.{put_next}
 use Rattle.papaya_law.proofs.CopierFacts.{taker_on}
 use Rattle.papaya_law.proofs.OneMap.{keeping_sound}
@@ -66,6 +67,19 @@ no_hash (links.Sizing behind unfit) n e = cc e
 no_hash (links.Counting behind unfit len) n e = cc e
 no_hash (links.Making behind len limit) n e = cc e
 no_hash (links.Linking behind table) n e = cc e
+
+-- nor does it load or write a hint
+pub no_hint : (link : Link) (t x : ℕ) → link_ask link ≡ LoadHint t x → ⊥
+no_hint (links.Sizing behind unfit) t x e = cc e
+no_hint (links.Counting behind unfit len) t x e = cc e
+no_hint (links.Making behind len limit) t x e = cc e
+no_hint (links.Linking behind table) t x e = cc e
+
+pub no_note : (link : Link) (t x n : ℕ) → link_ask link ≡ WriteHint t x n → ⊥
+no_note (links.Sizing behind unfit) t x n e = cc e
+no_note (links.Counting behind unfit len) t x n e = cc e
+no_note (links.Making behind len limit) t x n e = cc e
+no_note (links.Linking behind table) t x n e = cc e
 
 pub no_same : (link : Link) (i n : ℕ) → link_ask link ≡ SamePair i n → ⊥
 no_same (links.Sizing behind unfit) i n e = cc e
@@ -120,31 +134,26 @@ module _ {K P : Type 0} (g : Setting K P) (c : Coding K P) (hashed : IsHashed g 
         filled mode moded last hash at.table here k f.hashed (subst (λ y. IsPutting g s slot.from slot.index p at.table y) all more))
 
   module _ (last : Option P) (hash : ℕ) (at : Place) (here : g.blocking ≡ true → at.table ≡ slot.to) (k : kept ≡ Some p) (f : IsFor g c s p hash at) (put : IsPutting g s slot.from slot.index p at.table at.probe.len) where
-    -- a word with the hash byte is compared, and the carry goes past another one
-    compares : (w : Word P) (q : P) → s.slot at.table at.probe.i ≡ w → named w ≡ Some q → RestsCarried g c s (or_last (named w) last) kept slot word (compare_byte hash at mode (code g c w))
-    compares w q e n =
-        cond_both (byte_of (code g c w) == top_byte hash) (carried.On (carries.Comparing hash at (code g c w))) (goes_on hash at mode) (RestsCarried g c s (or_last (named w) last) kept slot word)
-        (λ same. record {
-          pair = p;
-          marked = marked;
-          here = here;
-          rests = (
-            k,
-            f,
-            put,
-            record {
-              pair = q;
-              told = ap (λ o. or_last o last) n;
-              was = w;
-              loaded = refl;
-              names = n;
-              became = subst (λ v. Becomes g v (s.slot at.table at.probe.i)) e ((later_itself g hashed.lawful s).words at.table at.probe.i);
-            },
-          );
-        })
-        (λ other.
-        let byte : (byte_of (code g c w) == top_byte (c.hash (g.key p))) ≡ false = ap (λ h. byte_of (code g c w) == top_byte h) (sym f.hashed) ∙ other in
-        goes (or_last (named w) last) hash at here k f put (ap foreign (sees (or_last (named w) last) hash at here k f put w e ∙ other_byte g c hashed.coding (g.key p) w q n byte)))
+    -- a filled word is compared
+    compares : (w : Word P) (q : P) → s.slot at.table at.probe.i ≡ w → named w ≡ Some q → RestsCarried g c s (or_last (named w) last) kept slot word (carried.On (carries.Comparing hash at (code g c w)))
+    compares w q e n = record {
+      pair = p;
+      marked = marked;
+      here = here;
+      rests = (
+        k,
+        f,
+        put,
+        record {
+          pair = q;
+          told = ap (λ o. or_last o last) n;
+          was = w;
+          loaded = refl;
+          names = n;
+          became = subst (λ v. Becomes g v (s.slot at.table at.probe.i)) e ((later_itself g hashed.lawful s).words at.table at.probe.i);
+        },
+      );
+    }
 
     -- by the word's kind
     by_kind : (w : Word P) → s.slot at.table at.probe.i ≡ w → RestsCarried g c s (or_last (named w) last) kept slot word (look_at (kind w) hash at mode (code g c w))
@@ -160,6 +169,16 @@ module _ {K P : Type 0} (g : Setting K P) (c : Coding K P) (hashed : IsHashed g 
     looks =
         let w : Word P = s.slot at.table at.probe.i in
         subst (λ y. RestsCarried g c s (or_last (named w) last) kept slot word (look_at y hash at mode (code g c w))) (sym (code_kind g c w)) (by_kind w refl)
+
+    -- what a hint that may be there tells
+    hints : (n : ℕ) → IsHint g c s at.table at.probe.i n → RestsCarried g c s last kept slot word (hinted hash at mode n)
+    hints n is =
+        cond_both (may_hold n hash) (carried.On (carries.Reading hash at)) (goes_on hash at mode) (RestsCarried g c s last kept slot word)
+        (λ may. record { pair = p; marked = marked; here = here; rests = (k, f, put) })
+        (λ other.
+        let there : Word P = s.slot at.table at.probe.i in
+        let foreign_there : view g (g.key p) there ≡ Foreign = hint_passes g c hashed.coding (g.key p) there n is (ap (may_hold n) (sym f.hashed) ∙ other) in
+        goes last hash at here k f put (ap foreign (sees last hash at here k f put there refl ∙ foreign_there)))
 
   -- behind a full table
   passes_to : (last : Option P) (hash table : ℕ) → g.blocking ≡ false → kept ≡ Some p → hash ≡ c.hash (g.key p) → IsPutting g s slot.from slot.index p table (g.places table) → (next : ℕ) → s.next table ≡ next → 0 < next → IsCarrying g c s last kept slot word (carries.Sizing hash next)
@@ -186,11 +205,13 @@ module _ {K P : Type 0} (g : Setting K P) (c : Coding K P) (hashed : IsHashed g 
     pub carry_loaded : (carry : Carry) → (g.blocking ≡ true → carried_to carry ≡ slot.to) → RestsCarry g c s last kept slot p carry → (at : At) → carry_ask carry word ≡ Load at → RestsCarried g c s (told_last s at last) kept slot word (at_word carry mode (word_of g c s at))
     carry_loaded (carries.Hashing table) here r at e = absurd cc
     carry_loaded (carries.Sizing hash table) here r at e = absurd cc
-    carry_loaded (carries.Looking hash place) here r at e =
+    carry_loaded (carries.Looking hash place) here r at e = absurd cc
+    carry_loaded (carries.Reading hash place) here r at e =
         let is : Slot_word place.table place.probe.i ≡ at = cc e in
-        subst (λ a. RestsCarried g c s (told_last s a last) kept slot word (at_word (carries.Looking hash place) mode (word_of g c s a))) is (looks last hash place here r.0 r.1 r.2)
+        subst (λ a. RestsCarried g c s (told_last s a last) kept slot word (at_word (carries.Reading hash place) mode (word_of g c s a))) is (looks last hash place here r.0 r.1 r.2)
     carry_loaded (carries.Comparing hash place found) here r at e = absurd cc
     carry_loaded (carries.Placing hash place) here r at e = absurd cc
+    carry_loaded (carries.Placed hash place) here r at e = absurd cc
     carry_loaded (carries.Passing hash table) here r at e =
         let is : Next table ≡ at = cc e in
         subst (λ a. RestsCarried g c s (told_last s a last) kept slot word (at_word (carries.Passing hash table) mode (word_of g c s a))) is
@@ -200,6 +221,42 @@ module _ {K P : Type 0} (g : Setting K P) (c : Coding K P) (hashed : IsHashed g 
     carry_loaded (carries.Linking hash link) here r at e = absurd (no_load link at e)
     carry_loaded (carries.Aborting table) here r at e = absurd cc
 
+    -- the load of a hint
+    pub carry_hinted : (carry : Carry) → (g.blocking ≡ true → carried_to carry ≡ slot.to) → RestsCarry g c s last kept slot p carry → (t x : ℕ) → carry_ask carry word ≡ LoadHint t x → (n : ℕ) → IsHint g c s t x n → RestsCarried g c s last kept slot word (at_word carry mode n)
+    carry_hinted (carries.Hashing table) here r t x e n is = absurd cc
+    carry_hinted (carries.Sizing hash table) here r t x e n is = absurd cc
+    carry_hinted (carries.Looking hash place) here r t x e n is =
+        let table : t ≡ place.table = cc e in
+        let index : x ≡ place.probe.i = cc e in
+        hints last hash place here r.0 r.1 r.2 n (subst (λ y. IsHint g c s place.table y n) index (subst (λ y. IsHint g c s y x n) table is))
+    carry_hinted (carries.Reading hash place) here r t x e n is = absurd cc
+    carry_hinted (carries.Comparing hash place found) here r t x e n is = absurd cc
+    carry_hinted (carries.Placing hash place) here r t x e n is = absurd cc
+    carry_hinted (carries.Placed hash place) here r t x e n is = absurd cc
+    carry_hinted (carries.Passing hash table) here r t x e n is = absurd cc
+    carry_hinted (carries.Linking hash link) here r t x e n is = absurd (no_hint link t x e)
+    carry_hinted (carries.Aborting table) here r t x e n is = absurd cc
+
+    -- a hint was written, and it is the one of the slot
+    pub carry_noted : (carry : Carry) → (g.blocking ≡ true → carried_to carry ≡ slot.to) → RestsCarry g c s last kept slot p carry → (t x n : ℕ) → carry_ask carry word ≡ WriteHint t x n → IsHint g c s t x n × RestsCarried g c s last kept slot word (at_ok carry)
+    carry_noted (carries.Hashing table) here r t x n e = absurd cc
+    carry_noted (carries.Sizing hash table) here r t x n e = absurd cc
+    carry_noted (carries.Looking hash place) here r t x n e = absurd cc
+    carry_noted (carries.Reading hash place) here r t x n e = absurd cc
+    carry_noted (carries.Comparing hash place found) here r t x n e = absurd cc
+    carry_noted (carries.Placing hash place) here r t x n e = absurd cc
+    carry_noted (carries.Placed hash place) here r t x n e =
+        let table : place.table ≡ t = cc e in
+        let index : place.probe.i ≡ x = cc e in
+        let value : hint_of hash ≡ n = cc e in
+        let own : hint_of (c.hash (g.key p)) ≡ n = ap hint_of (sym r.1.fits.hashed) ∙ value in (
+          subst (λ y. IsHint g c s t x y) own (subst (λ y. IsHint g c s t y (hint_of (c.hash (g.key p)))) index (subst (λ y. IsHint g c s y place.probe.i (hint_of (c.hash (g.key p)))) table r.1.hint)),
+          record { pair = p; table = place.table; marked = marked; stood = r.1.stood; taker = r.1.taker; has = r.1.has; here = here },
+        )
+    carry_noted (carries.Passing hash table) here r t x n e = absurd cc
+    carry_noted (carries.Linking hash link) here r t x n e = absurd (no_note link t x n e)
+    carry_noted (carries.Aborting table) here r t x n e = absurd cc
+
     -- the hash of the pair last told of, which is carried from now on
     pub carry_hashed : (carry : Carry) → (g.blocking ≡ true → carried_to carry ≡ slot.to) → RestsCarry g c s last kept slot p carry → (n : ℕ) → carry_ask carry word ≡ HashOf n → (q : P) → last ≡ Some q → IsCarrying g c s last last slot word (at_hash carry (c.hash (g.key q)))
     carry_hashed (carries.Hashing table) here r n e q told =
@@ -207,8 +264,10 @@ module _ {K P : Type 0} (g : Setting K P) (c : Coding K P) (hashed : IsHashed g 
         record { pair = p; marked = marked; here = here; rests = (r.0, ap (λ y. c.hash (g.key y)) (sym same), r.1) }
     carry_hashed (carries.Sizing hash table) here r n e q told = absurd cc
     carry_hashed (carries.Looking hash place) here r n e q told = absurd cc
+    carry_hashed (carries.Reading hash place) here r n e q told = absurd cc
     carry_hashed (carries.Comparing hash place found) here r n e q told = absurd cc
     carry_hashed (carries.Placing hash place) here r n e q told = absurd cc
+    carry_hashed (carries.Placed hash place) here r n e q told = absurd cc
     carry_hashed (carries.Passing hash table) here r n e q told = absurd cc
     carry_hashed (carries.Linking hash link) here r n e q told = absurd (no_hash link n e)
     carry_hashed (carries.Aborting table) here r n e q told = absurd cc
@@ -237,8 +296,10 @@ module _ {K P : Type 0} (g : Setting K P) (c : Coding K P) (hashed : IsHashed g 
         })
         most
     carry_sized (carries.Looking hash place) here r t limit e most = absurd cc
+    carry_sized (carries.Reading hash place) here r t limit e most = absurd cc
     carry_sized (carries.Comparing hash place found) here r t limit e most = absurd cc
     carry_sized (carries.Placing hash place) here r t limit e most = absurd cc
+    carry_sized (carries.Placed hash place) here r t limit e most = absurd cc
     carry_sized (carries.Passing hash table) here r t limit e most = absurd cc
     carry_sized (carries.Linking hash link) here r t limit e most = record {
       pair = p;
@@ -271,10 +332,12 @@ module _ {K P : Type 0} (g : Setting K P) (c : Coding K P) (hashed : IsHashed g 
     carry_compared (carries.Hashing table) here r i n e o q k told = absurd cc
     carry_compared (carries.Sizing hash table) here r i n e o q k told = absurd cc
     carry_compared (carries.Looking hash place) here r i n e o q k told = absurd cc
+    carry_compared (carries.Reading hash place) here r i n e o q k told = absurd cc
     carry_compared (carries.Comparing hash place found) here r i n e o q k told =
         let same : p ≡ o = let t = r.0 in cc (t, k) in
         same_or_not hash place found here r q told (g.same (g.key o) (g.key q)) (ap (λ y. g.same (g.key y) (g.key q)) same)
     carry_compared (carries.Placing hash place) here r i n e o q k told = absurd cc
+    carry_compared (carries.Placed hash place) here r i n e o q k told = absurd cc
     carry_compared (carries.Passing hash table) here r i n e o q k told = absurd cc
     carry_compared (carries.Linking hash link) here r i n e o q k told = absurd (no_same link i n e)
     carry_compared (carries.Aborting table) here r i n e o q k told = absurd cc
@@ -284,10 +347,12 @@ module _ {K P : Type 0} (g : Setting K P) (c : Coding K P) (hashed : IsHashed g 
     carry_found (carries.Hashing table) here r at old new e other = absurd cc
     carry_found (carries.Sizing hash table) here r at old new e other = absurd cc
     carry_found (carries.Looking hash place) here r at old new e other = absurd cc
+    carry_found (carries.Reading hash place) here r at old new e other = absurd cc
     carry_found (carries.Comparing hash place found) here r at old new e other = absurd cc
     carry_found (carries.Placing hash place) here r at old new e other =
         let is : Slot_word place.table place.probe.i ≡ at = cc e in
         subst (λ a. RestsCarried g c s (told_last s a last) kept slot word (at_found (carries.Placing hash place) mode (word_of g c s a))) is (looks last hash place here r.0 r.1 r.2)
+    carry_found (carries.Placed hash place) here r at old new e other = absurd cc
     carry_found (carries.Passing hash table) here r at old new e other = absurd cc
     carry_found (carries.Linking hash link) here r at old new e other =
         let next : (t : ℕ) × (at ≡ Next t) = links_next link at old new e in
@@ -306,8 +371,10 @@ module _ {K P : Type 0} (g : Setting K P) (c : Coding K P) (hashed : IsHashed g 
     carry_counted (carries.Hashing table) here r count initial = record { pair = p; marked = marked; here = here; rests = r }
     carry_counted (carries.Sizing hash table) here r count initial = record { pair = p; marked = marked; here = here; rests = r }
     carry_counted (carries.Looking hash place) here r count initial = record { pair = p; marked = marked; here = here; rests = r }
+    carry_counted (carries.Reading hash place) here r count initial = record { pair = p; marked = marked; here = here; rests = r }
     carry_counted (carries.Comparing hash place found) here r count initial = record { pair = p; marked = marked; here = here; rests = r }
     carry_counted (carries.Placing hash place) here r count initial = record { pair = p; marked = marked; here = here; rests = r }
+    carry_counted (carries.Placed hash place) here r count initial = record { pair = p; marked = marked; here = here; rests = r }
     carry_counted (carries.Passing hash table) here r count initial = record { pair = p; marked = marked; here = here; rests = r }
     carry_counted (carries.Aborting table) here r count initial = record { pair = p; marked = marked; here = here; rests = r }
 
@@ -321,8 +388,10 @@ module _ {K P : Type 0} (g : Setting K P) (c : Coding K P) (hashed : IsHashed g 
     carry_made (carries.Hashing table) here r n more = record { pair = p; marked = marked; here = here; rests = r }
     carry_made (carries.Sizing hash table) here r n more = record { pair = p; marked = marked; here = here; rests = r }
     carry_made (carries.Looking hash place) here r n more = record { pair = p; marked = marked; here = here; rests = r }
+    carry_made (carries.Reading hash place) here r n more = record { pair = p; marked = marked; here = here; rests = r }
     carry_made (carries.Comparing hash place found) here r n more = record { pair = p; marked = marked; here = here; rests = r }
     carry_made (carries.Placing hash place) here r n more = record { pair = p; marked = marked; here = here; rests = r }
+    carry_made (carries.Placed hash place) here r n more = record { pair = p; marked = marked; here = here; rests = r }
     carry_made (carries.Passing hash table) here r n more = record { pair = p; marked = marked; here = here; rests = r }
     carry_made (carries.Aborting table) here r n more = record { pair = p; marked = marked; here = here; rests = r }
 
@@ -331,7 +400,9 @@ module _ {K P : Type 0} (g : Setting K P) (c : Coding K P) (hashed : IsHashed g 
     carry_refused (carries.Hashing table) here r refused = record { pair = p; marked = marked; here = here; rests = r }
     carry_refused (carries.Sizing hash table) here r refused = record { pair = p; marked = marked; here = here; rests = r }
     carry_refused (carries.Looking hash place) here r refused = record { pair = p; marked = marked; here = here; rests = r }
+    carry_refused (carries.Reading hash place) here r refused = record { pair = p; marked = marked; here = here; rests = r }
     carry_refused (carries.Comparing hash place found) here r refused = record { pair = p; marked = marked; here = here; rests = r }
     carry_refused (carries.Placing hash place) here r refused = record { pair = p; marked = marked; here = here; rests = r }
+    carry_refused (carries.Placed hash place) here r refused = record { pair = p; marked = marked; here = here; rests = r }
     carry_refused (carries.Passing hash table) here r refused = record { pair = p; marked = marked; here = here; rests = r }
     carry_refused (carries.Aborting table) here r refused = record { pair = p; marked = marked; here = here; rests = r }

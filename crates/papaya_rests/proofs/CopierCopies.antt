@@ -8,7 +8,7 @@ use Rattle.papaya_words.specs.declared.probe.ResizeMode.TheVariants.{Incremental
 use Rattle.papaya_ask.specs.declared.ask.At.{At}
 use Rattle.papaya_copy.specs.declared.carry.Carry.{Carry}
 use Rattle.papaya_copy.specs.declared.carry.Carry.TheVariants as carries
-use Rattle.papaya_ask.specs.declared.copy_ask.CopyAsk.TheVariants.{Exchange as Ask_exchange, HashOf, Load, SamePair, SizeOf}
+use Rattle.papaya_ask.specs.declared.copy_ask.CopyAsk.TheVariants.{Exchange as Ask_exchange, HashOf, Load, LoadHint, SamePair, SizeOf, WriteHint}
 use Rattle.papaya_copy.specs.declared.copying.Aim.{Aim}
 use Rattle.papaya_copy.specs.declared.copying.Aim.TheVariants as aims
 use Rattle.papaya_copy.specs.declared.copying.Copied.TheVariants as copied
@@ -27,16 +27,17 @@ use Rattle.papaya_copy.specs.declared.step.Step.TheVariants as steps
 use Rattle.papaya_copy.specs.declared.step.Stepped.{Stepped}
 use Rattle.papaya_copy.specs.declared.step.Stepped.TheVariants as stepped
 use Rattle.papaya_copy.specs.Carry.{carry_ask}
-use Rattle.papaya_copy.specs.Copying.{all_of, at_count, at_exchanged, at_found, at_hash, at_made, at_refused, at_root, at_size, at_word, at_yes, copying_ask, copying_follows, copying_kind, last as last_of, leads, lone, over}
+use Rattle.papaya_copy.specs.Copying.{all_of, at_count, at_exchanged, at_found, at_hash, at_made, at_ok, at_refused, at_root, at_size, at_word, at_yes, copying_ask, copying_follows, copying_kind, last as last_of, leads, lone, over}
 use Rattle.papaya_copy.specs.Link.{link_ask}
 use Rattle.papaya_words.specs.Mode.{IsChunked}
-use Rattle.papaya_copy.specs.Settle.{settle_ask, at_count as settle_at_count, at_exchanged as settle_at_exchanged, at_found as settle_at_found, at_refused as settle_at_refused, at_word as settle_at_word, at_yes as settle_at_yes}
-use Rattle.papaya_copy.specs.Step.{slot_of, step_ask, at_count as step_at_count, at_exchanged as step_at_exchanged, at_found as step_at_found, at_refused as step_at_refused, at_word as step_at_word, at_yes as step_at_yes}
+use Rattle.papaya_copy.specs.Settle.{settle_ask, at_count as settle_at_count, at_exchanged as settle_at_exchanged, at_found as settle_at_found, at_ok as settle_at_ok, at_refused as settle_at_refused, at_word as settle_at_word, at_yes as settle_at_yes}
+use Rattle.papaya_copy.specs.Step.{slot_of, step_ask, at_count as step_at_count, at_exchanged as step_at_exchanged, at_found as step_at_found, at_ok as step_at_ok, at_refused as step_at_refused, at_word as step_at_word, at_yes as step_at_yes}
 use Rattle.papaya_law.specs.Allows.{Allows}
 use Rattle.papaya_law.specs.Class.{IsOn}
 use Rattle.papaya_law.specs.Code.{Coding, IsHashed, code}
 use Rattle.papaya_law.specs.Copying.{IsPutting, IsTarget}
 use Rattle.papaya_law.specs.Exchange.{Marked, Setting, State, Exchange, after}
+use Rattle.papaya_law.specs.Hints.{IsHint}
 use Rattle.papaya_law.specs.Invariant.{IsKeeping}
 use Rattle.papaya_law.specs.Meaning.{map_after}
 use Rattle.papaya_law.proofs.Codes.{code_pair}
@@ -48,10 +49,10 @@ use Rattle.papaya_rests.specs.Told.{word_of}
 use Rattle.papaya_rests.proofs.CopierCarries.{above}
 use Rattle.papaya_rests.proofs.CopierExchange.{IsKnown, carried_number, moving_known}
 use Rattle.papaya_rests.proofs.CopierMay.{root_on}
-use Rattle.papaya_rests.proofs.CopierSettles.{keeps', later, settle_compared, settle_counted, settle_found, settle_hashed, settle_loaded, settle_made, settle_refused, settle_sized, still_on, zero_next}
+use Rattle.papaya_rests.proofs.CopierSettles.{keeps', later, settle_compared, settle_counted, settle_found, settle_hashed, settle_hinted, settle_loaded, settle_made, settle_noted, settle_refused, settle_sized, still_on, zero_next}
 use Rattle.papaya_rests.proofs.CopierSettlesMade.{settle_exchanged}
 use Rattle.papaya_rests.proofs.CopierStays.{moving_stays}
-use Rattle.papaya_rests.proofs.CopierSteps.{aimed_on, known_slot, step_compared, step_counted, step_exchanged, step_found, step_hashed, step_loaded, step_made, step_refused, step_sized}
+use Rattle.papaya_rests.proofs.CopierSteps.{aimed_on, known_slot, step_compared, step_counted, step_exchanged, step_found, step_hashed, step_hinted, step_loaded, step_made, step_noted, step_refused, step_sized}
 
 -- it copies for the same still
 same_aim : (aim : Aim) → IsStillAimed aim aim
@@ -131,6 +132,19 @@ module _ {K P : Type 0} (g : Setting K P) (c : Coding K P) (hashed : IsHashed g 
       same_rests (aims.All met) r = tt
   copying_loaded chunked (copyings.Lone slot settle) r at e = lone_on g c s m keeps (told_last s at last) kept slot r.0 (settle_at_word settle slot mode (word_of g c s at)) (settle_loaded g c hashed s m keeps mode moded slot (known slot r.0) last kept settle r.1 at e)
 
+  pub copying_hinted : (copying : Copying) → RestsCopying g c s last kept copying → (t x : ℕ) → copying_ask copying ≡ LoadHint t x → (n : ℕ) → IsHint g c s t x n → RestsCopied g c s last kept (aim_of copying) (at_word copying mode n)
+  copying_hinted (copyings.Stepping aim step) r t x e n is = leads_to g c s m keeps last kept mode aim r.0 (step_at_word step mode n) (step_hinted g c hashed s m keeps mode moded last kept step r.1 t x e n is)
+  copying_hinted (copyings.Lone slot settle) r t x e n is = lone_on g c s m keeps last kept slot r.0 (settle_at_word settle slot mode n) (settle_hinted g c hashed s m keeps mode moded slot (known slot r.0) last kept settle r.1 t x e n is)
+
+  -- a hint that is written may be there
+  pub copying_noted : (copying : Copying) → RestsCopying g c s last kept copying → (t x n : ℕ) → copying_ask copying ≡ WriteHint t x n → IsHint g c s t x n × RestsCopied g c s last kept (aim_of copying) (at_ok copying mode)
+  copying_noted (copyings.Stepping aim step) r t x n e =
+      let noted = step_noted g c hashed s m keeps mode moded last kept step r.1 t x n e in
+      (noted.0, leads_to g c s m keeps last kept mode aim r.0 (step_at_ok step mode) noted.1)
+  copying_noted (copyings.Lone slot settle) r t x n e =
+      let noted = settle_noted g c hashed s m keeps mode moded slot (known slot r.0) last kept settle r.1 t x n e in
+      (noted.0, lone_on g c s m keeps last kept slot r.0 (settle_at_ok settle mode) noted.1)
+
   pub copying_hashed : (copying : Copying) → RestsCopying g c s last kept copying → (n : ℕ) → copying_ask copying ≡ HashOf n → (q : P) → last ≡ Some q → (aim_of (at_hash copying (c.hash (g.key q))) ≡ aim_of copying) × RestsCopying g c s last last (at_hash copying (c.hash (g.key q)))
   copying_hashed (copyings.Stepping aim step) r n e q told = (refl, (same_rests aim r.0, step_hashed g c hashed s m keeps mode moded last kept step r.1 n e q told))
     where
@@ -181,11 +195,11 @@ module _ {K P : Type 0} (g : Setting K P) (c : Coding K P) (hashed : IsHashed g 
     where
       same_rests : (aim : Aim) → RestsAim g c s last kept aim → RestsAim g c (after s e) (last_after e last) kept aim
       same_rests (aims.Search table) r = tt
-      same_rests (aims.Settle slot) r = moving_stays g c hashed.lawful s (after s e) (zero_next g c hashed s m keeps mode moded e may) (later g c hashed s m keeps mode moded e may) (still_on g c hashed s m keeps mode moded e may) last kept slot r
+      same_rests (aims.Settle slot) r = moving_stays g c hashed s (after s e) (zero_next g c hashed s m keeps mode moded e may) (later g c hashed s m keeps mode moded e may) (still_on g c hashed s m keeps mode moded e may) last kept slot r
       same_rests aims.Chunk r = tt
       same_rests (aims.All met) r = tt
   copying_exchanged e may (copyings.Lone slot settle) r at old new q stands asked =
-      let still = moving_stays g c hashed.lawful s (after s e) (zero_next g c hashed s m keeps mode moded e may) (later g c hashed s m keeps mode moded e may) (still_on g c hashed s m keeps mode moded e may) last kept slot r.0 in
+      let still = moving_stays g c hashed s (after s e) (zero_next g c hashed s m keeps mode moded e may) (later g c hashed s m keeps mode moded e may) (still_on g c hashed s m keeps mode moded e may) last kept slot r.0 in
       lone_on g c (after s e) (map_after g m e) (keeps' g c hashed s m keeps mode moded e may) (last_after e last) kept slot still (settle_at_exchanged settle slot mode)
       (settle_exchanged g c hashed s m keeps mode moded e may slot (known slot r.0) last kept settle r.1 at old new q stands asked)
 
@@ -210,10 +224,12 @@ module _ {K P : Type 0} (g : Setting K P) (c : Coding K P) (hashed : IsHashed g 
     carry_there (carries.Hashing table) r = (p, r.0, sym (carried_number g c hashed p word marked))
     carry_there (carries.Sizing hash table) r = takes_on table 0 r.2
     carry_there (carries.Looking hash at) r = (takes_on at.table at.probe.len r.2, place_there hash at r.1)
+    carry_there (carries.Reading hash at) r = (takes_on at.table at.probe.len r.2, place_there hash at r.1)
     carry_there (carries.Comparing hash at found) r =
         let h = r.3 in
-        (p, h.pair, r.0, h.told, sym (carried_number g c hashed p word marked), sym (ap pair_of h.loaded ∙ (code_pair g c hashed.coding h.was h.pair h.names).0))
+        (p, h.pair, r.0, h.told, sym (carried_number g c hashed p word marked), sym (ap pair_of h.loaded ∙ (code_pair g c hashed.coding h.was h.pair h.names)))
     carry_there (carries.Placing hash at) r = (takes_on at.table at.probe.len r.2, place_there hash at r.1)
+    carry_there (carries.Placed hash at) r = (taker_on g s (keeping_sound g s m keeps).rises (g.key p) slot.from at.table on r.1.taker, place_there hash at r.1.fits)
     carry_there (carries.Passing hash table) r = takes_on table (g.places table) r.3
     carry_there (carries.Linking hash link) r = link_there link r.4
     carry_there (carries.Aborting table) r = takes_on table (g.places table) r.2
@@ -221,6 +237,7 @@ module _ {K P : Type 0} (g : Setting K P) (c : Coding K P) (hashed : IsHashed g 
   settle_there : (slot : Slot) → IsKnown g c hashed s m keeps slot → (settle : Settle) → RestsSettle g c s last kept slot settle → AreThere g c s last kept (settle_ask settle slot)
   settle_there slot h settles.Looking r = (h.on, h.within)
   settle_there slot h settles.Closing r = (h.on, h.within)
+  settle_there slot h settles.Shutting r = (h.on, h.within)
   settle_there slot h (settles.Marking word) r = (h.on, h.within)
   settle_there slot h (settles.Carrying word carry) r = carry_there slot h.on word r.pair r.marked carry r.rests
   settle_there slot h (settles.Finishing word) r = (h.on, h.within)

@@ -1,7 +1,7 @@
 -- The exchange that a copier asks for: where its old word stands there it may be made, and it writes just its word.
 use Rattle.std.proofs.Common.{◌≡◌, ◌⊎◌, inl, inr, ⊎_elim, ℕ, ◌<◌, ◌==◌, eqb-true, eq-eqb, Bool, true, false, cond, Option, Some, refl, sym, ap, ◌∙◌, subst, arith}
 use Rattle.std.proofs.lemmas.Bool.{cases_Bool, cond-true, cond-false}
-use Rattle.papaya_words.specs.Word.{byte_of, kind_of, pair_of, live_word, marked_word, copied_word}
+use Rattle.papaya_words.specs.Word.{kind_of, pair_of, live_word, marked_word, copied_word}
 use Rattle.papaya_words.specs.declared.word.Kind.TheVariants as word_kinds
 use Rattle.papaya_ask.specs.declared.ask.At.{At}
 use Rattle.papaya_ask.specs.declared.ask.At.TheVariants.{Root, Next, Aborted, Done, Slot as Slot_word}
@@ -110,23 +110,23 @@ module _ {K P : Type 0} (g : Setting K P) (c : Coding K P) (s : State P) where
       others (Slot_word u y) different = refl
 
 module _ {K P : Type 0} (g : Setting K P) (c : Coding K P) (hashed : IsHashed g c) where
-  -- the words of a pair, made of another one's number
-  live_of : (p : P) (word : ℕ) → word ≡ code g c (Marked p) → code g c (Live p) ≡ live_word (byte_of word) (pair_of word)
-  live_of p word e = let parts = code_pair g c hashed.coding (Marked p) p refl in ap (λ b. live_word b (c.number p)) (sym parts.1) ∙ ap (live_word (byte_of (code g c (Marked p)))) (sym parts.0) ∙ ap (λ w. live_word (byte_of w) (pair_of w)) (sym e)
-
-  pub marked_of : (p : P) (word : ℕ) → code g c (Live p) ≡ word → code g c (Marked p) ≡ marked_as word
-  marked_of p word e = let parts = code_pair g c hashed.coding (Live p) p refl in ap (λ b. marked_word b (c.number p)) (sym parts.1) ∙ ap (marked_word (byte_of (code g c (Live p)))) (sym parts.0) ∙ ap marked_as e
-
-  copied_of : (p : P) (word : ℕ) → word ≡ code g c (Marked p) → code g c (Copied p) ≡ copied_as word
-  copied_of p word e = let parts = code_pair g c hashed.coding (Marked p) p refl in ap (λ b. copied_word b (c.number p)) (sym parts.1) ∙ ap (copied_word (byte_of (code g c (Marked p)))) (sym parts.0) ∙ ap copied_as (sym e)
-
   -- the number of the pair that is carried
   pub carried_number : (p : P) (word : ℕ) → word ≡ code g c (Marked p) → pair_of word ≡ c.number p
-  carried_number p word e = ap pair_of e ∙ (code_pair g c hashed.coding (Marked p) p refl).0
+  carried_number p word e = ap pair_of e ∙ code_pair g c hashed.coding (Marked p) p refl
+
+  -- the words of a pair, made of another one's number
+  live_of : (p : P) (word : ℕ) → word ≡ code g c (Marked p) → code g c (Live p) ≡ live_word (pair_of word)
+  live_of p word e = ap live_word (sym (carried_number p word e))
+
+  pub marked_of : (p : P) (word : ℕ) → code g c (Live p) ≡ word → code g c (Marked p) ≡ marked_as word
+  marked_of p word e = ap marked_word (sym (code_pair g c hashed.coding (Live p) p refl) ∙ ap pair_of e)
+
+  copied_of : (p : P) (word : ℕ) → word ≡ code g c (Marked p) → code g c (Copied p) ≡ copied_as word
+  copied_of p word e = ap copied_word (sym (carried_number p word e))
 
   -- the new word of a copy names it
-  live_pair : (p : P) (word : ℕ) → word ≡ code g c (Marked p) → c.number p ≡ pair_of (live_word (byte_of word) (pair_of word))
-  live_pair p word e = sym (code_pair g c hashed.coding (Live p) p refl).0 ∙ ap pair_of (live_of p word e)
+  live_pair : (p : P) (word : ℕ) → word ≡ code g c (Marked p) → c.number p ≡ pair_of (live_word (pair_of word))
+  live_pair p word e = sym (code_pair g c hashed.coding (Live p) p refl) ∙ ap pair_of (live_of p word e)
 
   module _ (s : State P) (m : K → Option P) (keeps : IsKeeping g s m) where
     -- what a copier knows of a slot
@@ -169,16 +169,18 @@ module _ {K P : Type 0} (g : Setting K P) (c : Coding K P) (hashed : IsHashed g 
       carry_may slot word p is (carries.Hashing table) r at old new e = absurd cc
       carry_may slot word p is (carries.Sizing hash table) r at old new e = absurd cc
       carry_may slot word p is (carries.Looking hash place) r at old new e = absurd cc
+      carry_may slot word p is (carries.Reading hash place) r at old new e = absurd cc
       carry_may slot word p is (carries.Comparing hash place found) r at old new e = absurd cc
       carry_may slot word p is (carries.Placing hash place) r at old new e =
           let t : ℕ = place.table in
           let x : ℕ = place.probe.i in
-          same_ask (Some kinds.Place) (Slot_word t x) at 0 old (live_word (byte_of word) (pair_of word)) new e (λ none. (
+          same_ask (Some kinds.Place) (Slot_word t x) at 0 old (live_word (pair_of word)) new e (λ none. (
             Place t x p,
             (p, r.0, live_pair p word is, refl),
             places g c s m keeps last kept slot p hash place r (code_empty g c (s.slot t x) none),
             subst (λ y. IsWritten g c s (Slot_word t x) y (slot_put s t x (Live p))) (live_of p word is) (slot_written g c s t x (Live p)),
           ))
+      carry_may slot word p is (carries.Placed hash place) r at old new e = absurd cc
       carry_may slot word p is (carries.Passing hash table) r at old new e = absurd cc
       carry_may slot word p is (carries.Linking hash link) r at old new e = link_may link r.4 at old new e
       carry_may slot word p is (carries.Aborting table) r at old new e = same_ask (Some kinds.Abort) (Aborted table) at 0 old 1 new e (λ none. (Abort table, refl, aborts g c s m keeps last kept slot p table r r.0 (aborted_none (s.aborted table) (word_of g c s (Aborted table)) refl none), aborted_written g c s table))
@@ -200,6 +202,7 @@ module _ {K P : Type 0} (g : Setting K P) (c : Coding K P) (hashed : IsHashed g 
             record { empty = empty; was = shut_was slot known (λ p h. ⊎_elim (λ a. cc (a, empty)) (λ b. cc (b, empty)) h); further = target_further g s (keeping_sound g s m keeps).rises t slot.to known.target },
             slot_written g c s t x Closed,
           ))
+      settle_may slot known settles.Shutting r at old new e = absurd cc
       settle_may slot known (settles.Marking word) r at old new e =
           let t : ℕ = slot.from in
           let x : ℕ = slot.index in

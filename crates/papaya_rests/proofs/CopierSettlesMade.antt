@@ -34,7 +34,8 @@ module _ {K P : Type 0} (g : Setting K P) (c : Coding K P) (hashed : IsHashed g 
       let is : Slot_word t x ≡ at = cc q in
       let by : e ≡ Close t x = subst (λ a. IsCopyAsked c (Some kinds.Close) a new s kept e) (sym is) asked in
       let there : (after s e).slot t x ≡ Closed = subst (λ y. (after s y).slot t x ≡ Closed) (sym by) (put_there s t x Closed t x (refl, refl)).0 in
-      subst (IsSettled g (after s e) slot.to) (sym there) tt
+      there
+  settle_exchanged settles.Shutting r at old new q stands asked = absurd cc
   settle_exchanged (settles.Marking word) r at old new q stands asked =
       let t : ℕ = slot.from in
       let x : ℕ = slot.index in

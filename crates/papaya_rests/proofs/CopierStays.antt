@@ -1,18 +1,18 @@
 -- What a copier rests on stays so, whatever is exchanged.
 use Rattle.std.proofs.Common.{◌≡◌, ◌⊎◌, inl, inr, ⊎_elim, ℕ, Option, subst, arith}
+use Rattle.papaya_words.specs.Word.{hint_of}
 use Rattle.papaya_law.specs.Class.{IsOn}
-use Rattle.papaya_law.specs.Code.{Coding}
+use Rattle.papaya_law.specs.Code.{Coding, IsHashed}
 use Rattle.papaya_law.specs.Copying.{IsPutting}
-use Rattle.papaya_law.specs.Exchange.{Marked, Copied, Setting, State}
+use Rattle.papaya_law.specs.Exchange.{Closed, Marked, Copied, Setting, State}
 use Rattle.papaya_law.specs.Later.{Becomes, IsLater, IsLasting}
-use Rattle.papaya_law.specs.Meaning.{IsLawful}
 use Rattle.papaya_copy.specs.declared.copying.Aim.{Aim}
 use Rattle.papaya_copy.specs.declared.copying.Aim.TheVariants as aims
 use Rattle.papaya_copy.specs.declared.copying.Copying.{Copying}
 use Rattle.papaya_copy.specs.declared.copying.Copying.TheVariants as copyings
 use Rattle.papaya_copy.specs.Link.{follows}
 use Rattle.papaya_copy.specs.Step.{slot_of}
-use Rattle.papaya_rests.specs.Copier.{HasCompared, IsAimed, IsChunk, IsMoving, IsSource, RestsAim, RestsCarry, RestsCopying, RestsLink, RestsSettle, RestsStep}
+use Rattle.papaya_rests.specs.Copier.{HasCompared, HasPlaced, IsAimed, IsChunk, IsFor, IsMoving, IsSource, RestsAim, RestsCarry, RestsCopying, RestsLink, RestsSettle, RestsStep}
 use Rattle.papaya_copy.specs.declared.carry.Carry.{Carry}
 use Rattle.papaya_copy.specs.declared.carry.Carry.TheVariants as carries
 use Rattle.papaya_copy.specs.declared.step.Chunk.{Chunk}
@@ -24,19 +24,20 @@ use Rattle.papaya_copy.specs.declared.settle.Settle.{Settle}
 use Rattle.papaya_copy.specs.declared.settle.Settle.TheVariants as settles
 use Rattle.papaya_copy.specs.declared.settle.Slot.{Slot}
 use Rattle.papaya_law.proofs.CopierFacts.{putting_lasts}
+use Rattle.papaya_law.proofs.Hints.{hint_lasts}
 use Rattle.papaya_law.proofs.Later.{lasts, becomes_through}
 
-module _ {K P : Type 0} (g : Setting K P) (c : Coding K P) (law : IsLawful g) (s s' : State P) (zero_next : s.next 0 ≡ 0) (later : IsLater g s s') (on : (t : ℕ) → IsOn s.first s.next t → IsOn s'.first s'.next t) (last kept : Option P) where
+module _ {K P : Type 0} (g : Setting K P) (c : Coding K P) (hashed : IsHashed g c) (s s' : State P) (zero_next : s.next 0 ≡ 0) (later : IsLater g s s') (on : (t : ℕ) → IsOn s.first s.next t → IsOn s'.first s'.next t) (last kept : Option P) where
   -- each fact lasts
   all : IsLasting g s s'
-  all = lasts g law s s' zero_next later
+  all = lasts g hashed.lawful s s' zero_next later
 
   stood_stays : (t x : ℕ) (p : P) → (s.slot t x ≡ Marked p) ⊎ (s.slot t x ≡ Copied p) → (s'.slot t x ≡ Marked p) ⊎ (s'.slot t x ≡ Copied p)
   stood_stays t x p (inl e) = subst (λ w. Becomes g w (s'.slot t x)) e (later.words t x)
   stood_stays t x p (inr e) = inr (subst (λ w. Becomes g w (s'.slot t x)) e (later.words t x))
 
   putting : (t x : ℕ) (p : P) (n j : ℕ) → IsPutting g s t x p n j → IsPutting g s' t x p n j
-  putting = putting_lasts g law s s' zero_next later
+  putting = putting_lasts g hashed.lawful s s' zero_next later
 
   pub link_stays : (link : Link) → RestsLink g c s link → RestsLink g c s' link
   link_stays link r = record { on = on (follows link) r.on; rises = r.rises }
@@ -66,15 +67,30 @@ module _ {K P : Type 0} (g : Setting K P) (c : Coding K P) (law : IsLawful g) (s
     was = r.was;
     loaded = r.loaded;
     names = r.names;
-    became = becomes_through g law r.was (s.slot at.table at.probe.i) (s'.slot at.table at.probe.i) r.became (later.words at.table at.probe.i);
+    became = becomes_through g hashed.lawful r.was (s.slot at.table at.probe.i) (s'.slot at.table at.probe.i) r.became (later.words at.table at.probe.i);
+  }
+
+  for_stays : (p : P) (hash : ℕ) (at : Place) → IsFor g c s p hash at → IsFor g c s' p hash at
+  for_stays p hash at f = record { hashed = f.hashed; len = f.len; limit = f.limit; slot = f.slot; within = f.within }
+
+  -- it stands where it was put, and its hint is its own
+  placed_stays : (slot : Slot) (p : P) (hash : ℕ) (at : Place) → HasPlaced g c s slot p hash at → HasPlaced g c s' slot p hash at
+  placed_stays slot p hash at r = record {
+    fits = for_stays p hash at r.fits;
+    stood = stood_stays slot.from slot.index p r.stood;
+    taker = all.taker (g.key p) slot.from at.table r.taker;
+    has = all.has (g.key p) at.table r.has;
+    hint = hint_lasts g c hashed.coding s s' later at.table at.probe.i (hint_of (c.hash (g.key p))) r.hint;
   }
 
   pub carry_stays : (slot : Slot) (p : P) (carry : Carry) → RestsCarry g c s last kept slot p carry → RestsCarry g c s' last kept slot p carry
   carry_stays slot p (carries.Hashing table) r = (r.0, putting slot.from slot.index p table 0 r.1)
   carry_stays slot p (carries.Sizing hash table) r = (r.0, r.1, putting slot.from slot.index p table 0 r.2)
-  carry_stays slot p (carries.Looking hash at) r = (r.0, record { hashed = r.1.hashed; len = r.1.len; limit = r.1.limit; slot = r.1.slot; within = r.1.within }, putting slot.from slot.index p at.table at.probe.len r.2)
-  carry_stays slot p (carries.Comparing hash at word) r = (r.0, record { hashed = r.1.hashed; len = r.1.len; limit = r.1.limit; slot = r.1.slot; within = r.1.within }, putting slot.from slot.index p at.table at.probe.len r.2, compared_stays at word r.3)
-  carry_stays slot p (carries.Placing hash at) r = (r.0, record { hashed = r.1.hashed; len = r.1.len; limit = r.1.limit; slot = r.1.slot; within = r.1.within }, putting slot.from slot.index p at.table at.probe.len r.2)
+  carry_stays slot p (carries.Looking hash at) r = (r.0, for_stays p hash at r.1, putting slot.from slot.index p at.table at.probe.len r.2)
+  carry_stays slot p (carries.Reading hash at) r = (r.0, for_stays p hash at r.1, putting slot.from slot.index p at.table at.probe.len r.2)
+  carry_stays slot p (carries.Comparing hash at word) r = (r.0, for_stays p hash at r.1, putting slot.from slot.index p at.table at.probe.len r.2, compared_stays at word r.3)
+  carry_stays slot p (carries.Placing hash at) r = (r.0, for_stays p hash at r.1, putting slot.from slot.index p at.table at.probe.len r.2)
+  carry_stays slot p (carries.Placed hash at) r = (r.0, placed_stays slot p hash at r.1)
   carry_stays slot p (carries.Passing hash table) r = (r.0, r.1, r.2, putting slot.from slot.index p table (g.places table) r.3)
   carry_stays slot p (carries.Linking hash link) r = (r.0, r.1, r.2, putting slot.from slot.index p (follows link) (g.places (follows link)) r.3, link_stays link r.4)
   carry_stays slot p (carries.Aborting table) r = (r.0, r.1, putting slot.from slot.index p table (g.places table) r.2)
@@ -82,6 +98,7 @@ module _ {K P : Type 0} (g : Setting K P) (c : Coding K P) (law : IsLawful g) (s
   pub settle_stays : (slot : Slot) (settle : Settle) → RestsSettle g c s last kept slot settle → RestsSettle g c s' last kept slot settle
   settle_stays slot settles.Looking r = tt
   settle_stays slot settles.Closing r = tt
+  settle_stays slot settles.Shutting r = subst (λ w. Becomes g w (s'.slot slot.from slot.index)) r (later.words slot.from slot.index)
   settle_stays slot (settles.Marking word) r = r
   settle_stays slot (settles.Carrying word carry) r = record { pair = r.pair; marked = r.marked; here = r.here; rests = carry_stays slot r.pair carry r.rests }
   settle_stays slot (settles.Finishing word) (mode, r) = (

@@ -7,7 +7,7 @@ use Rattle.papaya_words.specs.declared.probe.ResizeMode.TheVariants.{Incremental
 use Rattle.papaya_ask.specs.declared.ask.At.{At}
 use Rattle.papaya_ask.specs.declared.ask.At.TheVariants.{Root, Next, Aborted, Done}
 use Rattle.papaya_ask.specs.declared.ask.StepKind.TheVariants as kinds
-use Rattle.papaya_ask.specs.declared.copy_ask.CopyAsk.TheVariants.{Exchange as Ask_exchange, HashOf, Load, SamePair, SizeOf}
+use Rattle.papaya_ask.specs.declared.copy_ask.CopyAsk.TheVariants.{Exchange as Ask_exchange, HashOf, Load, LoadHint, SamePair, SizeOf, WriteHint}
 use Rattle.papaya_copy.specs.declared.link.Link.TheVariants as links
 use Rattle.papaya_copy.specs.declared.link.Linked.{Linked}
 use Rattle.papaya_copy.specs.declared.link.Linked.TheVariants as linked
@@ -20,13 +20,14 @@ use Rattle.papaya_copy.specs.declared.step.Step.TheVariants as steps
 use Rattle.papaya_copy.specs.declared.step.Stepped.TheVariants as stepped
 use Rattle.papaya_copy.specs.Link.{follows, at_count as link_at_count, at_exchanged as link_at_exchanged, at_found as link_at_found, at_refused as link_at_refused}
 use Rattle.papaya_words.specs.Mode.{IsChunked}
-use Rattle.papaya_copy.specs.Settle.{at_count as settle_at_count, at_exchanged as settle_at_exchanged, at_found as settle_at_found, at_refused as settle_at_refused, at_word as settle_at_word, at_yes as settle_at_yes}
-use Rattle.papaya_copy.specs.Step.{advanced, aimed, at_count, at_exchanged, at_found, at_hash, at_made, at_refused, at_size, at_word, at_yes, chunk_at, chunk_of, counted, end_of, linked_to, next_slot, settled_to, slot_of, step_ask, step_follows, step_kind}
+use Rattle.papaya_copy.specs.Settle.{at_count as settle_at_count, at_exchanged as settle_at_exchanged, at_found as settle_at_found, at_ok as settle_at_ok, at_refused as settle_at_refused, at_word as settle_at_word, at_yes as settle_at_yes}
+use Rattle.papaya_copy.specs.Step.{advanced, aimed, at_count, at_exchanged, at_found, at_hash, at_made, at_ok, at_refused, at_size, at_word, at_yes, chunk_at, chunk_of, counted, end_of, linked_to, next_slot, settled_to, slot_of, step_ask, step_follows, step_kind}
 use Rattle.papaya_law.specs.Allows.{Allows}
 use Rattle.papaya_law.specs.Class.{IsOn}
 use Rattle.papaya_law.specs.Code.{Coding, IsHashed}
 use Rattle.papaya_law.specs.Copying.{IsSettled, IsTarget}
 use Rattle.papaya_law.specs.Exchange.{Setting, State, Exchange, after}
+use Rattle.papaya_law.specs.Hints.{IsHint}
 use Rattle.papaya_law.specs.Invariant.{IsKeeping}
 use Rattle.papaya_law.specs.Meaning.{map_after}
 use Rattle.papaya_law.proofs.Copies.{first_target, next_target}
@@ -35,11 +36,11 @@ use Rattle.papaya_law.proofs.OneMap.{keeping_sound}
 use Rattle.papaya_rests.specs.Copier.{IsAimed, IsChunk, IsCopyAsked, IsSource, RestsLinked, RestsSettled, RestsStep, RestsStepped, last_after, told_last}
 use Rattle.papaya_rests.specs.Rests.{IsModeOf}
 use Rattle.papaya_rests.specs.Told.{word_of}
-use Rattle.papaya_rests.proofs.CopierCarries.{above, links_next, no_hash, no_load, no_same}
+use Rattle.papaya_rests.proofs.CopierCarries.{above, links_next, no_hash, no_hint, no_load, no_note, no_same}
 use Rattle.papaya_rests.proofs.CopierExchange.{IsKnown, aborted_some, chunk_known, put_here}
 use Rattle.papaya_rests.proofs.CopierLinks.{link_counted, link_exchanged, link_found, link_made, link_refused, link_sized, made_follows, sized_follows}
 use Rattle.papaya_rests.proofs.CopierMay.{root_on}
-use Rattle.papaya_rests.proofs.CopierSettles.{keeps', later, link_last, settle_compared, settle_counted, settle_found, settle_hashed, settle_loaded, settle_made, settle_refused, settle_sized, still_on, zero_next}
+use Rattle.papaya_rests.proofs.CopierSettles.{keeps', later, link_last, settle_compared, settle_counted, settle_found, settle_hashed, settle_hinted, settle_loaded, settle_made, settle_noted, settle_refused, settle_sized, still_on, zero_next}
 use Rattle.papaya_rests.proofs.CopierSettlesMade.{settle_exchanged}
 use Rattle.papaya_rests.proofs.CopierStays.{step_stays}
 
@@ -167,6 +168,31 @@ module _ {K P : Type 0} (g : Setting K P) (c : Coding K P) (hashed : IsHashed g 
     step_loaded chunked (steps.Advancing chunk) r at e = absurd cc
     step_loaded chunked (steps.Promoting from to) r at e = absurd cc
 
+    pub step_hinted : (step : Step) → RestsStep g c s last kept step → (t x : ℕ) → step_ask step ≡ LoadHint t x → (n : ℕ) → IsHint g c s t x n → RestsStepped g c s last kept (at_word step mode n)
+    step_hinted steps.AtRoot r t x e n is = absurd cc
+    step_hinted (steps.Aiming from behind) r t x e n is = absurd cc
+    step_hinted (steps.Linking from link) r t x e n is = absurd (no_hint link t x e)
+    step_hinted (steps.Judging from to) r t x e n is = absurd cc
+    step_hinted (steps.Sizing from to) r t x e n is = absurd cc
+    step_hinted (steps.Counting from to len) r t x e n is = absurd cc
+    step_hinted (steps.Settling chunk settle) r t x e n is =
+        settled_on last kept chunk r.0 r.1 r.2 (settle_at_word settle (slot_of chunk) mode n) (settle_hinted g c hashed s m keeps mode moded (slot_of chunk) (known_slot chunk r.0 r.2) last kept settle r.3 t x e n is)
+    step_hinted (steps.Advancing chunk) r t x e n is = absurd cc
+    step_hinted (steps.Promoting from to) r t x e n is = absurd cc
+
+    pub step_noted : (step : Step) → RestsStep g c s last kept step → (t x n : ℕ) → step_ask step ≡ WriteHint t x n → IsHint g c s t x n × RestsStepped g c s last kept (at_ok step mode)
+    step_noted steps.AtRoot r t x n e = absurd cc
+    step_noted (steps.Aiming from behind) r t x n e = absurd cc
+    step_noted (steps.Linking from link) r t x n e = absurd (no_note link t x n e)
+    step_noted (steps.Judging from to) r t x n e = absurd cc
+    step_noted (steps.Sizing from to) r t x n e = absurd cc
+    step_noted (steps.Counting from to len) r t x n e = absurd cc
+    step_noted (steps.Settling chunk settle) r t x n e =
+        let noted = settle_noted g c hashed s m keeps mode moded (slot_of chunk) (known_slot chunk r.0 r.2) last kept settle r.3 t x n e in
+        (noted.0, settled_on last kept chunk r.0 r.1 r.2 (settle_at_ok settle mode) noted.1)
+    step_noted (steps.Advancing chunk) r t x n e = absurd cc
+    step_noted (steps.Promoting from to) r t x n e = absurd cc
+
     pub step_hashed : (step : Step) → RestsStep g c s last kept step → (n : ℕ) → step_ask step ≡ HashOf n → (q : P) → last ≡ Some q → RestsStep g c s last last (at_hash step (c.hash (g.key q)))
     step_hashed steps.AtRoot r n e q told = absurd cc
     step_hashed (steps.Aiming from behind) r n e q told = absurd cc
@@ -261,18 +287,18 @@ module _ {K P : Type 0} (g : Setting K P) (c : Coding K P) (hashed : IsHashed g 
   step_exchanged steps.AtRoot r at old new q stands asked = absurd cc
   step_exchanged (steps.Aiming from behind) r at old new q stands asked = absurd cc
   step_exchanged (steps.Linking from link) r at old new q stands asked =
-      let still = step_stays g c hashed.lawful s (after s e) (zero_next g c hashed s m keeps mode moded e may) (later g c hashed s m keeps mode moded e may) (still_on g c hashed s m keeps mode moded e may) last kept (steps.Linking from link) r in
+      let still = step_stays g c hashed s (after s e) (zero_next g c hashed s m keeps mode moded e may) (later g c hashed s m keeps mode moded e may) (still_on g c hashed s m keeps mode moded e may) last kept (steps.Linking from link) r in
       subst (λ l. RestsStepped g c (after s e) l kept (at_exchanged (steps.Linking from link) mode)) (sym (link_last c s last kept link at old new q e asked))
       (linked_on g c hashed (after s e) (map_after g m e) (keeps' g c hashed s m keeps mode moded e may) last kept from (follows link) still.0 still.1 (link_at_exchanged link) (link_exchanged g c s last kept link r.2 at old new q e asked))
   step_exchanged (steps.Judging from to) r at old new q stands asked = absurd cc
   step_exchanged (steps.Sizing from to) r at old new q stands asked = absurd cc
   step_exchanged (steps.Counting from to len) r at old new q stands asked = absurd cc
   step_exchanged (steps.Settling chunk settle) r at old new q stands asked =
-      let still = step_stays g c hashed.lawful s (after s e) (zero_next g c hashed s m keeps mode moded e may) (later g c hashed s m keeps mode moded e may) (still_on g c hashed s m keeps mode moded e may) last kept (steps.Settling chunk settle) r in
+      let still = step_stays g c hashed s (after s e) (zero_next g c hashed s m keeps mode moded e may) (later g c hashed s m keeps mode moded e may) (still_on g c hashed s m keeps mode moded e may) last kept (steps.Settling chunk settle) r in
       settled_on g c hashed (after s e) (map_after g m e) (keeps' g c hashed s m keeps mode moded e may) (last_after e last) kept chunk still.0 still.1 still.2 (settle_at_exchanged settle (slot_of chunk) mode)
       (settle_exchanged g c hashed s m keeps mode moded e may (slot_of chunk) (known_slot g c hashed s m keeps chunk r.0 r.2) last kept settle r.3 at old new q stands asked)
   step_exchanged (steps.Advancing chunk) r at old new q stands asked =
-      let still = step_stays g c hashed.lawful s (after s e) (zero_next g c hashed s m keeps mode moded e may) (later g c hashed s m keeps mode moded e may) (still_on g c hashed s m keeps mode moded e may) last kept (steps.Advancing chunk) r in
+      let still = step_stays g c hashed s (after s e) (zero_next g c hashed s m keeps mode moded e may) (later g c hashed s m keeps mode moded e may) (still_on g c hashed s m keeps mode moded e may) last kept (steps.Advancing chunk) r in
       let is : Done chunk.to ≡ at = cc q in
       let same : chunk.end ≡ new = cc q in
       let by : IsCopyAsked c (Some kinds.Advance) (Done chunk.to) chunk.end s kept e = subst (λ a. IsCopyAsked c (Some kinds.Advance) a chunk.end s kept e) (sym is) (subst (λ n. IsCopyAsked c (Some kinds.Advance) at n s kept e) (sym same) asked) in

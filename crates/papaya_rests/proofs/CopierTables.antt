@@ -1,11 +1,12 @@
 -- What a copier rests on stays so, whatever tables come later.
 use Rattle.std.proofs.Common.{◌≡◌, inl, inr, ⊎_elim, ℕ, ◌<◌, ◌≤◌, true, Option, refl, sym, ap, ◌∙◌, subst}
-use Rattle.papaya_words.specs.Word.{top_byte, live_word, marked_word, copied_word, buried_word}
+use Rattle.papaya_words.specs.Word.{hint_of}
 use Rattle.papaya_law.specs.Class.{IsOn}
-use Rattle.papaya_law.specs.Code.{Coding, byte_of_pair, code}
+use Rattle.papaya_law.specs.Code.{Coding, code}
 use Rattle.papaya_law.specs.Copying.{IsPutting}
 use Rattle.papaya_law.specs.Exchange.{Word, Empty, Closed, Live, Marked, Copied, Buried, Setting, State}
 use Rattle.papaya_law.specs.Grows.{Agrees}
+use Rattle.papaya_law.specs.Hints.{IsHint}
 use Rattle.papaya_law.specs.Invariant.{IsSound}
 use Rattle.papaya_law.specs.View.{look, foreign}
 use Rattle.papaya_copy.specs.declared.copying.Aim.{Aim}
@@ -14,7 +15,7 @@ use Rattle.papaya_copy.specs.declared.copying.Copying.{Copying}
 use Rattle.papaya_copy.specs.declared.copying.Copying.TheVariants as copyings
 use Rattle.papaya_copy.specs.Link.{follows}
 use Rattle.papaya_copy.specs.Step.{slot_of}
-use Rattle.papaya_rests.specs.Copier.{HasCompared, IsAimed, IsChunk, IsFor, IsMoving, IsSource, RestsAim, RestsCarry, RestsCopying, RestsLink, RestsSettle, RestsStep}
+use Rattle.papaya_rests.specs.Copier.{HasCompared, HasPlaced, IsAimed, IsChunk, IsFor, IsMoving, IsSource, RestsAim, RestsCarry, RestsCopying, RestsLink, RestsSettle, RestsStep}
 use Rattle.papaya_copy.specs.declared.carry.Carry.{Carry}
 use Rattle.papaya_copy.specs.declared.carry.Carry.TheVariants as carries
 use Rattle.papaya_copy.specs.declared.step.Chunk.{Chunk}
@@ -27,21 +28,18 @@ use Rattle.papaya_copy.specs.declared.settle.Settle.TheVariants as settles
 use Rattle.papaya_copy.specs.declared.settle.Slot.{Slot}
 use Rattle.papaya_law.proofs.Carries.{has_carries, look_pair, settled_carries}
 use Rattle.papaya_law.proofs.CopierFacts.{taker_on, target_on}
+use Rattle.papaya_law.proofs.Hints.{hint_agrees}
 use Rattle.papaya_law.proofs.Grows.{becomes_carries, taker_carries, target_carries}
 
 module _ {K P : Type 0} (g g' : Setting K P) (c : Coding K P) (s : State P) (sound : IsSound g s) (agrees : Agrees (IsOn s.first s.next) g g') (last kept : Option P) where
-  -- the byte of a pair's key
-  byte_same : (p : P) → byte_of_pair g' c p ≡ byte_of_pair g c p
-  byte_same p = ap (λ l. top_byte (c.hash l)) (agrees.key p)
-
   -- the number of a word
   code_same : (w : Word P) → code g' c w ≡ code g c w
   code_same Empty = refl
   code_same Closed = refl
-  code_same (Live p) = ap (λ b. live_word b (c.number p)) (byte_same p)
-  code_same (Marked p) = ap (λ b. marked_word b (c.number p)) (byte_same p)
-  code_same (Copied p) = ap (λ b. copied_word b (c.number p)) (byte_same p)
-  code_same (Buried p) = ap (λ b. buried_word b (c.number p)) (byte_same p)
+  code_same (Live p) = refl
+  code_same (Marked p) = refl
+  code_same (Copied p) = refl
+  code_same (Buried p) = refl
 
   -- the hash of a pair's key
   hash_same : (p : P) (hash : ℕ) → hash ≡ c.hash (g.key p) → hash ≡ c.hash (g'.key p)
@@ -110,12 +108,26 @@ module _ {K P : Type 0} (g g' : Setting K P) (c : Coding K P) (s : State P) (sou
       within = subst (λ y. at.probe.len < y) (sym (agrees.places at.table there)) f.within;
     }
 
+    -- it stands where it was put
+    placed_carries : (p : P) (hash : ℕ) (at : Place) → HasPlaced g c s slot p hash at → HasPlaced g' c s slot p hash at
+    placed_carries p hash at r =
+        let there : IsOn s.first s.next at.table = taker_on g s sound.rises (g.key p) slot.from at.table on r.taker in
+        record {
+          fits = for_carries p hash at there r.fits;
+          stood = r.stood;
+          taker = taker_carries g g' s sound agrees p slot.from at.table on r.taker;
+          has = has_carries g g' s sound agrees (look g s (g.key p)) (look g' s (g'.key p)) (look_pair g g' s sound agrees p) at.table there r.has;
+          hint = subst (λ l. IsHint g' c s at.table at.probe.i (hint_of (c.hash l))) (sym (agrees.key p)) (hint_agrees g g' c agrees.key (s.slot at.table at.probe.i) (hint_of (c.hash (g.key p))) r.hint);
+        }
+
     carry_carries : (p : P) (carry : Carry) → RestsCarry g c s last kept slot p carry → RestsCarry g' c s last kept slot p carry
     carry_carries p (carries.Hashing table) r = (r.0, putting_carries p table 0 r.1)
     carry_carries p (carries.Sizing hash table) r = (r.0, hash_same p hash r.1, putting_carries p table 0 r.2)
     carry_carries p (carries.Looking hash at) r = (r.0, for_carries p hash at (put_on p at.table at.probe.len r.2) r.1, putting_carries p at.table at.probe.len r.2)
+    carry_carries p (carries.Reading hash at) r = (r.0, for_carries p hash at (put_on p at.table at.probe.len r.2) r.1, putting_carries p at.table at.probe.len r.2)
     carry_carries p (carries.Comparing hash at word) r = (r.0, for_carries p hash at (put_on p at.table at.probe.len r.2) r.1, putting_carries p at.table at.probe.len r.2, compared_carries at word r.3)
     carry_carries p (carries.Placing hash at) r = (r.0, for_carries p hash at (put_on p at.table at.probe.len r.2) r.1, putting_carries p at.table at.probe.len r.2)
+    carry_carries p (carries.Placed hash at) r = (r.0, placed_carries p hash at r.1)
     carry_carries p (carries.Passing hash table) r = (agrees.blocking ∙ r.0, r.1, hash_same p hash r.2, whole_carries p table r.3)
     carry_carries p (carries.Linking hash link) r = (agrees.blocking ∙ r.0, r.1, hash_same p hash r.2, whole_carries p (follows link) r.3, link_carries link r.4)
     carry_carries p (carries.Aborting table) r = (agrees.blocking ∙ r.0, r.1, whole_carries p table r.2)
@@ -123,6 +135,7 @@ module _ {K P : Type 0} (g g' : Setting K P) (c : Coding K P) (s : State P) (sou
     settle_carries : (settle : Settle) → RestsSettle g c s last kept slot settle → RestsSettle g' c s last kept slot settle
     settle_carries settles.Looking r = tt
     settle_carries settles.Closing r = tt
+    settle_carries settles.Shutting r = r
     settle_carries (settles.Marking word) r = r
     settle_carries (settles.Carrying word carry) r = record { pair = r.pair; marked = r.marked ∙ sym (code_same (Marked r.pair)); here = λ b. r.here (sym agrees.blocking ∙ b); rests = carry_carries r.pair carry r.rests }
     settle_carries (settles.Finishing word) (mode, r) = (

@@ -1,7 +1,7 @@
 -- Which table a machine names, and what it asks.
 use Rattle.std.proofs.Common.{◌≡◌, ◌⊎◌, inl, inr, ℕ, ◌==◌, nat_lt, Bool, true, false, cond, Option, None, Some, refl, sym, ap, ◌∙◌}
 use Rattle.std.proofs.lemmas.Bool.{cond_both}
-use Rattle.papaya_words.specs.Word.{kind_of, pair_of, byte_of, top_byte}
+use Rattle.papaya_words.specs.Word.{kind_of, may_hold, pair_of}
 use Rattle.papaya_words.specs.declared.probe.ResizeMode.{ResizeMode}
 use Rattle.papaya_words.specs.declared.probe.ResizeMode.TheVariants.{Incremental, Blocking}
 use Rattle.papaya_words.specs.declared.word.Kind.{Kind}
@@ -26,7 +26,7 @@ use Rattle.papaya_call.specs.declared.compute.Remembered.{Remembered}
 use Rattle.papaya_call.specs.declared.remove.Removal.{Removal}
 use Rattle.papaya_ask.specs.declared.search.Place.{Place}
 use Rattle.papaya_ask.specs.declared.search.Search.{Search}
-use Rattle.papaya_ask.specs.declared.search.Search.TheVariants.{Sizing, Looking, Comparing}
+use Rattle.papaya_ask.specs.declared.search.Search.TheVariants.{Sizing, Looking, Reading, Comparing}
 use Rattle.papaya_ask.specs.declared.search.Seen.{Seen}
 use Rattle.papaya_ask.specs.declared.search.Seen.TheVariants as seen
 use Rattle.papaya_call.specs.declared.write.Made.{Made}
@@ -34,12 +34,13 @@ use Rattle.papaya_call.specs.declared.write.Made.TheVariants.{Nothing, Key, Pair
 use Rattle.papaya_call.specs.declared.write.Write.{Write}
 use Rattle.papaya_call.specs.declared.machine.Machine.{Machine}
 use Rattle.papaya_call.specs.declared.machine.State.{State}
-use Rattle.papaya_call.specs.declared.machine.State.TheVariants.{AtRoot, Making, Opening, Searching, Writing, Offering, Showing, Pairing, Putting, Burying, Counting, Uncounting, Leaving, Growing, Ended}
+use Rattle.papaya_call.specs.declared.machine.State.TheVariants.{AtRoot, Making, Opening, Searching, Writing, Offering, Showing, Pairing, Putting, Burying, Counting, Noting, Uncounting, Leaving, Growing, Ended}
 use Rattle.papaya_call.specs.Compute.{chosen, fills, lacks, offered, provides, recalls}
 use Rattle.papaya_rests.specs.Followed.{IsAtTable, IsCounting, IsGapAt, IsPurposeAt, MayAsk, table_asked, table_of, told_table}
 use Rattle.papaya_call.specs.Machine.{HasClosure, IsChanger, IsStanding, IsStandingState, MayInsert, after, absent, ask_of, asks, at_root, beaten_as, beaten_by, computes, decided, goes_as, judged, kind_asked, kind_of_ask, left, needed, paired, passes, removes, replaces, written}
+use Rattle.papaya_call.specs.Write.{claimed_by}
 use Rattle.papaya_rests.specs.Rests.{change_in}
-use Rattle.papaya_ask.specs.Search.{at_size, at_word, at_yes, go_on, look, look_at, match_at, compare_byte, next_place}
+use Rattle.papaya_ask.specs.Search.{at_size, at_word, at_yes, go_on, hinted, look, look_at, match_at, next_place}
 use Rattle.papaya_rests.proofs.Standing.{computer_inserts, writer_inserts}
 use Rattle.papaya_rests.proofs.Leads.{occupies_leads}
 
@@ -54,16 +55,16 @@ module _ (n : ℕ) (at : Place) (is : at.table ≡ n) where
   on_at : IsSeenAt n (go_on at)
   on_at = cond_both (nat_lt at.probe.len at.limit) (seen.On (Looking (next_place at))) (seen.Over at.table) (IsSeenAt n) (λ _. is) (λ _. is)
 
-  byte_at : (hash word : ℕ) → IsSeenAt n (compare_byte at hash word)
-  byte_at hash word = cond_both (byte_of word == top_byte hash) (seen.On (Comparing at word)) (go_on at) (IsSeenAt n) (λ _. is) (λ _. on_at)
+  hint_at : (hash hint : ℕ) → IsSeenAt n (hinted at hash hint)
+  hint_at hash hint = cond_both (may_hold hint hash) (seen.On (Reading at)) (go_on at) (IsSeenAt n) (λ _. is) (λ _. on_at)
 
-  look_kind : (kind : Kind) (hash word : ℕ) → IsSeenAt n (look_at kind at hash word)
-  look_kind word_kinds.Empty hash word = is
-  look_kind word_kinds.Live hash word = byte_at hash word
-  look_kind word_kinds.Marked hash word = byte_at hash word
-  look_kind word_kinds.Copied hash word = byte_at hash word
-  look_kind word_kinds.Buried hash word = on_at
-  look_kind word_kinds.Closed hash word = on_at
+  look_kind : (kind : Kind) (word : ℕ) → IsSeenAt n (look_at kind at word)
+  look_kind word_kinds.Empty word = is
+  look_kind word_kinds.Live word = is
+  look_kind word_kinds.Marked word = is
+  look_kind word_kinds.Copied word = is
+  look_kind word_kinds.Buried word = on_at
+  look_kind word_kinds.Closed word = on_at
 
   match_kind : (kind : Kind) (word : ℕ) → IsSeenAt n (match_at kind at word)
   match_kind word_kinds.Empty word = is
@@ -149,18 +150,21 @@ cond_both_at false n word s t absent some = some
 -- a search goes on in its table
 word_at : (n : ℕ) (search : Search) → table_of search ≡ n → (hash word : ℕ) → IsSeenAt n (at_word search hash word)
 word_at n (Sizing t) is hash word = is
-word_at n (Looking at) is hash word = look_kind n at is (kind_of word) hash word
+word_at n (Looking at) is hash word = hint_at n at is hash word
+word_at n (Reading at) is hash word = look_kind n at is (kind_of word) word
 word_at n (Comparing at found) is hash word = is
 
 yes_at : (n : ℕ) (search : Search) → table_of search ≡ n → (same : Bool) → IsSeenAt n (at_yes search same)
 yes_at n (Sizing t) is same = is
 yes_at n (Looking at) is same = is
+yes_at n (Reading at) is same = is
 yes_at n (Comparing at word) is true = match_kind n at is (kind_of word) word
 yes_at n (Comparing at word) is false = on_at n at is
 
 size_at : (n : ℕ) (search : Search) → table_of search ≡ n → (hash slots limit : ℕ) → table_of (at_size search hash slots limit) ≡ n
 size_at n (Sizing t) is hash slots limit = is
 size_at n (Looking at) is hash slots limit = is
+size_at n (Reading at) is hash slots limit = is
 size_at n (Comparing at word) is hash slots limit = is
 
 root_at : (task : Task) (fill : Option ℕ) (n word : ℕ) → IsAtTable (cond (word == 0) n word) (at_root task fill word)
@@ -172,8 +176,8 @@ root_at (Insert replace) fill n word = cond_both_at (word == 0) n word Making (S
 left_at : (task : Task) (fill : Option ℕ) (n t word : ℕ) → t ≡ n → IsAtTable (cond (word == 0) n word) (left task fill t word)
 left_at task fill n t word is = cond_both_at (word == 0) n word (absent task fill (After t)) (Searching (Sizing word)) (absent_at n task fill (After t) is) refl
 
-written_at : (n : ℕ) (write : Write) (i : ℕ) → IsAtTable n (written write i)
-written_at n write i = cond_both (write.old == 0) (Counting i) (Ended (Replaced (pair_of write.old) i)) (IsAtTable n) (λ _. tt) (λ _. tt)
+written_at : (n : ℕ) (write : Write) (i : ℕ) → write.place.table ≡ n → IsAtTable n (written write i)
+written_at n write i is = cond_both (write.old == 0) (Counting (claimed_by write i)) (Ended (Replaced (pair_of write.old) i)) (IsAtTable n) (λ _. is) (λ _. tt)
 
 judged_at : (n : ℕ) (task : Task) (removal : Removal) → removal.place.table ≡ n → (agrees : Bool) → IsAtTable n (judged task removal agrees)
 judged_at n Get removal is agrees = is
@@ -209,17 +213,17 @@ paired_at n (Pair j) purpose i is = provides_at n purpose i is
 
 beaten_at : (n : ℕ) (m : Machine) (kind : Kind) (at : Place) → at.table ≡ n → (word : ℕ) → IsAtTable n (beaten_by kind m at word)
 beaten_at n m word_kinds.Buried at is word = tt
-beaten_at n m word_kinds.Empty at is word = goes_at n m.task m.mode m.remembered (look at m.hash word) (look_kind n at is (kind_of word) m.hash word)
-beaten_at n m word_kinds.Live at is word = goes_at n m.task m.mode m.remembered (look at m.hash word) (look_kind n at is (kind_of word) m.hash word)
-beaten_at n m word_kinds.Marked at is word = goes_at n m.task m.mode m.remembered (look at m.hash word) (look_kind n at is (kind_of word) m.hash word)
-beaten_at n m word_kinds.Copied at is word = goes_at n m.task m.mode m.remembered (look at m.hash word) (look_kind n at is (kind_of word) m.hash word)
-beaten_at n m word_kinds.Closed at is word = goes_at n m.task m.mode m.remembered (look at m.hash word) (look_kind n at is (kind_of word) m.hash word)
+beaten_at n m word_kinds.Empty at is word = goes_at n m.task m.mode m.remembered (look at word) (look_kind n at is (kind_of word) word)
+beaten_at n m word_kinds.Live at is word = goes_at n m.task m.mode m.remembered (look at word) (look_kind n at is (kind_of word) word)
+beaten_at n m word_kinds.Marked at is word = goes_at n m.task m.mode m.remembered (look at word) (look_kind n at is (kind_of word) word)
+beaten_at n m word_kinds.Copied at is word = goes_at n m.task m.mode m.remembered (look at word) (look_kind n at is (kind_of word) word)
+beaten_at n m word_kinds.Closed at is word = goes_at n m.task m.mode m.remembered (look at word) (look_kind n at is (kind_of word) word)
 
 beaten_as_at : (n : ℕ) (m : Machine) (task : Task) (at : Place) → at.table ≡ n → (word : ℕ) → IsAtTable n (beaten_as task m at word)
 beaten_as_at n m Get at is word = beaten_at n m (kind_of word) at is word
 beaten_as_at n m (Insert replace) at is word = beaten_at n m (kind_of word) at is word
 beaten_as_at n m RemoveIf at is word = beaten_at n m (kind_of word) at is word
-beaten_as_at n m Compute at is word = goes_at n m.task m.mode m.remembered (look at m.hash word) (look_kind n at is (kind_of word) m.hash word)
+beaten_as_at n m Compute at is word = goes_at n m.task m.mode m.remembered (look at word) (look_kind n at is (kind_of word) word)
 
 module _ (m : Machine) (n : ℕ) where
   -- where an answer leads a machine in a stage
@@ -243,8 +247,8 @@ module _ (m : Machine) (n : ℕ) where
   writing_at made write (Word_read word) is = is
   writing_at Nothing write Exchanged is = is
   writing_at Key write Exchanged is = is
-  writing_at (Pair i) write Exchanged is = written_at n write i
-  writing_at made write (Found_instead word) is = goes_at n m.task m.mode m.remembered (look write.place m.hash word) (look_kind n write.place is (kind_of word) m.hash word)
+  writing_at (Pair i) write Exchanged is = written_at n write i is
+  writing_at made write (Found_instead word) is = goes_at n m.task m.mode m.remembered (look write.place word) (look_kind n write.place is (kind_of word) word)
   writing_at made write (Yes same) is = is
   writing_at made write (Op kind) is = is
   writing_at made write (Size slots limit) is = is
@@ -284,6 +288,7 @@ module _ (m : Machine) (n : ℕ) where
   leads made (Opening t) (Was_refused refused) is = tt
   leads made (Searching (Sizing t)) answer is = searching_at made (Sizing t) answer is
   leads made (Searching (Looking at)) answer is = searching_at made (Looking at) answer is
+  leads made (Searching (Reading at)) answer is = searching_at made (Reading at) answer is
   leads made (Searching (Comparing at word)) answer is = searching_at made (Comparing at word) answer is
   leads Nothing (Writing write) answer is = writing_at Nothing write answer is
   leads Key (Writing write) answer is = writing_at Key write answer is
@@ -325,8 +330,8 @@ module _ (m : Machine) (n : ℕ) where
   leads Key (Pairing purpose) (Was_refused refused) is = tt
   leads (Pair j) (Pairing purpose) (Was_refused refused) is = tt
   leads made (Putting put) (Word_read word) is = is
-  leads made (Putting put) Exchanged is = written_at n put.write put.pair
-  leads made (Putting put) (Found_instead word) is = goes_at n m.task m.mode m.remembered (look put.write.place m.hash word) (look_kind n put.write.place is (kind_of word) m.hash word)
+  leads made (Putting put) Exchanged is = written_at n put.write put.pair is
+  leads made (Putting put) (Found_instead word) is = goes_at n m.task m.mode m.remembered (look put.write.place word) (look_kind n put.write.place is (kind_of word) word)
   leads made (Putting put) (Yes same) is = is
   leads made (Putting put) (Op kind) is = is
   leads made (Putting put) (Size slots limit) is = is
@@ -351,15 +356,24 @@ module _ (m : Machine) (n : ℕ) where
   leads made (Burying removal) (Made_number i) is = is
   leads made (Burying removal) Ok_done is = is
   leads made (Burying removal) (Was_refused refused) is = is
-  leads made (Counting i) (Word_read word) is = tt
-  leads made (Counting i) Exchanged is = tt
-  leads made (Counting i) (Found_instead word) is = tt
-  leads made (Counting i) (Yes same) is = tt
-  leads made (Counting i) (Op kind) is = tt
-  leads made (Counting i) (Size slots limit) is = tt
-  leads made (Counting i) (Made_number j) is = tt
-  leads made (Counting i) Ok_done is = tt
-  leads made (Counting i) (Was_refused refused) is = tt
+  leads made (Counting i) (Word_read word) is = is
+  leads made (Noting i) (Word_read word) is = is
+  leads made (Counting i) Exchanged is = is
+  leads made (Noting i) Exchanged is = is
+  leads made (Counting i) (Found_instead word) is = is
+  leads made (Noting i) (Found_instead word) is = is
+  leads made (Counting i) (Yes same) is = is
+  leads made (Noting i) (Yes same) is = is
+  leads made (Counting i) (Op kind) is = is
+  leads made (Noting i) (Op kind) is = is
+  leads made (Counting i) (Size slots limit) is = is
+  leads made (Noting i) (Size slots limit) is = is
+  leads made (Counting i) (Made_number j) is = is
+  leads made (Noting i) (Made_number j) is = is
+  leads made (Counting i) Ok_done is = is
+  leads made (Noting i) Ok_done is = tt
+  leads made (Counting i) (Was_refused refused) is = is
+  leads made (Noting i) (Was_refused refused) is = is
   leads made (Uncounting i) (Word_read word) is = tt
   leads made (Uncounting i) Exchanged is = tt
   leads made (Uncounting i) (Found_instead word) is = tt
@@ -407,6 +421,7 @@ named_in made hash Making n t is e = absurd cc
 named_in made hash (Opening u) n t is e = absurd cc
 named_in made hash (Searching (Sizing u)) n t is e = let j : u ≡ t = cc e in sym j ∙ is
 named_in made hash (Searching (Looking at)) n t is e = let j : at.table ≡ t = cc e in sym j ∙ is
+named_in made hash (Searching (Reading at)) n t is e = let j : at.table ≡ t = cc e in sym j ∙ is
 named_in made hash (Searching (Comparing at word)) n t is e = absurd cc
 named_in Nothing hash (Writing write) n t is e = absurd cc
 named_in Key hash (Writing write) n t is e = absurd cc
@@ -419,6 +434,7 @@ named_in (Pair i) hash (Pairing purpose) n t is e = absurd cc
 named_in made hash (Putting put) n t is e = let j : put.write.place.table ≡ t = cc e in sym j ∙ is
 named_in made hash (Burying removal) n t is e = let j : removal.place.table ≡ t = cc e in sym j ∙ is
 named_in made hash (Counting i) n t is e = absurd cc
+named_in made hash (Noting i) n t is e = let j : i.place.table ≡ t = cc e in sym j ∙ is
 named_in made hash (Uncounting i) n t is e = absurd cc
 named_in made hash (Leaving u) n t is e = let j : u ≡ t = cc e in sym j ∙ is
 named_in made hash (Growing need) n t is e = let j : needed need ≡ t = cc e in sym j ∙ is
@@ -448,6 +464,7 @@ asks_in task made hash Making stands = stands
 asks_in task made hash (Opening u) stands = (stands, refl, refl)
 asks_in task made hash (Searching (Sizing u)) stands = tt
 asks_in task made hash (Searching (Looking at)) stands = tt
+asks_in task made hash (Searching (Reading at)) stands = tt
 asks_in task made hash (Searching (Comparing at word)) stands = tt
 asks_in task Nothing hash (Writing write) stands = writer_inserts task stands.0
 asks_in task Key hash (Writing write) stands = writer_inserts task stands.0
@@ -460,6 +477,7 @@ asks_in task made hash (Putting put) stands = inl (computer_inserts task stands.
 asks_in task made hash (Showing removal) stands = stands.0
 asks_in task made hash (Burying removal) stands = inr (stands.0, refl)
 asks_in task made hash (Counting i) stands = inserter_changes task stands
+asks_in task made hash (Noting i) stands = stands
 asks_in task made hash (Uncounting i) stands = closure_changes task stands
 asks_in task made hash (Leaving u) stands = tt
 asks_in task made hash (Growing u) stands = tt
@@ -477,6 +495,7 @@ opens_in m made (Opening u) answer t n e (inl a) f = let g : SizeOf u ≡ Exchan
 opens_in m made (Opening u) answer t n e (inr (word, a)) f = let g : SizeOf word ≡ Exchange Root 0 n = sym (ap (λ z. ask_of (after (record m { made = made; state = Opening u }) z)) a) ∙ f in cc g
 opens_in m made (Searching (Sizing u)) answer t n e a f = cc e
 opens_in m made (Searching (Looking at)) answer t n e a f = cc e
+opens_in m made (Searching (Reading at)) answer t n e a f = cc e
 opens_in m made (Searching (Comparing at word)) answer t n e a f = cc e
 opens_in m Nothing (Writing write) answer t n e a f = cc e
 opens_in m Key (Writing write) answer t n e a f = cc e
@@ -489,6 +508,7 @@ opens_in m (Pair i) (Pairing purpose) answer t n e a f = cc e
 opens_in m made (Putting put) answer t n e a f = cc e
 opens_in m made (Burying removal) answer t n e a f = cc e
 opens_in m made (Counting i) answer t n e a f = cc e
+opens_in m made (Noting i) answer t n e a f = cc e
 opens_in m made (Uncounting i) answer t n e a f = cc e
 opens_in m made (Leaving u) answer t n e a f = cc e
 opens_in m made (Growing u) answer t n e a f = cc e
@@ -510,6 +530,7 @@ counts_in made hash (Pairing purpose) change e = absurd cc
 counts_in made hash (Putting put) change e = absurd cc
 counts_in made hash (Burying removal) change e = absurd cc
 counts_in made hash (Counting i) change e = tt
+counts_in made hash (Noting i) change e = tt
 counts_in made hash (Uncounting i) change e = tt
 counts_in made hash (Leaving u) change e = absurd cc
 counts_in made hash (Growing u) change e = absurd cc

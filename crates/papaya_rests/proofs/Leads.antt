@@ -161,18 +161,18 @@ module _ (Holds : State → Type 0) (each : HoldsOfLeads Holds) where
   -- a word that a burial found in the place of its own, by its kind
   beaten_by_leads : (kd : Kind) (m : Machine) (at : Place) (word : ℕ) → Holds (beaten_by kd m at word)
   beaten_by_leads word_kinds.Buried m at word = each.ended_absent
-  beaten_by_leads word_kinds.Empty m at word = goes_leads m.task m.mode m.remembered (look_seen at m.hash word)
-  beaten_by_leads word_kinds.Live m at word = goes_leads m.task m.mode m.remembered (look_seen at m.hash word)
-  beaten_by_leads word_kinds.Marked m at word = goes_leads m.task m.mode m.remembered (look_seen at m.hash word)
-  beaten_by_leads word_kinds.Copied m at word = goes_leads m.task m.mode m.remembered (look_seen at m.hash word)
-  beaten_by_leads word_kinds.Closed m at word = goes_leads m.task m.mode m.remembered (look_seen at m.hash word)
+  beaten_by_leads word_kinds.Empty m at word = goes_leads m.task m.mode m.remembered (look_seen at word)
+  beaten_by_leads word_kinds.Live m at word = goes_leads m.task m.mode m.remembered (look_seen at word)
+  beaten_by_leads word_kinds.Marked m at word = goes_leads m.task m.mode m.remembered (look_seen at word)
+  beaten_by_leads word_kinds.Copied m at word = goes_leads m.task m.mode m.remembered (look_seen at word)
+  beaten_by_leads word_kinds.Closed m at word = goes_leads m.task m.mode m.remembered (look_seen at word)
 
   -- and by the task
   beaten_as_leads : (task : Task) (m : Machine) (at : Place) (word : ℕ) → Holds (beaten_as task m at word)
   beaten_as_leads Get m at word = beaten_by_leads (kind_of word) m at word
   beaten_as_leads (Insert replace) m at word = beaten_by_leads (kind_of word) m at word
   beaten_as_leads RemoveIf m at word = beaten_by_leads (kind_of word) m at word
-  beaten_as_leads Compute m at word = goes_leads m.task m.mode m.remembered (look_seen at m.hash word)
+  beaten_as_leads Compute m at word = goes_leads m.task m.mode m.remembered (look_seen at word)
 
   -- of a machine
   pub beaten_leads : (m : Machine) (removal : Removal) (word : ℕ) → Holds (beaten m removal word)

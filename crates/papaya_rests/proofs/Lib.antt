@@ -1,5 +1,6 @@
 -- what machines rest on
 pub mod RestsCarried
+pub mod RestsHints
 pub mod RestsNames
 pub mod RestsStay
 pub mod RestsTables

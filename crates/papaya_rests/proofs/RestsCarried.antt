@@ -14,22 +14,23 @@ use Rattle.papaya_call.specs.declared.compute.Remembered.{Remembered}
 use Rattle.papaya_call.specs.declared.remove.Removal.{Removal}
 use Rattle.papaya_ask.specs.declared.search.Place.{Place}
 use Rattle.papaya_ask.specs.declared.search.Search.{Search}
-use Rattle.papaya_ask.specs.declared.search.Search.TheVariants.{Sizing, Looking, Comparing}
+use Rattle.papaya_ask.specs.declared.search.Search.TheVariants.{Sizing, Looking, Reading, Comparing}
 use Rattle.papaya_call.specs.declared.write.Made.{Made}
 use Rattle.papaya_call.specs.declared.write.Made.TheVariants.{Nothing, Key, Pair}
 use Rattle.papaya_call.specs.declared.write.Write.{Write}
 use Rattle.papaya_call.specs.declared.machine.State.{State as Stage}
-use Rattle.papaya_call.specs.declared.machine.State.TheVariants.{AtRoot, Making, Opening, Searching, Writing, Offering, Showing, Pairing, Putting, Burying, Counting, Uncounting, Leaving, Growing, Ended}
+use Rattle.papaya_call.specs.declared.machine.State.TheVariants.{AtRoot, Making, Opening, Searching, Writing, Offering, Showing, Pairing, Putting, Burying, Counting, Noting, Uncounting, Leaving, Growing, Ended}
 use Rattle.papaya_call.specs.declared.machine.Machine.{Machine}
 use Rattle.papaya_law.specs.Exchange.{Setting, Exchange}
 use Rattle.papaya_law.specs.View.{look, IsPassed}
 use Rattle.papaya_law.specs.Code.{Coding}
 use Rattle.papaya_rests.specs.Told.{Hands}
-use Rattle.papaya_rests.specs.Rests.{now, IsModeOf, HasComeTo, IsAt, HasMet, MayRemove, MayWrite, WasAtMoment, RestsWriting, RestsMade, RestsFill, RestsChoice, RestsHands, RestsGap, RestsPurpose, RestsSearch, RestsLeaving, RestsNeed, HadPair, IsReply, RestsStage, Rests}
+use Rattle.papaya_rests.specs.Rests.{now, IsModeOf, HasComeTo, IsAt, HasMet, MayRemove, MayWrite, WasAtMoment, RestsWriting, RestsMade, RestsFill, RestsChoice, RestsHands, RestsGap, RestsPurpose, RestsSearch, RestsLeaving, RestsNeed, HadPair, IsReply, RestsStage, Rests, HasClaimed}
 use Rattle.papaya_call.specs.declared.need.Need.{Need}
+use Rattle.papaya_call.specs.declared.write.Claimed.{Claimed}
 
 -- each part is carried from one setting, and the exchanges of a call so far, to another setting and more of them
-pub record AreCarried {K P : Type 0} (g g' : Setting K P) (c : Coding K P) (begun since since' : List (Exchange P)) (k : K) : Type 0 where
+pub record AreCarried {K P : Type 0} (g g' : Setting K P) (c : Coding K P) (begun since since' : List (Exchange P)) (k : K) (hands : Hands P) : Type 0 where
   pub mode : g'.blocking ≡ g.blocking
   pub key : (p : P) → g'.key p ≡ g.key p
   pub same : (k k' : K) → g'.same k k' ≡ g.same k k'
@@ -41,12 +42,14 @@ pub record AreCarried {K P : Type 0} (g g' : Setting K P) (c : Coding K P) (begu
   pub passed : (t : ℕ) → HasComeTo g c begun since k t → IsPassed g.places (look g (now g c begun since k) k) t → IsPassed g'.places (look g' (now g' c begun since' k) k) t
   pub leaving : (task : Task) (t : ℕ) → RestsLeaving g c begun since k task t → RestsLeaving g' c begun since' k task t
   pub need : (need : Need) → RestsNeed g c begun since k need → RestsNeed g' c begun since' k need
+  pub claimed : (claimed : Claimed) → HasClaimed g c begun since k hands claimed → HasClaimed g' c begun since' k hands claimed
 
-module _ {K P : Type 0} (g g' : Setting K P) (c : Coding K P) (begun since since' : List (Exchange P)) (k : K) (carried : AreCarried g g' c begun since since' k) (hands : Hands P) where
+module _ {K P : Type 0} (g g' : Setting K P) (c : Coding K P) (begun since since' : List (Exchange P)) (k : K) (hands : Hands P) (carried : AreCarried g g' c begun since since' k hands) where
   -- the search
   search_carried : (search : Search) → RestsSearch g c begun since k hands search → RestsSearch g' c begun since' k hands search
   search_carried (Sizing t) r = carried.come t r
   search_carried (Looking at) r = carried.stands at r
+  search_carried (Reading at) r = carried.stands at r
   search_carried (Comparing at word) r = (r.0, r.1, carried.met at word r.0 r.2)
 
   -- the write of a task
@@ -135,7 +138,8 @@ module _ {K P : Type 0} (g g' : Setting K P) (c : Coding K P) (begun since since
   stage_carried task (Pairing purpose) r = (r.0, purpose_carried purpose r.1)
   stage_carried task (Putting put) r = (r.0, carried.write true put.write r.1, r.2)
   stage_carried task (Burying removal) r = (r.0, removal_carried removal r.1)
-  stage_carried task (Counting n) r = r
+  stage_carried task (Counting claimed) r = (r.0, carried.claimed claimed r.1)
+  stage_carried task (Noting claimed) r = (r.0, carried.claimed claimed r.1)
   stage_carried task (Uncounting n) r = r
   stage_carried task (Leaving t) r = carried.leaving task t r
   stage_carried task (Growing need) r = (r.0, carried.need need r.1)

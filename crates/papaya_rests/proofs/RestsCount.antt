@@ -1,6 +1,6 @@
 -- What a machine has yet to add after an answer is what the map grew by.
 use Rattle.std.proofs.Common.{◌≡◌, ⊎_elim, ℕ, ℤ, pos, negsuc, ◌==◌, Bool, true, false, cond, Some, List, ◌∷◌, [], refl, sym, ◌∙◌, subst}
-use Rattle.papaya_words.specs.Word.{pair_of}
+use Rattle.papaya_words.specs.Word.{pair_of, live_word}
 use Rattle.papaya_words.specs.declared.probe.Refused.{Refused}
 use Rattle.papaya_words.specs.declared.probe.ResizeMode.{ResizeMode}
 use Rattle.papaya_ask.specs.declared.ask.Answer.{Answer}
@@ -16,28 +16,30 @@ use Rattle.papaya_call.specs.declared.compute.Gap.{Gap}
 use Rattle.papaya_call.specs.declared.compute.Remembered.{Remembered}
 use Rattle.papaya_call.specs.declared.remove.Removal.{Removal}
 use Rattle.papaya_ask.specs.declared.search.Place.{Place}
-use Rattle.papaya_ask.specs.declared.search.Search.TheVariants.{Sizing, Looking, Comparing}
+use Rattle.papaya_ask.specs.declared.search.Search.TheVariants.{Sizing, Looking, Reading, Comparing}
 use Rattle.papaya_ask.specs.declared.search.Seen.{Seen}
 use Rattle.papaya_call.specs.declared.write.Made.{Made}
 use Rattle.papaya_call.specs.declared.write.Made.TheVariants.{Nothing, Key, Pair}
 use Rattle.papaya_call.specs.declared.machine.Machine.{Machine}
 use Rattle.papaya_call.specs.declared.machine.State.{State as Stage}
-use Rattle.papaya_call.specs.declared.machine.State.TheVariants.{AtRoot, Making, Opening, Searching, Writing, Offering, Showing, Pairing, Putting, Burying, Counting, Uncounting, Leaving, Growing, Ended}
+use Rattle.papaya_call.specs.declared.machine.State.TheVariants.{AtRoot, Making, Opening, Searching, Writing, Offering, Showing, Pairing, Putting, Burying, Counting, Noting, Uncounting, Leaving, Growing, Ended}
 use Rattle.papaya_law.specs.Exchange.{Setting, State, Exchange}
 use Rattle.papaya_law.specs.Code.{Coding, code}
 use Rattle.papaya_call.specs.Compute.{chosen, offered}
 use Rattle.papaya_call.specs.Machine.{after, agreed, ask_of, asks, decided, goes_as, judged, kind_asked, kind_of_ask}
 use Rattle.papaya_rests.specs.Owed.{owed_by, grows_by, grows_of}
 use Rattle.papaya_call.specs.Remove.{grave_word}
-use Rattle.papaya_ask.specs.Search.{look as look_seen, at_yes as search_compared}
+use Rattle.papaya_ask.specs.Search.{hinted, look as look_seen, at_yes as search_compared}
 use Rattle.papaya_rests.specs.Told.{IsAsked, IsTold, IsUnmade, IsSaying, Hands, told_of}
-use Rattle.papaya_call.specs.Write.{new_word}
+use Rattle.papaya_call.specs.declared.write.Write.{Write}
+use Rattle.papaya_call.specs.Write.{claimed_by}
 use Rattle.papaya_rests.proofs.Leads.{HoldsOfLeads, beaten_leads, goes_leads, left_leads, provides_leads, root_leads}
 use Rattle.papaya_rests.proofs.RestsLearn.{by_test}
 
 -- a machine owes where it is about to count
 abbrev owed_in : Stage → ℤ
 owed_in (Counting n) = pos 1
+owed_in (Noting n) = pos 0
 owed_in (Uncounting n) = negsuc 0
 owed_in AtRoot = pos 0
 owed_in Making = pos 0
@@ -60,6 +62,7 @@ asked_in made hash Making = refl
 asked_in made hash (Opening t) = refl
 asked_in made hash (Searching (Sizing t)) = refl
 asked_in made hash (Searching (Looking at)) = refl
+asked_in made hash (Searching (Reading at)) = refl
 asked_in made hash (Searching (Comparing at word)) = refl
 asked_in Nothing hash (Writing write) = refl
 asked_in Key hash (Writing write) = refl
@@ -72,6 +75,7 @@ asked_in (Pair n) hash (Pairing purpose) = refl
 asked_in made hash (Putting put) = refl
 asked_in made hash (Burying removal) = refl
 asked_in made hash (Counting n) = refl
+asked_in made hash (Noting n) = refl
 asked_in made hash (Uncounting n) = refl
 asked_in made hash (Leaving t) = refl
 asked_in made hash (Growing t) = refl
@@ -131,9 +135,9 @@ offered_owes gap ops.Remove = refl
 offered_owes gap (ops.Abort t) = refl
 
 -- one is owed for a pair that was claimed, and nothing for one that took the place of another
-written_owes : (b : Bool) (old n : ℕ) → owed_in (cond b (Counting n) (Ended (Replaced (pair_of old) n))) ≡ grows_of (Some (cond b kinds.Claim kinds.Replace))
-written_owes true old n = refl
-written_owes false old n = refl
+written_owes : (b : Bool) (write : Write) (n : ℕ) → owed_in (cond b (Counting (claimed_by write n)) (Ended (Replaced (pair_of write.old) n))) ≡ grows_of (Some (cond b kinds.Claim kinds.Replace))
+written_owes true write n = refl
+written_owes false write n = refl
 
 module _ {K P : Type 0} (g : Setting K P) (c : Coding K P) (k : K) (s : State P) (m : Machine) (hands : Hands P) (es : List (Exchange P)) (hands' : Hands P) where
   -- what an answer leads to owes what the map grew by
@@ -173,9 +177,10 @@ module _ {K P : Type 0} (g : Setting K P) (c : Coding K P) (k : K) (s : State P)
       (λ _ h'. subst (Owes made (Opening t)) (sym h'.0) refl)
       (λ _ h'. subst (Owes made (Opening t)) (sym h'.0) refl)
   owes_in made (Searching (Sizing t)) answer h = let size = h.0 in subst (Owes made (Searching (Sizing t))) (sym size.2) refl
-  owes_in made (Searching (Looking at)) answer h =
+  owes_in made (Searching (Looking at)) answer h = let hint : ℕ = h.0.0 in subst (Owes made (Searching (Looking at))) (sym h.0.2) (goes_owes m.task m.mode m.remembered (hinted at m.hash hint))
+  owes_in made (Searching (Reading at)) answer h =
       let word : ℕ = code g c (s.slot at.table at.probe.i) in
-      subst (Owes made (Searching (Looking at))) (sym h.0) (goes_owes m.task m.mode m.remembered (look_seen at m.hash word))
+      subst (Owes made (Searching (Reading at))) (sym h.0) (goes_owes m.task m.mode m.remembered (look_seen at word))
   owes_in made (Searching (Comparing at word)) answer h = compared_owes made at word answer
   owes_in Nothing (Writing write) answer h = ⊎_elim (λ u. unmade_owes Nothing (Writing write) answer u (λ refused. refl) refl) (λ i. subst (Owes Nothing (Writing write)) (sym i.1) refl) h.0
   owes_in Key (Writing write) answer h = ⊎_elim (λ u. unmade_owes Key (Writing write) answer u.0 (λ refused. refl) refl) (λ q. subst (Owes Key (Writing write)) (sym q.2) refl) h
@@ -184,11 +189,11 @@ module _ {K P : Type 0} (g : Setting K P) (c : Coding K P) (k : K) (s : State P)
       let x : ℕ = write.place.probe.i in
       let word : ℕ = code g c (s.slot t x) in
       by_test (word == write.old)
-      ((answer ≡ Exchanged) × ((e : Exchange P) × IsAsked c (Some (cond (write.old == 0) kinds.Claim kinds.Replace)) (Slot t x) (new_word m.hash i) s hands e × (es ≡ e ∷ [])) × (hands' ≡ hands))
+      ((answer ≡ Exchanged) × ((e : Exchange P) × IsAsked c (Some (cond (write.old == 0) kinds.Claim kinds.Replace)) (Slot t x) (live_word i) s hands e × (es ≡ e ∷ [])) × (hands' ≡ hands))
       ((answer ≡ Found_instead word) × (es ≡ []) × (hands' ≡ told_of s (Slot t x) hands))
       (Owes (Pair i) (Writing write) answer) h
-      (λ _ h'. subst (Owes (Pair i) (Writing write)) (sym h'.0) (written_owes (write.old == 0) write.old i))
-      (λ _ h'. subst (Owes (Pair i) (Writing write)) (sym h'.0) (goes_owes m.task m.mode m.remembered (look_seen write.place m.hash word)))
+      (λ _ h'. subst (Owes (Pair i) (Writing write)) (sym h'.0) (written_owes (write.old == 0) write i))
+      (λ _ h'. subst (Owes (Pair i) (Writing write)) (sym h'.0) (goes_owes m.task m.mode m.remembered (look_seen write.place word)))
   owes_in made (Offering gap) answer h = said_owes made (Offering gap) answer h.0 (λ _. refl) (λ kind. offered_owes gap kind) refl
   owes_in made (Showing removal) answer h = said_owes made (Showing removal) answer h.0 (λ agrees. judged_owes m.task removal agrees) (λ kind. decided_owes m.task removal kind) refl
   owes_in Nothing (Pairing purpose) answer h =
@@ -202,11 +207,11 @@ module _ {K P : Type 0} (g : Setting K P) (c : Coding K P) (k : K) (s : State P)
       let x : ℕ = put.write.place.probe.i in
       let word : ℕ = code g c (s.slot t x) in
       by_test (word == put.write.old)
-      ((answer ≡ Exchanged) × ((e : Exchange P) × IsAsked c (Some (cond (put.write.old == 0) kinds.Claim kinds.Replace)) (Slot t x) (new_word m.hash put.pair) s hands e × (es ≡ e ∷ [])) × (hands' ≡ hands))
+      ((answer ≡ Exchanged) × ((e : Exchange P) × IsAsked c (Some (cond (put.write.old == 0) kinds.Claim kinds.Replace)) (Slot t x) (live_word put.pair) s hands e × (es ≡ e ∷ [])) × (hands' ≡ hands))
       ((answer ≡ Found_instead word) × (es ≡ []) × (hands' ≡ told_of s (Slot t x) hands))
       (Owes made (Putting put) answer) h
-      (λ _ h'. subst (Owes made (Putting put)) (sym h'.0) (written_owes (put.write.old == 0) put.write.old put.pair))
-      (λ _ h'. subst (Owes made (Putting put)) (sym h'.0) (goes_owes m.task m.mode m.remembered (look_seen put.write.place m.hash word)))
+      (λ _ h'. subst (Owes made (Putting put)) (sym h'.0) (written_owes (put.write.old == 0) put.write put.pair))
+      (λ _ h'. subst (Owes made (Putting put)) (sym h'.0) (goes_owes m.task m.mode m.remembered (look_seen put.write.place word)))
   owes_in made (Burying removal) answer h =
       let t : ℕ = removal.place.table in
       let x : ℕ = removal.place.probe.i in
@@ -218,6 +223,7 @@ module _ {K P : Type 0} (g : Setting K P) (c : Coding K P) (k : K) (s : State P)
       (λ _ h'. subst (Owes made (Burying removal)) (sym h'.0) refl)
       (λ _ h'. subst (Owes made (Burying removal)) (sym h'.0) (beaten_leads (λ stage. owed_in stage ≡ pos 0) leads_owe (record m { made = made; state = Burying removal }) removal word))
   owes_in made (Counting i) answer h = subst (Owes made (Counting i)) (sym h.0) refl
+  owes_in made (Noting i) answer h = subst (Owes made (Noting i)) (sym h.0) refl
   owes_in made (Uncounting i) answer h = subst (Owes made (Uncounting i)) (sym h.0) refl
   owes_in made (Growing t) answer h = subst (Owes made (Growing t)) (sym h.0) refl
   owes_in made (Leaving t) answer h = subst (Owes made (Leaving t)) (sym h.0) (left_leads (λ stage. owed_in stage ≡ pos 0) leads_owe m.task m.remembered.fill t (s.next t))

@@ -1,6 +1,6 @@
 -- The exchange that a machine asks for: where its old word stands there it may be made, and it writes just its word.
 use Rattle.std.proofs.Common.{◌≡◌, ⊎_elim, ℕ, ◌<◌, ◌^◌, ◌==◌, eqb-true, eq-eqb, Bool, true, false, cond, Option, Some, List, ◌++◌, refl, sym, ap, ◌∙◌, subst}
-use Rattle.papaya_words.specs.Word.{byte_of, kind_of, pair_of, live_word, buried_word, top_byte}
+use Rattle.papaya_words.specs.Word.{kind_of, pair_of, live_word, buried_word, top_byte}
 use Rattle.papaya_words.specs.declared.word.Kind.TheVariants as word_kinds
 use Rattle.papaya_ask.specs.declared.ask.Ask.TheVariants.{Exchange as Ask_exchange}
 use Rattle.papaya_ask.specs.declared.ask.At.{At}
@@ -12,13 +12,13 @@ use Rattle.papaya_ask.specs.declared.call.Task.TheVariants.{Get, Insert, RemoveI
 use Rattle.papaya_call.specs.declared.compute.Put.{Put}
 use Rattle.papaya_call.specs.declared.remove.Removal.{Removal}
 use Rattle.papaya_ask.specs.declared.search.Place.{Place}
-use Rattle.papaya_ask.specs.declared.search.Search.TheVariants.{Sizing, Looking, Comparing}
+use Rattle.papaya_ask.specs.declared.search.Search.TheVariants.{Sizing, Looking, Reading, Comparing}
 use Rattle.papaya_call.specs.declared.write.Made.{Made}
 use Rattle.papaya_call.specs.declared.write.Made.TheVariants.{Nothing, Key, Pair}
 use Rattle.papaya_call.specs.declared.write.Write.{Write}
 use Rattle.papaya_call.specs.declared.machine.Machine.{Machine}
 use Rattle.papaya_call.specs.declared.machine.State.{State as Stage}
-use Rattle.papaya_call.specs.declared.machine.State.TheVariants.{AtRoot, Making, Opening, Searching, Writing, Offering, Showing, Pairing, Putting, Burying, Counting, Uncounting, Leaving, Growing, Ended}
+use Rattle.papaya_call.specs.declared.machine.State.TheVariants.{AtRoot, Making, Opening, Searching, Writing, Offering, Showing, Pairing, Putting, Burying, Counting, Noting, Uncounting, Leaving, Growing, Ended}
 use Rattle.papaya_law.specs.Exchange.{Word, Live, Buried, Setting, State, Exchange, Open, Claim, Replace, Bury, after, run, slot_put, start, walk}
 use Rattle.papaya_law.specs.View.{Foreign, Here, look, own, beyond, IsPassed, IsReached}
 use Rattle.papaya_law.specs.Allows.{AllAllowed, Allows, MayClaim, MayReplace, MayBury}
@@ -30,11 +30,10 @@ use Rattle.papaya_rests.specs.Told.{IsAsked, IsOneOf, IsWritten, Hands, word_of}
 use Rattle.papaya_law.specs.Code.{IsHashed}
 use Rattle.papaya_call.specs.Remove.{grave_word}
 use Rattle.papaya_rests.specs.Rests.{IsAt, IsOwnPair, MayRemove, MayWrite, Rests, RestsMade, RestsStage, RestsWriting}
-use Rattle.papaya_call.specs.Write.{new_word}
 use Rattle.papaya_law.proofs.Codes.{code_empty, code_pair}
 use Rattle.papaya_law.proofs.CodeViews.{word_of_kind}
 use Rattle.papaya_law.proofs.Slots.{look_same, put_there, put_elsewhere}
-use Rattle.papaya_rests.proofs.NewWords.{pair_of-new_word}
+use Rattle.papaya_rests.proofs.NewWords.{pair_of-live_word}
 use Rattle.papaya_rests.proofs.RestsLearnMoments.{come_reached}
 use Rattle.papaya_rests.proofs.RestsLearnPlaces.{sees}
 
@@ -131,30 +130,23 @@ module _ {K P : Type 0} (g : Setting K P) (c : Coding K P) (hashed : IsHashed g 
       others (Slot u y) different = ap (code g c) (put_elsewhere now t x w u y (λ e. different (ap (λ a. Slot a y) (sym e.0) ∙ ap (Slot t) (sym e.1))))
 
   -- an insertion's word is the code of its pair
-  new_code : (hash n : ℕ) (q : P) → hash ≡ c.hash k → g.key q ≡ k → c.number q ≡ n → code g c (Live q) ≡ new_word hash n
-  new_code hash n q same mine is =
-      ap (λ l. live_word (top_byte (c.hash l)) (c.number q)) mine
-      ∙ ap (λ h. live_word (top_byte h) (c.number q)) (sym same)
-      ∙ ap (live_word (top_byte hash)) is
-
-  -- the word of an insertion names its pair
-  new_pair : (hash n : ℕ) → hash ≡ c.hash k → pair_of (new_word hash n) ≡ n
-  new_pair hash n same = pair_of-new_word hash n (subst (λ h. h < 2 ^ 64) (sym same) (hashed.coding.hash_fits k))
+  new_code : (n : ℕ) (q : P) → c.number q ≡ n → code g c (Live q) ≡ live_word n
+  new_code n q is = ap live_word is
 
   -- a call that made pairs of its key
   module _ (hands : Hands P) (keys : (q : P) → IsOneOf hands.made q → g.key q ≡ k) (hash : ℕ) (same : hash ≡ c.hash k) where
     -- writes one: it is claimed where there was none, or put in place of another
     writes : (n : ℕ) → IsOwnPair g c begun since k hands n → (replace : Bool) (write : Write) → MayWrite g c begun since k replace write → (b : Bool) → (write.old == 0) ≡ b
-        → MayDo (Some (cond b kinds.Claim kinds.Replace)) hands (Slot write.place.table write.place.probe.i) write.old (new_word hash n)
+        → MayDo (Some (cond b kinds.Claim kinds.Replace)) hands (Slot write.place.table write.place.probe.i) write.old (live_word n)
     writes n m replace write r true e old =
         let t : ℕ = write.place.table in
         let x : ℕ = write.place.probe.i in
         let q : P = m.0 in
         let mine : g.key q ≡ k = keys q m.1 in (
           Claim t x q,
-          (q, record { made = m.1; named = m.2 ∙ sym (new_pair hash n same) }, refl),
+          (q, record { made = m.1; named = m.2 ∙ sym (pair_of-live_word n) }, refl),
           may_claim write.place r.stands q mine (old ∙ eqb-true write.old 0 e),
-          subst (λ y. IsWritten g c now (Slot t x) y (slot_put now t x (Live q))) (new_code hash n q same mine m.2) (slot_written t x (Live q)),
+          subst (λ y. IsWritten g c now (Slot t x) y (slot_put now t x (Live q))) (new_code n q m.2) (slot_written t x (Live q)),
         )
     writes n m replace write r false e old =
         let t : ℕ = write.place.table in
@@ -166,15 +158,15 @@ module _ {K P : Type 0} (g : Setting K P) (c : Coding K P) (hashed : IsHashed g 
         (λ h.
         let live : IsOfKind word_kinds.Live (now.slot t x) = subst (λ y. IsOfKind y (now.slot t x)) (ap kind_of old ∙ h.1) (word_of_kind g c (now.slot t x)) in (
           Replace t x live.0 q,
-          (live.0, q, live.1, record { made = m.1; named = m.2 ∙ sym (new_pair hash n same) }, refl),
+          (live.0, q, live.1, record { made = m.1; named = m.2 ∙ sym (pair_of-live_word n) }, refl),
           may_replace write.place r.stands q mine live.0 live.1 h.2,
-          subst (λ y. IsWritten g c now (Slot t x) y (slot_put now t x (Live q))) (new_code hash n q same mine m.2) (slot_written t x (Live q)),
+          subst (λ y. IsWritten g c now (Slot t x) y (slot_put now t x (Live q))) (new_code n q m.2) (slot_written t x (Live q)),
         ))
         r.old
 
     -- an insertion writes
     writing : (n : ℕ) → IsOwnPair g c begun since k hands n → (task : Task) (write : Write) → RestsWriting g c begun since k task write
-        → MayDo (Some (cond (write.old == 0) kinds.Claim kinds.Replace)) hands (Slot write.place.table write.place.probe.i) write.old (new_word hash n)
+        → MayDo (Some (cond (write.old == 0) kinds.Claim kinds.Replace)) hands (Slot write.place.table write.place.probe.i) write.old (live_word n)
     writing n m Get write r = absurd r
     writing n m RemoveIf write r = absurd r
     writing n m Compute write r = absurd r
@@ -182,7 +174,7 @@ module _ {K P : Type 0} (g : Setting K P) (c : Coding K P) (hashed : IsHashed g 
 
     -- and so does a compute
     puts : (put : Put) → MayWrite g c begun since k true put.write → IsOwnPair g c begun since k hands put.pair
-        → MayDo (Some (cond (put.write.old == 0) kinds.Claim kinds.Replace)) hands (Slot put.write.place.table put.write.place.probe.i) put.write.old (new_word hash put.pair)
+        → MayDo (Some (cond (put.write.old == 0) kinds.Claim kinds.Replace)) hands (Slot put.write.place.table put.write.place.probe.i) put.write.old (live_word put.pair)
     puts put r m = writes put.pair m true put.write r (put.write.old == 0) refl
 
   -- a Live word that came of one of the key is of the key
@@ -194,9 +186,7 @@ module _ {K P : Type 0} (g : Setting K P) (c : Coding K P) (hashed : IsHashed g 
 
   -- a removed pair's word is the code of its Buried word
   grave_code : (p : P) (word : ℕ) → code g c (Live p) ≡ word → code g c (Buried p) ≡ grave_word word
-  grave_code p word e =
-      let parts = code_pair g c hashed.coding (Live p) p refl in
-      ap (λ b. buried_word b (c.number p)) (sym parts.1) ∙ ap (buried_word (byte_of (code g c (Live p)))) (sym parts.0) ∙ ap grave_word e
+  grave_code p word e = ap buried_word (sym (code_pair g c hashed.coding (Live p) p refl)) ∙ ap grave_word e
 
   -- a pair to which the closure agreed is buried where its word stands
   buries : (hands : Hands P) (removal : Removal) → MayRemove g c begun since k hands removal → MayDo (Some kinds.Bury) hands (Slot removal.place.table removal.place.probe.i) removal.word (grave_word removal.word)
@@ -222,11 +212,12 @@ module _ {K P : Type 0} (g : Setting K P) (c : Coding K P) (hashed : IsHashed g 
     may_do made m (Opening t) r at old new e = same_ask (Some kinds.Open) hands Root at 0 old t new e (opens hands t r.1)
     may_do made m (Searching (Sizing t)) r at old new e = absurd cc
     may_do made m (Searching (Looking place)) r at old new e = absurd cc
+    may_do made m (Searching (Reading place)) r at old new e = absurd cc
     may_do made m (Searching (Comparing place word)) r at old new e = absurd cc
     may_do Nothing m (Writing write) r at old new e = absurd cc
     may_do Key m (Writing write) r at old new e = absurd cc
     may_do (Pair n) m (Writing write) r at old new e =
-        same_ask (Some (cond (write.old == 0) kinds.Claim kinds.Replace)) hands (Slot write.place.table write.place.probe.i) at write.old old (new_word hash n) new e (writing hands keys hash same n m task write r)
+        same_ask (Some (cond (write.old == 0) kinds.Claim kinds.Replace)) hands (Slot write.place.table write.place.probe.i) at write.old old (live_word n) new e (writing hands keys hash same n m task write r)
     may_do made m (Offering gap) r at old new e = absurd cc
     may_do made m (Showing removal) r at old new e = absurd cc
     may_do Nothing m (Pairing purpose) r at old new e = absurd cc
@@ -234,10 +225,11 @@ module _ {K P : Type 0} (g : Setting K P) (c : Coding K P) (hashed : IsHashed g 
     may_do (Pair n) m (Pairing purpose) r at old new e = absurd cc
     may_do made m (Putting put) r at old new e =
         let write : Write = put.write in
-        same_ask (Some (cond (write.old == 0) kinds.Claim kinds.Replace)) hands (Slot write.place.table write.place.probe.i) at write.old old (new_word hash put.pair) new e (puts hands keys hash same put r.1 r.2)
+        same_ask (Some (cond (write.old == 0) kinds.Claim kinds.Replace)) hands (Slot write.place.table write.place.probe.i) at write.old old (live_word put.pair) new e (puts hands keys hash same put r.1 r.2)
     may_do made m (Burying removal) r at old new e =
         same_ask (Some kinds.Bury) hands (Slot removal.place.table removal.place.probe.i) at removal.word old (grave_word removal.word) new e (buries hands removal r.1)
     may_do made m (Counting n) r at old new e = absurd cc
+    may_do made m (Noting n) r at old new e = absurd cc
     may_do made m (Uncounting n) r at old new e = absurd cc
     may_do made m (Leaving t) r at old new e = absurd cc
     may_do made m (Growing t) r at old new e = absurd cc

@@ -16,12 +16,12 @@ use Rattle.papaya_law.proofs.CodeViews.{word_of_kind}
 use Rattle.std.proofs.Common.{true, cond, sym, ap, ◌∙◌, subst}
 use Rattle.papaya_ask.specs.declared.call.Task.{Task}
 use Rattle.papaya_ask.specs.declared.call.Task.TheVariants.{Get, Insert, RemoveIf, Compute}
-use Rattle.papaya_ask.specs.declared.search.Search.TheVariants.{Sizing, Looking, Comparing}
+use Rattle.papaya_ask.specs.declared.search.Search.TheVariants.{Sizing, Looking, Reading, Comparing}
 use Rattle.papaya_call.specs.declared.write.Made.{Made}
 use Rattle.papaya_call.specs.declared.write.Made.TheVariants.{Nothing, Key, Pair}
 use Rattle.papaya_call.specs.declared.machine.Machine.{Machine}
 use Rattle.papaya_call.specs.declared.machine.State.{State as Stage}
-use Rattle.papaya_call.specs.declared.machine.State.TheVariants.{AtRoot, Making, Opening, Searching, Writing, Offering, Showing, Pairing, Putting, Burying, Counting, Uncounting, Leaving, Growing, Ended}
+use Rattle.papaya_call.specs.declared.machine.State.TheVariants.{AtRoot, Making, Opening, Searching, Writing, Offering, Showing, Pairing, Putting, Burying, Counting, Noting, Uncounting, Leaving, Growing, Ended}
 use Rattle.papaya_law.specs.Exchange.{Setting, Exchange}
 use Rattle.papaya_ask.specs.declared.call.Reply.{Reply}
 use Rattle.papaya_ask.specs.declared.ask.Ask.TheVariants.{Done}
@@ -65,6 +65,7 @@ module _ {K P : Type 0} (g : Setting K P) (c : Coding K P) (begun since : List (
   made_in task hash made held r (Opening u) s t x old new e w = absurd cc
   made_in task hash made held r (Searching (Sizing u)) s t x old new e w = absurd cc
   made_in task hash made held r (Searching (Looking at)) s t x old new e w = absurd cc
+  made_in task hash made held r (Searching (Reading at)) s t x old new e w = absurd cc
   made_in task hash made held r (Searching (Comparing at word)) s t x old new e w = absurd cc
   made_in task hash Nothing held r (Writing write) s t x old new e w = absurd cc
   made_in task hash Key held r (Writing write) s t x old new e w = absurd cc
@@ -77,6 +78,7 @@ module _ {K P : Type 0} (g : Setting K P) (c : Coding K P) (begun since : List (
   made_in task hash made held r (Putting put) s t x old new e w = absurd (computes_not task s.0 w)
   made_in task hash made held r (Burying removal) s t x old new e w = absurd (not_both task s.0 w)
   made_in task hash made held r (Counting n) s t x old new e w = absurd cc
+  made_in task hash made held r (Noting n) s t x old new e w = absurd cc
   made_in task hash made held r (Uncounting n) s t x old new e w = absurd cc
   made_in task hash made held r (Leaving u) s t x old new e w = absurd cc
   made_in task hash made held r (Growing u) s t x old new e w = absurd cc
@@ -96,6 +98,7 @@ module _ {K P : Type 0} (g : Setting K P) (c : Coding K P) (begun since : List (
   told_in task hash made (Opening u) s n e = absurd cc
   told_in task hash made (Searching (Sizing u)) s n e = absurd cc
   told_in task hash made (Searching (Looking at)) s n e = absurd cc
+  told_in task hash made (Searching (Reading at)) s n e = absurd cc
   told_in task hash made (Searching (Comparing at word)) s n e = (s.0, s.1)
   told_in task hash Nothing (Writing write) s n e = absurd cc
   told_in task hash Key (Writing write) s n e = absurd cc
@@ -108,6 +111,7 @@ module _ {K P : Type 0} (g : Setting K P) (c : Coding K P) (begun since : List (
   told_in task hash made (Putting put) s n e = absurd cc
   told_in task hash made (Burying removal) s n e = absurd cc
   told_in task hash made (Counting i) s n e = absurd cc
+  told_in task hash made (Noting i) s n e = absurd cc
   told_in task hash made (Uncounting i) s n e = absurd cc
   told_in task hash made (Leaving u) s n e = absurd cc
   told_in task hash made (Growing u) s n e = absurd cc
@@ -129,7 +133,7 @@ module _ {K P : Type 0} (g : Setting K P) (c : Coding K P) (hashed : IsHashed g 
       let is : live.0 ≡ r.pair = cc names in
       let was : r.met.was ≡ Live r.pair = live.1 ∙ ap Live is in
       let held_there : held (view g k r.met.was) ≡ true = ap (λ w. held (view g k w)) was ∙ ap (λ y. held (cond y (Here r.pair) Foreign)) r.same in
-      (r.pair, r.last, sym (ap pair_of r.met.loaded ∙ (code_pair g c hashed.coding r.met.was r.pair r.met.names).0), r.same, r.met.had held_there)
+      (r.pair, r.last, sym (ap pair_of r.met.loaded ∙ (code_pair g c hashed.coding r.met.was r.pair r.met.names)), r.same, r.met.had held_there)
 
   shows_in : (task : Task) (hash : ℕ) (made : Made) (stage : Stage) → RestsStage g c begun since k hands task stage → (n : ℕ) → asks made hash stage ≡ ShowPair n → IsShowing n
   shows_in task hash made AtRoot s n e = absurd cc
@@ -137,6 +141,7 @@ module _ {K P : Type 0} (g : Setting K P) (c : Coding K P) (hashed : IsHashed g 
   shows_in task hash made (Opening u) s n e = absurd cc
   shows_in task hash made (Searching (Sizing u)) s n e = absurd cc
   shows_in task hash made (Searching (Looking at)) s n e = absurd cc
+  shows_in task hash made (Searching (Reading at)) s n e = absurd cc
   shows_in task hash made (Searching (Comparing at word)) s n e = absurd cc
   shows_in task hash Nothing (Writing write) s n e = absurd cc
   shows_in task hash Key (Writing write) s n e = absurd cc
@@ -149,6 +154,7 @@ module _ {K P : Type 0} (g : Setting K P) (c : Coding K P) (hashed : IsHashed g 
   shows_in task hash made (Putting put) s n e = absurd cc
   shows_in task hash made (Burying removal) s n e = absurd cc
   shows_in task hash made (Counting i) s n e = absurd cc
+  shows_in task hash made (Noting i) s n e = absurd cc
   shows_in task hash made (Uncounting i) s n e = absurd cc
   shows_in task hash made (Leaving u) s n e = absurd cc
   shows_in task hash made (Growing u) s n e = absurd cc
@@ -165,6 +171,7 @@ ended_in made hash Making reply e = absurd cc
 ended_in made hash (Opening u) reply e = absurd cc
 ended_in made hash (Searching (Sizing u)) reply e = absurd cc
 ended_in made hash (Searching (Looking at)) reply e = absurd cc
+ended_in made hash (Searching (Reading at)) reply e = absurd cc
 ended_in made hash (Searching (Comparing at word)) reply e = absurd cc
 ended_in Nothing hash (Writing write) reply e = absurd cc
 ended_in Key hash (Writing write) reply e = absurd cc
@@ -177,6 +184,7 @@ ended_in (Pair i) hash (Pairing purpose) reply e = absurd cc
 ended_in made hash (Putting put) reply e = absurd cc
 ended_in made hash (Burying removal) reply e = absurd cc
 ended_in made hash (Counting i) reply e = absurd cc
+ended_in made hash (Noting i) reply e = absurd cc
 ended_in made hash (Uncounting i) reply e = absurd cc
 ended_in made hash (Leaving u) reply e = absurd cc
 ended_in made hash (Growing u) reply e = absurd cc
@@ -194,6 +202,7 @@ offering_in made hash Making e = absurd cc
 offering_in made hash (Opening u) e = absurd cc
 offering_in made hash (Searching (Sizing u)) e = absurd cc
 offering_in made hash (Searching (Looking at)) e = absurd cc
+offering_in made hash (Searching (Reading at)) e = absurd cc
 offering_in made hash (Searching (Comparing at word)) e = absurd cc
 offering_in Nothing hash (Writing write) e = absurd cc
 offering_in Key hash (Writing write) e = absurd cc
@@ -206,6 +215,7 @@ offering_in (Pair i) hash (Pairing purpose) e = absurd cc
 offering_in made hash (Putting put) e = absurd cc
 offering_in made hash (Burying removal) e = absurd cc
 offering_in made hash (Counting i) e = absurd cc
+offering_in made hash (Noting i) e = absurd cc
 offering_in made hash (Uncounting i) e = absurd cc
 offering_in made hash (Leaving u) e = absurd cc
 offering_in made hash (Growing u) e = absurd cc
@@ -231,6 +241,7 @@ showing_in made hash Making n e = absurd cc
 showing_in made hash (Opening u) n e = absurd cc
 showing_in made hash (Searching (Sizing u)) n e = absurd cc
 showing_in made hash (Searching (Looking at)) n e = absurd cc
+showing_in made hash (Searching (Reading at)) n e = absurd cc
 showing_in made hash (Searching (Comparing at word)) n e = absurd cc
 showing_in Nothing hash (Writing write) n e = absurd cc
 showing_in Key hash (Writing write) n e = absurd cc
@@ -243,6 +254,7 @@ showing_in (Pair i) hash (Pairing purpose) n e = absurd cc
 showing_in made hash (Putting put) n e = absurd cc
 showing_in made hash (Burying removal) n e = absurd cc
 showing_in made hash (Counting i) n e = absurd cc
+showing_in made hash (Noting i) n e = absurd cc
 showing_in made hash (Uncounting i) n e = absurd cc
 showing_in made hash (Leaving u) n e = absurd cc
 showing_in made hash (Growing u) n e = absurd cc
@@ -271,6 +283,7 @@ pairing_in made hash Making stands e = absurd cc
 pairing_in made hash (Opening u) stands e = absurd cc
 pairing_in made hash (Searching (Sizing u)) stands e = absurd cc
 pairing_in made hash (Searching (Looking at)) stands e = absurd cc
+pairing_in made hash (Searching (Reading at)) stands e = absurd cc
 pairing_in made hash (Searching (Comparing at word)) stands e = absurd cc
 pairing_in made hash (Writing write) stands e = absurd stands.0
 pairing_in made hash (Offering gap) stands e = absurd cc
@@ -279,6 +292,7 @@ pairing_in made hash (Pairing purpose) stands e = (purpose, refl)
 pairing_in made hash (Putting put) stands e = absurd cc
 pairing_in made hash (Burying removal) stands e = absurd cc
 pairing_in made hash (Counting i) stands e = absurd cc
+pairing_in made hash (Noting i) stands e = absurd cc
 pairing_in made hash (Uncounting i) stands e = absurd cc
 pairing_in made hash (Leaving u) stands e = absurd cc
 pairing_in made hash (Growing u) stands e = absurd cc

@@ -1,7 +1,7 @@
 -- After an answer that is true of the words a machine rests again.
 use Rattle.std.proofs.Common.{◌≡◌, ◌⊎◌, ⊎_elim, ℕ, ◌<◌, ◌≤◌, ◌==◌, eqb-true, Bool, true, false, cond, MatchBool, Option, Some, List, [], ◌∷◌, ◌++◌, append-nil, refl, sym, ap, ◌∙◌, subst, arith}
 use Rattle.std.proofs.lemmas.Bool.{cases_lt, cond_both, eqb-false}
-use Rattle.papaya_words.specs.Word.{pair_of}
+use Rattle.papaya_words.specs.Word.{pair_of, live_word}
 use Rattle.papaya_words.specs.declared.probe.Refused.TheVariants.{Capacity}
 use Rattle.papaya_ask.specs.declared.ask.Ask.TheVariants.{Exchange as Ask_exchange}
 use Rattle.papaya_ask.specs.declared.ask.Answer.{Answer}
@@ -14,13 +14,13 @@ use Rattle.papaya_call.specs.declared.compute.Gap.TheVariants.{NoRoot, After}
 use Rattle.papaya_call.specs.declared.compute.Purpose.{Purpose}
 use Rattle.papaya_call.specs.declared.compute.Remembered.{Remembered}
 use Rattle.papaya_ask.specs.declared.search.Place.{Place}
-use Rattle.papaya_ask.specs.declared.search.Search.TheVariants.{Sizing, Looking, Comparing}
+use Rattle.papaya_ask.specs.declared.search.Search.TheVariants.{Sizing, Looking, Reading, Comparing}
 use Rattle.papaya_call.specs.declared.write.Made.{Made}
 use Rattle.papaya_call.specs.declared.write.Made.TheVariants.{Nothing, Key, Pair}
 use Rattle.papaya_call.specs.declared.write.Write.{Write}
 use Rattle.papaya_call.specs.declared.machine.Machine.{Machine}
 use Rattle.papaya_call.specs.declared.machine.State.{State as Stage}
-use Rattle.papaya_call.specs.declared.machine.State.TheVariants.{AtRoot, Making, Opening, Searching, Writing, Offering, Showing, Pairing, Putting, Burying, Counting, Uncounting, Leaving, Growing, Ended}
+use Rattle.papaya_call.specs.declared.machine.State.TheVariants.{AtRoot, Making, Opening, Searching, Writing, Offering, Showing, Pairing, Putting, Burying, Counting, Noting, Uncounting, Leaving, Growing, Ended}
 use Rattle.papaya_law.specs.Exchange.{Setting, State, Exchange, run, start}
 use Rattle.papaya_law.specs.Allows.{AllAllowed}
 use Rattle.papaya_ask.specs.declared.ask.At.TheVariants.{Root, Slot}
@@ -29,16 +29,16 @@ use Rattle.papaya_ask.specs.declared.ask.StepKind.TheVariants as kinds
 use Rattle.papaya_law.specs.Code.{Coding, code}
 use Rattle.papaya_call.specs.Compute.{lacks, offered, provides, with_pair}
 use Rattle.papaya_call.specs.Machine.{IsComputer, MayInsert, after, ask_of, asks, at_exchanged, at_found, at_root, decided, decided_held, goes_as, judged, kind_asked, kind_of_ask, left}
-use Rattle.papaya_ask.specs.Search.{first_place, look as look_seen, at_yes}
+use Rattle.papaya_ask.specs.Search.{first_place, hinted, look as look_seen, at_yes}
 use Rattle.papaya_rests.specs.Told.{IsAsked, IsSaying, IsTold, IsUnmade, Hands}
 use Rattle.papaya_law.specs.Code.{IsHashed}
-use Rattle.papaya_call.specs.Write.{new_word, write_kind}
+use Rattle.papaya_call.specs.Write.{write_kind}
 use Rattle.papaya_call.specs.Remove.{grave_word}
-use Rattle.papaya_rests.specs.Rests.{IsAt, IsModeOf, IsOwnPair, Rests, RestsFill, MayNeed, RestsHands, RestsLeaving, RestsStage, RestsWriting, HasComeTo, HasMet}
+use Rattle.papaya_rests.specs.Rests.{IsAt, IsModeOf, IsOwnPair, Rests, RestsFill, MayNeed, RestsHands, RestsLeaving, RestsStage, RestsWriting, HasComeTo, HasMet, HasClaimed}
 use Rattle.papaya_law.proofs.Codes.{code_pair}
 use Rattle.papaya_rests.proofs.RestsLearnMoments.{no_root, next_come, over_last, root_come}
 use Rattle.papaya_rests.proofs.RestsLearnPlaces.{first}
-use Rattle.papaya_rests.proofs.RestsLearnLook.{compared, looks, told_word}
+use Rattle.papaya_rests.proofs.RestsLearnLook.{compared, hints, looks, told_word}
 use Rattle.papaya_rests.proofs.RestsLearnGoes.{goes_rests}
 use Rattle.papaya_rests.proofs.RestsLearnHands.{hands_later, hands_made, hands_more, hands_told, own_newest}
 use Rattle.papaya_rests.proofs.RestsLearnComputes.{decided_hands, decided_rests, lacks_rests, offered_rests, pair_rests, provides_rests}
@@ -46,6 +46,7 @@ use Rattle.papaya_rests.proofs.RestsLearnWrites.{IsSlotAsked, opens, puts, write
 use Rattle.papaya_rests.proofs.RestsLearnRemovals.{beaten_rests, buries, judged_rests, shown_replaceable, uncounted}
 use Rattle.papaya_call.specs.declared.need.Need.{Need}
 use Rattle.papaya_call.specs.Machine.{needed}
+use Rattle.papaya_call.specs.declared.write.Claimed.{Claimed}
 
 -- by a test's outcome
 pub by_test : (b : Bool) (A B R : Type 0) → MatchBool b A B → (b ≡ true → A → R) → (b ≡ false → B → R) → R
@@ -125,11 +126,10 @@ module _ {K P : Type 0} (g : Setting K P) (c : Coding K P) (hashed : IsHashed g 
 
   -- the word that was found at a place
   look_rests : (m : Machine) → m.hash ≡ c.hash k → IsModeOf m.mode g.blocking → (hands : Hands P) → RestsHands g c begun since k hands m.made m.remembered → (at : Place) → IsAt g c begun since k at
-      → RestsStage g c begun since k (told_at at hands) m.task (goes_as m.task m.mode m.remembered (look_seen at m.hash (word_at at)))
+      → RestsStage g c begun since k (told_at at hands) m.task (goes_as m.task m.mode m.remembered (look_seen at (word_at at)))
   look_rests m hash mode hands own at r =
       let own' = hands_told g c begun since k hands m.made m.remembered own (told_at at hands).last in
-      subst (λ h. RestsStage g c begun since k (told_at at hands) m.task (goes_as m.task m.mode m.remembered (look_seen at h (word_at at)))) (sym hash)
-      (goes_rests g c hashed begun since may k (told_at at hands) m.remembered own'.fill_is own'.choice_is m.task m.mode mode (look_seen at (c.hash k) (word_at at)) (looks g c hashed begun since may k at r hands))
+      goes_rests g c hashed begun since may k (told_at at hands) m.remembered own'.fill_is own'.choice_is m.task m.mode mode (look_seen at (word_at at)) (looks g c hashed begun since may k at r hands)
 
   -- an insertion that writes stands at its place
   write_stands : (task : Task) (write : Write) → RestsWriting g c begun since k task write → IsAt g c begun since k write.place
@@ -138,12 +138,12 @@ module _ {K P : Type 0} (g : Setting K P) (c : Coding K P) (hashed : IsHashed g 
   write_stands RemoveIf write r = absurd r
   write_stands Compute write r = absurd r
 
-  -- a claimed pair that was counted is the reply
-  counted : (hands : Hands P) (task : Task) (n : ℕ) → MayInsert task × IsOwnPair g c begun since k hands n → RestsStage g c begun since k hands task (Ended (Inserted n))
-  counted hands Get n r = absurd r.0
-  counted hands (Insert replace) n r = r.1
-  counted hands RemoveIf n r = absurd r.0
-  counted hands Compute n r = r.1
+  -- a claimed pair whose hint was written is the reply
+  noted : (hands : Hands P) (task : Task) (claimed : Claimed) → MayInsert task × HasClaimed g c begun since k hands claimed → RestsStage g c begun since k hands task (Ended (Inserted claimed.pair))
+  noted hands Get claimed r = absurd r.0
+  noted hands (Insert replace) claimed r = r.1.pair
+  noted hands RemoveIf claimed r = absurd r.0
+  noted hands Compute claimed r = r.1.pair
 
   -- what has to be shown after an answer
   abbrev pub Learned : Machine → Answer → List (Exchange P) → Hands P → Type 0
@@ -210,7 +210,7 @@ module _ {K P : Type 0} (g : Setting K P) (c : Coding K P) (hashed : IsHashed g 
     slot_exchanged : (made : Made) → Own hands made → (stage : Stage) (kind : Option StepKind) (at : Place) (old new : ℕ) → IsAt g c begun since k at → (answer : Answer) (es : List (Exchange P)) (hands' : Hands P)
         → IsTold g c k now kind hands (Ask_exchange (Slot at.table at.probe.i) old new) answer es hands'
         → (word_at at ≡ old → IsSlotAsked g c hashed begun since may k kind at new hands es → AllAllowed g start (begun ++ (since ++ es)) × RestsStage g c begun (since ++ es) k hands m.task (at_exchanged made stage))
-        → (RestsStage g c begun since k (told_at at hands) m.task (goes_as m.task m.mode m.remembered (look_seen at m.hash (word_at at)))
+        → (RestsStage g c begun since k (told_at at hands) m.task (goes_as m.task m.mode m.remembered (look_seen at (word_at at)))
         → RestsStage g c begun since k (told_at at hands) m.task (at_found (in_stage made stage) (word_at at) stage))
         → Learned (in_stage made stage) answer es hands'
     slot_exchanged made own stage kind at old new r answer es hands' h done beaten =
@@ -258,14 +258,19 @@ module _ {K P : Type 0} (g : Setting K P) (c : Coding K P) (hashed : IsHashed g 
         quiet (in_stage made (Searching (Sizing t))) answer (Size (g.size t) size.0) es hands' hands size.2 h.1.0 h.1.1
         (rests hands made n (Searching (Looking (first_place m.hash t (g.size t) size.0))) (first g c hashed begun since k t size.0 m.hash r size.1 hash))
     learns_in made n (Searching (Looking at)) r answer es hands' h =
-        quiet (in_stage made (Searching (Looking at))) answer (Word_read (word_at at)) es hands' (told_at at hands) h.0 h.1 h.2
+        let hint : ℕ = h.0.0 in
+        quiet (in_stage made (Searching (Looking at))) answer (Word_read hint) es hands' hands h.0.2 h.1.0 h.1.1
+        (rests hands made n (goes_as m.task m.mode m.remembered (hinted at m.hash hint))
+        (goes_rests g c hashed begun since may k hands m.remembered n.fill_is n.choice_is m.task m.mode mode (hinted at m.hash hint) (hints g c hashed begun since may k at r hands m.hash hint hash h.0.1)))
+    learns_in made n (Searching (Reading at)) r answer es hands' h =
+        quiet (in_stage made (Searching (Reading at))) answer (Word_read (word_at at)) es hands' (told_at at hands) h.0 h.1 h.2
         (rests (told_at at hands) made (hands_told g c begun since k hands made m.remembered n (told_at at hands).last)
-        (goes_as m.task m.mode m.remembered (look_seen at m.hash (word_at at))) (look_rests (in_stage made (Searching (Looking at))) hash mode hands n at r))
+        (goes_as m.task m.mode m.remembered (look_seen at (word_at at))) (look_rests (in_stage made (Searching (Reading at))) hash mode hands n at r))
     learns_in made n (Searching (Comparing at word)) r answer es hands' h =
         let p : P = r.0 in
         let met : HasMet g c begun since k at word p = r.2 in
         let same : Bool = g.same k (g.key p) in
-        let number : c.number p ≡ pair_of word = sym (ap pair_of met.loaded ∙ (code_pair g c hashed.coding met.was p met.names).0) in
+        let number : c.number p ≡ pair_of word = sym (ap pair_of met.loaded ∙ (code_pair g c hashed.coding met.was p met.names)) in
         quiet (in_stage made (Searching (Comparing at word))) answer (Yes same) es hands' hands (h.0 p r.1 number) h.1.0 h.1.1
         (rests hands made n (goes_as m.task m.mode m.remembered (at_yes (Comparing at word) same))
         (goes_rests g c hashed begun since may k hands m.remembered n.fill_is n.choice_is m.task m.mode mode (at_yes (Comparing at word) same) (compared g c hashed begun since may k at word p met hands r.1 same refl)))
@@ -283,8 +288,8 @@ module _ {K P : Type 0} (g : Setting K P) (c : Coding K P) (hashed : IsHashed g 
         (rests told (Pair (c.number q.0)) (hands_made g c begun since k told Key m.remembered (hands_more g c begun since k hands Key m.remembered n q.0 q.1) (Pair (c.number q.0)) (own_newest g c begun since k hands q.0)) (Writing write) r))
         h
     learns_in (Pair i) n (Writing write) r answer es hands' h =
-        slot_exchanged (Pair i) n (Writing write) (Some (write_kind write)) write.place write.old (new_word m.hash i) (write_stands m.task write r) answer es hands' h
-        (λ there asked. writes g c hashed begun since may k hands n.keys i (new_word m.hash i) n.made_is m.task write r there es asked)
+        slot_exchanged (Pair i) n (Writing write) (Some (write_kind write)) write.place write.old (live_word i) (write_stands m.task write r) answer es hands' h
+        (λ there asked. writes g c hashed begun since may k hands n.keys i (live_word i) n.made_is m.task write r there es asked)
         (λ on. on)
     learns_in made n (Offering gap) r answer es hands' h =
         said made (Offering gap) answer es hands' h.0 h.1.0 h.1.1
@@ -314,15 +319,16 @@ module _ {K P : Type 0} (g : Setting K P) (c : Coding K P) (hashed : IsHashed g 
         (λ q. quiet (in_stage (Pair i) (Pairing purpose)) answer (Made_number (c.number q.0)) es hands' (record hands { made = q.0 ∷ hands.made }) q.2 q.3 q.4 (pairing_made (Pair i) n purpose r q.0 q.1))
         h
     learns_in made n (Putting put) r answer es hands' h =
-        slot_exchanged made n (Putting put) (Some (write_kind put.write)) put.write.place put.write.old (new_word m.hash put.pair) r.1.stands answer es hands' h
-        (λ there asked. puts g c hashed begun since may k hands n.keys m.task r.0 put r.2 (new_word m.hash put.pair) r.1 there es asked)
+        slot_exchanged made n (Putting put) (Some (write_kind put.write)) put.write.place put.write.old (live_word put.pair) r.1.stands answer es hands' h
+        (λ there asked. puts g c hashed begun since may k hands n.keys m.task r.0 put r.2 (live_word put.pair) r.1 there es asked)
         (λ on. on)
     learns_in made n (Burying removal) r answer es hands' h =
         slot_exchanged made n (Burying removal) (Some kinds.Bury) removal.place removal.word (grave_word removal.word) r.1.met.stands answer es hands' h
         (λ there asked. (buries g c hashed begun since may k hands removal r.1 (grave_word removal.word) es asked, r.0))
         (λ on. beaten_rests g c hashed begun since may k hands removal r.1 (in_stage made (Burying removal)) (told_at removal.place hands) (word_at removal.place) refl m.task r.0 on)
     learns_in made n (Uncounting i) r answer es hands' h = quiet (in_stage made (Uncounting i)) answer Ok_done es hands' hands h.0 h.1.0 h.1.1 (rests hands made n (Ended (Removed i)) (uncounted g c hashed begun since may k hands m.task i r))
-    learns_in made n (Counting i) r answer es hands' h = quiet (in_stage made (Counting i)) answer Ok_done es hands' hands h.0 h.1.0 h.1.1 (rests hands made n (Ended (Inserted i)) (counted hands m.task i r))
+    learns_in made n (Counting i) r answer es hands' h = quiet (in_stage made (Counting i)) answer Ok_done es hands' hands h.0 h.1.0 h.1.1 (rests hands made n (Noting i) r)
+    learns_in made n (Noting i) r answer es hands' h = quiet (in_stage made (Noting i)) answer Ok_done es hands' hands h.0 h.1.0 h.1.1 (rests hands made n (Ended (Inserted i.pair)) (noted hands m.task i r))
     learns_in made n (Leaving t) r answer es hands' h =
         quiet (in_stage made (Leaving t)) answer (Word_read (now.next t)) es hands' hands h.0 h.1 h.2 (rests hands made n (left m.task m.remembered.fill t (now.next t)) (next_rests hands m.remembered.fill n.fill_is m.task t r))
     learns_in made n (Growing need) r answer es hands' h = quiet (in_stage made (Growing need)) answer (Word_read (now.next (needed need))) es hands' hands h.0 h.1 h.2 (rests hands made n (Ended (Reply_refused Capacity)) (growing_refused hands m.task need r.0 Capacity))

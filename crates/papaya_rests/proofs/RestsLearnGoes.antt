@@ -44,7 +44,7 @@ module _ {K P : Type 0} (g : Setting K P) (c : Coding K P) (hashed : IsHashed g 
     pub had_pair : (h.was ≡ Live p) ⊎ (h.was ≡ Marked p) → HadPair g c begun since k (pair_of word)
     had_pair e = (
       p,
-      sym (ap pair_of h.loaded ∙ (code_pair g c hashed.coding h.was p h.names).0),
+      sym (ap pair_of h.loaded ∙ (code_pair g c hashed.coding h.was p h.names)),
       h.had (⊎_elim (λ l. ap held (shows_live l)) (λ m. ap held (shows_marked m)) e),
     )
 

@@ -1,10 +1,10 @@
 -- What a search sees in the word that stands at its place, and by comparing the key of the pair that it met.
 use Rattle.std.proofs.Common.{◌≡◌, ◌⊎◌, inl, inr, ⊎_elim, ℕ, ◌==◌, Bool, true, false, cond, Some, List, [], ◌++◌, append-nil, refl, sym, ap, ◌∙◌, subst}
 use Rattle.std.proofs.lemmas.Bool.{cond_both}
-use Rattle.papaya_words.specs.Word.{kind_of, byte_of, top_byte}
+use Rattle.papaya_words.specs.Word.{kind_of, may_hold}
 use Rattle.papaya_words.specs.declared.word.Kind.TheVariants as kinds
 use Rattle.papaya_ask.specs.declared.search.Place.{Place}
-use Rattle.papaya_ask.specs.declared.search.Search.TheVariants.{Comparing}
+use Rattle.papaya_ask.specs.declared.search.Search.TheVariants.{Comparing, Reading}
 use Rattle.papaya_ask.specs.declared.search.Seen.TheVariants as seen
 use Rattle.papaya_law.specs.Exchange.{Word, Empty, Closed, Live, Marked, Copied, Buried, Setting, State, Exchange, run, start}
 use Rattle.papaya_law.specs.View.{View, Foreign, Here, Leaving, Gone, look, held, beyond, view}
@@ -12,15 +12,17 @@ use Rattle.papaya_law.specs.Allows.{AllAllowed}
 use Rattle.papaya_law.specs.Code.{Coding, code, kind}
 use Rattle.papaya_law.specs.Invariant.{named}
 use Rattle.papaya_law.specs.Later.{Becomes}
-use Rattle.papaya_ask.specs.Search.{go_on, compare_byte, look_at, look as look_seen, match_at, at_yes}
+use Rattle.papaya_ask.specs.Search.{go_on, hinted, look_at, look as look_seen, match_at, at_yes}
 use Rattle.papaya_rests.specs.Told.{Hands, or_last}
 use Rattle.papaya_law.specs.Code.{IsHashed}
 use Rattle.papaya_rests.specs.Rests.{HasMet, IsAt}
 use Rattle.papaya_law.proofs.Codes.{code_kind}
-use Rattle.papaya_law.proofs.CodeViews.{other_byte, other_key, past_buried}
+use Rattle.papaya_law.proofs.CodeViews.{other_key, past_buried}
 use Rattle.papaya_law.proofs.Later.{Sees, later_itself, sees_later}
 use Rattle.papaya_rests.proofs.RestsLearnMoments.{found_here}
 use Rattle.papaya_rests.proofs.RestsLearnPlaces.{RestsSeen, goes_on, sees}
+use Rattle.papaya_law.specs.Hints.{IsHint}
+use Rattle.papaya_law.proofs.Hints.{hint_passes}
 
 -- the machine was told of the pair that a word names
 abbrev pub told_word : {P : Type 0} → Word P → Hands P → Hands P
@@ -63,19 +65,26 @@ module _ {K P : Type 0} (g : Setting K P) (c : Coding K P) (hashed : IsHashed g 
           (⊎_elim (λ q. inl (there ∙ q)) (λ q. inr (there ∙ q)) (held_pair g k w p n h));
     }
 
-    -- a word with the key's hash byte is compared, and a search goes past another one
-    compares : (w : Word P) (p : P) → now.slot at.table at.probe.i ≡ w → named w ≡ Some p → (kind w ≡ kinds.Buried → ⊥) → (hands : Hands P) → RestsSeen g c hashed begun since k (told_word w hands) (compare_byte at (c.hash k) (code g c w))
-    compares w p e n unburied hands =
-        cond_both (byte_of (code g c w) == top_byte (c.hash k)) (seen.On (Comparing at (code g c w))) (go_on at) (RestsSeen g c hashed begun since k (told_word w hands))
-        (λ same. (p, ap (λ o. or_last o hands.last) n, met w p e n unburied))
-        (λ other. goes_on g c hashed begun since k at r (ap beyond (sees g c hashed begun since k at r w e ∙ other_byte g c hashed.coding k w p n other)) (told_word w hands))
+    -- a filled word is compared
+    compares : (w : Word P) (p : P) → now.slot at.table at.probe.i ≡ w → named w ≡ Some p → (kind w ≡ kinds.Buried → ⊥) → (hands : Hands P) → RestsSeen g c hashed begun since k (told_word w hands) (seen.On (Comparing at (code g c w)))
+    compares w p e n unburied hands = (p, ap (λ o. or_last o hands.last) n, met w p e n unburied)
+
+    -- a hint that may be there: the word is loaded next, or the place is passed
+    pub hints : (hands : Hands P) (hash n : ℕ) → hash ≡ c.hash k → IsHint g c now at.table at.probe.i n → RestsSeen g c hashed begun since k hands (hinted at hash n)
+    hints hands hash n same is =
+        let w : Word P = now.slot at.table at.probe.i in
+        cond_both (may_hold n hash) (seen.On (Reading at)) (go_on at) (RestsSeen g c hashed begun since k hands)
+        (λ may. r)
+        (λ other.
+        let foreign : view g k w ≡ Foreign = hint_passes g c hashed.coding k w n is (ap (may_hold n) (sym same) ∙ other) in
+        goes_on g c hashed begun since k at r (ap beyond (sees g c hashed begun since k at r w refl ∙ foreign)) hands)
 
     -- a word that is passed whatever its key
     passes : (w : Word P) → now.slot at.table at.probe.i ≡ w → beyond (view g k w) ≡ true → (hands : Hands P) → RestsSeen g c hashed begun since k (told_word w hands) (go_on at)
     passes w e past hands = goes_on g c hashed begun since k at r (ap beyond (sees g c hashed begun since k at r w e) ∙ past) (told_word w hands)
 
     -- by the word's kind
-    by_kind : (w : Word P) → now.slot at.table at.probe.i ≡ w → (hands : Hands P) → RestsSeen g c hashed begun since k (told_word w hands) (look_at (kind w) at (c.hash k) (code g c w))
+    by_kind : (w : Word P) → now.slot at.table at.probe.i ≡ w → (hands : Hands P) → RestsSeen g c hashed begun since k (told_word w hands) (look_at (kind w) at (code g c w))
     by_kind Empty e hands = (r, e)
     by_kind Closed e hands = passes Closed e refl hands
     by_kind (Live p) e hands = compares (Live p) p e refl (λ q. cc) hands
@@ -84,10 +93,10 @@ module _ {K P : Type 0} (g : Setting K P) (c : Coding K P) (hashed : IsHashed g 
     by_kind (Buried p) e hands = passes (Buried p) e (past_buried g c k (Buried p) (code_kind g c (Buried p))) hands
 
     -- what the word that stands there tells
-    pub looks : (hands : Hands P) → RestsSeen g c hashed begun since k (told_word (now.slot at.table at.probe.i) hands) (look_seen at (c.hash k) (code g c (now.slot at.table at.probe.i)))
+    pub looks : (hands : Hands P) → RestsSeen g c hashed begun since k (told_word (now.slot at.table at.probe.i) hands) (look_seen at (code g c (now.slot at.table at.probe.i)))
     looks hands =
         let w : Word P = now.slot at.table at.probe.i in
-        subst (λ y. RestsSeen g c hashed begun since k (told_word w hands) (look_at y at (c.hash k) (code g c w))) (sym (code_kind g c w)) (by_kind w refl hands)
+        subst (λ y. RestsSeen g c hashed begun since k (told_word w hands) (look_at y at (code g c w))) (sym (code_kind g c w)) (by_kind w refl hands)
 
   module _ (at : Place) (word : ℕ) (p : P) (h : HasMet g c begun since k at word p) where
     -- the number is that of the word that was loaded

@@ -87,7 +87,7 @@ module _ {K P : Type 0} (g : Setting K P) (c : Coding K P) (hashed : IsHashed g 
 
     module _ (m : Machine) (hands' : Hands P) (word : ℕ) (is : word ≡ code g c (now.slot removal.place.table removal.place.probe.i)) where
       -- so where another word stands, a removal is over if that is Buried, and else goes on as its search does
-      by_kind : RestsStage g c begun since k hands' RemoveIf (goes m (look_seen removal.place m.hash word)) → (y : Kind) → kind_of word ≡ y → RestsStage g c begun since k hands' RemoveIf (beaten_by y m removal.place word)
+      by_kind : RestsStage g c begun since k hands' RemoveIf (goes m (look_seen removal.place word)) → (y : Kind) → kind_of word ≡ y → RestsStage g c begun since k hands' RemoveIf (beaten_by y m removal.place word)
       by_kind on word_kinds.Buried e = buried_absent (subst (λ y. IsOfKind y (now.slot removal.place.table removal.place.probe.i)) (ap kind_of (sym is) ∙ e) (word_of_kind g c (now.slot removal.place.table removal.place.probe.i)))
       by_kind on word_kinds.Empty e = on
       by_kind on word_kinds.Live e = on
@@ -96,7 +96,7 @@ module _ {K P : Type 0} (g : Setting K P) (c : Coding K P) (hashed : IsHashed g 
       by_kind on word_kinds.Closed e = on
 
       -- and a compute goes on in any case
-      pub beaten_rests : (task : Task) → HasClosure task → RestsStage g c begun since k hands' task (goes m (look_seen removal.place m.hash word)) → RestsStage g c begun since k hands' task (beaten_as task m removal.place word)
+      pub beaten_rests : (task : Task) → HasClosure task → RestsStage g c begun since k hands' task (goes m (look_seen removal.place word)) → RestsStage g c begun since k hands' task (beaten_as task m removal.place word)
       beaten_rests Get closure on = absurd closure
       beaten_rests (Insert replace) closure on = absurd closure
       beaten_rests RemoveIf closure on = by_kind on (kind_of word) refl

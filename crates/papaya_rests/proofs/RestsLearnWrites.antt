@@ -1,7 +1,7 @@
 -- After an exchange of its own a machine rests again, and the exchange was allowed.
 use Rattle.std.proofs.Common.{◌≡◌, ⊎_elim, ℕ, ◌<◌, ◌==◌, eqb-true, eq-eqb, Bool, true, false, cond, Option, Some, List, [], ◌∷◌, ◌++◌, append_assoc, refl, sym, ap, ◌∙◌, subst}
 use Rattle.std.proofs.lemmas.Bool.{cond_both}
-use Rattle.papaya_words.specs.Word.{pair_of}
+use Rattle.papaya_words.specs.Word.{pair_of, hint_of}
 use Rattle.papaya_ask.specs.declared.ask.At.TheVariants.{Root, Slot}
 use Rattle.papaya_ask.specs.declared.ask.StepKind.{StepKind}
 use Rattle.papaya_ask.specs.declared.ask.StepKind.TheVariants as kinds
@@ -12,17 +12,21 @@ use Rattle.papaya_call.specs.declared.compute.Put.{Put}
 use Rattle.papaya_call.specs.declared.machine.State.TheVariants.{Counting, Ended}
 use Rattle.papaya_ask.specs.declared.search.Place.{Place}
 use Rattle.papaya_call.specs.declared.write.Write.{Write}
-use Rattle.papaya_law.specs.Exchange.{Setting, State, Exchange, Open, after, run, start}
+use Rattle.papaya_law.specs.Exchange.{Live, Setting, State, Exchange, Open, Claim, after, run, start}
 use Rattle.papaya_law.specs.Allows.{AllAllowed, Allows}
 use Rattle.papaya_law.specs.Code.{Coding, code}
 use Rattle.papaya_call.specs.Machine.{IsComputer, written}
 use Rattle.papaya_rests.specs.Told.{IsAsked, IsOneOf, Hands}
 use Rattle.papaya_law.specs.Code.{IsHashed}
-use Rattle.papaya_rests.specs.Rests.{HasComeTo, IsOwnPair, MayWrite, RestsStage, RestsWriting}
-use Rattle.papaya_call.specs.Write.{write_kind}
+use Rattle.papaya_rests.specs.Rests.{HasClaimed, HasComeTo, IsOwnPair, MayWrite, RestsStage, RestsWriting}
+use Rattle.papaya_call.specs.Write.{claimed_by, write_kind}
+use Rattle.papaya_law.proofs.Hints.{hint_fills}
 use Rattle.papaya_law.proofs.Moments.{run-append, allowed_append}
+use Rattle.papaya_law.proofs.Slots.{put_there}
+use Rattle.papaya_rests.proofs.RestsStay.{at_stays}
 use Rattle.papaya_rests.proofs.RestsExchange.{may_claim, may_replace}
 use Rattle.papaya_rests.proofs.RestsLearnMoments.{root_come}
+use Rattle.papaya_law.specs.Hints.{IsHint}
 
 module _ {K P : Type 0} (g : Setting K P) (c : Coding K P) (hashed : IsHashed g c) (begun since : List (Exchange P)) (may : AllAllowed g start (begun ++ since)) (k : K) where
   -- the state after all exchanges
@@ -76,12 +80,34 @@ module _ {K P : Type 0} (g : Setting K P) (c : Coding K P) (hashed : IsHashed g 
     allowed_slot : (es : List (Exchange P)) → IsSlotAsked (Some (write_kind write)) write.place new hands es → AllAllowed g start (begun ++ (since ++ es))
     allowed_slot es h = subst (λ l. AllAllowed g start (begun ++ (since ++ l))) (sym h.2) (one_more h.0 (allowed_write (write.old == 0) refl h.0 h.1))
 
+  -- the new pair stands where it was claimed, and is of the key
+  claimed_there : (hands : Hands P) → AreOwn hands → (new : ℕ) (write : Write) → (es : List (Exchange P)) → IsSlotAsked (Some kinds.Claim) write.place new hands es
+      → IsHint g c (run (begun ++ (since ++ es)) start) write.place.table write.place.probe.i (hint_of (c.hash k))
+  claimed_there hands keys new write es (e, (q, own, is), one) =
+      let t : ℕ = write.place.table in
+      let x : ℕ = write.place.probe.i in
+      let mine : g.key q ≡ k = keys q own.made in
+      let there : (run (begun ++ (since ++ Claim t x q ∷ [])) start).slot t x ≡ Live q = ap (λ s. s.slot t x) (after_more (Claim t x q)) ∙ (put_there now t x (Live q) t x (refl, refl)).0 in
+      let same : g.same k (g.key q) ≡ true = subst (λ l. g.same k l ≡ true) (sym mine) (hashed.lawful.itself k) in
+      subst (λ l. IsHint g c (run (begun ++ (since ++ l)) start) t x (hint_of (c.hash k))) (sym (one ∙ ap (λ y. y ∷ []) is))
+      (hint_fills g c hashed.coding k ((run (begun ++ (since ++ Claim t x q ∷ [])) start).slot t x) q there same)
+
+  -- the claimed pair, its place and its hint
+  has_claimed : (hands : Hands P) → AreOwn hands → (n new : ℕ) → IsOwnPair g c begun since k hands n → (replace : Bool) (write : Write) → MayWrite g c begun since k replace write
+      → (es : List (Exchange P)) → AllAllowed g start (begun ++ (since ++ es)) → IsSlotAsked (Some kinds.Claim) write.place new hands es → HasClaimed g c begun (since ++ es) k hands (claimed_by write n)
+  has_claimed hands keys n new own replace write r es all h = record {
+    pair = own;
+    stands = at_stays g c hashed begun since es all k write.place r.stands;
+    hint = claimed_there hands keys new write es h;
+  }
+
   -- an insertion that replaces has replaced, and another one has claimed
-  has_written : (since' : List (Exchange P)) (hands : Hands P) (n : ℕ) → IsOwnPair g c begun since k hands n → (replace : Bool) (write : Write) → MayWrite g c begun since k replace write → (b : Bool) → (write.old == 0) ≡ b
-      → RestsStage g c begun since' k hands (Insert replace) (cond b (Counting n) (Ended (Replaced (pair_of write.old) n)))
-  has_written since' hands n own replace write r true is = (tt, own)
-  has_written since' hands n own true write r false is = own
-  has_written since' hands n own false write r false is =
+  has_written : (hands : Hands P) → AreOwn hands → (n new : ℕ) → IsOwnPair g c begun since k hands n → (replace : Bool) (write : Write) → MayWrite g c begun since k replace write
+      → (es : List (Exchange P)) → AllAllowed g start (begun ++ (since ++ es)) → (b : Bool) → (write.old == 0) ≡ b → IsSlotAsked (Some (cond b kinds.Claim kinds.Replace)) write.place new hands es
+      → RestsStage g c begun (since ++ es) k hands (Insert replace) (cond b (Counting (claimed_by write n)) (Ended (Replaced (pair_of write.old) n)))
+  has_written hands keys n new own replace write r es all true is h = (tt, has_claimed hands keys n new own replace write r es all h)
+  has_written hands keys n new own true write r es all false is h = own
+  has_written hands keys n new own false write r es all false is h =
       ⊎_elim
       (λ none. absurd (let some = eq-eqb write.old 0 none in cc (some, is)))
       (λ o. absurd (let replaces = o.0 in cc replaces))
@@ -94,18 +120,24 @@ module _ {K P : Type 0} (g : Setting K P) (c : Coding K P) (hashed : IsHashed g 
   writes hands keys n new own Get write r old es h = absurd r
   writes hands keys n new own RemoveIf write r old es h = absurd r
   writes hands keys n new own Compute write r old es h = absurd r
-  writes hands keys n new own (Insert replace) write r old es h = (allowed_slot hands keys new replace write r old es h, has_written (since ++ es) hands n own replace write r (write.old == 0) refl)
+  writes hands keys n new own (Insert replace) write r old es h =
+      let all = allowed_slot hands keys new replace write r old es h in
+      (all, has_written hands keys n new own replace write r es all (write.old == 0) refl h)
 
   -- a compute has claimed or replaced
-  has_put : (since' : List (Exchange P)) (hands : Hands P) (task : Task) → IsComputer task → (n : ℕ) → IsOwnPair g c begun since k hands n → (write : Write) → RestsStage g c begun since' k hands task (written write n)
-  has_put since' hands Get is n own write = absurd is
-  has_put since' hands (Insert replace) is n own write = absurd is
-  has_put since' hands RemoveIf is n own write = absurd is
-  has_put since' hands Compute is n own write =
-      cond_both (write.old == 0) (Counting n) (Ended (Replaced (pair_of write.old) n)) (RestsStage g c begun since' k hands Compute) (λ none. (tt, own)) (λ some. own)
+  has_put : (hands : Hands P) → AreOwn hands → (task : Task) → IsComputer task → (n new : ℕ) → IsOwnPair g c begun since k hands n → (write : Write) → MayWrite g c begun since k true write
+      → (es : List (Exchange P)) → AllAllowed g start (begun ++ (since ++ es)) → (b : Bool) → IsSlotAsked (Some (cond b kinds.Claim kinds.Replace)) write.place new hands es
+      → RestsStage g c begun (since ++ es) k hands task (cond b (Counting (claimed_by write n)) (Ended (Replaced (pair_of write.old) n)))
+  has_put hands keys Get is n new own write r es all b h = absurd is
+  has_put hands keys (Insert replace) is n new own write r es all b h = absurd is
+  has_put hands keys RemoveIf is n new own write r es all b h = absurd is
+  has_put hands keys Compute is n new own write r es all true h = (tt, has_claimed hands keys n new own true write r es all h)
+  has_put hands keys Compute is n new own write r es all false h = own
 
   -- where it puts the pair that it made
   pub puts : (hands : Hands P) → AreOwn hands → (task : Task) → IsComputer task → (put : Put) → IsOwnPair g c begun since k hands put.pair → (new : ℕ) → MayWrite g c begun since k true put.write
       → word_at put.write.place ≡ put.write.old → (es : List (Exchange P)) → IsSlotAsked (Some (write_kind put.write)) put.write.place new hands es
       → AllAllowed g start (begun ++ (since ++ es)) × RestsStage g c begun (since ++ es) k hands task (written put.write put.pair)
-  puts hands keys task is put own new r old es h = (allowed_slot hands keys new true put.write r old es h, has_put (since ++ es) hands task is put.pair own put.write)
+  puts hands keys task is put own new r old es h =
+      let all = allowed_slot hands keys new true put.write r old es h in
+      (all, has_put hands keys task is put.pair new own put.write r es all (put.write.old == 0) h)

@@ -2,16 +2,16 @@
 use Rattle.std.proofs.Common.{◌≡◌, ◌⊎◌, inl, inr, ⊎_elim, ℕ, ◌<◌, List, ◌++◌, append_assoc, sym, ap, ◌∙◌, subst}
 use Rattle.papaya_ask.specs.declared.ask.At.TheVariants.{Next, Slot}
 use Rattle.papaya_ask.specs.declared.ask.Ask.{Ask}
-use Rattle.papaya_ask.specs.declared.ask.Ask.TheVariants.{Load, Exchange as Ask_exchange, SizeOf}
+use Rattle.papaya_ask.specs.declared.ask.Ask.TheVariants.{Load, Exchange as Ask_exchange, LoadHint, WriteHint, SizeOf}
 use Rattle.papaya_ask.specs.declared.call.Task.{Task}
 use Rattle.papaya_ask.specs.declared.call.Task.TheVariants.{Get, Insert, RemoveIf, Compute}
 use Rattle.papaya_ask.specs.declared.search.Place.{Place}
-use Rattle.papaya_ask.specs.declared.search.Search.TheVariants.{Sizing, Looking, Comparing}
+use Rattle.papaya_ask.specs.declared.search.Search.TheVariants.{Sizing, Looking, Reading, Comparing}
 use Rattle.papaya_call.specs.declared.write.Made.{Made}
 use Rattle.papaya_call.specs.declared.write.Made.TheVariants.{Nothing, Key, Pair}
 use Rattle.papaya_call.specs.declared.write.Write.{Write}
 use Rattle.papaya_call.specs.declared.machine.State.{State as Stage}
-use Rattle.papaya_call.specs.declared.machine.State.TheVariants.{AtRoot, Making, Opening, Searching, Writing, Offering, Showing, Pairing, Putting, Burying, Counting, Uncounting, Leaving, Growing, Ended}
+use Rattle.papaya_call.specs.declared.machine.State.TheVariants.{AtRoot, Making, Opening, Searching, Writing, Offering, Showing, Pairing, Putting, Burying, Counting, Noting, Uncounting, Leaving, Growing, Ended}
 use Rattle.papaya_law.specs.Exchange.{Setting, Exchange, run, start}
 use Rattle.papaya_law.specs.View.{IsReached}
 use Rattle.papaya_law.specs.Class.{IsOn}
@@ -77,6 +77,8 @@ module _ {K P : Type 0} (g : Setting K P) (c : Coding K P) (h : IsHashed g c) (b
   IsNamed (Load (Next t)) = OnChain t
   IsNamed (Load (Slot t x)) = HasSlot t x
   IsNamed (Ask_exchange (Slot t x) old new) = HasSlot t x
+  IsNamed (LoadHint t x) = HasSlot t x
+  IsNamed (WriteHint t x hint) = HasSlot t x
   IsNamed _ = Unit {0}
 
   -- the place of a search
@@ -98,6 +100,7 @@ module _ {K P : Type 0} (g : Setting K P) (c : Coding K P) (h : IsHashed g c) (b
     ask_named made (Opening t) r = tt
     ask_named made (Searching (Sizing t)) r = come_on t r
     ask_named made (Searching (Looking at)) r = place_within at r
+    ask_named made (Searching (Reading at)) r = place_within at r
     ask_named made (Searching (Comparing at word)) r = tt
     ask_named Nothing (Writing write) r = tt
     ask_named Key (Writing write) r = tt
@@ -110,6 +113,7 @@ module _ {K P : Type 0} (g : Setting K P) (c : Coding K P) (h : IsHashed g c) (b
     ask_named made (Putting put) r = place_within put.write.place (r.1).stands
     ask_named made (Burying removal) r = place_within removal.place (r.1).met.stands
     ask_named made (Counting n) r = tt
+    ask_named made (Noting claimed) r = place_within claimed.place r.1.stands
     ask_named made (Uncounting n) r = tt
     ask_named made (Leaving t) r = leaving_on task t r
     ask_named made (Growing need) r = growing_on need r.1
@@ -119,3 +123,8 @@ module _ {K P : Type 0} (g : Setting K P) (c : Coding K P) (h : IsHashed g c) (b
   pub slot_named : (ask : Ask) → IsNamed ask → (t x : ℕ) → (ask ≡ Load (Slot t x)) ⊎ ((old : ℕ) × (new : ℕ) × (ask ≡ Ask_exchange (Slot t x) old new)) → HasSlot t x
   slot_named ask r t x (inl e) = subst IsNamed e r
   slot_named ask r t x (inr (old, new, e)) = subst IsNamed e r
+
+  -- one whose hint is loaded or written
+  pub hint_named : (ask : Ask) → IsNamed ask → (t x : ℕ) → (ask ≡ LoadHint t x) ⊎ ((hint : ℕ) × (ask ≡ WriteHint t x hint)) → HasSlot t x
+  hint_named ask r t x (inl e) = subst IsNamed e r
+  hint_named ask r t x (inr (hint, e)) = subst IsNamed e r

@@ -17,18 +17,19 @@ use Rattle.papaya_ask.specs.declared.call.Task.TheVariants.{Get, Insert, RemoveI
 use Rattle.papaya_call.specs.declared.compute.Gap.{Gap}
 use Rattle.papaya_call.specs.declared.compute.Remembered.{Remembered}
 use Rattle.papaya_call.specs.declared.remove.Removal.{Removal}
-use Rattle.papaya_ask.specs.declared.search.Search.TheVariants.{Sizing, Looking, Comparing}
+use Rattle.papaya_ask.specs.declared.search.Search.TheVariants.{Sizing, Looking, Reading, Comparing}
 use Rattle.papaya_ask.specs.declared.search.Seen.{Seen}
 use Rattle.papaya_call.specs.declared.write.Made.{Made}
 use Rattle.papaya_call.specs.declared.write.Made.TheVariants.{Nothing, Key, Pair}
 use Rattle.papaya_call.specs.declared.write.Write.{Write}
 use Rattle.papaya_call.specs.declared.machine.Machine.{Machine}
 use Rattle.papaya_call.specs.declared.machine.State.{State as Stage}
-use Rattle.papaya_call.specs.declared.machine.State.TheVariants.{AtRoot, Making, Opening, Searching, Writing, Offering, Showing, Pairing, Putting, Burying, Counting, Uncounting, Leaving, Growing, Ended}
+use Rattle.papaya_call.specs.declared.machine.State.TheVariants.{AtRoot, Making, Opening, Searching, Writing, Offering, Showing, Pairing, Putting, Burying, Counting, Noting, Uncounting, Leaving, Growing, Ended}
 use Rattle.papaya_call.specs.Compute.{offered, provides}
 use Rattle.papaya_call.specs.Machine.{after, ask_of, asks, at_root, beaten, decided, goes_as, judged, left, written}
 use Rattle.papaya_ask.specs.Search.{look as look_seen, at_word as search_loaded, at_yes as search_compared}
 use Rattle.papaya_rests.proofs.Leads.{HoldsOfLeads, beaten_leads, goes_leads, left_leads, provides_leads, root_leads}
+use Rattle.papaya_call.specs.Write.{claimed_by}
 
 -- the table that is to be the root
 abbrev opening_in : Stage → Option ℕ
@@ -47,6 +48,7 @@ opening_asked made hash Making = refl
 opening_asked made hash (Opening t) = refl
 opening_asked made hash (Searching (Sizing t)) = refl
 opening_asked made hash (Searching (Looking at)) = refl
+opening_asked made hash (Searching (Reading at)) = refl
 opening_asked made hash (Searching (Comparing at word)) = refl
 opening_asked Nothing hash (Writing write) = refl
 opening_asked Key hash (Writing write) = refl
@@ -59,6 +61,7 @@ opening_asked (Pair n) hash (Pairing purpose) = refl
 opening_asked made hash (Putting put) = refl
 opening_asked made hash (Burying removal) = refl
 opening_asked made hash (Counting n) = refl
+opening_asked made hash (Noting n) = refl
 opening_asked made hash (Uncounting n) = refl
 opening_asked made hash (Leaving t) = refl
 opening_asked made hash (Growing t) = refl
@@ -91,7 +94,7 @@ goes_open_none task mode held s = goes_leads OpensNone leads_open_none task mode
 
 -- nor does a write
 written_opens_none : (write : Write) (n : ℕ) → OpensNone (written write n)
-written_opens_none write n = cond_both (write.old == 0) (Counting n) (Ended (Replaced (pair_of write.old) n)) OpensNone (λ _. refl) (λ _. refl)
+written_opens_none write n = cond_both (write.old == 0) (Counting (claimed_by write n)) (Ended (Replaced (pair_of write.old) n)) OpensNone (λ _. refl) (λ _. refl)
 
 -- nor what a closure answers
 judged_opens_none : (task : Task) (removal : Removal) (agrees : Bool) → OpensNone (judged task removal agrees)
@@ -140,7 +143,7 @@ module _ (m : Machine) (t : ℕ) where
       none_opened (Searching place) (Yes same) (opening_in (goes_as m.task m.mode m.remembered (search_compared place same))) (goes_open_none m.task m.mode m.remembered (search_compared place same)) e
   opened_in made (Searching place) answer e = absurd cc
   opened_in made (Writing write) (Found_instead word) e =
-      none_opened (Writing write) (Found_instead word) (opening_in (goes_as m.task m.mode m.remembered (look_seen write.place m.hash word))) (goes_open_none m.task m.mode m.remembered (look_seen write.place m.hash word)) e
+      none_opened (Writing write) (Found_instead word) (opening_in (goes_as m.task m.mode m.remembered (look_seen write.place word))) (goes_open_none m.task m.mode m.remembered (look_seen write.place word)) e
   opened_in (Pair n) (Writing write) Exchanged e = none_opened (Writing write) Exchanged (opening_in (written write n)) (written_opens_none write n) e
   opened_in Nothing (Writing write) answer e = absurd cc
   opened_in Key (Writing write) answer e = absurd cc
@@ -158,14 +161,16 @@ module _ (m : Machine) (t : ℕ) where
   opened_in (Pair i) (Pairing purpose) answer e = absurd cc
   opened_in made (Putting put) Exchanged e = none_opened (Putting put) Exchanged (opening_in (written put.write put.pair)) (written_opens_none put.write put.pair) e
   opened_in made (Putting put) (Found_instead word) e =
-      none_opened (Putting put) (Found_instead word) (opening_in (goes_as m.task m.mode m.remembered (look_seen put.write.place m.hash word))) (goes_open_none m.task m.mode m.remembered (look_seen put.write.place m.hash word)) e
+      none_opened (Putting put) (Found_instead word) (opening_in (goes_as m.task m.mode m.remembered (look_seen put.write.place word))) (goes_open_none m.task m.mode m.remembered (look_seen put.write.place word)) e
   opened_in made (Putting put) answer e = absurd cc
   opened_in made (Burying removal) (Found_instead word) e =
       let machine : Machine = record m { made = made; state = Burying removal } in
       none_opened (Burying removal) (Found_instead word) (opening_in (beaten machine removal word)) (beaten_leads OpensNone leads_open_none machine removal word) e
   opened_in made (Burying removal) answer e = absurd cc
   opened_in made (Counting n) Ok_done e = absurd cc
+  opened_in made (Noting n) Ok_done e = absurd cc
   opened_in made (Counting n) answer e = absurd cc
+  opened_in made (Noting n) answer e = absurd cc
   opened_in made (Uncounting n) Ok_done e = absurd cc
   opened_in made (Uncounting n) answer e = absurd cc
   opened_in made (Leaving i) (Word_read word) e = none_opened (Leaving i) (Word_read word) (opening_in (left m.task m.remembered.fill i word)) (left_leads OpensNone leads_open_none m.task m.remembered.fill i word) e

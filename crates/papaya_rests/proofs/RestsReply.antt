@@ -1,6 +1,6 @@
 -- What a call has changed after each answer.
 use Rattle.std.proofs.Common.{◌≡◌, ◌⊎◌, inl, inr, ⊎_elim, ℕ, ◌<◌, ◌^◌, ◌==◌, Bool, true, false, cond, None, Some, List, [], ◌∷◌, refl, sym, ap, subst}
-use Rattle.papaya_words.specs.Word.{pair_of}
+use Rattle.papaya_words.specs.Word.{pair_of, live_word}
 use Rattle.papaya_words.specs.declared.probe.Refused.{Refused}
 use Rattle.papaya_words.specs.declared.probe.ResizeMode.{ResizeMode}
 use Rattle.papaya_ask.specs.declared.ask.Answer.{Answer}
@@ -17,27 +17,27 @@ use Rattle.papaya_call.specs.declared.compute.Purpose.{Purpose}
 use Rattle.papaya_call.specs.declared.compute.Remembered.{Remembered}
 use Rattle.papaya_call.specs.declared.remove.Removal.{Removal}
 use Rattle.papaya_ask.specs.declared.search.Place.{Place}
-use Rattle.papaya_ask.specs.declared.search.Search.TheVariants.{Sizing, Looking, Comparing}
+use Rattle.papaya_ask.specs.declared.search.Search.TheVariants.{Sizing, Looking, Reading, Comparing}
 use Rattle.papaya_ask.specs.declared.search.Seen.{Seen}
 use Rattle.papaya_call.specs.declared.write.Made.{Made}
 use Rattle.papaya_call.specs.declared.write.Made.TheVariants.{Nothing, Key, Pair}
 use Rattle.papaya_call.specs.declared.write.Write.{Write}
 use Rattle.papaya_call.specs.declared.machine.Machine.{Machine}
 use Rattle.papaya_call.specs.declared.machine.State.{State as Stage}
-use Rattle.papaya_call.specs.declared.machine.State.TheVariants.{AtRoot, Making, Opening, Searching, Writing, Offering, Showing, Pairing, Putting, Burying, Counting, Uncounting, Leaving, Growing, Ended}
+use Rattle.papaya_call.specs.declared.machine.State.TheVariants.{AtRoot, Making, Opening, Searching, Writing, Offering, Showing, Pairing, Putting, Burying, Counting, Noting, Uncounting, Leaving, Growing, Ended}
 use Rattle.papaya_law.specs.Exchange.{Setting, State, Exchange}
 use Rattle.papaya_law.specs.Code.{Coding, code}
 use Rattle.papaya_call.specs.Compute.{offered}
 use Rattle.papaya_call.specs.Machine.{after, ask_of, asks, decided, goes_as, judged, kind_asked, kind_of_ask}
-use Rattle.papaya_ask.specs.Search.{look as look_seen, at_yes as search_compared}
+use Rattle.papaya_ask.specs.Search.{hinted, look as look_seen, at_yes as search_compared}
 use Rattle.papaya_rests.specs.Told.{IsAsked, IsSaying, IsTold, IsUnmade, Hands, Quiet, told_of}
 use Rattle.papaya_law.specs.Code.{IsHashed}
 use Rattle.papaya_call.specs.Remove.{grave_word}
 use Rattle.papaya_rests.specs.Rests.{change_in, change_after, change_of_kind}
-use Rattle.papaya_call.specs.Write.{new_word}
 use Rattle.papaya_rests.proofs.Leads.{HoldsOfLeads, beaten_leads, goes_leads, left_leads, provides_leads, root_leads}
-use Rattle.papaya_rests.proofs.NewWords.{pair_of-new_word}
+use Rattle.papaya_rests.proofs.NewWords.{pair_of-live_word}
 use Rattle.papaya_rests.proofs.RestsLearn.{by_test}
+use Rattle.papaya_call.specs.Write.{claimed_by}
 
 -- nothing is changed yet
 abbrev IsUnchanged : Stage → Type 0
@@ -88,18 +88,14 @@ offered_unchanged gap ops.Remove = refl
 offered_unchanged gap (ops.Abort t) = refl
 
 -- a pair that was written is in the map: it was claimed, or took the place of another
-written_changes : (b : Bool) (old new n : ℕ) → pair_of new ≡ n → change_in (cond b (Counting n) (Ended (Replaced (pair_of old) n))) ≡ change_of_kind (Some (cond b kinds.Claim kinds.Replace)) old new
-written_changes true old new n e = ap (λ y. Some (None, Some y)) (sym e)
-written_changes false old new n e = ap (λ y. Some (Some (pair_of old), Some y)) (sym e)
+written_changes : (b : Bool) (write : Write) (n : ℕ) → change_in (cond b (Counting (claimed_by write n)) (Ended (Replaced (pair_of write.old) n))) ≡ change_of_kind (Some (cond b kinds.Claim kinds.Replace)) write.old (live_word n)
+written_changes true write n = ap (λ y. Some (None, Some y)) (sym (pair_of-live_word n))
+written_changes false write n = ap (λ y. Some (Some (pair_of write.old), Some y)) (sym (pair_of-live_word n))
 
 module _ {K P : Type 0} (g : Setting K P) (c : Coding K P) (hashed : IsHashed g c) (k : K) (s : State P) (m : Machine) (hash : m.hash ≡ c.hash k) (hands : Hands P) (es : List (Exchange P)) (hands' : Hands P) where
   -- what an answer changes in a stage
   abbrev Changes : Made → Stage → Answer → Type 0
   Changes made stage answer = change_in (after (record m { made = made; state = stage }) answer).state ≡ change_after (kind_asked made stage) (asks made m.hash stage) answer (change_in stage)
-
-  -- the word of an insertion names its pair
-  new_pair : (n : ℕ) → pair_of (new_word m.hash n) ≡ n
-  new_pair n = pair_of-new_word m.hash n (subst (λ h. h < 2 ^ 64) (sym hash) (hashed.coding.hash_fits k))
 
   -- nothing changes by what a closure answers
   said_changes : (made : Made) (stage : Stage) (answer : Answer) → IsSaying g c k answer → ((agrees : Bool) → Changes made stage (Yes agrees)) → ((kind : OpKind) → Changes made stage (Op kind)) → Changes made stage Ok_done → Changes made stage answer
@@ -141,9 +137,10 @@ module _ {K P : Type 0} (g : Setting K P) (c : Coding K P) (hashed : IsHashed g 
       (λ _ h'. subst (Changes made (Opening t)) (sym h'.0) refl)
       (λ _ h'. subst (Changes made (Opening t)) (sym h'.0) refl)
   changes_in made (Searching (Sizing t)) answer h = let size = h.0 in subst (Changes made (Searching (Sizing t))) (sym size.2) refl
-  changes_in made (Searching (Looking at)) answer h =
+  changes_in made (Searching (Looking at)) answer h = let hint : ℕ = h.0.0 in subst (Changes made (Searching (Looking at))) (sym h.0.2) (goes_unchanged m.task m.mode m.remembered (hinted at m.hash hint))
+  changes_in made (Searching (Reading at)) answer h =
       let word : ℕ = code g c (s.slot at.table at.probe.i) in
-      subst (Changes made (Searching (Looking at))) (sym h.0) (goes_unchanged m.task m.mode m.remembered (look_seen at m.hash word))
+      subst (Changes made (Searching (Reading at))) (sym h.0) (goes_unchanged m.task m.mode m.remembered (look_seen at word))
   changes_in made (Searching (Comparing at word)) answer h = compared_changes made at word answer
   changes_in Nothing (Writing write) answer h = ⊎_elim (λ u. unmade_changes Nothing (Writing write) answer u (λ refused. refl) refl) (λ i. subst (Changes Nothing (Writing write)) (sym i.1) refl) h.0
   changes_in Key (Writing write) answer h = ⊎_elim (λ u. unmade_changes Key (Writing write) answer u.0 (λ refused. refl) refl) (λ q. subst (Changes Key (Writing write)) (sym q.2) refl) h
@@ -152,12 +149,13 @@ module _ {K P : Type 0} (g : Setting K P) (c : Coding K P) (hashed : IsHashed g 
       let x : ℕ = write.place.probe.i in
       let word : ℕ = code g c (s.slot t x) in
       by_test (word == write.old)
-      ((answer ≡ Exchanged) × ((e : Exchange P) × IsAsked c (Some (cond (write.old == 0) kinds.Claim kinds.Replace)) (Slot t x) (new_word m.hash i) s hands e × (es ≡ e ∷ [])) × (hands' ≡ hands))
+      ((answer ≡ Exchanged) × ((e : Exchange P) × IsAsked c (Some (cond (write.old == 0) kinds.Claim kinds.Replace)) (Slot t x) (live_word i) s hands e × (es ≡ e ∷ [])) × (hands' ≡ hands))
       ((answer ≡ Found_instead word) × (es ≡ []) × (hands' ≡ told_of s (Slot t x) hands))
       (Changes (Pair i) (Writing write) answer) h
-      (λ _ h'. subst (Changes (Pair i) (Writing write)) (sym h'.0) (written_changes (write.old == 0) write.old (new_word m.hash i) i (new_pair i)))
-      (λ _ h'. subst (Changes (Pair i) (Writing write)) (sym h'.0) (goes_unchanged m.task m.mode m.remembered (look_seen write.place m.hash word)))
+      (λ _ h'. subst (Changes (Pair i) (Writing write)) (sym h'.0) (written_changes (write.old == 0) write i))
+      (λ _ h'. subst (Changes (Pair i) (Writing write)) (sym h'.0) (goes_unchanged m.task m.mode m.remembered (look_seen write.place word)))
   changes_in made (Counting i) answer h = subst (Changes made (Counting i)) (sym h.0) refl
+  changes_in made (Noting i) answer h = subst (Changes made (Noting i)) (sym h.0) refl
   changes_in made (Offering gap) answer h = said_changes made (Offering gap) answer h.0 (λ agrees. refl) (λ kind. offered_unchanged gap kind) refl
   changes_in made (Showing removal) answer h = said_changes made (Showing removal) answer h.0 (λ agrees. judged_unchanged m.task removal agrees) (λ kind. decided_unchanged m.task removal kind) refl
   changes_in Nothing (Pairing purpose) answer h =
@@ -170,11 +168,11 @@ module _ {K P : Type 0} (g : Setting K P) (c : Coding K P) (hashed : IsHashed g 
       let x : ℕ = write.place.probe.i in
       let word : ℕ = code g c (s.slot t x) in
       by_test (word == write.old)
-      ((answer ≡ Exchanged) × ((e : Exchange P) × IsAsked c (Some (cond (write.old == 0) kinds.Claim kinds.Replace)) (Slot t x) (new_word m.hash put.pair) s hands e × (es ≡ e ∷ [])) × (hands' ≡ hands))
+      ((answer ≡ Exchanged) × ((e : Exchange P) × IsAsked c (Some (cond (write.old == 0) kinds.Claim kinds.Replace)) (Slot t x) (live_word put.pair) s hands e × (es ≡ e ∷ [])) × (hands' ≡ hands))
       ((answer ≡ Found_instead word) × (es ≡ []) × (hands' ≡ told_of s (Slot t x) hands))
       (Changes made (Putting put) answer) h
-      (λ _ h'. subst (Changes made (Putting put)) (sym h'.0) (written_changes (write.old == 0) write.old (new_word m.hash put.pair) put.pair (new_pair put.pair)))
-      (λ _ h'. subst (Changes made (Putting put)) (sym h'.0) (goes_unchanged m.task m.mode m.remembered (look_seen write.place m.hash word)))
+      (λ _ h'. subst (Changes made (Putting put)) (sym h'.0) (written_changes (write.old == 0) write put.pair))
+      (λ _ h'. subst (Changes made (Putting put)) (sym h'.0) (goes_unchanged m.task m.mode m.remembered (look_seen write.place word)))
   changes_in made (Burying removal) answer h =
       let t : ℕ = removal.place.table in
       let x : ℕ = removal.place.probe.i in

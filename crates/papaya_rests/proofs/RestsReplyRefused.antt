@@ -20,18 +20,18 @@ use Rattle.papaya_call.specs.declared.compute.Gap.{Gap}
 use Rattle.papaya_call.specs.declared.compute.Remembered.{Remembered}
 use Rattle.papaya_call.specs.declared.remove.Removal.{Removal}
 use Rattle.papaya_ask.specs.declared.search.Search.{Search}
-use Rattle.papaya_ask.specs.declared.search.Search.TheVariants.{Sizing, Looking, Comparing}
+use Rattle.papaya_ask.specs.declared.search.Search.TheVariants.{Sizing, Looking, Reading, Comparing}
 use Rattle.papaya_ask.specs.declared.search.Seen.{Seen}
 use Rattle.papaya_call.specs.declared.write.Made.{Made}
 use Rattle.papaya_call.specs.declared.write.Made.TheVariants.{Nothing, Key, Pair}
 use Rattle.papaya_call.specs.declared.write.Write.{Write}
 use Rattle.papaya_call.specs.declared.machine.Machine.{Machine}
 use Rattle.papaya_call.specs.declared.machine.State.{State as Stage}
-use Rattle.papaya_call.specs.declared.machine.State.TheVariants.{AtRoot, Making, Opening, Searching, Writing, Offering, Showing, Pairing, Putting, Burying, Counting, Uncounting, Leaving, Growing, Ended}
+use Rattle.papaya_call.specs.declared.machine.State.TheVariants.{AtRoot, Making, Opening, Searching, Writing, Offering, Showing, Pairing, Putting, Burying, Counting, Noting, Uncounting, Leaving, Growing, Ended}
 use Rattle.papaya_call.specs.Compute.{provides}
 use Rattle.papaya_call.specs.Machine.{after, ask_of, asks, at_root, beaten, decided, goes_as, judged, left, pairing_ask, written}
 use Rattle.papaya_ask.specs.Search.{look as look_seen, ask_of as search_ask, at_size as search_sized, at_word as search_loaded, at_yes as search_compared}
-use Rattle.papaya_call.specs.Write.{write_ask}
+use Rattle.papaya_call.specs.Write.{write_ask, claimed_by}
 use Rattle.papaya_rests.proofs.Leads.{HoldsOfLeads, beaten_leads, goes_leads, left_leads, provides_leads, root_leads}
 use Rattle.papaya_call.specs.declared.need.Need.{Need}
 use Rattle.papaya_call.specs.Machine.{needed}
@@ -50,13 +50,14 @@ refusal_of _ = None
 search_unrefused : (search : Search) → refusal_of (search_ask search) ≡ None
 search_unrefused (Sizing t) = refl
 search_unrefused (Looking at) = refl
+search_unrefused (Reading at) = refl
 search_unrefused (Comparing at word) = refl
 
 -- nor does a write
-write_unrefused : (hash : ℕ) (made : Made) (write : Write) → refusal_of (write_ask write made hash) ≡ None
-write_unrefused hash Nothing write = refl
-write_unrefused hash Key write = refl
-write_unrefused hash (Pair n) write = refl
+write_unrefused : (made : Made) (write : Write) → refusal_of (write_ask write made) ≡ None
+write_unrefused Nothing write = refl
+write_unrefused Key write = refl
+write_unrefused (Pair n) write = refl
 
 -- nor does what is made for a compute
 pairing_unrefused : (made : Made) → refusal_of (pairing_ask made) ≡ None
@@ -77,7 +78,7 @@ module _ (made : Made) (hash : ℕ) where
     ended_occupied = λ n. refl;
     making = refl;
     searching = search_unrefused;
-    writing = write_unrefused hash made;
+    writing = write_unrefused made;
     offering = λ gap. refl;
     showing = λ removal. refl;
     putting = λ put. refl;
@@ -92,7 +93,7 @@ module _ (made : Made) (hash : ℕ) where
 
   -- nor a pair that was written
   written_unrefused : (write : Write) (n : ℕ) → IsUnrefused (written write n)
-  written_unrefused write n = cond_both (write.old == 0) (Counting n) (Ended (Replaced (pair_of write.old) n)) IsUnrefused (λ _. refl) (λ _. refl)
+  written_unrefused write n = cond_both (write.old == 0) (Counting (claimed_by write n)) (Ended (Replaced (pair_of write.old) n)) IsUnrefused (λ _. refl) (λ _. refl)
 
   -- nor what the closure of a removal answers
   judged_unrefused : (task : Task) (removal : Removal) (agrees : Bool) → IsUnrefused (judged task removal agrees)
@@ -147,7 +148,7 @@ module _ (m : Machine) (refused : Refused) where
       unrefused (Searching place) (Size slots limit) (refusal_of (search_ask (search_sized place m.hash slots limit))) (search_unrefused (search_sized place m.hash slots limit)) e
   refused_in made (Searching place) answer open_still e = unrefused (Searching place) answer (refusal_of (search_ask place)) (search_unrefused place) e
   refused_in made (Writing write) (Found_instead word) open_still e =
-      unrefused (Writing write) (Found_instead word) (refusal_of (asks made m.hash (goes_as m.task m.mode m.remembered (look_seen write.place m.hash word)))) (goes_unrefused made m.hash m.task m.mode m.remembered (look_seen write.place m.hash word)) e
+      unrefused (Writing write) (Found_instead word) (refusal_of (asks made m.hash (goes_as m.task m.mode m.remembered (look_seen write.place word)))) (goes_unrefused made m.hash m.task m.mode m.remembered (look_seen write.place word)) e
   refused_in Nothing (Writing write) (Was_refused refused') open_still e = answered (Writing write) tt refused' e
   refused_in Key (Writing write) (Was_refused refused') open_still e = answered (Writing write) tt refused' e
   refused_in (Pair n) (Writing write) Exchanged open_still e = unrefused (Writing write) Exchanged (refusal_of (asks (Pair n) m.hash (written write n))) (written_unrefused (Pair n) m.hash write n) e
@@ -155,7 +156,9 @@ module _ (m : Machine) (refused : Refused) where
   refused_in Key (Writing write) answer open_still e = absurd cc
   refused_in (Pair n) (Writing write) answer open_still e = absurd cc
   refused_in made (Counting n) Ok_done open_still e = absurd cc
+  refused_in made (Noting n) Ok_done open_still e = absurd cc
   refused_in made (Counting n) answer open_still e = absurd cc
+  refused_in made (Noting n) answer open_still e = absurd cc
   refused_in made (Offering gap) (Op ops.Insert) open_still e = unrefused (Offering gap) (Op ops.Insert) (refusal_of (pairing_ask made)) (pairing_unrefused made) e
   refused_in made (Offering gap) (Op ops.Remove) open_still e = let is : RemoveNothing ≡ refused = cc e in inr (inr (sym is, (gap, refl), refl))
   refused_in made (Offering gap) (Op (ops.Abort t)) open_still e = absurd cc
@@ -167,7 +170,7 @@ module _ (m : Machine) (refused : Refused) where
   refused_in Key (Pairing purpose) answer open_still e = absurd cc
   refused_in (Pair i) (Pairing purpose) answer open_still e = absurd cc
   refused_in made (Putting put) (Found_instead word) open_still e =
-      unrefused (Putting put) (Found_instead word) (refusal_of (asks made m.hash (goes_as m.task m.mode m.remembered (look_seen put.write.place m.hash word)))) (goes_unrefused made m.hash m.task m.mode m.remembered (look_seen put.write.place m.hash word)) e
+      unrefused (Putting put) (Found_instead word) (refusal_of (asks made m.hash (goes_as m.task m.mode m.remembered (look_seen put.write.place word)))) (goes_unrefused made m.hash m.task m.mode m.remembered (look_seen put.write.place word)) e
   refused_in made (Putting put) Exchanged open_still e = unrefused (Putting put) Exchanged (refusal_of (asks made m.hash (written put.write put.pair))) (written_unrefused made m.hash put.write put.pair) e
   refused_in made (Putting put) answer open_still e = absurd cc
   refused_in made (Showing removal) (Yes agrees) open_still e = unrefused (Showing removal) (Yes agrees) (refusal_of (asks made m.hash (judged m.task removal agrees))) (judged_unrefused made m.hash m.task removal agrees) e

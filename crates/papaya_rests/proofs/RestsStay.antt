@@ -12,12 +12,15 @@ use Rattle.papaya_law.specs.Later.{IsLater, IsLasting}
 use Rattle.papaya_law.specs.Code.{Coding}
 use Rattle.papaya_rests.specs.Told.{Hands}
 use Rattle.papaya_law.specs.Code.{IsHashed}
-use Rattle.papaya_rests.specs.Rests.{now, HasComeTo, IsAt, HasMet, MayWrite, WasAtMoment, IsMovingFrom, RestsNeed, RestsLeaving, Rests}
+use Rattle.papaya_rests.specs.Rests.{now, HasComeTo, IsAt, HasMet, MayWrite, WasAtMoment, IsMovingFrom, RestsNeed, RestsLeaving, Rests, HasClaimed}
 use Rattle.papaya_law.proofs.Later.{Sees, becomes_through, own_sees, sees_later}
 use Rattle.papaya_law.proofs.OneMap.{lasting, later}
 use Rattle.papaya_rests.proofs.RestsCarried.{rests_carried}
 use Rattle.papaya_call.specs.declared.need.Need.{Need}
 use Rattle.papaya_call.specs.declared.need.Need.TheVariants.{Room, Pair as Pair_at}
+use Rattle.papaya_words.specs.Word.{hint_of}
+use Rattle.papaya_law.proofs.Hints.{hint_lasts}
+use Rattle.papaya_call.specs.declared.write.Claimed.{Claimed}
 
 module _ {K P : Type 0} (g : Setting K P) (c : Coding K P) (h : IsHashed g c) (begun since es : List (Exchange P)) (may : AllAllowed g start (begun ++ (since ++ es))) (k : K) where
   -- the exchanges in two lists, those of before and those since then
@@ -63,7 +66,7 @@ module _ {K P : Type 0} (g : Setting K P) (c : Coding K P) (h : IsHashed g c) (b
   }
 
   -- it stands at the place
-  at_stays : (at : Place) → IsAt g c begun since k at → IsAt g c begun (since ++ es) k at
+  pub at_stays : (at : Place) → IsAt g c begun since k at → IsAt g c begun (since ++ es) k at
   at_stays at r = record {
     come = come_stays at.table r.come;
     len = r.len;
@@ -114,9 +117,17 @@ module _ {K P : Type 0} (g : Setting K P) (c : Coding K P) (h : IsHashed g c) (b
   need_stays (Room t) r = (come_stays t r.0, state_lasts.passed k t r.1)
   need_stays (Pair_at t x) r = (come_stays t r.0, moving_stays t x r.1)
 
+  -- a claimed pair stands there, or what came of it, and its hint is its own
+  claimed_stays : (hands : Hands P) (claimed : Claimed) → HasClaimed g c begun since k hands claimed → HasClaimed g c begun (since ++ es) k hands claimed
+  claimed_stays hands claimed r = record {
+    pair = r.pair;
+    stands = at_stays claimed.place r.stands;
+    hint = hint_lasts g c h.coding (now g c begun since k) (now g c begun (since ++ es) k) state_later claimed.place.table claimed.place.probe.i (hint_of (c.hash k)) r.hint;
+  }
+
   -- the machine rests on what it rested on
   pub rests_stays : (m : Machine) (hands : Hands P) → Rests g c begun since k m hands → Rests g c begun (since ++ es) k m hands
   rests_stays m hands r =
-      rests_carried g g c begun since (since ++ es) k
-      (record { mode = refl; key = λ p. refl; same = λ l l'. refl; moment = moment_stays; come = come_stays; stands = at_stays; met = met_stays; write = write_stays; passed = λ t r. state_lasts.passed k t; leaving = leaving_stays; need = need_stays })
-      hands m r
+      rests_carried g g c begun since (since ++ es) k hands
+      (record { mode = refl; key = λ p. refl; same = λ l l'. refl; moment = moment_stays; come = come_stays; stands = at_stays; met = met_stays; write = write_stays; passed = λ t r. state_lasts.passed k t; leaving = leaving_stays; need = need_stays; claimed = claimed_stays hands })
+      m r

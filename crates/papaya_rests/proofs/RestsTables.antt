@@ -1,6 +1,6 @@
 -- What a machine rests on stays so, whatever tables come later.
 use Rattle.std.proofs.Common.{◌≡◌, ◌⊎◌, inl, inr, ⊎_elim, ℕ, ◌<◌, Bool, Option, None, Some, List, ◌++◌, refl, sym, ap, ◌∙◌, subst}
-use Rattle.papaya_words.specs.Word.{top_byte, live_word, marked_word, copied_word, buried_word}
+use Rattle.papaya_words.specs.Word.{hint_of}
 use Rattle.papaya_ask.specs.declared.call.Task.{Task}
 use Rattle.papaya_ask.specs.declared.call.Task.TheVariants.{Get, Insert, RemoveIf, Compute}
 use Rattle.papaya_ask.specs.declared.search.Place.{Place}
@@ -12,11 +12,11 @@ use Rattle.papaya_law.specs.Class.{IsOn}
 use Rattle.papaya_law.specs.Allows.{AllAllowed}
 use Rattle.papaya_law.specs.Meaning.{map_left, map_of}
 use Rattle.papaya_law.specs.Invariant.{IsSound}
-use Rattle.papaya_law.specs.Code.{Coding, byte_of_pair, code}
+use Rattle.papaya_law.specs.Code.{Coding, code}
 use Rattle.papaya_law.specs.Grows.{Agrees}
 use Rattle.papaya_rests.specs.Told.{Hands}
 use Rattle.papaya_law.specs.Code.{IsHashed}
-use Rattle.papaya_rests.specs.Rests.{now, HasComeTo, IsAt, HasMet, MayWrite, WasAtMoment, IsMovingFrom, RestsNeed, RestsLeaving, Rests}
+use Rattle.papaya_rests.specs.Rests.{now, HasComeTo, IsAt, HasMet, MayWrite, WasAtMoment, IsMovingFrom, RestsNeed, RestsLeaving, Rests, HasClaimed}
 use Rattle.papaya_law.proofs.Carries.{look_agrees, view_agrees, passed_carries}
 use Rattle.papaya_law.proofs.Grows.{becomes_carries, map_of_carries, reached_carries}
 use Rattle.papaya_law.proofs.OneMap.{sound}
@@ -24,6 +24,8 @@ use Rattle.papaya_rests.proofs.RestsCarried.{rests_carried}
 use Rattle.papaya_rests.proofs.RestsNames.{OnChain, come_on}
 use Rattle.papaya_call.specs.declared.need.Need.{Need}
 use Rattle.papaya_call.specs.declared.need.Need.TheVariants.{Room, Pair as Pair_at}
+use Rattle.papaya_law.proofs.Hints.{hint_agrees}
+use Rattle.papaya_call.specs.declared.write.Claimed.{Claimed}
 
 module _ {K P : Type 0} (g g' : Setting K P) (c : Coding K P) (h : IsHashed g c) (begun since : List (Exchange P)) (may : AllAllowed g start (begun ++ since)) (k : K)
     (agrees : Agrees (IsOn (now g c begun since k).first (now g c begun since k).next) g g') where
@@ -68,18 +70,14 @@ module _ {K P : Type 0} (g g' : Setting K P) (c : Coding K P) (h : IsHashed g c)
         before = λ i lt. ap (λ V. beyond (V at.table i)) sees_same ∙ r.before i lt;
       }
 
-  -- the byte of a pair's key
-  byte_same : (p : P) → byte_of_pair g' c p ≡ byte_of_pair g c p
-  byte_same p = ap (λ l. top_byte (c.hash l)) (agrees.key p)
-
   -- the number of a word
   code_same : (w : Word P) → code g' c w ≡ code g c w
   code_same Empty = refl
   code_same Closed = refl
-  code_same (Live p) = ap (λ b. live_word b (c.number p)) (byte_same p)
-  code_same (Marked p) = ap (λ b. marked_word b (c.number p)) (byte_same p)
-  code_same (Copied p) = ap (λ b. copied_word b (c.number p)) (byte_same p)
-  code_same (Buried p) = ap (λ b. buried_word b (c.number p)) (byte_same p)
+  code_same (Live p) = refl
+  code_same (Marked p) = refl
+  code_same (Copied p) = refl
+  code_same (Buried p) = refl
 
   -- it met the pair
   met_carries : (at : Place) (word : ℕ) (p : P) → HasMet g c begun since k at word p → HasMet g' c begun since k at word p
@@ -127,9 +125,17 @@ module _ {K P : Type 0} (g g' : Setting K P) (c : Coding K P) (h : IsHashed g c)
   need_carries (Room t) r = (come_carries t r.0, table_passed t r.0 r.1)
   need_carries (Pair_at t x) r = (come_carries t r.0, moving_carries t x r.0 r.1)
 
+  -- a claimed pair
+  claimed_carries : (hands : Hands P) (claimed : Claimed) → HasClaimed g c begun since k hands claimed → HasClaimed g' c begun since k hands claimed
+  claimed_carries hands claimed r = record {
+    pair = r.pair;
+    stands = at_carries claimed.place r.stands;
+    hint = hint_agrees g g' c agrees.key ((now g c begun since k).slot claimed.place.table claimed.place.probe.i) (hint_of (c.hash k)) r.hint;
+  }
+
   -- the machine rests on what it rested on
   pub rests_carries : (m : Machine) (hands : Hands P) → Rests g c begun since k m hands → Rests g' c begun since k m hands
   rests_carries m hands r =
-      rests_carried g g' c begun since since k
-      (record { mode = agrees.blocking; key = agrees.key; same = agrees.same; moment = moment_carries; come = come_carries; stands = at_carries; met = met_carries; write = write_carries; passed = table_passed; leaving = leaving_carries; need = need_carries })
-      hands m r
+      rests_carried g g' c begun since since k hands
+      (record { mode = agrees.blocking; key = agrees.key; same = agrees.same; moment = moment_carries; come = come_carries; stands = at_carries; met = met_carries; write = write_carries; passed = table_passed; leaving = leaving_carries; need = need_carries; claimed = claimed_carries hands })
+      m r

@@ -20,20 +20,21 @@ use Rattle.papaya_call.specs.declared.compute.Purpose.TheVariants.{Fill}
 use Rattle.papaya_call.specs.declared.compute.Put.{Put}
 use Rattle.papaya_call.specs.declared.compute.Remembered.{Remembered}
 use Rattle.papaya_call.specs.declared.remove.Removal.{Removal}
-use Rattle.papaya_ask.specs.declared.search.Search.TheVariants.{Sizing, Looking, Comparing}
+use Rattle.papaya_ask.specs.declared.search.Search.TheVariants.{Sizing, Looking, Reading, Comparing}
 use Rattle.papaya_ask.specs.declared.search.Seen.{Seen}
 use Rattle.papaya_call.specs.declared.write.Made.{Made}
 use Rattle.papaya_call.specs.declared.write.Made.TheVariants.{Nothing, Key, Pair}
 use Rattle.papaya_call.specs.declared.write.Write.{Write}
 use Rattle.papaya_call.specs.declared.machine.Machine.{Machine}
 use Rattle.papaya_call.specs.declared.machine.State.{State as Stage}
-use Rattle.papaya_call.specs.declared.machine.State.TheVariants.{AtRoot, Making, Opening, Searching, Writing, Offering, Showing, Pairing, Putting, Burying, Counting, Uncounting, Leaving, Growing, Ended}
+use Rattle.papaya_call.specs.declared.machine.State.TheVariants.{AtRoot, Making, Opening, Searching, Writing, Offering, Showing, Pairing, Putting, Burying, Counting, Noting, Uncounting, Leaving, Growing, Ended}
 use Rattle.papaya_call.specs.Compute.{chosen, offered, provides}
 use Rattle.papaya_call.specs.Machine.{IsStanding, IsStandingState, IsComputer, IsWriter, HasClosure, after, ask_of, asks, at_root, beaten, goes_as, left, written}
 use Rattle.papaya_rests.specs.Rests.{change_in}
 use Rattle.papaya_ask.specs.Search.{look as look_seen, at_size as search_sized, at_word as search_loaded, at_yes as search_compared}
 use Rattle.papaya_rests.specs.Says.{IsSaidChange, shown_by, show}
 use Rattle.papaya_rests.proofs.Leads.{HoldsOfLeads, beaten_leads, goes_leads, left_leads, provides_leads, root_leads}
+use Rattle.papaya_call.specs.Write.{claimed_by}
 
 -- how a call has been aborted
 abbrev abort_of_reply : Reply → Option ℕ
@@ -57,6 +58,7 @@ abort_asked made hash Making = refl
 abort_asked made hash (Opening t) = refl
 abort_asked made hash (Searching (Sizing t)) = refl
 abort_asked made hash (Searching (Looking at)) = refl
+abort_asked made hash (Searching (Reading at)) = refl
 abort_asked made hash (Searching (Comparing at word)) = refl
 abort_asked Nothing hash (Writing write) = refl
 abort_asked Key hash (Writing write) = refl
@@ -69,6 +71,7 @@ abort_asked (Pair n) hash (Pairing purpose) = refl
 abort_asked made hash (Putting put) = refl
 abort_asked made hash (Burying removal) = refl
 abort_asked made hash (Counting n) = refl
+abort_asked made hash (Noting n) = refl
 abort_asked made hash (Uncounting n) = refl
 abort_asked made hash (Leaving t) = refl
 abort_asked made hash (Growing t) = refl
@@ -103,13 +106,13 @@ goes_idle task mode held s = goes_leads IsIdle leads_idle task mode held s
 put_change : (write : Write) (n : ℕ) (old new : Option ℕ) (Holds : Option ℕ → Option ℕ → Type 0) → Holds (shown_by write.old) (Some n) → change_in (written write n) ≡ Some (old, new) → Holds old new
 put_change write n old new Holds = by_old (write.old == 0)
   where
-    by_old : (b : Bool) → Holds (cond b None (Some (pair_of write.old))) (Some n) → change_in (cond b (Counting n) (Ended (Replaced (pair_of write.old) n))) ≡ Some (old, new) → Holds old new
+    by_old : (b : Bool) → Holds (cond b None (Some (pair_of write.old))) (Some n) → change_in (cond b (Counting (claimed_by write n)) (Ended (Replaced (pair_of write.old) n))) ≡ Some (old, new) → Holds old new
     by_old true h e = let is : (None, Some n) ≡ (old, new) = cc e in subst (λ (c : Option ℕ × Option ℕ). Holds c.0 c.1) is h
     by_old false h e = let is : (Some (pair_of write.old), Some n) ≡ (old, new) = cc e in subst (λ (c : Option ℕ × Option ℕ). Holds c.0 c.1) is h
 
 -- and aborts nothing
 put_unaborted : (write : Write) (n : ℕ) → abort_in (written write n) ≡ None
-put_unaborted write n = cond_both (write.old == 0) (Counting n) (Ended (Replaced (pair_of write.old) n)) (λ s. abort_in s ≡ None) (λ _. refl) (λ _. refl)
+put_unaborted write n = cond_both (write.old == 0) (Counting (claimed_by write n)) (Ended (Replaced (pair_of write.old) n)) (λ s. abort_in s ≡ None) (λ _. refl) (λ _. refl)
 
 module _ (m : Machine) where
   -- the machine of these
@@ -229,7 +232,7 @@ module _ (m : Machine) where
   right_in task made (Searching place) (Size slots limit) = idle task made (Searching place) (Size slots limit) (Searching (search_sized place m.hash slots limit)) (refl, refl)
   right_in task made (Searching place) answer = stays task made (Searching place) answer refl
   right_in task made (Writing write) (Found_instead word) =
-      idle task made (Writing write) (Found_instead word) (goes_as task m.mode m.remembered (look_seen write.place m.hash word)) (goes_idle task m.mode m.remembered (look_seen write.place m.hash word))
+      idle task made (Writing write) (Found_instead word) (goes_as task m.mode m.remembered (look_seen write.place word)) (goes_idle task m.mode m.remembered (look_seen write.place word))
   right_in task (Pair n) (Writing write) Exchanged = write_right task (Pair n) write n
   right_in task Nothing (Writing write) (Was_refused refused) = idle task Nothing (Writing write) (Was_refused refused) (Ended (Reply_refused refused)) (refl, refl)
   right_in task Key (Writing write) (Was_refused refused) = idle task Key (Writing write) (Was_refused refused) (Ended (Reply_refused refused)) (refl, refl)
@@ -256,14 +259,16 @@ module _ (m : Machine) where
   right_in task (Pair i) (Pairing purpose) answer = stays task (Pair i) (Pairing purpose) answer refl
   right_in task made (Putting put) Exchanged = put_right task made put
   right_in task made (Putting put) (Found_instead word) =
-      idle task made (Putting put) (Found_instead word) (goes_as task m.mode m.remembered (look_seen put.write.place m.hash word)) (goes_idle task m.mode m.remembered (look_seen put.write.place m.hash word))
+      idle task made (Putting put) (Found_instead word) (goes_as task m.mode m.remembered (look_seen put.write.place word)) (goes_idle task m.mode m.remembered (look_seen put.write.place word))
   right_in task made (Putting put) answer = stays task made (Putting put) answer refl
   right_in task made (Burying removal) Exchanged = bury_right task made removal
   right_in task made (Burying removal) (Found_instead word) =
       idle task made (Burying removal) (Found_instead word) (beaten (on task made (Burying removal)) removal word) (beaten_leads IsIdle leads_idle (on task made (Burying removal)) removal word)
   right_in task made (Burying removal) answer = stays task made (Burying removal) answer refl
   right_in task made (Counting n) Ok_done = record { change = λ old new is before e. absurd (cc before); abort = λ with open_still e. absurd cc }
+  right_in task made (Noting n) Ok_done = record { change = λ old new is before e. absurd (cc before); abort = λ with open_still e. absurd cc }
   right_in task made (Counting n) answer = stays task made (Counting n) answer refl
+  right_in task made (Noting n) answer = stays task made (Noting n) answer refl
   right_in task made (Uncounting n) Ok_done = record { change = λ old new is before e. absurd (cc before); abort = λ with open_still e. absurd cc }
   right_in task made (Uncounting n) answer = stays task made (Uncounting n) answer refl
   right_in task made (Leaving t) (Word_read word) = idle task made (Leaving t) (Word_read word) (left task m.remembered.fill t word) (left_leads IsIdle leads_idle task m.remembered.fill t word)

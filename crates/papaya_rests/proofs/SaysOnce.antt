@@ -22,7 +22,7 @@ use Rattle.papaya_call.specs.declared.compute.Purpose.TheVariants.{Fill, Replace
 use Rattle.papaya_call.specs.declared.compute.Remembered.{Remembered}
 use Rattle.papaya_call.specs.declared.remove.Removal.{Removal}
 use Rattle.papaya_ask.specs.declared.search.Place.{Place}
-use Rattle.papaya_ask.specs.declared.search.Search.TheVariants.{Sizing, Looking, Comparing}
+use Rattle.papaya_ask.specs.declared.search.Search.TheVariants.{Sizing, Looking, Reading, Comparing}
 use Rattle.papaya_ask.specs.declared.search.Seen.{Seen}
 use Rattle.papaya_ask.specs.declared.search.Seen.TheVariants as seen
 use Rattle.papaya_call.specs.declared.write.Made.{Made}
@@ -30,12 +30,13 @@ use Rattle.papaya_call.specs.declared.write.Made.TheVariants.{Nothing, Key, Pair
 use Rattle.papaya_call.specs.declared.write.Write.{Write}
 use Rattle.papaya_call.specs.declared.machine.Machine.{Machine}
 use Rattle.papaya_call.specs.declared.machine.State.{State as Stage}
-use Rattle.papaya_call.specs.declared.machine.State.TheVariants.{AtRoot, Making, Opening, Searching, Writing, Offering, Showing, Pairing, Putting, Burying, Counting, Uncounting, Leaving, Growing, Ended}
+use Rattle.papaya_call.specs.declared.machine.State.TheVariants.{AtRoot, Making, Opening, Searching, Writing, Offering, Showing, Pairing, Putting, Burying, Counting, Noting, Uncounting, Leaving, Growing, Ended}
 use Rattle.papaya_call.specs.Compute.{fills, recalls}
 use Rattle.papaya_call.specs.Machine.{absent, after, ask_of, asks, at_root, beaten_as, beaten_by, computes, goes_as, left, removes, replaces, written}
 use Rattle.papaya_ask.specs.Search.{look as look_seen, at_word as search_loaded, at_yes as search_compared}
 use Rattle.papaya_rests.specs.Says.{HasShownNone, IsFilled}
 use Rattle.papaya_rests.proofs.Leads.{occupies_leads}
+use Rattle.papaya_call.specs.Write.{claimed_by}
 
 -- a machine that has shown None asks to show it no more
 asks_other : (made : Made) (hash : ℕ) (fill : Option ℕ) (stage : Stage) → HasShownNone fill stage → asks made hash stage ≡ ShowNone → ⊥
@@ -44,6 +45,7 @@ asks_other made hash fill Making h e = cc e
 asks_other made hash fill (Opening t) h e = cc e
 asks_other made hash fill (Searching (Sizing t)) h e = cc e
 asks_other made hash fill (Searching (Looking at)) h e = cc e
+asks_other made hash fill (Searching (Reading at)) h e = cc e
 asks_other made hash fill (Searching (Comparing at word)) h e = cc e
 asks_other Nothing hash fill (Writing write) h e = cc e
 asks_other Key hash fill (Writing write) h e = cc e
@@ -56,6 +58,7 @@ asks_other (Pair n) hash fill (Pairing purpose) h e = cc e
 asks_other made hash fill (Putting put) h e = cc e
 asks_other made hash fill (Burying removal) h e = cc e
 asks_other made hash fill (Counting n) h e = cc e
+asks_other made hash fill (Noting n) h e = cc e
 asks_other made hash fill (Uncounting n) h e = cc e
 asks_other made hash fill (Leaving t) h e = cc e
 asks_other made hash fill (Growing t) h e = cc e
@@ -143,15 +146,15 @@ next_shown task fill t word h = cond_both (word == 0) (absent task fill (After t
 -- after a burial that was lost
 beaten_shown : (kd : Kind) (m : Machine) (at : Place) (word : ℕ) → IsFilled m.remembered.fill → HasShownNone m.remembered.fill (beaten_by kd m at word)
 beaten_shown word_kinds.Buried m at word h = tt
-beaten_shown word_kinds.Empty m at word h = goes_shown m.task m.mode m.remembered (look_seen at m.hash word) h
-beaten_shown word_kinds.Live m at word h = goes_shown m.task m.mode m.remembered (look_seen at m.hash word) h
-beaten_shown word_kinds.Marked m at word h = goes_shown m.task m.mode m.remembered (look_seen at m.hash word) h
-beaten_shown word_kinds.Copied m at word h = goes_shown m.task m.mode m.remembered (look_seen at m.hash word) h
-beaten_shown word_kinds.Closed m at word h = goes_shown m.task m.mode m.remembered (look_seen at m.hash word) h
+beaten_shown word_kinds.Empty m at word h = goes_shown m.task m.mode m.remembered (look_seen at word) h
+beaten_shown word_kinds.Live m at word h = goes_shown m.task m.mode m.remembered (look_seen at word) h
+beaten_shown word_kinds.Marked m at word h = goes_shown m.task m.mode m.remembered (look_seen at word) h
+beaten_shown word_kinds.Copied m at word h = goes_shown m.task m.mode m.remembered (look_seen at word) h
+beaten_shown word_kinds.Closed m at word h = goes_shown m.task m.mode m.remembered (look_seen at word) h
 
 -- and after a write
 written_shown : (fill : Option ℕ) (write : Write) (n : ℕ) → IsFilled fill → HasShownNone fill (written write n)
-written_shown fill write n h = cond_both (write.old == 0) (Counting n) (Ended (Replaced (pair_of write.old) n)) (HasShownNone fill) (λ _. h) (λ _. tt)
+written_shown fill write n h = cond_both (write.old == 0) (Counting (claimed_by write n)) (Ended (Replaced (pair_of write.old) n)) (HasShownNone fill) (λ _. h) (λ _. tt)
 
 module _ (m : Machine) where
   -- the machine of these
@@ -163,7 +166,7 @@ module _ (m : Machine) where
   beaten_task_shown Get made removal word h = beaten_shown (kind_of word) (on Get made (Burying removal)) removal.place word h
   beaten_task_shown (Insert replace) made removal word h = beaten_shown (kind_of word) (on (Insert replace) made (Burying removal)) removal.place word h
   beaten_task_shown RemoveIf made removal word h = beaten_shown (kind_of word) (on RemoveIf made (Burying removal)) removal.place word h
-  beaten_task_shown Compute made removal word h = goes_shown Compute m.mode m.remembered (look_seen removal.place m.hash word) h
+  beaten_task_shown Compute made removal word h = goes_shown Compute m.mode m.remembered (look_seen removal.place word) h
 
   -- a machine has shown None
   abbrev HasShown : Machine → Type 0
@@ -186,7 +189,7 @@ module _ (m : Machine) where
   shown_in task made (Searching place) (Word_read word) h = goes_shown task m.mode m.remembered (search_loaded place m.hash word) h
   shown_in task made (Searching place) (Yes same) h = goes_shown task m.mode m.remembered (search_compared place same) h
   shown_in task made (Searching place) answer h = h
-  shown_in task made (Writing write) (Found_instead word) h = goes_shown task m.mode m.remembered (look_seen write.place m.hash word) h
+  shown_in task made (Writing write) (Found_instead word) h = goes_shown task m.mode m.remembered (look_seen write.place word) h
   shown_in task (Pair n) (Writing write) Exchanged h = written_shown m.remembered.fill write n h
   shown_in task Nothing (Writing write) (Was_refused refused) h = tt
   shown_in task Key (Writing write) (Was_refused refused) h = tt
@@ -213,12 +216,14 @@ module _ (m : Machine) where
   shown_in task Key (Pairing purpose) answer h = h
   shown_in task (Pair i) (Pairing purpose) answer h = h
   shown_in task made (Putting put) Exchanged h = written_shown m.remembered.fill put.write put.pair h
-  shown_in task made (Putting put) (Found_instead word) h = goes_shown task m.mode m.remembered (look_seen put.write.place m.hash word) h
+  shown_in task made (Putting put) (Found_instead word) h = goes_shown task m.mode m.remembered (look_seen put.write.place word) h
   shown_in task made (Putting put) answer h = h
   shown_in task made (Burying removal) (Found_instead word) h = beaten_task_shown task made removal word h
   shown_in task made (Burying removal) answer h = h
-  shown_in task made (Counting n) Ok_done h = tt
+  shown_in task made (Counting n) Ok_done h = h
+  shown_in task made (Noting n) Ok_done h = tt
   shown_in task made (Counting n) answer h = h
+  shown_in task made (Noting n) answer h = h
   shown_in task made (Uncounting n) Ok_done h = tt
   shown_in task made (Uncounting n) answer h = h
   shown_in task made (Leaving t) (Word_read word) h = next_shown task m.remembered.fill t word h

@@ -1,6 +1,6 @@
 -- What an answer overwrites of what a compute stands on, and what its exchanges stand on.
 use Rattle.std.proofs.Common.{◌≡◌, ◌⊎◌, inl, inr, ⊎_elim, ℕ, ◌<◌, ◌^◌, ◌==◌, Bool, true, false, cond, Option, None, Some, refl, sym, ap, ◌∙◌, subst}
-use Rattle.papaya_words.specs.Word.{pair_of}
+use Rattle.papaya_words.specs.Word.{pair_of, live_word}
 use Rattle.papaya_ask.specs.declared.ask.At.TheVariants.{Slot}
 use Rattle.papaya_ask.specs.declared.ask.Ask.TheVariants.{Exchange, MakePair, ShowPair}
 use Rattle.papaya_ask.specs.declared.ask.Answer.TheVariants.{Op}
@@ -18,7 +18,7 @@ use Rattle.papaya_call.specs.declared.compute.Purpose.{Purpose}
 use Rattle.papaya_call.specs.declared.compute.Purpose.TheVariants.{Fill, Replace}
 use Rattle.papaya_call.specs.declared.compute.Put.{Put}
 use Rattle.papaya_call.specs.declared.remove.Removal.{Removal}
-use Rattle.papaya_ask.specs.declared.search.Search.TheVariants.{Sizing, Looking, Comparing}
+use Rattle.papaya_ask.specs.declared.search.Search.TheVariants.{Sizing, Looking, Reading, Comparing}
 use Rattle.papaya_call.specs.declared.write.Made.{Made}
 use Rattle.papaya_call.specs.declared.write.Made.TheVariants.{Nothing, Key, Pair}
 use Rattle.papaya_call.specs.declared.write.Write.{Write}
@@ -28,8 +28,7 @@ use Rattle.papaya_call.specs.declared.machine.State.TheVariants.{Searching, Writ
 use Rattle.papaya_call.specs.Compute.{fills}
 use Rattle.papaya_call.specs.Machine.{IsStanding, IsStandingState, after, ask_of, asks}
 use Rattle.papaya_rests.specs.Says.{Said, Agrees, Inserts, Makes, Removes, IsPaired, IsSaidExchange, KeepsChoice, KeepsFill, ShowsPairs, StandsOn, said_in, said_in_reply, said_to_choose, said_to_fill, shown_by}
-use Rattle.papaya_call.specs.Write.{new_word}
-use Rattle.papaya_rests.proofs.NewWords.{pair_of-new_word}
+use Rattle.papaya_rests.proofs.NewWords.{pair_of-live_word}
 use Rattle.papaya_rests.proofs.SaysSaid.{shown_pair}
 
 -- the pair for an absent key was made of what was answered to None
@@ -95,6 +94,7 @@ module _ (n : ℕ) (agrees : Bool) where
   showing_unsaid : (task : Task) (made : Made) (hash : ℕ) (stage : Stage) (shown : ℕ) → asks made hash stage ≡ ShowPair shown → said_in task stage ≡ Some (Agrees n agrees) → ⊥
   showing_unsaid task made hash (Searching (Sizing t)) shown e said = cc e
   showing_unsaid task made hash (Searching (Looking at)) shown e said = cc e
+  showing_unsaid task made hash (Searching (Reading at)) shown e said = cc e
   showing_unsaid task made hash (Searching (Comparing at word)) shown e said = cc e
   showing_unsaid task Nothing hash (Writing write) shown e said = cc e
   showing_unsaid task Key hash (Writing write) shown e said = cc e
@@ -137,6 +137,7 @@ module _ (m : Machine) where
   removes_over_in made (Showing removal) n said e stands = let same : pair_of removal.word ≡ n = cc e in removes_over made removal n said same stands
   removes_over_in made (Searching (Sizing t)) n said e stands = absurd cc
   removes_over_in made (Searching (Looking at)) n said e stands = absurd cc
+  removes_over_in made (Searching (Reading at)) n said e stands = absurd cc
   removes_over_in made (Searching (Comparing at word)) n said e stands = absurd cc
   removes_over_in Nothing (Writing write) n said e stands = absurd cc
   removes_over_in Key (Writing write) n said e stands = absurd cc
@@ -186,6 +187,7 @@ module _ (m : Machine) where
   pairs_over_in made (Writing write) n is shows e = absurd is.0
   pairs_over_in made (Searching (Sizing t)) n is shows e = absurd cc
   pairs_over_in made (Searching (Looking at)) n is shows e = absurd cc
+  pairs_over_in made (Searching (Reading at)) n is shows e = absurd cc
   pairs_over_in made (Searching (Comparing at word)) n is shows e = absurd cc
   pairs_over_in made stage n is shows e = absurd cc
 
@@ -207,8 +209,8 @@ module _ (m : Machine) where
   exchanges_said_in : (made : Made) (stage : Stage) (t x old new : ℕ) → m.hash < 2 ^ 64 → IsStandingState Compute stage → asks made m.hash stage ≡ Exchange (Slot t x) old new → IsSaidExchange (on made stage) (pair_of old) (pair_of new)
   exchanges_said_in made (Putting put) t x old new fits is e =
       let same : put.write.old ≡ old = cc e in
-      let word : new_word m.hash put.pair ≡ new = cc e in
-      let number : put.pair ≡ pair_of new = sym (pair_of-new_word m.hash put.pair fits) ∙ ap pair_of word in
+      let word : live_word put.pair ≡ new = cc e in
+      let number : put.pair ≡ pair_of new = sym (pair_of-live_word put.pair) ∙ ap pair_of word in
       subst (λ o. IsSaidExchange (on made (Putting put)) o (pair_of new)) (ap pair_of same) (subst (λ n. IsSaidExchange (on made (Putting put)) (pair_of put.write.old) n) number (puts_said made put))
   exchanges_said_in made (Burying removal) t x old new fits is e =
       let same : removal.word ≡ old = cc e in
@@ -216,6 +218,7 @@ module _ (m : Machine) where
   exchanges_said_in made (Writing write) t x old new fits is e = absurd is.0
   exchanges_said_in made (Searching (Sizing table)) t x old new fits is e = absurd cc
   exchanges_said_in made (Searching (Looking at)) t x old new fits is e = absurd cc
+  exchanges_said_in made (Searching (Reading at)) t x old new fits is e = absurd cc
   exchanges_said_in made (Searching (Comparing at word)) t x old new fits is e = absurd cc
   exchanges_said_in Nothing (Pairing purpose) t x old new fits is e = absurd cc
   exchanges_said_in Key (Pairing purpose) t x old new fits is e = absurd cc

@@ -33,7 +33,7 @@ use Rattle.papaya_call.specs.declared.write.Made.TheVariants.{Nothing, Key, Pair
 use Rattle.papaya_call.specs.declared.write.Write.{Write}
 use Rattle.papaya_call.specs.declared.machine.Machine.{Machine}
 use Rattle.papaya_call.specs.declared.machine.State.{State as Stage}
-use Rattle.papaya_call.specs.declared.machine.State.TheVariants.{AtRoot, Making, Opening, Searching, Writing, Offering, Showing, Pairing, Putting, Burying, Counting, Uncounting, Leaving, Growing, Ended}
+use Rattle.papaya_call.specs.declared.machine.State.TheVariants.{AtRoot, Making, Opening, Searching, Writing, Offering, Showing, Pairing, Putting, Burying, Counting, Noting, Uncounting, Leaving, Growing, Ended}
 use Rattle.papaya_call.specs.Compute.{chosen, fills, offered, provides, recalls, with_choice, with_pair}
 use Rattle.papaya_call.specs.Machine.{IsStanding, IsStandingState, IsWriter, absent, after, at_root, beaten_as, beaten_by, computes, goes_as, left, pairing_ask, removes, replaces, written}
 use Rattle.papaya_ask.specs.Search.{look as look_seen, at_word as search_loaded, at_yes as search_compared}
@@ -41,6 +41,7 @@ use Rattle.papaya_rests.specs.Says.{IsSaidBy, Said, Agrees, Inserts, Makes, Remo
 use Rattle.papaya_rests.proofs.SaysWords.{live_is_some}
 use Rattle.papaya_rests.proofs.Tasks.{same_task}
 use Rattle.papaya_rests.proofs.Leads.{occupies_leads}
+use Rattle.papaya_call.specs.Write.{claimed_by}
 
 -- a word that is not 0 names a pair
 pub shown_pair : (word : ℕ) → 0 < word → shown_by word ≡ Some (pair_of word)
@@ -179,7 +180,7 @@ removal_replies Compute n = refl
 writer_silent : (task : Task) (write : Write) (n : ℕ) → IsWriter task → (said : Said) → said_in task (written write n) ≡ Some said → ⊥
 writer_silent Get write n is said = absurd is
 writer_silent (Insert replace) write n is said =
-    cond_both (write.old == 0) (Counting n) (Ended (Replaced (pair_of write.old) n)) (λ s. said_in (Insert replace) s ≡ Some said → ⊥) (λ _ e. cc e) (λ _ e. cc e)
+    cond_both (write.old == 0) (Counting (claimed_by write n)) (Ended (Replaced (pair_of write.old) n)) (λ s. said_in (Insert replace) s ≡ Some said → ⊥) (λ _ e. cc e) (λ _ e. cc e)
 writer_silent RemoveIf write n is said = absurd is
 writer_silent Compute write n is said = absurd is
 
@@ -187,7 +188,7 @@ writer_silent Compute write n is said = absurd is
 put_replies : (write : Write) (n : ℕ) → said_in Compute (written write n) ≡ Some (Makes (shown_by write.old) n)
 put_replies write n = by_old (write.old == 0)
   where
-    by_old : (b : Bool) → said_in Compute (cond b (Counting n) (Ended (Replaced (pair_of write.old) n))) ≡ Some (Makes (cond b None (Some (pair_of write.old))) n)
+    by_old : (b : Bool) → said_in Compute (cond b (Counting (claimed_by write n)) (Ended (Replaced (pair_of write.old) n))) ≡ Some (Makes (cond b None (Some (pair_of write.old))) n)
     by_old true = refl
     by_old false = refl
 
@@ -211,18 +212,18 @@ module _ (m : Machine) (held : Remembered) where
   -- a burial that was lost
   beaten_held : (kd : Kind) (task : Task) (made : Made) (at : Place) (stage : Stage) (word : ℕ) → IsHeld task held.fill held.choice (beaten_by kd (on task made stage) at word)
   beaten_held word_kinds.Buried task made at stage word = λ said e. let nothing_is : None ≡ Some said = sym (absent_silent task) ∙ e in absurd cc
-  beaten_held word_kinds.Empty task made at stage word = goes_held task m.mode held (look_seen at m.hash word)
-  beaten_held word_kinds.Live task made at stage word = goes_held task m.mode held (look_seen at m.hash word)
-  beaten_held word_kinds.Marked task made at stage word = goes_held task m.mode held (look_seen at m.hash word)
-  beaten_held word_kinds.Copied task made at stage word = goes_held task m.mode held (look_seen at m.hash word)
-  beaten_held word_kinds.Closed task made at stage word = goes_held task m.mode held (look_seen at m.hash word)
+  beaten_held word_kinds.Empty task made at stage word = goes_held task m.mode held (look_seen at word)
+  beaten_held word_kinds.Live task made at stage word = goes_held task m.mode held (look_seen at word)
+  beaten_held word_kinds.Marked task made at stage word = goes_held task m.mode held (look_seen at word)
+  beaten_held word_kinds.Copied task made at stage word = goes_held task m.mode held (look_seen at word)
+  beaten_held word_kinds.Closed task made at stage word = goes_held task m.mode held (look_seen at word)
 
   -- by the task
   beaten_task_held : (task : Task) (made : Made) (removal : Removal) (word : ℕ) → IsHeld task held.fill held.choice (beaten_as task (on task made (Burying removal)) removal.place word)
   beaten_task_held Get made removal word = beaten_held (kind_of word) Get made removal.place (Burying removal) word
   beaten_task_held (Insert replace) made removal word = beaten_held (kind_of word) (Insert replace) made removal.place (Burying removal) word
   beaten_task_held RemoveIf made removal word = beaten_held (kind_of word) RemoveIf made removal.place (Burying removal) word
-  beaten_task_held Compute made removal word = goes_held Compute m.mode held (look_seen removal.place m.hash word)
+  beaten_task_held Compute made removal word = goes_held Compute m.mode held (look_seen removal.place word)
 
   -- a pair was made of what the closure answered
   provided : (task : Task) (made : Made) (purpose : Purpose) (n : ℕ) → pairing_ask made ≡ MakePair → ShowsPairs (Pairing purpose) → IsSaidIn task made (Pairing purpose) (Made_number n) (provides purpose n)
@@ -286,7 +287,7 @@ module _ (m : Machine) (held : Remembered) where
       by_held task made (Searching place) (Yes same) (goes_as task m.mode held (search_compared place same)) (goes_held task m.mode held (search_compared place same)) said e
   said_in_stage task made (Searching place) answer is shows said e = absurd cc
   said_in_stage task made (Writing write) (Found_instead word) is shows said e =
-      by_held task made (Writing write) (Found_instead word) (goes_as task m.mode held (look_seen write.place m.hash word)) (goes_held task m.mode held (look_seen write.place m.hash word)) said e
+      by_held task made (Writing write) (Found_instead word) (goes_as task m.mode held (look_seen write.place word)) (goes_held task m.mode held (look_seen write.place word)) said e
   said_in_stage task (Pair n) (Writing write) Exchanged is shows said e = absurd (writer_silent task write n is.0 said e)
   said_in_stage task Nothing (Writing write) (Was_refused refused) is shows said e = by_silence task Nothing (Writing write) (Was_refused refused) (Ended (Reply_refused refused)) (refusal_silent task refused) said e
   said_in_stage task Key (Writing write) (Was_refused refused) is shows said e = by_silence task Key (Writing write) (Was_refused refused) (Ended (Reply_refused refused)) (refusal_silent task refused) said e
@@ -318,13 +319,15 @@ module _ (m : Machine) (held : Remembered) where
   said_in_stage (Insert replace) made (Putting put) Exchanged is shows said e = absurd is.0
   said_in_stage RemoveIf made (Putting put) Exchanged is shows said e = absurd is.0
   said_in_stage task made (Putting put) (Found_instead word) is shows said e =
-      by_held task made (Putting put) (Found_instead word) (goes_as task m.mode held (look_seen put.write.place m.hash word)) (goes_held task m.mode held (look_seen put.write.place m.hash word)) said e
+      by_held task made (Putting put) (Found_instead word) (goes_as task m.mode held (look_seen put.write.place word)) (goes_held task m.mode held (look_seen put.write.place word)) said e
   said_in_stage task made (Putting put) answer is shows said e = inl (inl e)
   said_in_stage task made (Burying removal) (Found_instead word) is shows said e =
       by_held task made (Burying removal) (Found_instead word) (beaten_as task (on task made (Burying removal)) removal.place word) (beaten_task_held task made removal word) said e
   said_in_stage task made (Burying removal) answer is shows said e = inl (inl e)
-  said_in_stage task made (Counting n) Ok_done is shows said e = inl (inl (sym (claim_replies task n) ∙ e))
+  said_in_stage task made (Counting n) Ok_done is shows said e = inl (inl e)
+  said_in_stage task made (Noting n) Ok_done is shows said e = inl (inl (sym (claim_replies task n.pair) ∙ e))
   said_in_stage task made (Counting n) answer is shows said e = inl (inl e)
+  said_in_stage task made (Noting n) answer is shows said e = inl (inl e)
   said_in_stage task made (Uncounting n) Ok_done is shows said e = inl (inl (sym (removal_replies task n) ∙ e))
   said_in_stage task made (Uncounting n) answer is shows said e = inl (inl e)
   said_in_stage task made (Leaving t) (Word_read word) is shows said e = by_held task made (Leaving t) (Word_read word) (left task held.fill t word) (next_held task held t word) said e

@@ -28,12 +28,13 @@ use Rattle.papaya_call.specs.declared.write.Made.TheVariants.{Nothing, Key, Pair
 use Rattle.papaya_call.specs.declared.write.Write.{Write}
 use Rattle.papaya_call.specs.declared.machine.Machine.{Machine}
 use Rattle.papaya_call.specs.declared.machine.State.{State as Stage}
-use Rattle.papaya_call.specs.declared.machine.State.TheVariants.{AtRoot, Making, Opening, Searching, Writing, Offering, Showing, Pairing, Putting, Burying, Counting, Uncounting, Leaving, Growing, Ended}
+use Rattle.papaya_call.specs.declared.machine.State.TheVariants.{AtRoot, Making, Opening, Searching, Writing, Offering, Showing, Pairing, Putting, Burying, Counting, Noting, Uncounting, Leaving, Growing, Ended}
 use Rattle.papaya_call.specs.Compute.{fills, recalls}
 use Rattle.papaya_call.specs.Machine.{absent, after, at_root, beaten_as, beaten_by, computes, goes_as, left, removes, replaces, written}
 use Rattle.papaya_ask.specs.Search.{look as look_seen, at_word as search_loaded, at_yes as search_compared}
 use Rattle.papaya_rests.specs.Says.{ShowsPairs}
 use Rattle.papaya_rests.proofs.Leads.{occupies_leads}
+use Rattle.papaya_call.specs.Write.{claimed_by}
 
 -- a Live word is not 0
 pub live_is_some : (word : ℕ) → kind_of word ≡ word_kinds.Live → 0 < word
@@ -125,15 +126,15 @@ next_shows task fill t word = cond_both (word == 0) (absent task fill (After t))
 -- and a burial that was lost
 beaten_shows : (kd : Kind) (m : Machine) (at : Place) (word : ℕ) → ShowsPairs (beaten_by kd m at word)
 beaten_shows word_kinds.Buried m at word = tt
-beaten_shows word_kinds.Empty m at word = goes_shows m.task m.mode m.remembered (look_seen at m.hash word)
-beaten_shows word_kinds.Live m at word = goes_shows m.task m.mode m.remembered (look_seen at m.hash word)
-beaten_shows word_kinds.Marked m at word = goes_shows m.task m.mode m.remembered (look_seen at m.hash word)
-beaten_shows word_kinds.Copied m at word = goes_shows m.task m.mode m.remembered (look_seen at m.hash word)
-beaten_shows word_kinds.Closed m at word = goes_shows m.task m.mode m.remembered (look_seen at m.hash word)
+beaten_shows word_kinds.Empty m at word = goes_shows m.task m.mode m.remembered (look_seen at word)
+beaten_shows word_kinds.Live m at word = goes_shows m.task m.mode m.remembered (look_seen at word)
+beaten_shows word_kinds.Marked m at word = goes_shows m.task m.mode m.remembered (look_seen at word)
+beaten_shows word_kinds.Copied m at word = goes_shows m.task m.mode m.remembered (look_seen at word)
+beaten_shows word_kinds.Closed m at word = goes_shows m.task m.mode m.remembered (look_seen at word)
 
 -- a pair that was written is no longer on its way
 written_shows : (write : Write) (n : ℕ) → ShowsPairs (written write n)
-written_shows write n = cond_both (write.old == 0) (Counting n) (Ended (Replaced (pair_of write.old) n)) ShowsPairs (λ _. tt) (λ _. tt)
+written_shows write n = cond_both (write.old == 0) (Counting (claimed_by write n)) (Ended (Replaced (pair_of write.old) n)) ShowsPairs (λ _. tt) (λ _. tt)
 
 module _ (m : Machine) where
   -- the machine of these
@@ -145,7 +146,7 @@ module _ (m : Machine) where
   beaten_task_shows Get made removal word = beaten_shows (kind_of word) (on Get made (Burying removal)) removal.place word
   beaten_task_shows (Insert replace) made removal word = beaten_shows (kind_of word) (on (Insert replace) made (Burying removal)) removal.place word
   beaten_task_shows RemoveIf made removal word = beaten_shows (kind_of word) (on RemoveIf made (Burying removal)) removal.place word
-  beaten_task_shows Compute made removal word = goes_shows Compute m.mode m.remembered (look_seen removal.place m.hash word)
+  beaten_task_shows Compute made removal word = goes_shows Compute m.mode m.remembered (look_seen removal.place word)
 
   -- in each stage
   shows_in : (task : Task) (made : Made) (stage : Stage) (answer : Answer) → ShowsPairs stage → ShowsPairs (after (on task made stage) answer).state
@@ -158,7 +159,7 @@ module _ (m : Machine) where
   shows_in task made (Searching place) (Word_read word) h = goes_shows task m.mode m.remembered (search_loaded place m.hash word)
   shows_in task made (Searching place) (Yes same) h = goes_shows task m.mode m.remembered (search_compared place same)
   shows_in task made (Searching place) answer h = tt
-  shows_in task made (Writing write) (Found_instead word) h = goes_shows task m.mode m.remembered (look_seen write.place m.hash word)
+  shows_in task made (Writing write) (Found_instead word) h = goes_shows task m.mode m.remembered (look_seen write.place word)
   shows_in task (Pair n) (Writing write) Exchanged h = written_shows write n
   shows_in task Nothing (Writing write) answer h = tt
   shows_in task Key (Writing write) answer h = tt
@@ -187,12 +188,14 @@ module _ (m : Machine) where
   shows_in task made (Pairing purpose) (Was_refused refused) h = tt
   shows_in task made (Pairing purpose) answer h = h
   shows_in task made (Putting put) Exchanged h = written_shows put.write put.pair
-  shows_in task made (Putting put) (Found_instead word) h = goes_shows task m.mode m.remembered (look_seen put.write.place m.hash word)
+  shows_in task made (Putting put) (Found_instead word) h = goes_shows task m.mode m.remembered (look_seen put.write.place word)
   shows_in task made (Putting put) answer h = tt
   shows_in task made (Burying removal) (Found_instead word) h = beaten_task_shows task made removal word
   shows_in task made (Burying removal) answer h = tt
   shows_in task made (Counting n) Exchanged h = tt
+  shows_in task made (Noting n) Exchanged h = tt
   shows_in task made (Counting n) answer h = tt
+  shows_in task made (Noting n) answer h = tt
   shows_in task made (Uncounting n) Exchanged h = tt
   shows_in task made (Uncounting n) answer h = tt
   shows_in task made (Leaving t) (Word_read word) h = next_shows task m.remembered.fill t word

@@ -1,7 +1,7 @@
 -- An ask whose answer says nothing of a closure, and makes no pair: a machine then stands on what it stood on before.
 use Rattle.std.proofs.Common.{◌≡◌, ⊎_elim, ℕ, Option, None, Some, subst}
 use Rattle.papaya_ask.specs.declared.ask.Ask.{Ask}
-use Rattle.papaya_ask.specs.declared.ask.Ask.TheVariants.{Load, Exchange, SameKey, ShowNone, ShowPair, SizeOf, MakeKey, MakePair, MakeTable, AddToShard, Done}
+use Rattle.papaya_ask.specs.declared.ask.Ask.TheVariants.{Load, Exchange, LoadHint, WriteHint, SameKey, ShowNone, ShowPair, SizeOf, MakeKey, MakePair, MakeTable, AddToShard, Done}
 use Rattle.papaya_ask.specs.declared.ask.Answer.{Answer}
 use Rattle.papaya_ask.specs.declared.call.Reply.{Reply}
 use Rattle.papaya_call.specs.declared.machine.Machine.{Machine}
@@ -17,6 +17,8 @@ IsSilent MakePair = ⊥
 IsSilent (Done reply) = ⊥
 IsSilent (Load at) = Unit {0}
 IsSilent (Exchange at old new) = Unit {0}
+IsSilent (LoadHint t x) = Unit {0}
+IsSilent (WriteHint t x hint) = Unit {0}
 IsSilent (SameKey n) = Unit {0}
 IsSilent (SizeOf t) = Unit {0}
 IsSilent MakeKey = Unit {0}

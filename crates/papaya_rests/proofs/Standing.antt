@@ -3,7 +3,7 @@ use Rattle.std.proofs.Common.{ℕ, ◌+◌, ◌==◌, ◌<◌, ◌^◌, nat_lt, 
 use Rattle.std.proofs.Math.Nat.{mod-lt}
 use Rattle.std.proofs.lemmas.Bool.{cond_both, ltb-true}
 use Rattle.std.proofs.lemmas.Nat.{pow_pos}
-use Rattle.papaya_words.specs.Word.{kind_of, byte_of, pair_of, top_byte}
+use Rattle.papaya_words.specs.Word.{kind_of, pair_of, top_byte, may_hold}
 use Rattle.papaya_words.specs.Probe.{triangular}
 use Rattle.papaya_words.specs.declared.word.Kind.{Kind}
 use Rattle.papaya_words.specs.declared.word.Kind.TheVariants as word_kinds
@@ -26,16 +26,16 @@ use Rattle.papaya_call.specs.declared.compute.Remembered.{Remembered}
 use Rattle.papaya_call.specs.declared.remove.Removal.{Removal}
 use Rattle.papaya_ask.specs.declared.search.Place.{Place}
 use Rattle.papaya_ask.specs.declared.search.Search.{Search}
-use Rattle.papaya_ask.specs.declared.search.Search.TheVariants.{Sizing, Looking, Comparing}
+use Rattle.papaya_ask.specs.declared.search.Search.TheVariants.{Sizing, Looking, Reading, Comparing}
 use Rattle.papaya_ask.specs.declared.search.Seen.{Seen}
 use Rattle.papaya_ask.specs.declared.search.Seen.TheVariants as seen
 use Rattle.papaya_call.specs.declared.write.Made.{Made}
 use Rattle.papaya_call.specs.declared.write.Made.TheVariants.{Nothing, Key, Pair}
 use Rattle.papaya_call.specs.declared.machine.Machine.{Machine}
 use Rattle.papaya_call.specs.declared.machine.State.{State}
-use Rattle.papaya_call.specs.declared.machine.State.TheVariants.{AtRoot, Making, Opening, Searching, Writing, Offering, Showing, Pairing, Putting, Burying, Counting, Uncounting, Leaving, Growing, Ended}
-use Rattle.papaya_ask.specs.Search.{IsSize, IsWithin, IsSearching, IsSeen, next_place, go_on, look_at, look, match_at, at_word as search_loaded, at_yes as search_compared}
-use Rattle.papaya_call.specs.Write.{IsMade}
+use Rattle.papaya_call.specs.declared.machine.State.TheVariants.{AtRoot, Making, Opening, Searching, Writing, Offering, Showing, Pairing, Putting, Burying, Counting, Noting, Uncounting, Leaving, Growing, Ended}
+use Rattle.papaya_ask.specs.Search.{IsSize, IsWithin, IsSearching, IsSeen, next_place, go_on, look_at, look, match_at, at_word as search_loaded, at_yes as search_compared, hinted}
+use Rattle.papaya_call.specs.Write.{IsMade, claimed_by}
 use Rattle.papaya_call.specs.Compute.{IsChoice, IsFill, IsGap, IsPurpose, IsRemembered, chosen, fills, lacks, offered, provides, recalls, with_choice, with_pair}
 use Rattle.papaya_call.specs.Machine.{IsComputer, IsStanding, IsStandingState, IsWriter, MayInsert, IsFit, IsFitAsk, ask_of, asks, after, absent, at_root, beaten_as, beaten_by, computes, decided, decided_held, held_at_op, held_in, judged, left, paired, paired_held, passes, removes, replaces, goes_as, made_in, state_in, at_op, at_word, at_exchanged, at_found, at_yes, at_size, at_ok, at_refused, written}
 use Rattle.papaya_rests.proofs.Leads.{occupies_leads}
@@ -56,13 +56,16 @@ next_within at within more = record {
 go_on_seen : (at : Place) → IsWithin at → IsSeen (go_on at)
 go_on_seen at within = cond_both (nat_lt at.probe.len at.limit) (seen.On (Looking (next_place at))) (seen.Over at.table) IsSeen (λ more. next_within at within (ltb-true at.probe.len at.limit more)) (λ _. tt)
 
-look_seen : (kind : Kind) (at : Place) (hash word : ℕ) → IsWithin at → IsSeen (look_at kind at hash word)
-look_seen word_kinds.Empty at hash word within = within
-look_seen word_kinds.Live at hash word within = cond_both (byte_of word == top_byte hash) (seen.On (Comparing at word)) (go_on at) IsSeen (λ _. within) (λ _. go_on_seen at within)
-look_seen word_kinds.Marked at hash word within = cond_both (byte_of word == top_byte hash) (seen.On (Comparing at word)) (go_on at) IsSeen (λ _. within) (λ _. go_on_seen at within)
-look_seen word_kinds.Copied at hash word within = cond_both (byte_of word == top_byte hash) (seen.On (Comparing at word)) (go_on at) IsSeen (λ _. within) (λ _. go_on_seen at within)
-look_seen word_kinds.Buried at hash word within = go_on_seen at within
-look_seen word_kinds.Closed at hash word within = go_on_seen at within
+hinted_seen : (at : Place) (hash hint : ℕ) → IsWithin at → IsSeen (hinted at hash hint)
+hinted_seen at hash hint within = cond_both (may_hold hint hash) (seen.On (Reading at)) (go_on at) IsSeen (λ _. within) (λ _. go_on_seen at within)
+
+look_seen : (kind : Kind) (at : Place) (word : ℕ) → IsWithin at → IsSeen (look_at kind at word)
+look_seen word_kinds.Empty at word within = within
+look_seen word_kinds.Live at word within = within
+look_seen word_kinds.Marked at word within = within
+look_seen word_kinds.Copied at word within = within
+look_seen word_kinds.Buried at word within = go_on_seen at within
+look_seen word_kinds.Closed at word within = go_on_seen at within
 
 match_seen : (kind : Kind) (at : Place) (word : ℕ) → IsWithin at → IsSeen (match_at kind at word)
 match_seen word_kinds.Empty at word within = within
@@ -74,12 +77,14 @@ match_seen word_kinds.Closed at word within = within
 
 loaded_seen : (search : Search) (hash word : ℕ) → IsSearching search → IsSeen (search_loaded search hash word)
 loaded_seen (Sizing table) hash word within = tt
-loaded_seen (Looking at) hash word within = look_seen (kind_of word) at hash word within
+loaded_seen (Looking at) hash word within = hinted_seen at hash word within
+loaded_seen (Reading at) hash word within = look_seen (kind_of word) at word within
 loaded_seen (Comparing at other) hash word within = within
 
 compared_seen : (search : Search) (same : Bool) → IsSearching search → IsSeen (search_compared search same)
 compared_seen (Sizing table) same within = tt
 compared_seen (Looking at) same within = within
+compared_seen (Reading at) same within = within
 compared_seen (Comparing at word) true within = match_seen (kind_of word) at word within
 compared_seen (Comparing at word) false within = go_on_seen at within
 
@@ -185,7 +190,7 @@ pair_stands held (Replace write) n is fit = record { fill = is.fill; choice = fi
 
 -- a write that was made is counted, or was the whole
 written_stands : (task : Task) (write : _) (n : ℕ) → MayInsert task → IsStandingState task (written write n)
-written_stands task write n may = cond_both (write.old == 0) (Counting n) (Ended (Replaced _ n)) (IsStandingState task) (λ _. may) (λ _. tt)
+written_stands task write n may = cond_both (write.old == 0) (Counting (claimed_by write n)) (Ended (Replaced _ n)) (IsStandingState task) (λ _. may) (λ _. tt)
 
 -- an insertion may insert
 pub writer_inserts : (task : Task) → IsWriter task → MayInsert task
@@ -210,6 +215,7 @@ module _ (m : Machine) (held : IsRemembered m.remembered) where
   word_stands word (Opening table) stands = stands
   word_stands word (Writing write) stands = stands
   word_stands word (Counting pair) stands = stands
+  word_stands word (Noting pair) stands = stands
   word_stands word (Showing removal) stands = stands
   word_stands word (Burying removal) stands = stands
   word_stands word (Uncounting pair) stands = stands
@@ -229,6 +235,7 @@ module _ (m : Machine) (held : IsRemembered m.remembered) where
   exchanged_stands made Making stands = stands
   exchanged_stands made (Searching search) stands = stands
   exchanged_stands made (Counting pair) stands = stands
+  exchanged_stands made (Noting pair) stands = stands
   exchanged_stands made (Leaving table) stands = stands
   exchanged_stands made (Showing removal) stands = stands
   exchanged_stands made (Uncounting pair) stands = stands
@@ -238,8 +245,8 @@ module _ (m : Machine) (held : IsRemembered m.remembered) where
   exchanged_stands made (Ended reply) stands = stands
 
   -- a call that lost an exchange goes on from its place
-  look_goes : (at : Place) (word : ℕ) → IsWithin at → IsStandingState m.task (goes_as m.task m.mode m.remembered (look at m.hash word))
-  look_goes at word within = goes_stands m.task m.mode m.remembered (look at m.hash word) held (look_seen (kind_of word) at m.hash word within)
+  look_goes : (at : Place) (word : ℕ) → IsWithin at → IsStandingState m.task (goes_as m.task m.mode m.remembered (look at word))
+  look_goes at word within = goes_stands m.task m.mode m.remembered (look at word) held (look_seen (kind_of word) at word within)
 
   -- a removal that was beaten goes on from its place, or has ended
   beaten_stands : (kind : Kind) (removal : Removal) (word : ℕ) → IsWithin removal.place → IsStandingState m.task (beaten_by kind m removal.place word)
@@ -265,6 +272,7 @@ module _ (m : Machine) (held : IsRemembered m.remembered) where
   found_stands word Making stands = stands
   found_stands word (Searching search) stands = stands
   found_stands word (Counting pair) stands = stands
+  found_stands word (Noting pair) stands = stands
   found_stands word (Leaving table) stands = stands
   found_stands word (Showing removal) stands = stands
   found_stands word (Uncounting pair) stands = stands
@@ -316,6 +324,7 @@ module _ (m : Machine) (held : IsRemembered m.remembered) where
   yes_stands same (Opening table) stands = stands
   yes_stands same (Writing write) stands = stands
   yes_stands same (Counting pair) stands = stands
+  yes_stands same (Noting pair) stands = stands
   yes_stands same (Leaving table) stands = stands
   yes_stands same (Burying removal) stands = stands
   yes_stands same (Uncounting pair) stands = stands
@@ -328,12 +337,14 @@ module _ (m : Machine) (held : IsRemembered m.remembered) where
   size_stands : (slots limit : ℕ) → IsSize slots limit → (state : State) → IsStandingState m.task state → IsStandingState m.task (at_size m.hash slots limit state)
   size_stands slots limit size (Searching (Sizing table)) stands = record { size = size; len = omega arith; i = mod-lt (m.hash + triangular 0) (some_slots slots limit size) }
   size_stands slots limit size (Searching (Looking at)) stands = stands
+  size_stands slots limit size (Searching (Reading at)) stands = stands
   size_stands slots limit size (Searching (Comparing at word)) stands = stands
   size_stands slots limit size AtRoot stands = stands
   size_stands slots limit size Making stands = stands
   size_stands slots limit size (Opening table) stands = stands
   size_stands slots limit size (Writing write) stands = stands
   size_stands slots limit size (Counting pair) stands = stands
+  size_stands slots limit size (Noting pair) stands = stands
   size_stands slots limit size (Leaving table) stands = stands
   size_stands slots limit size (Showing removal) stands = stands
   size_stands slots limit size (Burying removal) stands = stands
@@ -345,7 +356,8 @@ module _ (m : Machine) (held : IsRemembered m.remembered) where
   size_stands slots limit size (Ended reply) stands = stands
 
   ok_stands : (state : State) → IsStandingState m.task state → IsStandingState m.task (at_ok state)
-  ok_stands (Counting pair) stands = tt
+  ok_stands (Counting pair) stands = stands
+  ok_stands (Noting pair) stands = tt
   ok_stands (Uncounting pair) stands = tt
   ok_stands (Offering gap) stands = stands
   ok_stands (Pairing purpose) stands = stands
@@ -370,6 +382,7 @@ module _ (m : Machine) (held : IsRemembered m.remembered) where
   refused_stands made refused (Opening table) stands = stands
   refused_stands made refused (Searching search) stands = stands
   refused_stands made refused (Counting pair) stands = stands
+  refused_stands made refused (Noting pair) stands = stands
   refused_stands made refused (Leaving table) stands = stands
   refused_stands made refused (Showing removal) stands = stands
   refused_stands made refused (Burying removal) stands = stands
@@ -390,6 +403,7 @@ module _ (m : Machine) (held : IsRemembered m.remembered) where
   made_fits made n (Opening table) fit is = is
   made_fits made n (Searching search) fit is = is
   made_fits made n (Counting pair) fit is = is
+  made_fits made n (Noting pair) fit is = is
   made_fits made n (Leaving table) fit is = is
   made_fits made n (Showing removal) fit is = is
   made_fits made n (Burying removal) fit is = is
@@ -409,6 +423,7 @@ module _ (m : Machine) (held : IsRemembered m.remembered) where
   made_stands n fit (Searching search) stands = stands
   made_stands n fit (Writing write) stands = stands
   made_stands n fit (Counting pair) stands = stands
+  made_stands n fit (Noting pair) stands = stands
   made_stands n fit (Leaving table) stands = stands
   made_stands n fit (Showing removal) stands = stands
   made_stands n fit (Burying removal) stands = stands
@@ -431,6 +446,7 @@ module _ (m : Machine) (held : IsRemembered m.remembered) where
   op_stands kind (Putting put) stands = stands
   op_stands kind (Burying removal) stands = stands
   op_stands kind (Counting pair) stands = stands
+  op_stands kind (Noting pair) stands = stands
   op_stands kind (Uncounting pair) stands = stands
   op_stands kind (Leaving table) stands = stands
   op_stands kind (Growing table) stands = stands
@@ -454,6 +470,7 @@ module _ (m : Machine) (held : IsRemembered m.remembered) where
   op_fits kind (Putting put) = held
   op_fits kind (Burying removal) = held
   op_fits kind (Counting pair) = held
+  op_fits kind (Noting pair) = held
   op_fits kind (Uncounting pair) = held
   op_fits kind (Leaving table) = held
   op_fits kind (Growing table) = held
@@ -471,6 +488,7 @@ module _ (m : Machine) (held : IsRemembered m.remembered) where
   held_fits n fit (Putting put) = held
   held_fits n fit (Burying removal) = held
   held_fits n fit (Counting pair) = held
+  held_fits n fit (Noting pair) = held
   held_fits n fit (Uncounting pair) = held
   held_fits n fit (Leaving table) = held
   held_fits n fit (Growing table) = held
@@ -495,11 +513,13 @@ asks_fit made hash Making = record { power = (5, refl); most = omega arith; few 
 asks_fit made hash (Opening table) = tt
 asks_fit made hash (Searching (Sizing table)) = tt
 asks_fit made hash (Searching (Looking at)) = tt
+asks_fit made hash (Searching (Reading at)) = tt
 asks_fit made hash (Searching (Comparing at word)) = tt
 asks_fit Nothing hash (Writing write) = tt
 asks_fit Key hash (Writing write) = tt
 asks_fit (Pair n) hash (Writing write) = tt
 asks_fit made hash (Counting pair) = tt
+asks_fit made hash (Noting pair) = tt
 asks_fit made hash (Leaving table) = tt
 asks_fit made hash (Offering gap) = tt
 asks_fit made hash (Showing removal) = tt

@@ -7,7 +7,7 @@ use Rattle.papaya_words.specs.declared.word.Kind.TheVariants.{Empty as Is_empty}
 use Rattle.papaya_ask.specs.declared.ask.At.{At}
 use Rattle.papaya_ask.specs.declared.ask.At.TheVariants.{Root, Slot}
 use Rattle.papaya_ask.specs.declared.ask.Ask.{Ask}
-use Rattle.papaya_ask.specs.declared.ask.Ask.TheVariants.{Load, Exchange, SameKey, ShowNone, ShowPair, SizeOf, MakeKey, MakePair, MakeTable, AddToShard, Done}
+use Rattle.papaya_ask.specs.declared.ask.Ask.TheVariants.{Load, Exchange, LoadHint, WriteHint, SameKey, ShowNone, ShowPair, SizeOf, MakeKey, MakePair, MakeTable, AddToShard, Done}
 use Rattle.papaya_ask.specs.declared.ask.Answer.{Answer}
 use Rattle.papaya_ask.specs.declared.ask.Answer.TheVariants.{Word as Word_read, Exchanged, Found as Found_instead, Yes, Op, Size, Made as Made_number, Ok as Ok_done, Refused as Was_refused}
 use Rattle.papaya_ask.specs.declared.ask.OpKind.{OpKind}
@@ -20,10 +20,10 @@ use Rattle.papaya_call.specs.declared.compute.Purpose.{Purpose}
 use Rattle.papaya_call.specs.declared.compute.Purpose.TheVariants.{Fill, Replace}
 use Rattle.papaya_call.specs.declared.machine.Machine.{Machine}
 use Rattle.papaya_call.specs.declared.machine.State.{State}
-use Rattle.papaya_call.specs.declared.machine.State.TheVariants.{AtRoot, Making, Opening, Searching, Writing, Offering, Showing, Pairing, Putting, Burying, Leaving, Ended}
+use Rattle.papaya_call.specs.declared.machine.State.TheVariants.{AtRoot, Making, Opening, Searching, Writing, Offering, Showing, Pairing, Putting, Burying, Counting, Leaving, Ended}
 use Rattle.papaya_ask.specs.declared.search.Place.{Place}
 use Rattle.papaya_ask.specs.declared.search.Search.{Search}
-use Rattle.papaya_ask.specs.declared.search.Search.TheVariants.{Sizing, Looking, Comparing}
+use Rattle.papaya_ask.specs.declared.search.Search.TheVariants.{Sizing, Looking, Reading, Comparing}
 use Rattle.papaya_call.specs.declared.write.Made.{Made}
 use Rattle.papaya_call.specs.declared.write.Made.TheVariants.{Nothing, Key, Pair}
 use Rattle.papaya_ask.specs.Search.{IsSize}
@@ -55,6 +55,9 @@ IsPrompt task words (Load at) answer words' = (answer ≡ Word_read (words at)) 
 IsPrompt task words (Exchange at old new) answer words' =
     MatchBool (words at == old) ((answer ≡ Exchanged) × IsPut words at new words')
     ((answer ≡ Found_instead (words at)) × IsSame words words')
+IsPrompt task words (LoadHint t x) answer words' = ((hint : ℕ) × (answer ≡ Word_read hint))
+    × IsSame words words'
+IsPrompt task words (WriteHint t x hint) answer words' = (answer ≡ Ok_done) × IsSame words words'
 IsPrompt task words (SameKey n) answer words' = ((same : Bool) × (answer ≡ Yes same))
     × IsSame words words'
 IsPrompt task words ShowNone answer words' = IsSaying Compute answer × IsSame words words'
@@ -76,6 +79,7 @@ word_of_place words at = words (Slot at.table at.probe.i)
 abbrev pub IsSearchRead : (At → ℕ) → Search → Type 0
 IsSearchRead words (Sizing t) = Unit {0}
 IsSearchRead words (Looking at) = Unit {0}
+IsSearchRead words (Reading at) = Unit {0}
 IsSearchRead words (Comparing at word) = word_of_place words at ≡ word
 
 -- what was read where a key is absent
@@ -110,17 +114,18 @@ pub record IsCurrent (words : At → ℕ) (s : State) : Type 0 where
   pub bare : IsBare words
   pub read : IsRead words s
 
--- the steps that are left to a write: its key, its pair, the exchange, and the count
+-- the steps that are left to a write: its key, its pair, the exchange, the count and the hint
 abbrev pub left_to_write : Made → ℕ
-left_to_write Nothing = 4
-left_to_write Key = 3
-left_to_write (Pair n) = 2
+left_to_write Nothing = 5
+left_to_write Key = 4
+left_to_write (Pair n) = 3
 
 -- the steps that are left to a search of one table, at most, and to what comes of it
 abbrev pub left_to_search : Search → ℕ
 left_to_search (Sizing t) = 2 ^ 40
-left_to_search (Looking at) = 9 + 2 * (at.limit - at.probe.len)
-left_to_search (Comparing at word) = 8 + 2 * (at.limit - at.probe.len)
+left_to_search (Looking at) = 10 + 3 * (at.limit - at.probe.len)
+left_to_search (Reading at) = 9 + 3 * (at.limit - at.probe.len)
+left_to_search (Comparing at word) = 8 + 3 * (at.limit - at.probe.len)
 
 -- the steps until a compute has made its key and its pair, and those from there on
 abbrev pub left_to_pair : Made → ℕ
@@ -130,12 +135,12 @@ left_to_pair (Pair n) = 1
 
 abbrev pub left_to_fill : Gap → ℕ
 left_to_fill NoRoot = 2 ^ 40 + 2
-left_to_fill (At_place at) = 2
+left_to_fill (At_place at) = 3
 left_to_fill (After t) = 1
 
 abbrev pub left_to_serve : Purpose → ℕ
 left_to_serve (Fill gap) = left_to_fill gap
-left_to_serve (Replace write) = 2
+left_to_serve (Replace write) = 3
 
 -- The steps that are left to a call, at most, while no table has a next one.
 abbrev pub left_in : Made → State → ℕ
@@ -145,10 +150,11 @@ left_in made (Opening t) = 2 ^ 40 + 1
 left_in made (Searching search) = left_to_search search
 left_in made (Writing write) = left_to_write made
 left_in made (Offering gap) = 3 + left_to_fill gap
-left_in made (Showing removal) = 5
+left_in made (Showing removal) = 6
 left_in made (Pairing purpose) = left_to_pair made + left_to_serve purpose
-left_in made (Putting put) = 2
+left_in made (Putting put) = 3
 left_in made (Burying removal) = 2
+left_in made (Counting claimed) = 2
 left_in made (Leaving t) = 5
 left_in made (Ended reply) = 0
 left_in made _ = 1
@@ -175,5 +181,6 @@ HasMetNone _ = ⊥
 abbrev pub IsUnmatched : Ask → Answer → Type 0
 IsUnmatched (SameKey n) answer = answer ≡ Yes false
 IsUnmatched (Load at) answer = (word : ℕ) × (answer ≡ Word_read word)
+IsUnmatched (LoadHint t x) answer = (hint : ℕ) × (answer ≡ Word_read hint)
 IsUnmatched (SizeOf t) answer = (slots : ℕ) × (limit : ℕ) × (answer ≡ Size slots limit)
 IsUnmatched _ answer = Unit {0}

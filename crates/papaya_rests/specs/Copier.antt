@@ -1,6 +1,6 @@
 -- What a copier rests on: facts of the words alone, which no exchange undoes.
 use Rattle.std.specs.Prelude.{◌≡◌, ◌⊎◌, ℕ, ◌+◌, ◌<◌, ◌≤◌, true, false, Option, Some}
-use Rattle.papaya_words.specs.Word.{kind_of, pair_of}
+use Rattle.papaya_words.specs.Word.{hint_of, kind_of, pair_of}
 use Rattle.papaya_words.specs.declared.word.Kind.TheVariants as word_kinds
 use Rattle.papaya_ask.specs.declared.ask.At.{At}
 use Rattle.papaya_ask.specs.declared.ask.At.TheVariants.{Root, Next, Aborted, Done, Slot as Slot_word}
@@ -38,7 +38,8 @@ use Rattle.papaya_copy.specs.Step.{slot_of}
 use Rattle.papaya_law.specs.Class.{IsOn}
 use Rattle.papaya_law.specs.Code.{Coding, code}
 use Rattle.papaya_law.specs.Copying.{IsPutting, IsSettled, IsTaker, IsTarget}
-use Rattle.papaya_law.specs.Exchange.{Word, Live, Marked, Copied, Setting, State, Exchange, Link as Link_to, Mark, Close, Place as Place_pair, Finish, Advance, Promote, Abort}
+use Rattle.papaya_law.specs.Hints.{IsHint}
+use Rattle.papaya_law.specs.Exchange.{Word, Closed, Live, Marked, Copied, Setting, State, Exchange, Link as Link_to, Mark, Close, Place as Place_pair, Finish, Advance, Promote, Abort}
 use Rattle.papaya_law.specs.Invariant.{named}
 use Rattle.papaya_law.specs.Later.{Becomes}
 use Rattle.papaya_law.specs.View.{look, HasWord}
@@ -54,8 +55,10 @@ abbrev pub carried_to : Carry → ℕ
 carried_to (carries.Hashing table) = table
 carried_to (carries.Sizing hash table) = table
 carried_to (carries.Looking hash at) = at.table
+carried_to (carries.Reading hash at) = at.table
 carried_to (carries.Comparing hash at word) = at.table
 carried_to (carries.Placing hash at) = at.table
+carried_to (carries.Placed hash at) = at.table
 carried_to (carries.Passing hash table) = table
 carried_to (carries.Linking hash link) = follows link
 carried_to (carries.Aborting table) = table
@@ -116,6 +119,15 @@ module _ {K P : Type 0} (g : Setting K P) (c : Coding K P) (s : State P) where
     pub has : HasWord g.places (look g s (g.key pair)) table
     pub here : g.blocking ≡ true → table ≡ slot.to
 
+  -- p was put into this place of a table that takes it, and its key's hint may be written there
+  pub record HasPlaced (slot : Slot) (p : P) (hash : ℕ) (at : Place) : Type 0 where
+    pub fits : IsFor p hash at
+    pub stood : (s.slot slot.from slot.index ≡ Marked p)
+        ⊎ (s.slot slot.from slot.index ≡ Copied p)
+    pub taker : IsTaker g s (g.key p) slot.from at.table
+    pub has : HasWord g.places (look g s (g.key p)) at.table
+    pub hint : IsHint g c s at.table at.probe.i (hint_of (c.hash (g.key p)))
+
 -- `last` is the pair last told of, `kept` the one that is carried.
 module _ {K P : Type 0} (g : Setting K P) (c : Coding K P) (s : State P)
     (last kept : Option P) where
@@ -136,10 +148,13 @@ module _ {K P : Type 0} (g : Setting K P) (c : Coding K P) (s : State P)
       × IsPutting g s slot.from slot.index p table 0
   RestsCarry slot p (carries.Looking hash at) = (kept ≡ Some p) × IsFor g c s p hash at
       × IsPutting g s slot.from slot.index p at.table at.probe.len
+  RestsCarry slot p (carries.Reading hash at) = (kept ≡ Some p) × IsFor g c s p hash at
+      × IsPutting g s slot.from slot.index p at.table at.probe.len
   RestsCarry slot p (carries.Comparing hash at word) = (kept ≡ Some p) × IsFor g c s p hash at
       × IsPutting g s slot.from slot.index p at.table at.probe.len × HasCompared at word
   RestsCarry slot p (carries.Placing hash at) = (kept ≡ Some p) × IsFor g c s p hash at
       × IsPutting g s slot.from slot.index p at.table at.probe.len
+  RestsCarry slot p (carries.Placed hash at) = (kept ≡ Some p) × HasPlaced g c s slot p hash at
   RestsCarry slot p (carries.Passing hash table) = (g.blocking ≡ false) × (kept ≡ Some p)
       × (hash ≡ c.hash (g.key p)) × IsPutting g s slot.from slot.index p table (g.places table)
   RestsCarry slot p (carries.Linking hash link) = (g.blocking ≡ false) × (kept ≡ Some p)
@@ -158,6 +173,7 @@ module _ {K P : Type 0} (g : Setting K P) (c : Coding K P) (s : State P)
   abbrev pub RestsSettle : Slot → Settle → Type 0
   RestsSettle slot settles.Looking = Unit {0}
   RestsSettle slot settles.Closing = Unit {0}
+  RestsSettle slot settles.Shutting = s.slot slot.from slot.index ≡ Closed
   RestsSettle slot (settles.Marking word) = kind_of word ≡ word_kinds.Live
   RestsSettle slot (settles.Carrying word carry) = IsCarrying slot word carry
   RestsSettle slot (settles.Finishing word) = (g.blocking ≡ false) × HasCarried g c s slot word
@@ -285,6 +301,8 @@ module _ {K P : Type 0} (g : Setting K P) (c : Coding K P) (s : State P)
   abbrev pub AreThere : CopyAsk → Type 0
   AreThere (asks.Load at) = IsThere at
   AreThere (asks.Exchange at old new) = IsThere at
+  AreThere (asks.LoadHint t x) = IsThere (Slot_word t x)
+  AreThere (asks.WriteHint t x hint) = IsThere (Slot_word t x)
   AreThere (asks.SizeOf t) = IsOn s.first s.next t
   AreThere (asks.HashOf n) = (p : P) × (last ≡ Some p) × (c.number p ≡ n)
   AreThere (asks.SamePair i n) = (o : P) × (q : P) × (kept ≡ Some o) × (last ≡ Some q)

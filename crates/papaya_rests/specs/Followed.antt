@@ -2,7 +2,7 @@
 use Rattle.std.specs.Prelude.{◌≡◌, ◌⊎◌, ℕ, ◌==◌, if◌then◌else◌, Option, None, Some}
 use Rattle.papaya_ask.specs.declared.ask.At.TheVariants.{Root, Next, Aborted, Done as Done_word, Slot}
 use Rattle.papaya_ask.specs.declared.ask.Ask.{Ask}
-use Rattle.papaya_ask.specs.declared.ask.Ask.TheVariants.{Load, Exchange, SameKey, ShowNone, ShowPair, SizeOf, MakeKey, MakePair, MakeTable, AddToShard, Done}
+use Rattle.papaya_ask.specs.declared.ask.Ask.TheVariants.{Load, Exchange, LoadHint, WriteHint, SameKey, ShowNone, ShowPair, SizeOf, MakeKey, MakePair, MakeTable, AddToShard, Done}
 use Rattle.papaya_ask.specs.declared.ask.Answer.{Answer}
 use Rattle.papaya_ask.specs.declared.ask.Answer.TheVariants.{Word as Word_read, Exchanged, Found as Found_instead}
 use Rattle.papaya_ask.specs.declared.ask.StepKind.{StepKind}
@@ -13,15 +13,16 @@ use Rattle.papaya_call.specs.declared.compute.Gap.TheVariants.{NoRoot, At, After
 use Rattle.papaya_call.specs.declared.compute.Purpose.{Purpose}
 use Rattle.papaya_call.specs.declared.compute.Purpose.TheVariants.{Fill, Replace}
 use Rattle.papaya_ask.specs.declared.search.Search.{Search}
-use Rattle.papaya_ask.specs.declared.search.Search.TheVariants.{Sizing, Looking, Comparing}
+use Rattle.papaya_ask.specs.declared.search.Search.TheVariants.{Sizing, Looking, Reading, Comparing}
 use Rattle.papaya_call.specs.declared.machine.State.{State}
-use Rattle.papaya_call.specs.declared.machine.State.TheVariants.{Searching, Writing, Offering, Showing, Pairing, Putting, Burying, Leaving, Growing}
+use Rattle.papaya_call.specs.declared.machine.State.TheVariants.{Searching, Writing, Offering, Showing, Pairing, Putting, Burying, Counting, Noting, Leaving, Growing}
 use Rattle.papaya_call.specs.Machine.{HasClosure, IsChanger, IsComputer, MayInsert, needed}
 
 -- the table that a search is in
 abbrev pub table_of : Search → ℕ
 table_of (Sizing t) = t
 table_of (Looking at) = at.table
+table_of (Reading at) = at.table
 table_of (Comparing at word) = at.table
 
 -- the table of a gap, and of what a pair is made for
@@ -43,6 +44,8 @@ IsAtTable n (Showing removal) = removal.place.table ≡ n
 IsAtTable n (Pairing purpose) = IsPurposeAt n purpose
 IsAtTable n (Putting put) = put.write.place.table ≡ n
 IsAtTable n (Burying removal) = removal.place.table ≡ n
+IsAtTable n (Counting claimed) = claimed.place.table ≡ n
+IsAtTable n (Noting claimed) = claimed.place.table ≡ n
 IsAtTable n (Leaving t) = t ≡ n
 IsAtTable n (Growing need) = needed need ≡ n
 IsAtTable n _ = Unit {0}
@@ -72,9 +75,11 @@ table_asked (SizeOf t) = Some t
 table_asked (Load (Next t)) = Some t
 table_asked (Load (Slot t x)) = Some t
 table_asked (Exchange (Slot t x) old new) = Some t
+table_asked (LoadHint t x) = Some t
+table_asked (WriteHint t x hint) = Some t
 table_asked _ = None
 
--- What the machine of a task asks. It loads the root, numbers of next tables and slots. It
+-- What the machine of a task asks. It loads the root, numbers of next tables, hints and slots. It
 -- exchanges the root where it has made a table, and else slots.
 abbrev pub MayAsk : Task → Option StepKind → Ask → Type 0
 MayAsk task kind (Load Root) = Unit {0}
@@ -89,6 +94,8 @@ MayAsk task kind (Exchange (Slot t x) old new) =
 MayAsk task kind (Exchange (Next t) old new) = ⊥
 MayAsk task kind (Exchange (Aborted t) old new) = ⊥
 MayAsk task kind (Exchange (Done_word t) old new) = ⊥
+MayAsk task kind (LoadHint t x) = Unit {0}
+MayAsk task kind (WriteHint t x hint) = MayInsert task
 MayAsk task kind (SameKey n) = Unit {0}
 MayAsk task kind ShowNone = IsComputer task
 MayAsk task kind (ShowPair n) = HasClosure task
@@ -99,8 +106,9 @@ MayAsk task kind (MakeTable slots limit) = MayInsert task
 MayAsk task kind (AddToShard by) = IsChanger task
 MayAsk task kind (Done reply) = Unit {0}
 
--- nothing is left to do but to count
+-- nothing is left to do but to count, and to write a hint
 abbrev pub IsCounting : Ask → Type 0
 IsCounting (AddToShard by) = Unit {0}
+IsCounting (WriteHint t x hint) = Unit {0}
 IsCounting (Done reply) = Unit {0}
 IsCounting _ = ⊥

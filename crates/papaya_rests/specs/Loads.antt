@@ -5,7 +5,7 @@ use Rattle.std.specs.List.Sorted.{IsStrictlyIncreasing}
 use Rattle.papaya_ask.specs.declared.ask.At.{At}
 use Rattle.papaya_ask.specs.declared.ask.At.TheVariants.{Next, Slot}
 use Rattle.papaya_ask.specs.declared.ask.Ask.{Ask}
-use Rattle.papaya_ask.specs.declared.ask.Ask.TheVariants.{Load, SameKey, SizeOf}
+use Rattle.papaya_ask.specs.declared.ask.Ask.TheVariants.{Load, LoadHint, SameKey, SizeOf}
 use Rattle.papaya_ask.specs.declared.ask.Answer.{Answer}
 use Rattle.papaya_ask.specs.declared.ask.Answer.TheVariants.{Word, Yes, Size}
 use Rattle.papaya_call.specs.declared.machine.Machine.{Machine}
@@ -22,9 +22,10 @@ IsRising (Next t) word = (word ≡ 0) ⊎ (t < word)
 IsRising _ word = Unit {0}
 
 -- An answer fits what is asked. Each table has one limit, and a next one has a greater number; else
--- any word may be loaded.
+-- any word or hint may be loaded.
 abbrev pub IsAnswer : (ℕ → ℕ) → Ask → Answer → Type 0
 IsAnswer limit (Load at) answer = (word : ℕ) × (answer ≡ Word word) × IsRising at word
+IsAnswer limit (LoadHint t x) answer = (hint : ℕ) × (answer ≡ Word hint)
 IsAnswer limit (SizeOf t) answer = (slots : ℕ) × (answer ≡ Size slots (limit t))
 IsAnswer limit (SameKey n) answer = (same : Bool) × (answer ≡ Yes same)
 -- a lookup asks nothing else until it replies
@@ -41,7 +42,7 @@ abbrev pub table_entered : Ask → Option ℕ
 table_entered (SizeOf t) = Some t
 table_entered _ = None
 
--- the table of the slot that an ask loads
+-- the table of the slot whose word an ask loads
 abbrev pub table_of_slot : At → Option ℕ
 table_of_slot (Slot t x) = Some t
 table_of_slot _ = None
@@ -49,6 +50,11 @@ table_of_slot _ = None
 abbrev pub table_loaded : Ask → Option ℕ
 table_loaded (Load at) = table_of_slot at
 table_loaded _ = None
+
+-- and of the one whose hint it loads
+abbrev pub table_hinted : Ask → Option ℕ
+table_hinted (LoadHint t x) = Some t
+table_hinted _ = None
 
 -- the tables that are entered, in their order
 abbrev pub tables_entered : List Ask → List ℕ
@@ -58,13 +64,20 @@ tables_entered asks = filter_map table_entered asks
 abbrev pub tables_loaded : List Ask → List ℕ
 tables_loaded asks = filter_map table_loaded asks
 
+-- and those whose hints are loaded
+abbrev pub tables_hinted : List Ask → List ℕ
+tables_hinted asks = filter_map table_hinted asks
+
 -- The asks of a lookup, where table t has this limit.
 pub record IsBounded (limit : ℕ → ℕ) (asks : List Ask) : Type 0 where
   -- no table has more slot words loaded than its limit and one
   pub loads : (t : ℕ) → count_by (λ u. u == t) (tables_loaded asks) ≤ limit t + 1
+  -- nor more hints
+  pub hints : (t : ℕ) → count_by (λ u. u == t) (tables_hinted asks) ≤ limit t + 1
   -- none is entered twice
   pub rising : IsStrictlyIncreasing (tables_entered asks)
-  -- each whose slots are loaded was entered
+  -- each whose slots or hints are loaded was entered
   pub entered : All (Contains (tables_entered asks)) (tables_loaded asks)
+  pub entered_hinted : All (Contains (tables_entered asks)) (tables_hinted asks)
   -- nothing is changed or made
   pub quiet : All IsLookup asks

@@ -1,7 +1,7 @@
 -- What a machine rests on: facts of the words that stay true whatever exchanges follow, and facts
 -- about a moment since its call began.
 use Rattle.std.specs.Prelude.{◌≡◌, ◌⊎◌, ℕ, ◌+◌, ◌<◌, Bool, true, false, Option, None, Some, List, ◌++◌}
-use Rattle.papaya_words.specs.Word.{kind_of, pair_of}
+use Rattle.papaya_words.specs.Word.{hint_of, kind_of, pair_of}
 use Rattle.papaya_words.specs.declared.word.Kind.TheVariants as word_kinds
 use Rattle.papaya_words.specs.declared.probe.ResizeMode.{ResizeMode}
 use Rattle.papaya_words.specs.declared.probe.ResizeMode.TheVariants.{Incremental, Blocking}
@@ -27,12 +27,13 @@ use Rattle.papaya_call.specs.declared.need.Need.TheVariants.{Room, Pair as Pair_
 use Rattle.papaya_call.specs.declared.remove.Removal.{Removal}
 use Rattle.papaya_ask.specs.declared.search.Place.{Place}
 use Rattle.papaya_ask.specs.declared.search.Search.{Search}
-use Rattle.papaya_ask.specs.declared.search.Search.TheVariants.{Sizing, Looking, Comparing}
+use Rattle.papaya_ask.specs.declared.search.Search.TheVariants.{Sizing, Looking, Reading, Comparing}
+use Rattle.papaya_call.specs.declared.write.Claimed.{Claimed}
 use Rattle.papaya_call.specs.declared.write.Made.{Made}
 use Rattle.papaya_call.specs.declared.write.Made.TheVariants.{Nothing, Key, Pair}
 use Rattle.papaya_call.specs.declared.write.Write.{Write}
 use Rattle.papaya_call.specs.declared.machine.State.{State as Stage}
-use Rattle.papaya_call.specs.declared.machine.State.TheVariants.{AtRoot, Making, Opening, Searching, Writing, Offering, Showing, Pairing, Putting, Burying, Counting, Uncounting, Leaving, Growing, Ended}
+use Rattle.papaya_call.specs.declared.machine.State.TheVariants.{AtRoot, Making, Opening, Searching, Writing, Offering, Showing, Pairing, Putting, Burying, Counting, Noting, Uncounting, Leaving, Growing, Ended}
 use Rattle.papaya_call.specs.declared.machine.Machine.{Machine}
 use Rattle.papaya_law.specs.Exchange.{Word, Setting, State, Exchange, run, start}
 use Rattle.papaya_law.specs.View.{Leaving as View_leaving, Gone, view, look, own, held, beyond, IsPassed, IsReached}
@@ -40,6 +41,7 @@ use Rattle.papaya_law.specs.Meaning.{IsAtMoment, map_left}
 use Rattle.papaya_law.specs.Invariant.{named}
 use Rattle.papaya_law.specs.Later.{Becomes}
 use Rattle.papaya_law.specs.Code.{Coding, code}
+use Rattle.papaya_law.specs.Hints.{IsHint}
 use Rattle.papaya_call.specs.Machine.{HasClosure, IsComputer, MayInsert}
 use Rattle.papaya_rests.specs.Told.{Hands, IsOneOf}
 
@@ -122,6 +124,12 @@ module _ {K P : Type 0} (g : Setting K P) (c : Coding K P) (begun since : List (
   abbrev pub IsOwnPair : Hands P → ℕ → Type 0
   IsOwnPair hands n = (q : P) × IsOneOf hands.made q × (c.number q ≡ n)
 
+  -- the pair is one that the call made, and its key's hint may be written at its place
+  pub record HasClaimed (hands : Hands P) (claimed : Claimed) : Type 0 where
+    pub pair : IsOwnPair hands claimed.pair
+    pub stands : IsAt claimed.place
+    pub hint : IsHint g c now claimed.place.table claimed.place.probe.i (hint_of (c.hash k))
+
   abbrev pub RestsMade : Hands P → Made → Type 0
   RestsMade hands Nothing = Unit {0}
   RestsMade hands Key = Unit {0}
@@ -147,6 +155,7 @@ module _ {K P : Type 0} (g : Setting K P) (c : Coding K P) (begun since : List (
   abbrev pub RestsSearch : Hands P → Search → Type 0
   RestsSearch hands (Sizing t) = HasComeTo t
   RestsSearch hands (Looking at) = IsAt at
+  RestsSearch hands (Reading at) = IsAt at
   RestsSearch hands (Comparing at word) = (p : P) × (hands.last ≡ Some p) × HasMet at word p
 
   -- the key's pair is being copied from this slot of table t, or was
@@ -214,7 +223,8 @@ module _ {K P : Type 0} (g : Setting K P) (c : Coding K P) (begun since : List (
   RestsStage hands task (Putting put) = IsComputer task × MayWrite true put.write
       × IsOwnPair hands put.pair
   RestsStage hands task (Burying removal) = HasClosure task × MayRemove hands removal
-  RestsStage hands task (Counting n) = MayInsert task × IsOwnPair hands n
+  RestsStage hands task (Counting claimed) = MayInsert task × HasClaimed hands claimed
+  RestsStage hands task (Noting claimed) = MayInsert task × HasClaimed hands claimed
   RestsStage hands task (Uncounting n) = HasClosure task
   RestsStage hands task (Leaving t) = RestsLeaving task t
   RestsStage hands task (Growing need) = RestsGrowing task need
@@ -240,7 +250,8 @@ change_of_reply _ = None
 
 -- the change that a machine in this stage has made
 abbrev pub change_in : Stage → Change
-change_in (Counting n) = Some (None, Some n)
+change_in (Counting claimed) = Some (None, Some claimed.pair)
+change_in (Noting claimed) = Some (None, Some claimed.pair)
 change_in (Uncounting n) = Some (Some n, None)
 change_in (Ended reply) = change_of_reply reply
 change_in _ = None

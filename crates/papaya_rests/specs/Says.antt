@@ -17,7 +17,7 @@ use Rattle.papaya_call.specs.declared.compute.Purpose.{Purpose}
 use Rattle.papaya_call.specs.declared.compute.Purpose.TheVariants.{Fill, Replace}
 use Rattle.papaya_call.specs.declared.machine.Machine.{Machine}
 use Rattle.papaya_call.specs.declared.machine.State.{State}
-use Rattle.papaya_call.specs.declared.machine.State.TheVariants.{Offering, Showing, Pairing, Putting, Burying, Counting, Uncounting, Ended}
+use Rattle.papaya_call.specs.declared.machine.State.TheVariants.{Offering, Showing, Pairing, Putting, Burying, Counting, Noting, Uncounting, Ended}
 use Rattle.papaya_call.specs.Machine.{after, ask_of, kind_of_ask}
 
 -- What a closure said. Where its key was absent it was shown None, and else the pair of this
@@ -75,7 +75,8 @@ abbrev pub said_in : Task → State → Option Said
 said_in task (Pairing purpose) = Some (said_for purpose)
 said_in task (Putting put) = Some (Makes (shown_by put.write.old) put.pair)
 said_in task (Burying removal) = said_to_remove task (pair_of removal.word)
-said_in task (Counting n) = said_to_claim task n
+said_in task (Counting claimed) = said_to_claim task claimed.pair
+said_in task (Noting claimed) = said_to_claim task claimed.pair
 said_in task (Uncounting n) = said_to_remove task n
 said_in task (Ended reply) = said_in_reply task reply
 said_in task _ = None

@@ -5,7 +5,7 @@ use Rattle.papaya_words.specs.declared.probe.Refused.{Refused}
 use Rattle.papaya_ask.specs.declared.ask.At.{At}
 use Rattle.papaya_ask.specs.declared.ask.At.TheVariants.{Root, Next, Aborted, Done, Slot}
 use Rattle.papaya_ask.specs.declared.ask.Ask.{Ask}
-use Rattle.papaya_ask.specs.declared.ask.Ask.TheVariants.{Load, Exchange as Ask_exchange, SameKey, ShowNone, ShowPair, SizeOf, MakeKey, MakePair, MakeTable, AddToShard, Done as Ask_done}
+use Rattle.papaya_ask.specs.declared.ask.Ask.TheVariants.{Load, Exchange as Ask_exchange, LoadHint, WriteHint, SameKey, ShowNone, ShowPair, SizeOf, MakeKey, MakePair, MakeTable, AddToShard, Done as Ask_done}
 use Rattle.papaya_ask.specs.declared.ask.Answer.{Answer}
 use Rattle.papaya_ask.specs.declared.ask.Answer.TheVariants.{Word as Word_read, Exchanged, Found as Found_instead, Yes, Op, Size, Made as Made_number, Ok as Ok_done, Refused as Was_refused}
 use Rattle.papaya_ask.specs.declared.ask.OpKind.{OpKind}
@@ -14,6 +14,7 @@ use Rattle.papaya_ask.specs.declared.ask.StepKind.TheVariants as kinds
 use Rattle.papaya_law.specs.Exchange.{Live, Setting, State, Exchange, Open, Claim, Replace, Bury}
 use Rattle.papaya_law.specs.Invariant.{named}
 use Rattle.papaya_law.specs.Code.{Coding, code}
+use Rattle.papaya_law.specs.Hints.{IsHint}
 
 -- The pairs that a machine has been told of: the one that the word last loaded names, and those
 -- that it made, the newest first.
@@ -87,7 +88,9 @@ module _ {K P : Type 0} (g : Setting K P) (c : Coding K P) (k : K) where
       ⊎ ((kind : OpKind) × (answer ≡ Op kind)) ⊎ (answer ≡ Ok_done)
 
   -- The answer to an ask is true of the words in s, for a call with key k: a load and an exchange
-  -- are answered by the word that stands there. es has the exchange, if one was made.
+  -- The answer to an ask is true of the words in s, for a call with key k: a load and an exchange
+  -- are answered by the word that stands there, and the load of a hint by one that may be there. es
+  -- has the exchange, if one was made.
   abbrev pub IsTold : State P → Option StepKind → Hands P → Ask → Answer → List (Exchange P)
       → Hands P → Type 0
   IsTold s kind hands (Load at) answer es hands' = (answer ≡ Word_read (word_of g c s at))
@@ -97,6 +100,10 @@ module _ {K P : Type 0} (g : Setting K P) (c : Coding K P) (k : K) where
       ((answer ≡ Exchanged) × ((e : Exchange P) × IsAsked c kind at new s hands e × (es ≡ e ∷ []))
       × (hands' ≡ hands))
       ((answer ≡ Found_instead (word_of g c s at)) × (es ≡ []) × (hands' ≡ told_of s at hands))
+  IsTold s kind hands (LoadHint t x) answer es hands' =
+      ((n : ℕ) × IsHint g c s t x n × (answer ≡ Word_read n)) × Quiet hands es hands'
+  IsTold s kind hands (WriteHint t x n) answer es hands' = (answer ≡ Ok_done)
+      × Quiet hands es hands'
   IsTold s kind hands (SameKey n) answer es hands' =
       ((p : P) → hands.last ≡ Some p → c.number p ≡ n → answer ≡ Yes (g.same k (g.key p)))
       × Quiet hands es hands'

@@ -15,7 +15,7 @@ ghost use Rattle.papaya_copy.specs.declared.copying.Aim.{Aim};
 ghost use Rattle.papaya_copy.specs.declared.copying.Copying.{Copying};
 ghost use Rattle.papaya_copy.specs.declared.copying.Copying.TheVariants as copyings;
 ghost use Rattle.papaya_copy.specs.declared.step.Step.TheVariants as steps;
-ghost use Rattle.papaya_copy.specs.Copying.{at_count, at_exchanged, at_found, at_hash, at_made, at_refused};
+ghost use Rattle.papaya_copy.specs.Copying.{at_count, at_exchanged, at_found, at_hash, at_made, at_ok, at_refused};
 ghost use Rattle.papaya_copy.specs.Copying.{at_size, at_word, at_yes, copying_ask, copying_follows, copying_kind};
 ghost use Rattle.papaya_words.specs.Mode.{IsChunked};
 ghost use Rattle.papaya_law.specs.Allows.{AllAllowed, Allows};
@@ -23,6 +23,7 @@ ghost use Rattle.papaya_law.specs.Class.{IsOn};
 ghost use Rattle.papaya_law.specs.Code.{Coding, IsHashed};
 ghost use Rattle.papaya_law.specs.Exchange.{Setting, State, Exchange, after, run};
 ghost use Rattle.papaya_law.specs.Grows.{Agrees};
+ghost use Rattle.papaya_law.specs.Hints.{IsHint};
 ghost use Rattle.papaya_law.specs.Invariant.{IsKeeping};
 ghost use Rattle.papaya_rests.specs.Copier.{AreThere, IsCopyAsked, RestsAim, RestsCopied, RestsCopying, aim_of, last_after, told_last};
 ghost use Rattle.papaya_rests.specs.Rests.{IsModeOf};
@@ -54,6 +55,14 @@ pub fn copiers_may_exchange<K, P>()
         → IsCopyAsked c kind at new s kept e' → e ≡ e' }
 {}
 
+/// A hint that a copier writes may be there: it put a pair of that key into the slot, or shut it.
+pub fn copiers_may_hint<K, P>()
+    ensures { (g : Setting K P) (c : Coding K P) → IsHashed g c → (s : State P) (m : K → Option P)
+        → IsKeeping g s m → (mode : ResizeMode) → IsModeOf mode g.blocking
+        → (last kept : Option P) (copying : Copying) → RestsCopying g c s last kept copying
+        → (t x n : ℕ) → copying_ask copying ≡ asks.WriteHint t x n → IsHint g c s t x n }
+{}
+
 /// A copier names only words of tables that were opened or linked, slots within them, the pair last
 /// told of and the one that it carries.
 pub fn copiers_name<K, P>()
@@ -65,7 +74,8 @@ pub fn copiers_name<K, P>()
 /// After an answer that is true of the words a copier rests again, or it tells what was copied: the
 /// table in which the call is to look for its key, or the root.
 ///
-/// A load and an exchange are answered by the word that stands there. Asked for a hash, a copier
+/// A load and an exchange are answered by the word that stands there, and the load of a hint by any
+/// that may be there. Asked for a hash, a copier
 /// carries the pair that it was told of last. What makes a table gives it a number above the one
 /// that it follows.
 pub fn copiers_learn<K, P>()
@@ -78,6 +88,18 @@ pub fn copiers_learn<K, P>()
         → RestsCopying g c s last kept copying → (at : At) → IsChunked mode
         → copying_ask copying ≡ asks.Load at → RestsCopied g c s (told_last s at last) kept
         (aim_of copying) (at_word copying mode (word_of g c s at)) }
+    ensures hint { (g : Setting K P) (c : Coding K P) → IsHashed g c
+        → (s : State P) (m : K → Option P) → IsKeeping g s m → (mode : ResizeMode)
+        → IsModeOf mode g.blocking → (last kept : Option P) (copying : Copying)
+        → RestsCopying g c s last kept copying → (t x : ℕ)
+        → copying_ask copying ≡ asks.LoadHint t x → (n : ℕ) → IsHint g c s t x n
+        → RestsCopied g c s last kept (aim_of copying) (at_word copying mode n) }
+    ensures noted { (g : Setting K P) (c : Coding K P) → IsHashed g c
+        → (s : State P) (m : K → Option P) → IsKeeping g s m → (mode : ResizeMode)
+        → IsModeOf mode g.blocking → (last kept : Option P) (copying : Copying)
+        → RestsCopying g c s last kept copying → (t x n : ℕ)
+        → copying_ask copying ≡ asks.WriteHint t x n
+        → RestsCopied g c s last kept (aim_of copying) (at_ok copying mode) }
     ensures exchanged { (g : Setting K P) (c : Coding K P) → IsHashed g c
         → (s : State P) (m : K → Option P) → IsKeeping g s m → (mode : ResizeMode)
         → IsModeOf mode g.blocking → (last kept : Option P) (copying : Copying)

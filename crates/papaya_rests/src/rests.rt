@@ -13,6 +13,7 @@ ghost use Rattle.papaya_law.specs.Class.{IsOn};
 ghost use Rattle.papaya_law.specs.Code.{Coding};
 ghost use Rattle.papaya_law.specs.Exchange.{Setting, State, Exchange, after as state_after, run, start};
 ghost use Rattle.papaya_law.specs.Further.{coding_with, with_key};
+ghost use Rattle.papaya_law.specs.Hints.{IsHint};
 ghost use Rattle.papaya_law.specs.Grows.{Agrees};
 ghost use Rattle.papaya_call.specs.Machine.{IsStanding, IsWriter, ask_of, kind_of_ask, after, started};
 ghost use Rattle.papaya_rests.specs.Owed.{owed_by, grows_by};
@@ -47,8 +48,8 @@ pub fn stays<K, P>()
         → Rests g' c begun since k m hands }
 {}
 
-/// A machine names only tables that were opened or linked, slots within them, and the pair last
-/// loaded.
+/// A machine names only tables that were opened or linked, slots within them with their hints, and
+/// the pair last loaded.
 pub fn names<K, P>()
     ensures size { (g : Setting K P) (c : Coding K P) → IsHashed g c
         → (begun since : List (Exchange P)) → AllAllowed g start (begun ++ since)
@@ -67,6 +68,12 @@ pub fn names<K, P>()
         × (ask_of m ≡ Ask.Exchange (At.Slot t x) old new))
         → IsOn (run (begun ++ since) start).first (run (begun ++ since) start).next t
         × (x < g.size t) }
+    ensures hint { (g : Setting K P) (c : Coding K P) → IsHashed g c
+        → (begun since : List (Exchange P)) → AllAllowed g start (begun ++ since)
+        → (k : K) (m : Machine) (hands : Hands P) → Rests g c begun since k m hands → (t x : ℕ)
+        → (ask_of m ≡ Ask.LoadHint t x) ⊎ ((hint : ℕ) × (ask_of m ≡ Ask.WriteHint t x hint))
+        → IsOn (run (begun ++ since) start).first (run (begun ++ since) start).next t
+        × (x < g.size t) }
     ensures pair { (g : Setting K P) (c : Coding K P) → IsHashed g c
         → (begun since : List (Exchange P)) → AllAllowed g start (begun ++ since)
         → (k : K) (m : Machine) (hands : Hands P) → Rests g c begun since k m hands → (n : ℕ)
@@ -82,8 +89,16 @@ pub fn names<K, P>()
         ⊎ (ask_of m ≡ Ask.Exchange At.Root 0 t) }
 {}
 
+/// A hint that a machine writes may be there: a pair of its key was claimed in that slot.
+pub fn may_hint<K, P>()
+    ensures { (g : Setting K P) (c : Coding K P) → (begun since : List (Exchange P))
+        → (k : K) (m : Machine) (hands : Hands P) → Rests g c begun since k m hands → (t x n : ℕ)
+        → ask_of m ≡ Ask.WriteHint t x n → IsHint g c (run (begun ++ since) start) t x n }
+{}
+
 /// A machine names no table but the one whose number it was told last, asks what its task asks,
-/// tries to open a table once, and has nothing left to do but to count once it changed the map.
+/// tries to open a table once, and has nothing left to do but to count and to write a hint once it
+/// changed the map.
 pub fn follows()
     ensures begins { (task : Task) (hash : ℕ) (mode : ResizeMode) (initial table : ℕ)
         → IsAtTable table (started task hash mode initial).state }

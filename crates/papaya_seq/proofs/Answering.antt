@@ -2,7 +2,7 @@
 use Rattle.std.proofs.Common.{◌≡◌, ℕ, Bool, true, false, Option, None, Some, inl, inr, refl, sym, ◌∙◌, ap}
 use Rattle.papaya_call.specs.Answers.{Says}
 use Rattle.papaya_ask.specs.declared.ask.Ask.{Ask as Call_ask}
-use Rattle.papaya_ask.specs.declared.ask.Ask.TheVariants.{Load, Exchange, SameKey, ShowNone, ShowPair, SizeOf, MakeKey, MakePair, MakeTable, AddToShard, Done as Ask_done}
+use Rattle.papaya_ask.specs.declared.ask.Ask.TheVariants.{Load, Exchange, LoadHint, WriteHint, SameKey, ShowNone, ShowPair, SizeOf, MakeKey, MakePair, MakeTable, AddToShard, Done as Ask_done}
 use Rattle.papaya_ask.specs.declared.ask.Answer.{Answer as Call_answer}
 use Rattle.papaya_ask.specs.declared.call.Task.{Task}
 use Rattle.papaya_ask.specs.declared.call.Task.TheVariants.{Get, Insert, RemoveIf, Compute}
@@ -30,7 +30,9 @@ module _ {K V S A : Type 0} (eq : K → K → Bool) (says : Says K V A) (o : Opt
   pub answering_call : (refuse : Bool) (ask : Call_ask) (store : StoreState K V S) (r : Running K V A) (answer : Call_answer) (store' : StoreState K V S) (later : Running K V A) → (IsShowing ask → ⊥) → Performs eq says refuse ask store r answer store' later → Performs eq whatever refuse ask store (answering o r) answer store' (answering o later) × (later.answers ≡ r.answers)
   answering_call refuse (Load at) store r answer store' later unshown (e, (same, stays)) = ((e, (same, ap (answering o) stays)), ap (λ q. q.answers) stays)
   answering_call refuse (Exchange at old new) store r answer store' later unshown (made, stays) = ((made, ap (answering o) stays), ap (λ q. q.answers) stays)
+  answering_call refuse (WriteHint t x hint) store r answer store' later unshown (e, same, stays) = ((e, same, ap (answering o) stays), ap (λ q. q.answers) stays)
   answering_call refuse (SameKey n) store r answer store' later unshown (e, (same, stays)) = ((e, (same, ap (answering o) stays)), ap (λ q. q.answers) stays)
+  answering_call refuse (LoadHint t x) store r answer store' later unshown (e, (same, stays)) = ((e, (same, ap (answering o) stays)), ap (λ q. q.answers) stays)
   answering_call refuse ShowNone store r answer store' later unshown performs = absurd (unshown tt)
   answering_call refuse (ShowPair n) store r answer store' later unshown performs = absurd (unshown tt)
   answering_call refuse (SizeOf n) store r answer store' later unshown (e, (same, stays)) = ((e, (same, ap (answering o) stays)), ap (λ q. q.answers) stays)
@@ -67,6 +69,8 @@ module _ {K V S A : Type 0} (eq : K → K → Bool) (says : Says K V A) where
   silent_call refuse replace (Load at) store r answer store' later silence task performs = answering_call eq says None refuse (Load at) store r answer store' later (λ f. f) performs
   silent_call refuse replace (Exchange at old new) store r answer store' later silence task performs = answering_call eq says None refuse (Exchange at old new) store r answer store' later (λ f. f) performs
   silent_call refuse replace (SameKey n) store r answer store' later silence task performs = answering_call eq says None refuse (SameKey n) store r answer store' later (λ f. f) performs
+  silent_call refuse replace (LoadHint t x) store r answer store' later silence task performs = answering_call eq says None refuse (LoadHint t x) store r answer store' later (λ f. f) performs
+  silent_call refuse replace (WriteHint t x hint) store r answer store' later silence task performs = answering_call eq says None refuse (WriteHint t x hint) store r answer store' later (λ f. f) performs
   silent_call refuse replace (SizeOf n) store r answer store' later silence task performs = answering_call eq says None refuse (SizeOf n) store r answer store' later (λ f. f) performs
   silent_call refuse replace MakeKey store r answer store' later silence task performs = answering_call eq says None refuse MakeKey store r answer store' later (λ f. f) performs
   silent_call refuse replace MakePair store r answer store' later silence task performs = answering_call eq says None refuse MakePair store r answer store' later (λ f. f) performs

@@ -3,7 +3,7 @@ use Rattle.std.proofs.Common.{◌≡◌, ℕ, ◌<◌, ◌==◌, if◌then◌els
 use Rattle.std.proofs.lemmas.Bool.{ne_eqb}
 use Rattle.std.specs.Prelude.{pos}
 use Rattle.papaya_words.specs.Counter.{added}
-use Rattle.papaya_words.specs.Word.{kind_of, pair_of as number_of}
+use Rattle.papaya_words.specs.Word.{hint_of, kind_of, live_word, pair_of as number_of}
 use Rattle.papaya_words.specs.declared.word.Kind.TheVariants.{Live}
 use Rattle.papaya_words.specs.declared.probe.ResizeMode.{ResizeMode}
 use Rattle.papaya_words.specs.declared.limits.TheConstants.{MAX_LOG_LEN}
@@ -11,7 +11,7 @@ use Rattle.papaya_words.specs.declared.probe.Refused.{Refused}
 use Rattle.papaya_ask.specs.declared.ask.Answer.{Answer}
 use Rattle.papaya_ask.specs.declared.ask.Answer.TheVariants.{Exchanged, Found as Found_instead, Yes, Made as Made_number, Ok as Ok_done, Refused as Was_refused}
 use Rattle.papaya_ask.specs.declared.ask.Ask.{Ask}
-use Rattle.papaya_ask.specs.declared.ask.Ask.TheVariants.{Load, Exchange, SameKey, ShowNone, ShowPair, SizeOf, MakeKey, MakePair, MakeTable, AddToShard, Done as Ask_done}
+use Rattle.papaya_ask.specs.declared.ask.Ask.TheVariants.{Load, Exchange, LoadHint, WriteHint, SameKey, ShowNone, ShowPair, SizeOf, MakeKey, MakePair, MakeTable, AddToShard, Done as Ask_done}
 use Rattle.papaya_ask.specs.declared.ask.At.{At}
 use Rattle.papaya_ask.specs.declared.ask.At.TheVariants.{Slot}
 use Rattle.papaya_ask.specs.declared.search.Place.{Place}
@@ -21,12 +21,13 @@ use Rattle.papaya_ask.specs.declared.call.Reply.TheVariants.{Inserted, Occupied,
 use Rattle.papaya_call.specs.Answers.{Says}
 use Rattle.papaya_call.specs.declared.machine.Machine.{Machine}
 use Rattle.papaya_call.specs.declared.machine.State.{State}
-use Rattle.papaya_call.specs.declared.machine.State.TheVariants.{AtRoot, Writing, Counting, Ended}
+use Rattle.papaya_call.specs.declared.machine.State.TheVariants.{AtRoot, Writing, Counting, Noting, Ended}
+use Rattle.papaya_call.specs.declared.write.Claimed.{Claimed}
 use Rattle.papaya_call.specs.declared.write.Made.{Made}
 use Rattle.papaya_call.specs.declared.write.Made.TheVariants.{Nothing, Key, Pair}
 use Rattle.papaya_call.specs.declared.write.Write.{Write}
 use Rattle.papaya_call.specs.Machine.{after, ask_of, found, goes, occupies, replaces, started, written}
-use Rattle.papaya_call.specs.Write.{new_word}
+use Rattle.papaya_call.specs.Write.{claimed_by}
 use Rattle.papaya_chain.specs.declared.ask.Answer.{Answer as Chain_answer}
 use Rattle.papaya_chain.specs.declared.ask.Answer.TheVariants as answers
 use Rattle.papaya_chain.specs.declared.ask.Ask.TheVariants as asks
@@ -35,7 +36,7 @@ use Rattle.papaya_store.specs.declared.pairs.KeyOf.TheVariants.{Own, Logged}
 use Rattle.papaya_store.specs.declared.pairs.Running.{Running}
 use Rattle.papaya_store.specs.Performs.{Exchanges, Performs, Refuses, same_stored}
 use Rattle.papaya_store.specs.Store.{StoreState, Stored, pair_of}
-use Rattle.papaya_store.specs.Tables.{put, word_at}
+use Rattle.papaya_store.specs.Tables.{note, put, word_at}
 use Rattle.papaya_timeline.specs.Advances.{reply_in}
 use Rattle.papaya_timeline.specs.Solo.{whatever}
 use Rattle.papaya_seq.specs.Drives.{Drives, IsDriven, IsReplied, IsWritten, at_hand}
@@ -68,6 +69,8 @@ module _ {K V S : Type 0} (eq : K → K → Bool) (hash : S → K → ℕ) where
 
     searched_step : (m : Machine) (answer : Answer) (ask : Ask) → ask_of m ≡ ask → IsSearchAsk ask → IsToldBy (eq key) s ask answer → IsDriven eq hash s (at_hand m key value) (answers.Call answer) s (at_hand m key value)
     searched_step m answer (Load at) is asked told = record { going = ap (λ a. reply_in (asks.Call a)) is; fit = subst (λ a. chain.IsFitAsk (asks.Call a)) (sym is) tt; performs = (answer, refl, subst (λ a. Performs {A = Unit {0}} eq whatever false a s (at_hand m key value) answer s (at_hand m key value)) (sym is) (told, (refl, refl))); same = refl }
+    searched_step m answer (LoadHint t x) is asked told = record { going = ap (λ a. reply_in (asks.Call a)) is; fit = subst (λ a. chain.IsFitAsk (asks.Call a)) (sym is) tt; performs = (answer, refl, subst (λ a. Performs {A = Unit {0}} eq whatever false a s (at_hand m key value) answer s (at_hand m key value)) (sym is) (told, (refl, refl))); same = refl }
+    searched_step m answer (WriteHint t x hint) is asked told = absurd asked
     searched_step m answer (SameKey n) is asked told = record { going = ap (λ a. reply_in (asks.Call a)) is; fit = subst (λ a. chain.IsFitAsk (asks.Call a)) (sym is) tt; performs = (answer, refl, subst (λ a. Performs {A = Unit {0}} eq whatever false a s (at_hand m key value) answer s (at_hand m key value)) (sym is) (told ∙ ap Yes (same_matches (pair_of s n)), (refl, refl))); same = refl }
     searched_step m answer (SizeOf n) is asked told = record { going = ap (λ a. reply_in (asks.Call a)) is; fit = subst (λ a. chain.IsFitAsk (asks.Call a)) (sym is) tt; performs = (answer, refl, subst (λ a. Performs {A = Unit {0}} eq whatever false a s (at_hand m key value) answer s (at_hand m key value)) (sym is) (told, (refl, refl))); same = refl }
     searched_step m answer (Exchange at old new) is asked told = absurd asked
@@ -143,7 +146,7 @@ module _ {K V S : Type 0} (eq : K → K → Bool) (hash : S → K → ℕ) where
       }
 
       -- or logged, and its word written
-      module _ (few_keys : length s.keys < MAX_LOG_LEN) (few_pairs : length s.pairs < MAX_LOG_LEN) (exchanged : StoreState K V S) (done : Exchanges (word_at s.words (Slot write.place.table write.place.probe.i)) write.old (put s.words (Slot write.place.table write.place.probe.i) (new_word hashed (length s.pairs))) Exchanged paired exchanged) where
+      module _ (few_keys : length s.keys < MAX_LOG_LEN) (few_pairs : length s.pairs < MAX_LOG_LEN) (exchanged : StoreState K V S) (done : Exchanges (word_at s.words (Slot write.place.table write.place.probe.i)) write.old (put s.words (Slot write.place.table write.place.probe.i) (live_word (length s.pairs))) Exchanged paired exchanged) where
         -- what follows leads on
         abbrev pub written_so_far : List Chain_answer
         written_so_far = answers.Call (Made_number (length s.keys)) ∷ answers.Call (Made_number (length s.pairs)) ∷ answers.Call Exchanged ∷ []
@@ -166,18 +169,25 @@ module _ {K V S : Type 0} (eq : K → K → Bool) (hash : S → K → ℕ) where
           ),
         )
 
-        -- a claim is counted
-        pub inserted : write.old ≡ 0 → (s' : StoreState K V S) → s' ≡ record exchanged { count = added exchanged.count 0 (pos 1) } → IsReplied eq hash s begun (Inserted (length s.pairs)) None s'
-        inserted empty s' counted =
-            let counts : written write (length s.pairs) ≡ Counting (length s.pairs) = ap (λ (b : Bool). if b then Counting (length s.pairs) else Ended (Replaced (number_of write.old) (length s.pairs))) (eq-eqb write.old 0 empty) in
+        -- a claim is counted, and its hint written
+        pub inserted : write.old ≡ 0 → (counted noted : StoreState K V S) → counted ≡ record exchanged { count = added exchanged.count 0 (pos 1) } → noted ≡ record counted { words = note counted.words write.place.table write.place.probe.i (hint_of hashed) } → IsReplied eq hash s begun (Inserted (length s.pairs)) None noted
+        inserted empty counted noted counts notes =
+            let claimed : Claimed = claimed_by write (length s.pairs) in
+            let claims : written write (length s.pairs) ≡ Counting claimed = ap (λ (b : Bool). if b then Counting claimed else Ended (Replaced (number_of write.old) (length s.pairs))) (eq-eqb write.old 0 empty) in
+            let rest : List Chain_answer = answers.Call Ok_done ∷ answers.Call Ok_done ∷ [] in
             record {
-              answers = written_so_far ++ answers.Call Ok_done ∷ [];
+              answers = written_so_far ++ rest;
               end = with_pair (Ended (Inserted (length s.pairs)));
-              drives = writes_on (answers.Call Ok_done ∷ []) s' (with_pair (Ended (Inserted (length s.pairs)))) (subst (λ st. Drives eq hash (answers.Call Ok_done ∷ []) exchanged (with_pair st) s' (with_pair (Ended (Inserted (length s.pairs))))) (sym counts) (
-                s',
-                with_pair (Counting (length s.pairs)),
-                record { going = refl; fit = tt; performs = (Ok_done, refl, (refl, (0, counted), refl)); same = refl },
-                (refl, refl),
+              drives = writes_on rest noted (with_pair (Ended (Inserted (length s.pairs)))) (subst (λ st. Drives eq hash rest exchanged (with_pair st) noted (with_pair (Ended (Inserted (length s.pairs))))) (sym claims) (
+                counted,
+                with_pair (Counting claimed),
+                record { going = refl; fit = tt; performs = (Ok_done, refl, (refl, (0, counts), refl)); same = refl },
+                (
+                  noted,
+                  with_pair (Noting claimed),
+                  record { going = refl; fit = tt; performs = (Ok_done, refl, (refl, notes, refl)); same = refl },
+                  (refl, refl),
+                ),
               ));
               replied = refl;
               value = refl;
@@ -186,7 +196,7 @@ module _ {K V S : Type 0} (eq : K → K → Bool) (hash : S → K → ℕ) where
         -- a replacement is not
         pub replaced : (write.old ≡ 0 → ⊥) → IsReplied eq hash s begun (Replaced (number_of write.old) (length s.pairs)) None exchanged
         replaced some =
-            let ends : written write (length s.pairs) ≡ Ended (Replaced (number_of write.old) (length s.pairs)) = ap (λ (b : Bool). if b then Counting (length s.pairs) else Ended (Replaced (number_of write.old) (length s.pairs))) (ne_eqb write.old 0 some) in
+            let ends : written write (length s.pairs) ≡ Ended (Replaced (number_of write.old) (length s.pairs)) = ap (λ (b : Bool). if b then Counting (claimed_by write (length s.pairs)) else Ended (Replaced (number_of write.old) (length s.pairs))) (ne_eqb write.old 0 some) in
             record {
               answers = written_so_far ++ [];
               end = with_pair (written write (length s.pairs));
@@ -271,7 +281,7 @@ module _ {K V S : Type 0} (eq : K → K → Bool) (hash : S → K → ℕ) where
           by_case (inr (inr (k, v, key_at, value_at, made, few, store, call))) = let f : Was_refused refused ≡ Made_number (length s'.pairs) = sym is ∙ made in absurd cc
 
       -- its word was written
-      module _ (n : ℕ) (pair : PairLogged n) (stands : word_at s.words (Slot write.place.table write.place.probe.i) ≡ write.old) (word : ℕ) (word_is : word ≡ new_word hashed n) (told : Answer) (s3 : StoreState K V S) (exchanges : Exchanges (word_at s''.words (Slot write.place.table write.place.probe.i)) write.old (put s''.words (Slot write.place.table write.place.probe.i) word) told s'' s3) where
+      module _ (n : ℕ) (pair : PairLogged n) (stands : word_at s.words (Slot write.place.table write.place.probe.i) ≡ write.old) (word : ℕ) (word_is : word ≡ live_word n) (told : Answer) (s3 : StoreState K V S) (exchanges : Exchanges (word_at s''.words (Slot write.place.table write.place.probe.i)) write.old (put s''.words (Slot write.place.table write.place.probe.i) word) told s'' s3) where
         abbrev slot : At
         slot = Slot write.place.table write.place.probe.i
 
@@ -279,15 +289,17 @@ module _ {K V S : Type 0} (eq : K → K → Bool) (hash : S → K → ℕ) where
         was_exchanged true e (is, store) = store
         was_exchanged false e other = let f : false ≡ true = e in absurd cc
 
-        written_so : Exchanges (word_at s.words slot) write.old (put s.words slot (new_word hashed (length s.pairs))) Exchanged (paired s key value hashed write m) s3
+        written_so : Exchanges (word_at s.words slot) write.old (put s.words slot (live_word (length s.pairs))) Exchanged (paired s key value hashed write m) s3
         written_so =
             let found : (word_at s''.words slot == write.old) ≡ true = eq-eqb (word_at s''.words slot) write.old (ap (λ (x : StoreState K V S). word_at x.words slot) pair.store ∙ stands) in
             let store : s3 ≡ record s'' { words = put s''.words slot word } = was_exchanged (word_at s''.words slot == write.old) found exchanges in
-            subst (λ b. MatchBool b ((Exchanged ≡ Exchanged) × (s3 ≡ record (paired s key value hashed write m) { words = put s.words slot (new_word hashed (length s.pairs)) })) ((Exchanged ≡ Found_instead (word_at s.words slot)) × (s3 ≡ paired s key value hashed write m))) (sym (eq-eqb (word_at s.words slot) write.old stands))
-            (refl, store ∙ ap (λ (x : StoreState K V S). record x { words = put x.words slot word }) pair.store ∙ ap (λ z. record (paired s key value hashed write m) { words = put s.words slot z }) (word_is ∙ ap (new_word hashed) pair.number))
+            subst (λ b. MatchBool b ((Exchanged ≡ Exchanged) × (s3 ≡ record (paired s key value hashed write m) { words = put s.words slot (live_word (length s.pairs)) })) ((Exchanged ≡ Found_instead (word_at s.words slot)) × (s3 ≡ paired s key value hashed write m))) (sym (eq-eqb (word_at s.words slot) write.old stands))
+            (refl, store ∙ ap (λ (x : StoreState K V S). record x { words = put x.words slot word }) pair.store ∙ ap (λ z. record (paired s key value hashed write m) { words = put s.words slot z }) (word_is ∙ ap live_word pair.number))
 
-        pub was_inserted : write.old ≡ 0 → (s' : StoreState K V S) → s' ≡ record s3 { count = added s3.count 0 (pos 1) } → IsReplied eq hash s (begun s key value hashed write m) (Inserted n) None s'
-        was_inserted empty s' counted = subst (λ z. IsReplied eq hash s (begun s key value hashed write m) (Inserted z) None s') (sym pair.number) (inserted s key value hashed write m logged.few pair.few s3 written_so empty s' counted)
+        pub was_inserted : write.old ≡ 0 → (counted noted : StoreState K V S) → counted ≡ record s3 { count = added s3.count 0 (pos 1) } → (hint : ℕ) → hint ≡ hint_of hashed → noted ≡ record counted { words = note counted.words write.place.table write.place.probe.i hint } → IsReplied eq hash s (begun s key value hashed write m) (Inserted n) None noted
+        was_inserted empty counted noted counts hint hint_is notes =
+            subst (λ z. IsReplied eq hash s (begun s key value hashed write m) (Inserted z) None noted) (sym pair.number)
+            (inserted s key value hashed write m logged.few pair.few s3 written_so empty counted noted counts (notes ∙ ap (λ h. record counted { words = note counted.words write.place.table write.place.probe.i h }) hint_is))
 
         pub was_replaced : (write.old ≡ 0 → ⊥) → (old : ℕ) → old ≡ number_of write.old → IsReplied eq hash s (begun s key value hashed write m) (Replaced old n) None s3
         was_replaced some old old_is = subst (λ z. IsReplied eq hash s (begun s key value hashed write m) (Replaced z n) None s3) (sym old_is) (subst (λ z. IsReplied eq hash s (begun s key value hashed write m) (Replaced (number_of write.old) z) None s3) (sym pair.number) (replaced s key value hashed write m logged.few pair.few s3 written_so some))

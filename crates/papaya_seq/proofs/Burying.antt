@@ -10,7 +10,7 @@ use Rattle.papaya_words.specs.declared.word.Kind.TheVariants.{Live}
 use Rattle.papaya_ask.specs.declared.ask.Answer.{Answer}
 use Rattle.papaya_ask.specs.declared.ask.Answer.TheVariants.{Exchanged, Found as Found_instead, Yes, Ok as Ok_done}
 use Rattle.papaya_ask.specs.declared.ask.Ask.{Ask}
-use Rattle.papaya_ask.specs.declared.ask.Ask.TheVariants.{Load, Exchange, SameKey, ShowNone, ShowPair, SizeOf, MakeKey, MakePair, MakeTable, AddToShard, Done as Ask_done}
+use Rattle.papaya_ask.specs.declared.ask.Ask.TheVariants.{Load, Exchange, LoadHint, WriteHint, SameKey, ShowNone, ShowPair, SizeOf, MakeKey, MakePair, MakeTable, AddToShard, Done as Ask_done}
 use Rattle.papaya_ask.specs.declared.ask.At.{At}
 use Rattle.papaya_ask.specs.declared.ask.At.TheVariants.{Slot}
 use Rattle.papaya_ask.specs.declared.call.Reply.{Reply}
@@ -65,7 +65,9 @@ module _ {K V S F : Type 0} (g : Mut F (Bor K × (Bor V × Unit {0})) Bool) (mat
     searched_answer (Load at) answer asked told = (told, refl, refl)
     searched_answer (SameKey n) answer asked told = (told, refl, refl)
     searched_answer (SizeOf n) answer asked told = (told, refl, refl)
+    searched_answer (LoadHint t x) answer asked told = (told, refl, refl)
     searched_answer (Exchange at old new) answer asked told = absurd asked
+    searched_answer (WriteHint t x hint) answer asked told = absurd asked
     searched_answer ShowNone answer asked told = absurd asked
     searched_answer (ShowPair n) answer asked told = absurd asked
     searched_answer MakeKey answer asked told = absurd asked

@@ -19,7 +19,8 @@ use Rattle.papaya_ask.specs.declared.search.Search.TheVariants as searches
 use Rattle.papaya_alone.specs.Ahead.{IsCurrent, IsPhaseRead}
 use Rattle.papaya_rests.specs.Alone.{IsRead}
 use Rattle.papaya_call.specs.declared.machine.State.{State}
-use Rattle.papaya_call.specs.declared.machine.State.TheVariants.{AtRoot, Making, Opening, Searching, Writing, Offering, Showing, Pairing, Putting, Burying, Counting, Uncounting, Leaving, Growing, Ended}
+use Rattle.papaya_call.specs.declared.machine.State.TheVariants.{AtRoot, Making, Opening, Searching, Writing, Offering, Showing, Pairing, Putting, Burying, Counting, Noting, Uncounting, Leaving, Growing, Ended}
+use Rattle.papaya_call.specs.declared.write.Claimed.{Claimed}
 use Rattle.papaya_call.specs.declared.write.Made.{Made}
 use Rattle.papaya_call.specs.declared.write.Made.TheVariants.{Nothing, Key, Pair}
 use Rattle.papaya_call.specs.Machine.{asks as call_asks}
@@ -62,6 +63,7 @@ makes_first made hash AtRoot slots limit e = absurd cc
 makes_first made hash (Opening t) slots limit e = absurd cc
 makes_first made hash (Searching (searches.Sizing t)) slots limit e = absurd cc
 makes_first made hash (Searching (searches.Looking at)) slots limit e = absurd cc
+makes_first made hash (Searching (searches.Reading at)) slots limit e = absurd cc
 makes_first made hash (Searching (searches.Comparing at word)) slots limit e = absurd cc
 makes_first Nothing hash (Writing write) slots limit e = absurd cc
 makes_first Key hash (Writing write) slots limit e = absurd cc
@@ -74,6 +76,7 @@ makes_first (Pair n) hash (Pairing purpose) slots limit e = absurd cc
 makes_first made hash (Putting put) slots limit e = absurd cc
 makes_first made hash (Burying removal) slots limit e = absurd cc
 makes_first made hash (Counting n) slots limit e = absurd cc
+makes_first made hash (Noting n) slots limit e = absurd cc
 makes_first made hash (Uncounting n) slots limit e = absurd cc
 makes_first made hash (Leaving t) slots limit e = absurd cc
 makes_first made hash (Growing need) slots limit e = absurd cc
@@ -86,6 +89,16 @@ replied_at m phase state = reply_in (ask_of (after (record m { phase = phase; ca
 -- one that adds to the count ends so
 count_ends : (m : Machine) (state : State) (reply : Reply) → m.phase ≡ Calling → m.call.state ≡ state → replied_at m Calling state ≡ Some reply → reply_in (ask_of (after m (answers.Call told.Ok))) ≡ Some reply
 count_ends m state reply calling is ends = ap (λ phase. replied_at m phase m.call.state) calling ∙ ap (λ st. replied_at m Calling st) is ∙ ends
+
+-- a call that has counted what it claimed, and writes its hint
+abbrev pub HasCounted : Machine → Type 0
+HasCounted m = (m.phase ≡ Calling) × ((claimed : Claimed) × (m.call.state ≡ Noting claimed))
+
+-- one that counts a claim writes its hint next
+counts_next : (m : Machine) (claimed : Claimed) → m.phase ≡ Calling → m.call.state ≡ Counting claimed → HasCounted (after m (answers.Call told.Ok))
+counts_next m claimed calling is =
+    subst (λ phase. HasCounted (after (record m { phase = phase }) (answers.Call told.Ok))) (sym calling)
+    (subst (λ st. HasCounted (after (record m { phase = Calling; call = record m.call { state = st } }) (answers.Call told.Ok))) (sym is) (refl, (claimed, refl)))
 
 -- a table that is there has one of the lengths
 length_there : (tables : List TableWords) (i : ℕ) (t : TableWords) → slice_get tables i ≡ Some t → Contains (map (λ (u : TableWords). length u.slots) tables) (length t.slots)
@@ -143,7 +156,7 @@ module _ {K V S : Type 0} (s : MapState K V S) where
     pub made : Grows s (record s { store = store })
     pub link : In (IsLongLink (Follows (lengths_of store.words)) (lengths_of store.words)) (link_in m.phase)
     pub initial : m.call.initial ≡ s.initial
-    pub count : reply_in (ask_of m) ≡ None → store.count ≡ s.store.count
+    pub count : reply_in (ask_of m) ≡ None → (HasCounted m → ⊥) → store.count ≡ s.store.count
     pub rooted : 0 < s.store.words.root → 0 < store.words.root
     pub first : s.store.words.root ≡ 0 → s.initial ≤ LEAST_TABLE_LEN
 
@@ -158,7 +171,7 @@ module _ {K V S : Type 0} (s : MapState K V S) where
     made = none_made;
     link = subst (λ phase. In (IsLongLink (Follows (lengths_of s.store.words)) (lengths_of s.store.words)) (link_in phase)) (sym calling) tt;
     initial = initial;
-    count = λ going. refl;
+    count = λ going uncounted. refl;
     rooted = λ some. some;
     first = enough.first;
   }
@@ -269,7 +282,7 @@ module _ {K V S : Type 0} (s : MapState K V S) where
         let h = step.copy copies.Count (link_asked m (links.Counting behind unfit before) (e ∙ ap (λ x. Some x) counting)) in
         let f : answers.Count (count_of store.count.sum) ≡ answers.Count count = sym h.0 ∙ is in
         let count_is : count_of store.count.sum ≡ count = cc f in
-        let same : count_of store.count.sum ≡ pairs = ap (λ c. count_of c.sum) (long.count going) in
+        let same : count_of store.count.sum ≡ pairs = ap (λ c. count_of c.sum) (long.count going (λ counted. let f : None ≡ Some made = sym (ap link_in counted.0) ∙ e in absurd cc)) in
         (before, there, (unfit, ap (λ n. max (length_after before n s.initial unfit) 8) (sym count_is ∙ same)))
 
     link_long : In (IsLongLink (Follows lengths') lengths') (link_in (after m answer).phase)
@@ -278,23 +291,33 @@ module _ {K V S : Type 0} (s : MapState K V S) where
         (subst (λ n. In (IsLed n answer (link_in m.phase)) (link_in (after m answer).phase)) long.initial (machine_leads m answer))
         sizes counts (long_beside (Follows lengths) (Follows lengths') lengths lengths' still_follows still_there (link_in m.phase) long.link)
 
-    -- nothing is counted before the call ends
-    none_counted : reply_in (ask_of (after m answer)) ≡ None → store'.count ≡ s.store.count
-    none_counted goes_on = by_phase m.phase refl ∙ long.count going
+    -- nothing is counted before the call ends, or has only its hint to write
+    none_counted : reply_in (ask_of (after m answer)) ≡ None → (HasCounted (after m answer) → ⊥) → store'.count ≡ s.store.count
+    none_counted goes_on uncounted = by_phase m.phase refl ∙ long.count going (λ counted. noted counted.0 counted.1.0 counted.1.1)
       where
+        -- after its hint it has replied
+        noted : m.phase ≡ Calling → (claimed : Claimed) → m.call.state ≡ Noting claimed → ⊥
+        noted calling claimed is =
+            let (told_so, told_is, h) = step.counted calling in
+            let (ok, same) = subst (λ st. IsCountedBy (call_asks m.call.made m.call.hash st) store told_so store') is h in
+            let f : None ≡ Some (Inserted claimed.pair) = sym goes_on ∙ ap (λ a. reply_in (ask_of (after m a))) (told_is ∙ ap answers.Call ok) ∙ count_ends m (Noting claimed) (Inserted claimed.pair) calling is refl in
+            absurd cc
+
         ends : (told_so : Call_answer) → answer ≡ answers.Call told_so → told_so ≡ told.Ok → (reply : Reply) → reply_in (ask_of (after m (answers.Call told.Ok))) ≡ Some reply → store'.count ≡ store.count
         ends told_so is ok reply replied =
             let f : None ≡ Some reply = sym goes_on ∙ ap (λ a. reply_in (ask_of (after m a))) (is ∙ ap answers.Call ok) ∙ replied in
             absurd cc
 
         by_state : (made : Made) (hashed : ℕ) (state : State) → m.phase ≡ Calling → m.call.state ≡ state → (told_so : Call_answer) → answer ≡ answers.Call told_so → IsCountedBy (call_asks made hashed state) store told_so store' → store'.count ≡ store.count
-        by_state made hashed (Counting n) calling is told_so told_is h = ends told_so told_is h (Inserted n) (count_ends m (Counting n) (Inserted n) calling is refl)
+        by_state made hashed (Counting n) calling is told_so told_is h = absurd (uncounted (subst (λ a. HasCounted (after m a)) (sym (told_is ∙ ap answers.Call h)) (counts_next m n calling is)))
+        by_state made hashed (Noting n) calling is told_so told_is h = h.1
         by_state made hashed (Uncounting n) calling is told_so told_is h = ends told_so told_is h (Removed n) (count_ends m (Uncounting n) (Removed n) calling is refl)
         by_state made hashed AtRoot calling is told_so told_is h = h
         by_state made hashed Making calling is told_so told_is h = h
         by_state made hashed (Opening t) calling is told_so told_is h = h
         by_state made hashed (Searching (searches.Sizing t)) calling is told_so told_is h = h
         by_state made hashed (Searching (searches.Looking at)) calling is told_so told_is h = h
+        by_state made hashed (Searching (searches.Reading at)) calling is told_so told_is h = h
         by_state made hashed (Searching (searches.Comparing at word)) calling is told_so told_is h = h
         by_state Nothing hashed (Writing write) calling is told_so told_is h = h
         by_state Key hashed (Writing write) calling is told_so told_is h = h

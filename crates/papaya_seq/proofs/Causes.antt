@@ -13,12 +13,12 @@ use Rattle.papaya_ask.specs.declared.ask.OpKind.TheVariants.{Remove}
 use Rattle.papaya_ask.specs.declared.call.Reply.TheVariants.{Refused as Reply_refused}
 use Rattle.papaya_ask.specs.declared.call.Task.{Task}
 use Rattle.papaya_ask.specs.declared.call.Task.TheVariants as tasks
-use Rattle.papaya_ask.specs.declared.search.Search.TheVariants.{Sizing as Sizing_table, Looking, Comparing}
+use Rattle.papaya_ask.specs.declared.search.Search.TheVariants.{Sizing as Sizing_table, Looking, Reading, Comparing}
 use Rattle.papaya_call.specs.declared.compute.Purpose.{Purpose}
 use Rattle.papaya_call.specs.declared.compute.Remembered.{Remembered}
 use Rattle.papaya_call.specs.declared.machine.Machine.{Machine as Call_machine}
 use Rattle.papaya_call.specs.declared.machine.State.{State as Stage}
-use Rattle.papaya_call.specs.declared.machine.State.TheVariants.{AtRoot, Making, Opening, Searching, Writing, Offering, Showing, Pairing, Putting, Burying, Counting as Counting_pair, Uncounting, Leaving, Growing, Ended}
+use Rattle.papaya_call.specs.declared.machine.State.TheVariants.{AtRoot, Making, Opening, Searching, Writing, Offering, Showing, Pairing, Putting, Burying, Counting as Counting_pair, Noting, Uncounting, Leaving, Growing, Ended}
 use Rattle.papaya_call.specs.declared.write.Made.{Made}
 use Rattle.papaya_call.specs.declared.write.Made.TheVariants.{Nothing, Key, Pair}
 use Rattle.papaya_call.specs.Compute.{nothing}
@@ -291,12 +291,14 @@ module _ {K V S : Type 0} (eq : K → K → Bool) (hash : S → K → ℕ) (s : 
       make_refused made (Opening t) m e calling told is makes h = absurd makes
       make_refused made (Searching (Sizing_table t)) m e calling told is makes h = absurd makes
       make_refused made (Searching (Looking at)) m e calling told is makes h = absurd makes
+      make_refused made (Searching (Reading at)) m e calling told is makes h = absurd makes
       make_refused made (Searching (Comparing at word)) m e calling told is makes h = absurd makes
       make_refused made (Offering gap) m e calling told is makes h = absurd makes
       make_refused made (Showing removal) m e calling told is makes h = absurd makes
       make_refused made (Putting put) m e calling told is makes h = absurd makes
       make_refused made (Burying removal) m e calling told is makes h = absurd makes
       make_refused made (Counting_pair n) m e calling told is makes h = absurd makes
+      make_refused made (Noting n) m e calling told is makes h = absurd makes
       make_refused made (Uncounting n) m e calling told is makes h = absurd makes
       make_refused made (Leaving t) m e calling told is makes h = absurd makes
       make_refused made (Growing need) m e calling told is makes h = absurd makes

@@ -12,7 +12,7 @@ use Rattle.papaya_ask.specs.declared.ask.Answer.TheVariants.{Op}
 use Rattle.papaya_ask.specs.declared.call.Reply.{Reply}
 use Rattle.papaya_ask.specs.declared.call.Reply.TheVariants.{Inserted, Replaced, Removed, Aborted, Refused as Reply_refused}
 use Rattle.papaya_ask.specs.declared.call.Task.TheVariants.{Compute}
-use Rattle.papaya_ask.specs.declared.search.Search.TheVariants.{Sizing, Looking, Comparing}
+use Rattle.papaya_ask.specs.declared.search.Search.TheVariants.{Sizing, Looking, Reading, Comparing}
 use Rattle.papaya_call.specs.declared.machine.State.{State}
 use Rattle.papaya_call.specs.declared.machine.State.TheVariants.{Searching, Writing, Pairing, Ended}
 use Rattle.papaya_call.specs.declared.write.Made.{Made}
@@ -46,6 +46,7 @@ ended_in : (made : Made) (h : ℕ) (state : State) (reply : Reply) → asks made
 ended_in made h (Ended told) reply e = ap Ended cc
 ended_in made h (Searching (Sizing t)) reply e = absurd cc
 ended_in made h (Searching (Looking at)) reply e = absurd cc
+ended_in made h (Searching (Reading at)) reply e = absurd cc
 ended_in made h (Searching (Comparing at word)) reply e = absurd cc
 ended_in Nothing h (Writing write) reply e = absurd cc
 ended_in Key h (Writing write) reply e = absurd cc

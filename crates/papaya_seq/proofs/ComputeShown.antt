@@ -21,7 +21,7 @@ use Rattle.papaya_call.specs.declared.machine.Machine.{Machine}
 use Rattle.papaya_call.specs.declared.machine.State.{State}
 use Rattle.papaya_call.specs.declared.machine.State.TheVariants.{Searching, Writing, Offering, Showing, Pairing}
 use Rattle.papaya_call.specs.declared.remove.Removal.{Removal}
-use Rattle.papaya_ask.specs.declared.search.Search.TheVariants.{Sizing, Looking, Comparing}
+use Rattle.papaya_ask.specs.declared.search.Search.TheVariants.{Sizing, Looking, Reading, Comparing}
 use Rattle.papaya_call.specs.declared.write.Made.{Made}
 use Rattle.papaya_call.specs.declared.write.Made.TheVariants.{Nothing, Key, Pair}
 use Rattle.papaya_call.specs.Machine.{asks}
@@ -65,6 +65,7 @@ asking r = answering (Some tt) r
 pub offering : (made : Made) (h : ℕ) (state : State) → asks made h state ≡ ShowNone → (gap : Gap) × (state ≡ Offering gap)
 offering made h (Searching (Sizing t)) e = absurd cc
 offering made h (Searching (Looking at)) e = absurd cc
+offering made h (Searching (Reading at)) e = absurd cc
 offering made h (Searching (Comparing at word)) e = absurd cc
 offering Nothing h (Writing write) e = absurd cc
 offering Key h (Writing write) e = absurd cc
@@ -79,6 +80,7 @@ offering made h state e = absurd cc
 pub showing : (made : Made) (h n : ℕ) (state : State) → asks made h state ≡ ShowPair n → (removal : Removal) × (state ≡ Showing removal) × (number_of removal.word ≡ n)
 showing made h n (Searching (Sizing t)) e = absurd cc
 showing made h n (Searching (Looking at)) e = absurd cc
+showing made h n (Searching (Reading at)) e = absurd cc
 showing made h n (Searching (Comparing at word)) e = absurd cc
 showing Nothing h n (Writing write) e = absurd cc
 showing Key h n (Writing write) e = absurd cc

@@ -6,14 +6,14 @@ use Rattle.papaya_words.specs.Word.{kind_of, pair_of as number_of}
 use Rattle.papaya_words.specs.declared.probe.ResizeMode.{ResizeMode}
 use Rattle.papaya_words.specs.declared.probe.ResizeMode.TheVariants.{Incremental, Blocking}
 use Rattle.papaya_words.specs.declared.word.Kind.TheVariants as kinds
-use Rattle.papaya_ask.specs.Search.{at_yes as search_compared, look}
+use Rattle.papaya_ask.specs.Search.{at_yes as search_compared, hinted, look}
 use Rattle.papaya_ask.specs.declared.ask.Answer.{Answer as Call_answer}
 use Rattle.papaya_ask.specs.declared.ask.Answer.TheVariants.{Word as Word_read, Made as Made_number, Refused as Was_refused}
 use Rattle.papaya_ask.specs.declared.ask.Ask.TheVariants.{ShowNone, ShowPair}
 use Rattle.papaya_ask.specs.declared.ask.At.TheVariants.{Next, Slot}
 use Rattle.papaya_ask.specs.declared.call.Reply.TheVariants.{Removed}
 use Rattle.papaya_ask.specs.declared.call.Task.TheVariants.{Compute}
-use Rattle.papaya_ask.specs.declared.search.Search.TheVariants.{Sizing, Looking, Comparing}
+use Rattle.papaya_ask.specs.declared.search.Search.TheVariants.{Sizing, Looking, Reading, Comparing}
 use Rattle.papaya_ask.specs.declared.search.Seen.{Seen}
 use Rattle.papaya_ask.specs.declared.search.Seen.TheVariants as seen
 use Rattle.papaya_call.specs.declared.compute.Choice.{Choice}
@@ -24,6 +24,7 @@ use Rattle.papaya_call.specs.declared.compute.Purpose.TheVariants.{Fill, Replace
 use Rattle.papaya_call.specs.declared.machine.Machine.{Machine as Call_machine}
 use Rattle.papaya_call.specs.declared.machine.State.{State}
 use Rattle.papaya_call.specs.declared.machine.State.TheVariants.{AtRoot, Searching, Offering, Showing, Pairing, Putting, Burying, Counting, Uncounting, Leaving, Growing, Ended}
+use Rattle.papaya_call.specs.Write.{claimed_by}
 use Rattle.papaya_call.specs.declared.write.Made.{Made}
 use Rattle.papaya_call.specs.declared.write.Made.TheVariants.{Nothing, Key, Pair}
 use Rattle.papaya_call.specs.Answers.{Says}
@@ -43,9 +44,9 @@ use Rattle.papaya_rests.proofs.AloneSteps.{exchange_done}
 use Rattle.papaya_store.specs.Asks.{PerformsAsk}
 use Rattle.papaya_store.specs.Performs.{Performs, own_key, same as compares, size_of}
 use Rattle.papaya_store.specs.Store.{StoreState, pair_of}
-use Rattle.papaya_store.specs.Tables.{table_of, word_at}
+use Rattle.papaya_store.specs.Tables.{hint_at, table_of, word_at}
 use Rattle.papaya_store.specs.declared.pairs.Running.{Running}
-use Rattle.papaya_seq.proofs.TableSearch.{IsSearchIn, IsSeenIn, IsSettledKind, compared_in, loaded_in, settled_kind, settled_live}
+use Rattle.papaya_seq.proofs.TableSearch.{IsSearchIn, IsSeenIn, IsSettledKind, compared_in, hinted_in, loaded_in, settled_kind, settled_live}
 
 -- a value that was answered, of which a pair is yet to be made
 abbrev pub IsYetToMake : Said → Type 0
@@ -107,9 +108,12 @@ module _ {K V S A : Type 0} (eq : K → K → Bool) (says : Says K V A) (hash : 
         (same, subst (IsIn AtRoot) (sym (is ∙ ap answers.Call e)) (refl, cond_both (root == 0) (lacks None NoRoot) (Searching (Sizing root)) (IsInRoot root) (λ _. tt) (λ _. (refl, tt))))
     root_stays (Searching (Sizing t)) answer there no_none no_pair (told, is, (e, (same, stays))) = (same, subst (IsIn (Searching (Sizing t))) (sym (is ∙ ap answers.Call e)) (size_in t (table_of store.words.tables t) there.0))
     root_stays (Searching (Looking place)) answer there no_none no_pair (told, is, (e, (same, stays))) =
+        let hint : ℕ = hint_at store.words place.table place.probe.i in
+        (same, subst (IsIn (Searching (Looking place))) (sym (is ∙ ap answers.Call e)) (refl, goes_in store.words.root m.call.mode (hinted place m.call.hash hint) (hinted_in (λ n. IsSettledKind (kind_of n)) store.words.root place m.call.hash hint there.0)))
+    root_stays (Searching (Reading place)) answer there no_none no_pair (told, is, (e, (same, stays))) =
         let word : ℕ = word_at store.words (Slot place.table place.probe.i) in
         let open_still : kind_of word ≡ kinds.Marked → ⊥ = subst (λ t. kind_of (word_at store.words (Slot t place.probe.i)) ≡ kinds.Marked → ⊥) (sym there.0) (unmarked place.probe.i) in
-        (same, subst (IsIn (Searching (Looking place))) (sym (is ∙ ap answers.Call e)) (refl, goes_in store.words.root m.call.mode (look place m.call.hash word) (loaded_in (λ n. IsSettledKind (kind_of n)) store.words.root (Looking place) m.call.hash word there (settled_kind (kind_of word) open_still))))
+        (same, subst (IsIn (Searching (Reading place))) (sym (is ∙ ap answers.Call e)) (refl, goes_in store.words.root m.call.mode (look place word) (loaded_in (λ n. IsSettledKind (kind_of n)) store.words.root (Reading place) m.call.hash word there (settled_kind (kind_of word) open_still))))
     root_stays (Searching (Comparing place word)) answer there no_none no_pair (told, is, (e, (same, stays))) =
         let alike : Bool = compares eq (own_key store r) (pair_of store (number_of word)) in
         (same, subst (IsIn (Searching (Comparing place word))) (sym (is ∙ ap answers.Call e)) (refl, goes_in store.words.root m.call.mode (search_compared (Comparing place word) alike) (compared_in (λ n. IsSettledKind (kind_of n)) store.words.root (Comparing place word) alike there)))
@@ -164,7 +168,7 @@ module _ {K V S A : Type 0} (eq : K → K → Bool) (says : Says K V A) (store :
   replacing_stays made (Putting put) told there read (exchanges, stays) =
       let done = exchange_done _ _ (word_at store.words (Slot put.write.place.table put.write.place.probe.i)) put.write.old read exchanges in
       subst (λ a. IsReplacing (calls.after (compute_at made (Putting put)) a).state) (sym done.0)
-      (cond_both (put.write.old == 0) (Counting put.pair) (Ended _) IsReplacing (λ none. let zero : put.write.old ≡ 0 = eqb-true put.write.old 0 none in let some : 0 < put.write.old = there in absurd (omega (arith, zero, some))) (λ _. tt))
+      (cond_both (put.write.old == 0) (Counting (claimed_by put.write put.pair)) (Ended _) IsReplacing (λ none. let zero : put.write.old ≡ 0 = eqb-true put.write.old 0 none in let some : 0 < put.write.old = there in absurd (omega (arith, zero, some))) (λ _. tt))
   replacing_stays made (Ended reply) told there read (e, (same, stays)) = subst (λ a. IsReplacing (calls.after (compute_at made (Ended reply)) a).state) (sym e) tt
   replacing_stays made state told there read performs = absurd there
 

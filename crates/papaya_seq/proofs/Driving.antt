@@ -8,7 +8,7 @@ use Rattle.papaya_ask.specs.declared.call.Task.{Task}
 use Rattle.papaya_ask.specs.declared.call.Task.TheVariants.{Get, Insert, RemoveIf, Compute}
 use Rattle.papaya_call.specs.declared.machine.Machine.{Machine as Call_machine}
 use Rattle.papaya_call.specs.declared.machine.State.{State}
-use Rattle.papaya_call.specs.declared.machine.State.TheVariants.{AtRoot, Making, Opening, Searching, Writing, Offering, Showing, Pairing, Putting, Burying, Counting, Uncounting, Leaving, Growing, Ended}
+use Rattle.papaya_call.specs.declared.machine.State.TheVariants.{AtRoot, Making, Opening, Searching, Writing, Offering, Showing, Pairing, Putting, Burying, Counting, Noting, Uncounting, Leaving, Growing, Ended}
 use Rattle.papaya_call.specs.declared.need.Need.{Need}
 use Rattle.papaya_call.specs.Machine.{after}
 use Rattle.papaya_chain.specs.declared.ask.Ask.TheVariants as chain_asks
@@ -55,6 +55,7 @@ goes_itself m (Word_read word) grows leaves = by_state m.state refl
     by_state (Putting given) e = ap (λ s. chain.told_next (calling m) s word) e
     by_state (Burying removal) e = ap (λ s. chain.told_next (calling m) s word) e
     by_state (Counting n) e = ap (λ s. chain.told_next (calling m) s word) e
+    by_state (Noting n) e = ap (λ s. chain.told_next (calling m) s word) e
     by_state (Uncounting n) e = ap (λ s. chain.told_next (calling m) s word) e
     by_state (Ended reply) e = ap (λ s. chain.told_next (calling m) s word) e
 goes_itself m answer grows leaves = refl

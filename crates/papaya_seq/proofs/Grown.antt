@@ -4,14 +4,14 @@ use Rattle.std.proofs.lemmas.List.{length_push}
 use Rattle.papaya_words.specs.declared.limits.TheConstants.{MAX_LOG_LEN}
 use Rattle.papaya_ask.specs.declared.ask.Answer.{Answer as Call_answer}
 use Rattle.papaya_ask.specs.declared.ask.Ask.{Ask as Call_ask}
-use Rattle.papaya_ask.specs.declared.ask.Ask.TheVariants.{Load, Exchange, SameKey, ShowNone, ShowPair, SizeOf, MakeKey, MakePair, MakeTable, AddToShard, Done as Ask_done}
+use Rattle.papaya_ask.specs.declared.ask.Ask.TheVariants.{Load, Exchange, LoadHint, WriteHint, SameKey, ShowNone, ShowPair, SizeOf, MakeKey, MakePair, MakeTable, AddToShard, Done as Ask_done}
 use Rattle.papaya_ask.specs.declared.call.Task.TheVariants.{Insert}
 use Rattle.papaya_ask.specs.declared.copy_ask.CopyAsk.{CopyAsk}
 use Rattle.papaya_ask.specs.declared.copy_ask.CopyAsk.TheVariants as copies
-use Rattle.papaya_ask.specs.declared.search.Search.TheVariants.{Sizing, Looking, Comparing}
+use Rattle.papaya_ask.specs.declared.search.Search.TheVariants.{Sizing, Looking, Reading, Comparing}
 use Rattle.papaya_call.specs.Answers.{Says}
 use Rattle.papaya_call.specs.declared.machine.State.{State as Stage}
-use Rattle.papaya_call.specs.declared.machine.State.TheVariants.{AtRoot, Making, Opening, Searching, Writing, Offering, Showing, Pairing, Putting, Burying, Counting, Uncounting, Leaving, Growing, Ended}
+use Rattle.papaya_call.specs.declared.machine.State.TheVariants.{AtRoot, Making, Opening, Searching, Writing, Offering, Showing, Pairing, Putting, Burying, Counting, Noting, Uncounting, Leaving, Growing, Ended}
 use Rattle.papaya_call.specs.declared.write.Made.{Made}
 use Rattle.papaya_call.specs.declared.write.Made.TheVariants.{Nothing, Key, Pair}
 use Rattle.papaya_call.specs.Machine.{IsStandingState, asks as call_asks}
@@ -38,12 +38,14 @@ paired_plain replace i hashed Making stands = tt
 paired_plain replace i hashed (Opening t) stands = tt
 paired_plain replace i hashed (Searching (Sizing t)) stands = tt
 paired_plain replace i hashed (Searching (Looking at)) stands = tt
+paired_plain replace i hashed (Searching (Reading at)) stands = tt
 paired_plain replace i hashed (Searching (Comparing at word)) stands = tt
 paired_plain replace i hashed (Offering gap) stands = tt
 paired_plain replace i hashed (Showing removal) stands = tt
 paired_plain replace i hashed (Putting put) stands = tt
 paired_plain replace i hashed (Burying removal) stands = tt
 paired_plain replace i hashed (Counting n) stands = tt
+paired_plain replace i hashed (Noting n) stands = tt
 paired_plain replace i hashed (Uncounting n) stands = tt
 paired_plain replace i hashed (Leaving t) stands = tt
 paired_plain replace i hashed (Growing need) stands = tt
@@ -84,6 +86,8 @@ module _ {K V S : Type 0} where
     copy_pairs hash refuse (copies.Exchange at old new) s a s' (told, is, h) =
         matched (SamePairs s s') (word_at s.words at == old) _ _ h
         (λ _ done. (ap (λ (y : StoreState K V S). y.pairs) done.1, ap (λ (y : StoreState K V S). y.count.shards) done.1)) (λ _ lost. same_pairs s s' lost.1)
+    copy_pairs hash refuse (copies.LoadHint t x) s a s' (is, same) = same_pairs s s' same
+    copy_pairs hash refuse (copies.WriteHint t x hint) s a s' (is, same) = (ap (λ (y : StoreState K V S). y.pairs) same, ap (λ (y : StoreState K V S). y.count.shards) same)
     copy_pairs hash refuse (copies.SizeOf n) s a s' (is, same) = same_pairs s s' same
     copy_pairs hash refuse (copies.HashOf n) s a s' (is, hashed, same) = same_pairs s s' same
     copy_pairs hash refuse (copies.SamePair m n) s a s' (is, same) = same_pairs s s' same
@@ -99,6 +103,8 @@ module _ {K V S A : Type 0} (eq : K → K → Bool) (says : Says K V A) (refuse 
   plain_pairs (Exchange at old new) s r a s' r' plain (h, moved) =
       matched (SamePairs s s') (word_at s.words at == old) _ _ h
       (λ _ done. (ap (λ (y : StoreState K V S). y.pairs) done.1, ap (λ (y : StoreState K V S). y.count.shards) done.1)) (λ _ lost. same_pairs s s' lost.1)
+  plain_pairs (LoadHint t x) s r a s' r' plain (e, stays) = same_pairs s s' stays.0
+  plain_pairs (WriteHint t x hint) s r a s' r' plain (e, same, moved) = (ap (λ (y : StoreState K V S). y.pairs) same, ap (λ (y : StoreState K V S). y.count.shards) same)
   plain_pairs (SameKey n) s r a s' r' plain (e, stays) = same_pairs s s' stays.0
   plain_pairs ShowNone s r a s' r' plain h = same_pairs s s' (none_shown says s r a s' r' h).store
   plain_pairs (ShowPair n) s r a s' r' plain h = same_pairs s s' (pair_shown says r.machine.call.task n s r a s' r' h).store
@@ -131,6 +137,8 @@ module _ {K V S A : Type 0} (eq : K → K → Bool) (says : Says K V A) (refuse 
   one_logged MakePair s r a s' r' h = pair_logs s r a s' r' h
   one_logged (Load at) s r a s' r' h = logs_none s s' (plain_pairs (Load at) s r a s' r' tt h)
   one_logged (Exchange at old new) s r a s' r' h = logs_none s s' (plain_pairs (Exchange at old new) s r a s' r' tt h)
+  one_logged (LoadHint t x) s r a s' r' h = logs_none s s' (plain_pairs (LoadHint t x) s r a s' r' tt h)
+  one_logged (WriteHint t x hint) s r a s' r' h = logs_none s s' (plain_pairs (WriteHint t x hint) s r a s' r' tt h)
   one_logged (SameKey n) s r a s' r' h = logs_none s s' (plain_pairs (SameKey n) s r a s' r' tt h)
   one_logged ShowNone s r a s' r' h = logs_none s s' (plain_pairs ShowNone s r a s' r' tt h)
   one_logged (ShowPair n) s r a s' r' h = logs_none s s' (plain_pairs (ShowPair n) s r a s' r' tt h)

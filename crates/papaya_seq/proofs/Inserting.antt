@@ -12,17 +12,19 @@ use Rattle.papaya_ask.specs.declared.call.Task.{Task}
 use Rattle.papaya_ask.specs.declared.call.Task.TheVariants.{Insert}
 use Rattle.papaya_ask.specs.declared.search.Place.{Place}
 use Rattle.papaya_ask.specs.declared.search.Search.{Search}
-use Rattle.papaya_ask.specs.declared.search.Search.TheVariants.{Sizing, Looking, Comparing}
+use Rattle.papaya_ask.specs.declared.search.Search.TheVariants.{Sizing, Looking, Reading, Comparing}
 use Rattle.papaya_ask.specs.declared.search.Seen.{Seen}
 use Rattle.papaya_ask.specs.declared.search.Seen.TheVariants as seen
 use Rattle.papaya_ask.specs.Search.{at_word as search_loaded, at_yes as search_compared}
 use Rattle.papaya_call.specs.declared.compute.Remembered.{Remembered}
 use Rattle.papaya_call.specs.declared.machine.Machine.{Machine}
 use Rattle.papaya_call.specs.declared.machine.State.{State}
-use Rattle.papaya_call.specs.declared.machine.State.TheVariants.{Searching, Writing, Counting, Growing, Ended}
+use Rattle.papaya_call.specs.declared.machine.State.TheVariants.{Searching, Writing, Counting, Noting, Growing, Ended}
+use Rattle.papaya_call.specs.declared.write.Claimed.{Claimed}
 use Rattle.papaya_call.specs.declared.write.Made.{Made}
 use Rattle.papaya_call.specs.declared.write.Made.TheVariants.{Nothing, Key, Pair}
 use Rattle.papaya_call.specs.declared.write.Write.{Write}
+use Rattle.papaya_call.specs.Write.{claimed_by}
 use Rattle.papaya_call.specs.Machine.{after, found, goes_as, needed, occupies, replaces}
 use Rattle.papaya_alone.specs.Rank.{table_of}
 use Rattle.papaya_seq.proofs.TableSearch.{IsSeenIn, MayCompare, compared_in, loaded_in, sized_in}
@@ -38,7 +40,8 @@ IsIn t _ = ⊥
 -- a write is under way, or was made or refused
 abbrev pub HasWritten : State → Type 0
 HasWritten (Writing write) = Unit {0}
-HasWritten (Counting n) = Unit {0}
+HasWritten (Counting claimed) = Unit {0}
+HasWritten (Noting claimed) = Unit {0}
 HasWritten (Ended (Occupied n)) = ⊥
 HasWritten (Ended reply) = Unit {0}
 HasWritten _ = ⊥
@@ -50,6 +53,7 @@ Anything word = Unit {0}
 compares : (search : Search) → MayCompare Anything search
 compares (Sizing table) = tt
 compares (Looking at) = tt
+compares (Reading at) = tt
 compares (Comparing at word) = tt
 
 module _ (t : ℕ) where
@@ -106,7 +110,7 @@ module _ (m : Machine) (made : Made) where
       exchanged_on : (own : Made) → HasWritten (after (record m { made = own; state = Writing write }) Exchanged).state
       exchanged_on Nothing = tt
       exchanged_on Key = tt
-      exchanged_on (Pair n) = cond_both (write.old == 0) (Counting n) (Ended (Replaced (pair_of write.old) n)) HasWritten (λ _. tt) (λ _. tt)
+      exchanged_on (Pair n) = cond_both (write.old == 0) (Counting (claimed_by write n)) (Ended (Replaced (pair_of write.old) n)) HasWritten (λ _. tt) (λ _. tt)
   writes_on write (Found_instead word) unbeaten = absurd (unbeaten word refl)
   writes_on write (Yes same) unbeaten = tt
   writes_on write (Op kind) unbeaten = tt
@@ -120,14 +124,25 @@ module _ (m : Machine) (made : Made) where
       refused_on Key = tt
       refused_on (Pair n) = tt
 
-  -- what was written is counted
-  pub counts_on : (n : ℕ) (told : Answer) → HasWritten (after (in_state (Counting n)) told).state
-  counts_on n (Word_read word) = tt
-  counts_on n Exchanged = tt
-  counts_on n (Found_instead word) = tt
-  counts_on n (Yes same) = tt
-  counts_on n (Op kind) = tt
-  counts_on n (Size slots limit) = tt
-  counts_on n (Made_number k) = tt
-  counts_on n Ok_done = tt
-  counts_on n (Was_refused refused) = tt
+  -- what was claimed is counted, and its hint written
+  pub counts_on : (claimed : Claimed) (told : Answer) → HasWritten (after (in_state (Counting claimed)) told).state
+  counts_on claimed (Word_read word) = tt
+  counts_on claimed Exchanged = tt
+  counts_on claimed (Found_instead word) = tt
+  counts_on claimed (Yes same) = tt
+  counts_on claimed (Op kind) = tt
+  counts_on claimed (Size slots limit) = tt
+  counts_on claimed (Made_number k) = tt
+  counts_on claimed Ok_done = tt
+  counts_on claimed (Was_refused refused) = tt
+
+  pub notes_on : (claimed : Claimed) (told : Answer) → HasWritten (after (in_state (Noting claimed)) told).state
+  notes_on claimed (Word_read word) = tt
+  notes_on claimed Exchanged = tt
+  notes_on claimed (Found_instead word) = tt
+  notes_on claimed (Yes same) = tt
+  notes_on claimed (Op kind) = tt
+  notes_on claimed (Size slots limit) = tt
+  notes_on claimed (Made_number k) = tt
+  notes_on claimed Ok_done = tt
+  notes_on claimed (Was_refused refused) = tt

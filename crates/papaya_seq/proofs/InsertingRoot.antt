@@ -10,8 +10,9 @@ use Rattle.papaya_ask.specs.declared.call.Task.TheVariants.{Insert}
 use Rattle.papaya_ask.specs.declared.search.Search.TheVariants.{Sizing}
 use Rattle.papaya_call.specs.declared.machine.Machine.{Machine as Call_machine}
 use Rattle.papaya_call.specs.declared.machine.State.{State}
-use Rattle.papaya_call.specs.declared.machine.State.TheVariants.{AtRoot, Making, Opening, Searching, Writing, Offering, Showing, Pairing, Putting, Burying, Counting, Uncounting, Leaving, Growing, Ended}
+use Rattle.papaya_call.specs.declared.machine.State.TheVariants.{AtRoot, Making, Opening, Searching, Writing, Offering, Showing, Pairing, Putting, Burying, Counting, Noting, Uncounting, Leaving, Growing, Ended}
 use Rattle.papaya_call.specs.declared.need.Need.{Need}
+use Rattle.papaya_call.specs.declared.write.Claimed.{Claimed}
 use Rattle.papaya_call.specs.declared.write.Made.{Made}
 use Rattle.papaya_call.specs.declared.write.Made.TheVariants.{Nothing, Key, Pair}
 use Rattle.papaya_call.specs.declared.write.Write.{Write}
@@ -40,7 +41,7 @@ use Rattle.papaya_timeline.specs.Solo.{whatever}
 use Rattle.papaya_timeline.proofs.KeptSettings.{IsLawfulKeys}
 use Rattle.papaya_seq.specs.Map.{IsLawfulMap, MapState, next_of}
 use Rattle.papaya_seq.proofs.Causes.{IsLogRefusal}
-use Rattle.papaya_seq.proofs.Inserting.{HasWritten, IsIn, counts_on, searches_in, writes_on}
+use Rattle.papaya_seq.proofs.Inserting.{HasWritten, IsIn, counts_on, notes_on, searches_in, writes_on}
 use Rattle.papaya_seq.proofs.InsertingSteps.{search_stays, write_unbeaten}
 use Rattle.papaya_seq.proofs.KeyCalls.{KeyCall, keyed_insertion}
 use Rattle.papaya_seq.proofs.NoPlace as places
@@ -66,6 +67,7 @@ module _ {K V S : Type 0} (eq : K → K → Bool) (hash : S → K → ℕ) (s : 
   IsRootStage store (Searching search) = (table_of search ≡ store.words.root) × (next_of store ≡ 0)
   IsRootStage store (Writing write) = replace ≡ true
   IsRootStage store (Counting n) = Unit {0}
+  IsRootStage store (Noting n) = Unit {0}
   IsRootStage store (Ended (Reply_refused refused)) = (replace ≡ true) × IsLogRefusal s refused
   IsRootStage store (Ended reply) = Unit {0}
   IsRootStage store _ = ⊥
@@ -81,6 +83,7 @@ module _ {K V S : Type 0} (eq : K → K → Bool) (hash : S → K → ℕ) (s : 
   written_stage : (store : StoreState K V S) (state : State) → replace ≡ true → HasWritten state → ((refused : Refused) → state ≡ Ended (Reply_refused refused) → IsLogRefusal s refused) → IsRootStage store state
   written_stage store (Writing write) only written caused = only
   written_stage store (Counting n) only written caused = tt
+  written_stage store (Noting n) only written caused = tt
   written_stage store (Ended (Reply_refused refused)) only written caused = (only, caused refused refl)
   written_stage store (Ended Absent) only written caused = tt
   written_stage store (Ended (Found n)) only written caused = tt
@@ -105,7 +108,7 @@ module _ {K V S : Type 0} (eq : K → K → Bool) (hash : S → K → ℕ) (s : 
   written_stage store (Growing need) only written caused = absurd written
 
   -- what is counted is no refusal
-  counted_stage : (store : StoreState K V S) (m : Call_machine) (n : ℕ) (told : Call_answer) → IsRootStage store (calls.after (record m { state = Counting n }) told).state
+  counted_stage : (store : StoreState K V S) (m : Call_machine) (n : Claimed) (told : Call_answer) → IsRootStage store (calls.after (record m { state = Counting n }) told).state
   counted_stage store m n (Word_read word) = tt
   counted_stage store m n Exchanged = tt
   counted_stage store m n (Found_instead word) = tt
@@ -115,6 +118,18 @@ module _ {K V S : Type 0} (eq : K → K → Bool) (hash : S → K → ℕ) (s : 
   counted_stage store m n (Made_number number) = tt
   counted_stage store m n Ok_done = tt
   counted_stage store m n (Was_refused refused) = tt
+
+  -- nor is what has its hint written
+  noted_stage : (store : StoreState K V S) (m : Call_machine) (n : Claimed) (told : Call_answer) → IsRootStage store (calls.after (record m { state = Noting n }) told).state
+  noted_stage store m n (Word_read word) = tt
+  noted_stage store m n Exchanged = tt
+  noted_stage store m n (Found_instead word) = tt
+  noted_stage store m n (Yes agrees) = tt
+  noted_stage store m n (Op kind) = tt
+  noted_stage store m n (Size slots limit) = tt
+  noted_stage store m n (Made_number number) = tt
+  noted_stage store m n Ok_done = tt
+  noted_stage store m n (Was_refused refused) = tt
 
   module _ (keys : IsLawfulKeys eq (hash s.store.hasher)) (lawful : IsLawfulMap eq (hash s.store.hasher) s.store s.mode s.initial) (fits : hash s.store.hasher k < 2 ^ 64) where
     module _ (store : StoreState K V S) (r : Running K V (Unit {0})) (came : HasCome eq hash s call store r) (going : reply_in (ask_of r.machine) ≡ None) where
@@ -204,6 +219,7 @@ module _ {K V S : Type 0} (eq : K → K → Bool) (hash : S → K → ℕ) (s : 
         searched (Putting put) e stays last here = absurd here
         searched (Burying removal) e stays last here = absurd here
         searched (Counting n) e stays last here = absurd here
+        searched (Noting n) e stays last here = absurd here
         searched (Uncounting n) e stays last here = absurd here
         searched (Leaving t) e stays last here = absurd here
 
@@ -224,12 +240,15 @@ module _ {K V S : Type 0} (eq : K → K → Bool) (hash : S → K → ℕ) (s : 
             (own calling unleft).goes_on,
             subst HasWritten (sym (led calling unleft (Writing write) e))
                 (writes_on r.machine.call r.machine.call.made write told
-                (write_unbeaten eq whatever store r told store' later r.machine.call.made r.machine.call.hash write (has_read store r came going write calling e)
+                (write_unbeaten eq whatever store r told store' later r.machine.call.made write (has_read store r came going write calling e)
                 (subst (λ x. Performs eq whatever false (calls.asks r.machine.call.made r.machine.call.hash x) store r told store' later) e (told_performs calling unleft)))),
           )
       written_more (Counting n) calling e written =
           let unleft : left_by r.machine.call.state ≡ None = ap left_by e in
           ((own calling unleft).goes_on, subst HasWritten (sym (led calling unleft (Counting n) e)) (counts_on r.machine.call r.machine.call.made n (own calling unleft).told))
+      written_more (Noting n) calling e written =
+          let unleft : left_by r.machine.call.state ≡ None = ap left_by e in
+          ((own calling unleft).goes_on, subst HasWritten (sym (led calling unleft (Noting n) e)) (notes_on r.machine.call r.machine.call.made n (own calling unleft).told))
       written_more (Ended reply) calling e written = let f : Some reply ≡ None = sym (asking r.machine (Ended reply) calling e) ∙ going in absurd cc
       written_more AtRoot calling e written = absurd written
       written_more Making calling e written = absurd written
@@ -269,6 +288,9 @@ module _ {K V S : Type 0} (eq : K → K → Bool) (hash : S → K → ℕ) (s : 
         in_root_more (Counting n) calling e stage =
             let unleft : left_by r.machine.call.state ≡ None = ap left_by e in
             inr (record { calling = (own calling unleft).goes_on; stage = subst (IsRootStage store') (sym (led calling unleft (Counting n) e)) (counted_stage store' r.machine.call n (own calling unleft).told) })
+        in_root_more (Noting n) calling e stage =
+            let unleft : left_by r.machine.call.state ≡ None = ap left_by e in
+            inr (record { calling = (own calling unleft).goes_on; stage = subst (IsRootStage store') (sym (led calling unleft (Noting n) e)) (noted_stage store' r.machine.call n (own calling unleft).told) })
         in_root_more (Ended reply) calling e stage = let f : Some reply ≡ None = sym (asking r.machine (Ended reply) calling e) ∙ going in absurd cc
         in_root_more Making calling e stage = absurd stage
         in_root_more (Opening t) calling e stage = absurd stage

@@ -3,7 +3,7 @@ use Rattle.std.proofs.Common.{◌≡◌, ◌⊎◌, inl, inr, ℕ, ◌^◌, ◌<
 use Rattle.std.proofs.lemmas.Bool.{cases_eq}
 use Rattle.papaya_words.specs.declared.probe.Refused.{Refused}
 use Rattle.papaya_ask.specs.declared.ask.Answer.TheVariants.{Op, Ok as Ok_done}
-use Rattle.papaya_ask.specs.declared.ask.Ask.TheVariants.{Load, Exchange, SameKey, ShowNone, ShowPair, SizeOf, MakeKey, MakePair, MakeTable, AddToShard, Done as Ask_done}
+use Rattle.papaya_ask.specs.declared.ask.Ask.TheVariants.{Load, Exchange, LoadHint, WriteHint, SameKey, ShowNone, ShowPair, SizeOf, MakeKey, MakePair, MakeTable, AddToShard, Done as Ask_done}
 use Rattle.papaya_ask.specs.declared.ask.OpKind.TheVariants.{Remove}
 use Rattle.papaya_ask.specs.declared.call.Reply.{Reply}
 use Rattle.papaya_ask.specs.declared.call.Reply.TheVariants.{Occupied, Refused as Reply_refused}
@@ -76,6 +76,8 @@ unreplied (asks.Call (Ask_done reply)) open_still = absurd (open_still reply ref
 unreplied (asks.Call (Load at)) open_still = refl
 unreplied (asks.Call (Exchange at old new)) open_still = refl
 unreplied (asks.Call (SameKey n)) open_still = refl
+unreplied (asks.Call (LoadHint t x)) open_still = refl
+unreplied (asks.Call (WriteHint t x hint)) open_still = refl
 unreplied (asks.Call ShowNone) open_still = refl
 unreplied (asks.Call (ShowPair n)) open_still = refl
 unreplied (asks.Call (SizeOf t)) open_still = refl

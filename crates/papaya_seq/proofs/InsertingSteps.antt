@@ -6,11 +6,11 @@ use Rattle.papaya_ask.specs.declared.ask.Answer.TheVariants.{Exchanged, Found as
 use Rattle.papaya_ask.specs.declared.ask.At.TheVariants.{Slot}
 use Rattle.papaya_ask.specs.declared.call.Task.TheVariants.{Insert}
 use Rattle.papaya_ask.specs.declared.search.Search.{Search}
-use Rattle.papaya_ask.specs.declared.search.Search.TheVariants.{Sizing, Looking, Comparing}
+use Rattle.papaya_ask.specs.declared.search.Search.TheVariants.{Sizing, Looking, Reading, Comparing}
 use Rattle.papaya_ask.specs.Search.{ask_of as search_ask}
 use Rattle.papaya_call.specs.Answers.{Says}
 use Rattle.papaya_call.specs.declared.machine.State.{State}
-use Rattle.papaya_call.specs.declared.machine.State.TheVariants.{AtRoot, Making, Opening, Searching, Writing, Offering, Showing, Pairing, Putting, Burying, Counting, Uncounting, Leaving, Growing, Ended}
+use Rattle.papaya_call.specs.declared.machine.State.TheVariants.{AtRoot, Making, Opening, Searching, Writing, Offering, Showing, Pairing, Putting, Burying, Counting, Noting, Uncounting, Leaving, Growing, Ended}
 use Rattle.papaya_call.specs.declared.write.Made.{Made}
 use Rattle.papaya_call.specs.declared.write.Made.TheVariants.{Nothing, Key, Pair}
 use Rattle.papaya_call.specs.declared.write.Write.{Write}
@@ -43,19 +43,20 @@ module _ {K V S A : Type 0} (eq : K → K → Bool) (says : Says K V A) (store :
     pub search_stays : (search : Search) → Performs eq says false (search_ask search) store r told store' later → store' ≡ store
     search_stays (Sizing t) (e, (same, stays)) = same
     search_stays (Looking at) (e, (same, stays)) = same
+    search_stays (Reading at) (e, (same, stays)) = same
     search_stays (Comparing at word) (e, (same, stays)) = same
 
     -- the word that a write looks for stands there
-    pub write_unbeaten : (made : Made) (hash : ℕ) (write : Write) → word_at store.words (Slot write.place.table write.place.probe.i) ≡ write.old → Performs eq says false (write_ask write made hash) store r told store' later → (word : ℕ) → told ≡ Found_instead word → ⊥
-    write_unbeaten Nothing hash write read (inl (inl e, stays)) word found = let f : Was_refused Memory ≡ Found_instead word = sym e ∙ found in absurd cc
-    write_unbeaten Nothing hash write read (inl (inr (e, full), stays)) word found = let f : Was_refused Capacity ≡ Found_instead word = sym e ∙ found in absurd cc
-    write_unbeaten Nothing hash write read (inr (inl (has, stays))) word found = let f : Ok_done ≡ Found_instead word = sym has.0 ∙ found in absurd cc
-    write_unbeaten Nothing hash write read (inr (inr (k, own, e, few, same, goes))) word found = let f : Made_number (length store.keys) ≡ Found_instead word = sym e ∙ found in absurd cc
-    write_unbeaten Key hash write read (inl (inl e, stays)) word found = let f : Was_refused Memory ≡ Found_instead word = sym e ∙ found in absurd cc
-    write_unbeaten Key hash write read (inl (inr (e, full), stays)) word found = let f : Was_refused Capacity ≡ Found_instead word = sym e ∙ found in absurd cc
-    write_unbeaten Key hash write read (inr (inl (has, stays))) word found = let f : Ok_done ≡ Found_instead word = sym has.0 ∙ found in absurd cc
-    write_unbeaten Key hash write read (inr (inr (n, v, key, value, e, few, same, goes))) word found = let f : Made_number (length store.pairs) ≡ Found_instead word = sym e ∙ found in absurd cc
-    write_unbeaten (Pair n) hash write read (made, stays) word found =
+    pub write_unbeaten : (made : Made) (write : Write) → word_at store.words (Slot write.place.table write.place.probe.i) ≡ write.old → Performs eq says false (write_ask write made) store r told store' later → (word : ℕ) → told ≡ Found_instead word → ⊥
+    write_unbeaten Nothing write read (inl (inl e, stays)) word found = let f : Was_refused Memory ≡ Found_instead word = sym e ∙ found in absurd cc
+    write_unbeaten Nothing write read (inl (inr (e, full), stays)) word found = let f : Was_refused Capacity ≡ Found_instead word = sym e ∙ found in absurd cc
+    write_unbeaten Nothing write read (inr (inl (has, stays))) word found = let f : Ok_done ≡ Found_instead word = sym has.0 ∙ found in absurd cc
+    write_unbeaten Nothing write read (inr (inr (k, own, e, few, same, goes))) word found = let f : Made_number (length store.keys) ≡ Found_instead word = sym e ∙ found in absurd cc
+    write_unbeaten Key write read (inl (inl e, stays)) word found = let f : Was_refused Memory ≡ Found_instead word = sym e ∙ found in absurd cc
+    write_unbeaten Key write read (inl (inr (e, full), stays)) word found = let f : Was_refused Capacity ≡ Found_instead word = sym e ∙ found in absurd cc
+    write_unbeaten Key write read (inr (inl (has, stays))) word found = let f : Ok_done ≡ Found_instead word = sym has.0 ∙ found in absurd cc
+    write_unbeaten Key write read (inr (inr (n, v, key, value, e, few, same, goes))) word found = let f : Made_number (length store.pairs) ≡ Found_instead word = sym e ∙ found in absurd cc
+    write_unbeaten (Pair n) write read (made, stays) word found =
         let done = exchange_done _ _ (word_at store.words (Slot write.place.table write.place.probe.i)) write.old read made in
         let f : Exchanged ≡ Found_instead word = sym done.0 ∙ found in
         absurd cc
@@ -67,6 +68,7 @@ module _ {K V S A : Type 0} (eq : K → K → Bool) (says : Says K V A) (store :
     value_stays replace made hash (Opening t) standing (exchanged, stays) = inr (ap (λ q. q.value) stays)
     value_stays replace made hash (Searching (Sizing t)) standing (e, (same, stays)) = inr (ap (λ q. q.value) stays)
     value_stays replace made hash (Searching (Looking at)) standing (e, (same, stays)) = inr (ap (λ q. q.value) stays)
+    value_stays replace made hash (Searching (Reading at)) standing (e, (same, stays)) = inr (ap (λ q. q.value) stays)
     value_stays replace made hash (Searching (Comparing at word)) standing (e, (same, stays)) = inr (ap (λ q. q.value) stays)
     value_stays replace made hash (Writing write) standing performs = inl tt
     value_stays replace made hash (Offering gap) standing performs = absurd standing.0
@@ -75,6 +77,7 @@ module _ {K V S A : Type 0} (eq : K → K → Bool) (says : Says K V A) (store :
     value_stays replace made hash (Putting put) standing performs = absurd standing.0
     value_stays replace made hash (Burying removal) standing performs = absurd standing.0
     value_stays replace made hash (Counting n) standing (e, added, stays) = inr (ap (λ q. q.value) stays)
+    value_stays replace made hash (Noting n) standing (e, added, stays) = inr (ap (λ q. q.value) stays)
     value_stays replace made hash (Uncounting n) standing performs = absurd standing
     value_stays replace made hash (Leaving t) standing (e, (same, stays)) = inr (ap (λ q. q.value) stays)
     value_stays replace made hash (Growing need) standing (e, (same, stays)) = inr (ap (λ q. q.value) stays)

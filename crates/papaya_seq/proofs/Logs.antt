@@ -5,14 +5,14 @@ use Rattle.papaya_words.specs.declared.limits.TheConstants.{MAX_LOG_LEN}
 use Rattle.papaya_ask.specs.declared.ask.Answer.{Answer as Call_answer}
 use Rattle.papaya_ask.specs.declared.ask.Answer.TheVariants.{Op, Made as Made_number}
 use Rattle.papaya_ask.specs.declared.ask.Ask.{Ask as Call_ask}
-use Rattle.papaya_ask.specs.declared.ask.Ask.TheVariants.{Load, Exchange, SameKey, ShowNone, ShowPair, SizeOf, MakeKey, MakePair, MakeTable, AddToShard, Done as Ask_done}
+use Rattle.papaya_ask.specs.declared.ask.Ask.TheVariants.{Load, Exchange, LoadHint, WriteHint, SameKey, ShowNone, ShowPair, SizeOf, MakeKey, MakePair, MakeTable, AddToShard, Done as Ask_done}
 use Rattle.papaya_ask.specs.declared.ask.OpKind.{OpKind}
 use Rattle.papaya_ask.specs.declared.ask.OpKind.TheVariants as kinds
 use Rattle.papaya_ask.specs.declared.call.Task.{Task}
 use Rattle.papaya_ask.specs.declared.call.Task.TheVariants as tasks
 use Rattle.papaya_ask.specs.declared.copy_ask.CopyAsk.{CopyAsk}
 use Rattle.papaya_ask.specs.declared.copy_ask.CopyAsk.TheVariants as copies
-use Rattle.papaya_ask.specs.declared.search.Search.TheVariants.{Sizing, Looking, Comparing}
+use Rattle.papaya_ask.specs.declared.search.Search.TheVariants.{Sizing, Looking, Reading, Comparing}
 use Rattle.papaya_call.specs.Answers.{Says}
 use Rattle.papaya_call.specs.declared.compute.Choice.TheVariants.{Remove as To_remove}
 use Rattle.papaya_call.specs.declared.compute.Purpose.{Purpose}
@@ -20,7 +20,7 @@ use Rattle.papaya_call.specs.declared.compute.Purpose.TheVariants.{Fill, Replace
 use Rattle.papaya_call.specs.declared.compute.Remembered.{Remembered}
 use Rattle.papaya_call.specs.declared.machine.Machine.{Machine as Call_machine}
 use Rattle.papaya_call.specs.declared.machine.State.{State as Stage}
-use Rattle.papaya_call.specs.declared.machine.State.TheVariants.{AtRoot, Making, Opening, Searching, Writing, Offering, Showing, Pairing, Putting, Burying, Counting, Uncounting, Leaving, Growing, Ended}
+use Rattle.papaya_call.specs.declared.machine.State.TheVariants.{AtRoot, Making, Opening, Searching, Writing, Offering, Showing, Pairing, Putting, Burying, Counting, Noting, Uncounting, Leaving, Growing, Ended}
 use Rattle.papaya_call.specs.declared.remove.Removal.{Removal}
 use Rattle.papaya_call.specs.declared.write.Made.{Made}
 use Rattle.papaya_call.specs.declared.write.Made.TheVariants.{Nothing, Key, Pair}
@@ -62,6 +62,8 @@ module _ {K V S : Type 0} where
     copy_logs hash refuse (copies.Exchange at old new) s a s' (told, is, h) =
         matched (SameLogs s s') (word_at s.words at == old) _ _ h
         (λ _ done. (ap (λ (y : StoreState K V S). y.keys) done.1, ap (λ (y : StoreState K V S). y.pairs) done.1)) (λ _ lost. same_logs s s' lost.1)
+    copy_logs hash refuse (copies.LoadHint t x) s a s' (is, same) = same_logs s s' same
+    copy_logs hash refuse (copies.WriteHint t x hint) s a s' (is, same) = (ap (λ (y : StoreState K V S). y.keys) same, ap (λ (y : StoreState K V S). y.pairs) same)
     copy_logs hash refuse (copies.SizeOf n) s a s' (is, same) = same_logs s s' same
     copy_logs hash refuse (copies.HashOf n) s a s' (is, hashed, same) = same_logs s s' same
     copy_logs hash refuse (copies.SamePair m n) s a s' (is, same) = same_logs s s' same
@@ -77,6 +79,8 @@ module _ {K V S A : Type 0} (eq : K → K → Bool) (says : Says K V A) where
   plain_logs refuse (Exchange at old new) s r a s' r' plain (h, moved) =
       matched (SameLogs s s') (word_at s.words at == old) _ _ h
       (λ _ done. (ap (λ (y : StoreState K V S). y.keys) done.1, ap (λ (y : StoreState K V S). y.pairs) done.1)) (λ _ lost. same_logs s s' lost.1)
+  plain_logs refuse (LoadHint t x) s r a s' r' plain (e, stays) = same_logs s s' stays.0
+  plain_logs refuse (WriteHint t x hint) s r a s' r' plain (e, same, moved) = (ap (λ (y : StoreState K V S). y.keys) same, ap (λ (y : StoreState K V S). y.pairs) same)
   plain_logs refuse (SameKey n) s r a s' r' plain (e, stays) = same_logs s s' stays.0
   plain_logs refuse ShowNone s r a s' r' plain h = same_logs s s' (none_shown says s r a s' r' h).store
   plain_logs refuse (ShowPair n) s r a s' r' plain h = same_logs s s' (pair_shown says r.machine.call.task n s r a s' r' h).store
@@ -215,12 +219,14 @@ module _ {K V S A : Type 0} (eq : K → K → Bool) (says : Says K V A) (refuse 
   own_logs made (Opening t) told stands h = plain made (Opening t) told tt h
   own_logs made (Searching (Sizing t)) told stands h = plain made (Searching (Sizing t)) told tt h
   own_logs made (Searching (Looking at)) told stands h = plain made (Searching (Looking at)) told tt h
+  own_logs made (Searching (Reading at)) told stands h = plain made (Searching (Reading at)) told tt h
   own_logs made (Searching (Comparing at word)) told stands h = plain made (Searching (Comparing at word)) told tt h
   own_logs made (Offering gap) told stands h = plain made (Offering gap) told tt h
   own_logs made (Showing removal) told stands h = plain made (Showing removal) told tt h
   own_logs made (Putting put) told stands h = plain made (Putting put) told tt h
   own_logs made (Burying removal) told stands h = plain made (Burying removal) told tt h
   own_logs made (Counting n) told stands h = plain made (Counting n) told tt h
+  own_logs made (Noting n) told stands h = plain made (Noting n) told tt h
   own_logs made (Uncounting n) told stands h = plain made (Uncounting n) told tt h
   own_logs made (Leaving t) told stands h = plain made (Leaving t) told tt h
   own_logs made (Growing need) told stands h = plain made (Growing need) told tt h

@@ -5,7 +5,7 @@ use Rattle.papaya_words.specs.declared.probe.Refused.{Refused}
 use Rattle.papaya_ask.specs.declared.ask.Answer.{Answer}
 use Rattle.papaya_ask.specs.declared.ask.Answer.TheVariants.{Yes}
 use Rattle.papaya_ask.specs.declared.ask.Ask.{Ask}
-use Rattle.papaya_ask.specs.declared.ask.Ask.TheVariants.{Load, Exchange, SameKey, ShowNone, ShowPair, SizeOf, MakeKey, MakePair, MakeTable, AddToShard, Done as Ask_done}
+use Rattle.papaya_ask.specs.declared.ask.Ask.TheVariants.{Load, Exchange, LoadHint, WriteHint, SameKey, ShowNone, ShowPair, SizeOf, MakeKey, MakePair, MakeTable, AddToShard, Done as Ask_done}
 use Rattle.papaya_ask.specs.declared.call.Call.TheVariants.{Get}
 use Rattle.papaya_ask.specs.declared.call.Task.TheVariants.{Get as Get_task}
 use Rattle.papaya_ask.specs.declared.call.Reply.{Reply}
@@ -60,7 +60,9 @@ module _ {K V S : Type 0} (eq : K → K → Bool) (hash : S → K → ℕ) (s : 
   told_performs m (Load at) answer told = (told, (refl, refl))
   told_performs m (SameKey n) answer told = (told ∙ ap Yes (matches_same (pair_of s.store n)), (refl, refl))
   told_performs m (SizeOf t) answer told = (told, (refl, refl))
+  told_performs m (LoadHint t x) answer told = (told, (refl, refl))
   told_performs m (Exchange at old new) answer told = absurd told
+  told_performs m (WriteHint t x hint) answer told = absurd told
   told_performs m (ShowPair n) answer told = absurd told
   told_performs m MakeKey answer told = absurd told
   told_performs m ShowNone answer told = absurd told
@@ -74,7 +76,9 @@ module _ {K V S : Type 0} (eq : K → K → Bool) (hash : S → K → ℕ) (s : 
   told_goes (Load at) answer told = refl
   told_goes (SameKey n) answer told = refl
   told_goes (SizeOf t) answer told = refl
+  told_goes (LoadHint t x) answer told = refl
   told_goes (Exchange at old new) answer told = absurd told
+  told_goes (WriteHint t x hint) answer told = absurd told
   told_goes (ShowPair n) answer told = absurd told
   told_goes MakeKey answer told = absurd told
   told_goes ShowNone answer told = absurd told

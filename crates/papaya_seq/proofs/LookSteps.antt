@@ -2,7 +2,7 @@
 use Rattle.std.proofs.Common.{◌≡◌, ℕ, ◌+◌, ◌*◌, ◌-◌, ◌^◌, ◌<◌, ◌≤◌, ◌==◌, nat_lt, Bool, true, false, List, [], ◌∷◌, Option, Some, None, length, refl, sym, ◌∙◌, ap, subst, arith, eq-eqb}
 use Rattle.std.proofs.lemmas.Bool.{cond_both}
 use Rattle.papaya_words.specs.Table.{TableWords}
-use Rattle.papaya_words.specs.Word.{kind_of, byte_of, top_byte, pair_of as number_of}
+use Rattle.papaya_words.specs.Word.{kind_of, may_hold, pair_of as number_of}
 use Rattle.papaya_words.specs.declared.probe.ResizeMode.{ResizeMode}
 use Rattle.papaya_words.specs.declared.probe.ResizeMode.TheVariants.{Incremental, Blocking}
 use Rattle.papaya_words.specs.declared.word.Kind.{Kind}
@@ -19,9 +19,9 @@ use Rattle.papaya_ask.specs.declared.call.Task.TheVariants.{Get}
 use Rattle.papaya_call.specs.declared.compute.Remembered.{Remembered}
 use Rattle.papaya_call.specs.declared.machine.Machine.{Machine}
 use Rattle.papaya_call.specs.declared.machine.State.{State}
-use Rattle.papaya_call.specs.declared.machine.State.TheVariants.{AtRoot, Making, Opening, Searching, Writing, Offering, Showing, Pairing, Putting, Burying, Counting, Uncounting, Leaving, Growing, Ended}
+use Rattle.papaya_call.specs.declared.machine.State.TheVariants.{AtRoot, Making, Opening, Searching, Writing, Offering, Showing, Pairing, Putting, Burying, Counting, Noting, Uncounting, Leaving, Growing, Ended}
 use Rattle.papaya_ask.specs.declared.search.Place.{Place}
-use Rattle.papaya_ask.specs.declared.search.Search.TheVariants.{Sizing, Looking, Comparing}
+use Rattle.papaya_ask.specs.declared.search.Search.TheVariants.{Sizing, Looking, Reading, Comparing}
 use Rattle.papaya_ask.specs.declared.search.Seen.{Seen}
 use Rattle.papaya_ask.specs.declared.search.Seen.TheVariants as seen
 use Rattle.papaya_call.specs.declared.write.Made.{Made}
@@ -30,11 +30,11 @@ use Rattle.papaya_call.specs.Machine.{started, after, ask_of, asks, at_root, pas
 use Rattle.papaya_rests.proofs.AloneCurrent.{machine_stays}
 use Rattle.papaya_rests.proofs.AloneSteps.{machine_nears}
 use Rattle.papaya_rests.proofs.AloneUnmatched.{machine_meets_none}
-use Rattle.papaya_ask.specs.Search.{IsSize, next_place, go_on, look_at, look, match_at, at_yes as search_compared}
+use Rattle.papaya_ask.specs.Search.{IsSize, next_place, go_on, hinted, look_at, look, match_at, at_yes as search_compared}
 use Rattle.papaya_rests.proofs.Tasks.{same_task}
 use Rattle.papaya_store.specs.Performs.{size_of}
 use Rattle.papaya_store.specs.Store.{StoreState, Stored, pair_of}
-use Rattle.papaya_store.specs.Tables.{table_of, word_at}
+use Rattle.papaya_store.specs.Tables.{hint_at, table_of, word_at}
 use Rattle.papaya_seq.specs.Looks.{IsToldBy, Replies, matches_in}
 use Rattle.papaya_timeline.specs.Kept.{IsLawfulCore}
 use Rattle.papaya_timeline.proofs.KeptSettings.{IsLawfulKeys}
@@ -62,6 +62,7 @@ some_number n some zero = let f : true ≡ false = sym (eq-eqb n 0 zero) ∙ som
 abbrev SeesPlace : ℕ → Seen → Type 0
 SeesPlace t (seen.On (Sizing u)) = ⊥
 SeesPlace t (seen.On (Looking at)) = at.table ≡ t
+SeesPlace t (seen.On (Reading at)) = at.table ≡ t
 SeesPlace t (seen.On (Comparing at word)) = at.table ≡ t
 SeesPlace t (seen.Empty at) = Unit {0}
 SeesPlace t (seen.Here at word) = Unit {0}
@@ -70,16 +71,16 @@ SeesPlace t (seen.Over u) = u ≡ t
 go_on_place : (at : Place) → SeesPlace at.table (go_on at)
 go_on_place at = cond_both (nat_lt at.probe.len at.limit) (seen.On (Looking (next_place at))) (seen.Over at.table) (SeesPlace at.table) (λ _. refl) (λ _. refl)
 
-byte_place : (at : Place) (hash word : ℕ) → SeesPlace at.table (look_at word_kinds.Live at hash word)
-byte_place at hash word = cond_both (byte_of word == top_byte hash) (seen.On (Comparing at word)) (go_on at) (SeesPlace at.table) (λ _. refl) (λ _. go_on_place at)
+hinted_place : (at : Place) (hash hint : ℕ) → SeesPlace at.table (hinted at hash hint)
+hinted_place at hash hint = cond_both (may_hold hint hash) (seen.On (Reading at)) (go_on at) (SeesPlace at.table) (λ _. refl) (λ _. go_on_place at)
 
-look_place : (kind : Kind) (at : Place) (hash word : ℕ) → SeesPlace at.table (look_at kind at hash word)
-look_place word_kinds.Empty at hash word = tt
-look_place word_kinds.Live at hash word = byte_place at hash word
-look_place word_kinds.Marked at hash word = byte_place at hash word
-look_place word_kinds.Copied at hash word = byte_place at hash word
-look_place word_kinds.Buried at hash word = go_on_place at
-look_place word_kinds.Closed at hash word = go_on_place at
+look_place : (kind : Kind) (at : Place) (word : ℕ) → SeesPlace at.table (look_at kind at word)
+look_place word_kinds.Empty at word = tt
+look_place word_kinds.Live at word = refl
+look_place word_kinds.Marked at word = refl
+look_place word_kinds.Copied at word = refl
+look_place word_kinds.Buried at word = go_on_place at
+look_place word_kinds.Closed at word = go_on_place at
 
 match_place : (kind : Kind) (at : Place) (word : ℕ) → SeesPlace at.table (match_at kind at word)
 match_place word_kinds.Empty at word = tt
@@ -99,6 +100,7 @@ abbrev tables_ahead : ℕ → State → ℕ
 tables_ahead tables AtRoot = tables
 tables_ahead tables (Searching (Sizing t)) = tables - t
 tables_ahead tables (Searching (Looking at)) = tables - at.table
+tables_ahead tables (Searching (Reading at)) = tables - at.table
 tables_ahead tables (Searching (Comparing at word)) = tables - at.table
 tables_ahead tables (Leaving t) = tables - t
 tables_ahead tables _ = 0
@@ -117,6 +119,7 @@ module _ (tables : ℕ) where
   goes_ahead : (mode : ResizeMode) (held : Remembered) (t : ℕ) (s : Seen) → SeesPlace t s → tables_ahead tables (goes_as Get mode held s) ≤ tables - t
   goes_ahead mode held t (seen.On (Sizing u)) place = absurd place
   goes_ahead mode held t (seen.On (Looking at)) place = omega (arith, place)
+  goes_ahead mode held t (seen.On (Reading at)) place = omega (arith, place)
   goes_ahead mode held t (seen.On (Comparing at word)) place = omega (arith, place)
   goes_ahead mode held t (seen.Here at word) place = omega arith
   goes_ahead mode held t (seen.Empty at) place = omega arith
@@ -136,6 +139,7 @@ module _ {K V S : Type 0} (store : StoreState K V S) where
   IsLooking AtRoot = Unit {0}
   IsLooking (Searching (Sizing t)) = (table : TableWords) × (table_of store.words.tables t ≡ Some table)
   IsLooking (Searching (Looking at)) = Unit {0}
+  IsLooking (Searching (Reading at)) = Unit {0}
   IsLooking (Searching (Comparing at word)) = Unit {0}
   IsLooking (Leaving t) = Unit {0}
   IsLooking (Ended reply) = IsLookReply reply
@@ -148,6 +152,7 @@ module _ {K V S : Type 0} (store : StoreState K V S) where
   IsLooking (Putting put) = ⊥
   IsLooking (Burying removal) = ⊥
   IsLooking (Counting n) = ⊥
+  IsLooking (Noting n) = ⊥
   IsLooking (Uncounting n) = ⊥
   IsLooking (Growing t) = ⊥
 
@@ -159,6 +164,7 @@ module _ {K V S : Type 0} (store : StoreState K V S) where
   goes_looking : (mode : ResizeMode) (held : Remembered) (t : ℕ) (s : Seen) → SeesPlace t s → IsLooking (goes_as Get mode held s)
   goes_looking mode held t (seen.On (Sizing u)) place = absurd place
   goes_looking mode held t (seen.On (Looking at)) place = tt
+  goes_looking mode held t (seen.On (Reading at)) place = tt
   goes_looking mode held t (seen.On (Comparing at word)) place = tt
   goes_looking mode held t (seen.Here at word) place = tt
   goes_looking mode held t (seen.Empty at) place = tt
@@ -169,6 +175,7 @@ module _ {K V S : Type 0} (store : StoreState K V S) where
   look_replies made hash AtRoot reply looking e = absurd cc
   look_replies made hash (Searching (Sizing t)) reply looking e = absurd cc
   look_replies made hash (Searching (Looking at)) reply looking e = absurd cc
+  look_replies made hash (Searching (Reading at)) reply looking e = absurd cc
   look_replies made hash (Searching (Comparing at word)) reply looking e = absurd cc
   look_replies made hash (Leaving t) reply looking e = absurd cc
   look_replies made hash (Ended given) reply looking e = let is : given ≡ reply = cc in subst IsLookReply is looking
@@ -181,6 +188,7 @@ module _ {K V S : Type 0} (store : StoreState K V S) where
   look_replies made hash (Putting put) reply looking e = absurd looking
   look_replies made hash (Burying removal) reply looking e = absurd looking
   look_replies made hash (Counting n) reply looking e = absurd looking
+  look_replies made hash (Noting n) reply looking e = absurd looking
   look_replies made hash (Uncounting n) reply looking e = absurd looking
   look_replies made hash (Growing t) reply looking e = absurd looking
 
@@ -198,7 +206,9 @@ module _ {K V S : Type 0} (store : StoreState K V S) where
     looks_in (Searching (Sizing t)) answer (table, there) told =
         subst (λ a. IsLooking (after (at_state (Searching (Sizing t))) a).state) (sym (told ∙ ap size_of there)) tt
     looks_in (Searching (Looking at)) answer looking told =
-        subst (λ a. IsLooking (after (at_state (Searching (Looking at))) a).state) (sym told) (goes_looking mode held at.table (look at hash (word_at store.words (Slot at.table at.probe.i))) (look_place (kind_of (word_at store.words (Slot at.table at.probe.i))) at hash (word_at store.words (Slot at.table at.probe.i))))
+        subst (λ a. IsLooking (after (at_state (Searching (Looking at))) a).state) (sym told) (goes_looking mode held at.table (hinted at hash (hint_at store.words at.table at.probe.i)) (hinted_place at hash (hint_at store.words at.table at.probe.i)))
+    looks_in (Searching (Reading at)) answer looking told =
+        subst (λ a. IsLooking (after (at_state (Searching (Reading at))) a).state) (sym told) (goes_looking mode held at.table (look at (word_at store.words (Slot at.table at.probe.i))) (look_place (kind_of (word_at store.words (Slot at.table at.probe.i))) at (word_at store.words (Slot at.table at.probe.i))))
     looks_in (Searching (Comparing at word)) answer looking told =
         subst (λ a. IsLooking (after (at_state (Searching (Comparing at word))) a).state) (sym told) (goes_looking mode held at.table (search_compared (Comparing at word) (matches_in matches (pair_of store (number_of word)))) (compared_place at word (matches_in matches (pair_of store (number_of word)))))
     looks_in (Leaving t) answer looking told =
@@ -215,6 +225,7 @@ module _ {K V S : Type 0} (store : StoreState K V S) where
     looks_in (Putting put) answer looking told = absurd looking
     looks_in (Burying removal) answer looking told = absurd looking
     looks_in (Counting n) answer looking told = absurd looking
+    looks_in (Noting n) answer looking told = absurd looking
     looks_in (Uncounting n) answer looking told = absurd looking
     looks_in (Growing t) answer looking told = absurd looking
 
@@ -250,9 +261,13 @@ module _ {K V S : Type 0} (store : StoreState K V S) where
         let ahead : length store.words.tables - t ≤ length store.words.tables - t = omega arith in
         subst (Lowers (Searching (Sizing t))) (sym (told ∙ ap size_of there)) (stays_ahead ahead (machine_nears unlinked unlinked (in_state (Searching (Sizing t))) (Size (length table.slots) table.limit) tt (λ u. refl) ((length table.slots, table.limit, sized t table there, refl), λ at. refl)))
     lowers_in (Searching (Looking at)) answer looking read told =
+        let hint : ℕ = hint_at store.words at.table at.probe.i in
+        let ahead = goes_ahead (length store.words.tables) mode held at.table (hinted at hash hint) (hinted_place at hash hint) in
+        subst (Lowers (Searching (Looking at))) (sym told) (stays_ahead ahead (machine_nears unlinked unlinked (in_state (Searching (Looking at))) (Word_read hint) tt (λ t. refl) ((hint, refl), λ at. refl)))
+    lowers_in (Searching (Reading at)) answer looking read told =
         let word : ℕ = word_at store.words (Slot at.table at.probe.i) in
-        let ahead = goes_ahead (length store.words.tables) mode held at.table (look at hash word) (look_place (kind_of word) at hash word) in
-        subst (Lowers (Searching (Looking at))) (sym told) (stays_ahead ahead (machine_nears unlinked unlinked (in_state (Searching (Looking at))) (Word_read word) tt (λ t. refl) (refl, λ at. refl)))
+        let ahead = goes_ahead (length store.words.tables) mode held at.table (look at word) (look_place (kind_of word) at word) in
+        subst (Lowers (Searching (Reading at))) (sym told) (stays_ahead ahead (machine_nears unlinked unlinked (in_state (Searching (Reading at))) (Word_read word) tt (λ t. refl) (refl, λ at. refl)))
     lowers_in (Searching (Comparing at word)) answer looking read told =
         let same : Bool = matches_in matches (pair_of store (number_of word)) in
         let ahead = goes_ahead (length store.words.tables) mode held at.table (search_compared (Comparing at word) same) (compared_place at word same) in
@@ -271,6 +286,7 @@ module _ {K V S : Type 0} (store : StoreState K V S) where
     lowers_in (Putting put) answer looking read told = absurd looking
     lowers_in (Burying removal) answer looking read told = absurd looking
     lowers_in (Counting n) answer looking read told = absurd looking
+    lowers_in (Noting n) answer looking read told = absurd looking
     lowers_in (Uncounting n) answer looking read told = absurd looking
     lowers_in (Growing t) answer looking read told = absurd looking
 
@@ -279,7 +295,8 @@ module _ {K V S : Type 0} (store : StoreState K V S) where
     prompt_in : (task : Task) (sized : (n : ℕ) (t : TableWords) → table_of store.words.tables n ≡ Some t → IsSize (length t.slots) t.limit) → (s : State) (answer : Answer) → IsLooking s → IsToldBy matches store (asks made hash s) answer → IsPrompt task (λ at. word_at store.words at) (asks made hash s) answer (λ at. word_at store.words at)
     prompt_in task sized AtRoot answer looking told = (told, λ at. refl)
     prompt_in task sized (Searching (Sizing t)) answer (table, there) told = ((length table.slots, table.limit, sized t table there, told ∙ ap size_of there), λ at. refl)
-    prompt_in task sized (Searching (Looking at)) answer looking told = (told, λ at. refl)
+    prompt_in task sized (Searching (Looking at)) answer looking told = ((hint_at store.words at.table at.probe.i, told), λ at. refl)
+    prompt_in task sized (Searching (Reading at)) answer looking told = (told, λ at. refl)
     prompt_in task sized (Searching (Comparing at word)) answer looking told = ((matches_in matches (pair_of store (number_of word)), told), λ at. refl)
     prompt_in task sized (Leaving t) answer looking told = (told, λ at. refl)
     prompt_in task sized (Ended reply) answer looking told = absurd told
@@ -292,6 +309,7 @@ module _ {K V S : Type 0} (store : StoreState K V S) where
     prompt_in task sized (Putting put) answer looking told = absurd looking
     prompt_in task sized (Burying removal) answer looking told = absurd looking
     prompt_in task sized (Counting n) answer looking told = absurd looking
+    prompt_in task sized (Noting n) answer looking told = absurd looking
     prompt_in task sized (Uncounting n) answer looking told = absurd looking
     prompt_in task sized (Growing t) answer looking told = absurd looking
 
@@ -307,7 +325,8 @@ module _ {K V S : Type 0} (store : StoreState K V S) where
     unmatched_in : MatchesNone store matches → (s : State) (answer : Answer) → IsLooking s → IsToldBy matches store (asks made hash s) answer → IsUnmatched (asks made hash s) answer
     unmatched_in none AtRoot answer looking told = (store.words.root, told)
     unmatched_in none (Searching (Sizing t)) answer (table, there) told = (length table.slots, table.limit, told ∙ ap size_of there)
-    unmatched_in none (Searching (Looking at)) answer looking told = (word_at store.words (Slot at.table at.probe.i), told)
+    unmatched_in none (Searching (Looking at)) answer looking told = (hint_at store.words at.table at.probe.i, told)
+    unmatched_in none (Searching (Reading at)) answer looking told = (word_at store.words (Slot at.table at.probe.i), told)
     unmatched_in none (Searching (Comparing at word)) answer looking told = told ∙ ap Yes (none_matches none (number_of word))
     unmatched_in none (Leaving t) answer looking told = (word_at store.words (Next t), told)
     unmatched_in none (Ended reply) answer looking told = absurd told
@@ -320,6 +339,7 @@ module _ {K V S : Type 0} (store : StoreState K V S) where
     unmatched_in none (Putting put) answer looking told = absurd looking
     unmatched_in none (Burying removal) answer looking told = absurd looking
     unmatched_in none (Counting n) answer looking told = absurd looking
+    unmatched_in none (Noting n) answer looking told = absurd looking
     unmatched_in none (Uncounting n) answer looking told = absurd looking
     unmatched_in none (Growing t) answer looking told = absurd looking
 
@@ -328,6 +348,7 @@ pub none_replies : (made : Made) (hash : ℕ) (s : State) (reply : Reply) → Ha
 none_replies made hash AtRoot reply none e = absurd cc
 none_replies made hash (Searching (Sizing t)) reply none e = absurd cc
 none_replies made hash (Searching (Looking at)) reply none e = absurd cc
+none_replies made hash (Searching (Reading at)) reply none e = absurd cc
 none_replies made hash (Searching (Comparing at word)) reply none e = absurd cc
 none_replies made hash (Leaving t) reply none e = absurd cc
 none_replies made hash (Ended given) reply none e = let is : given ≡ reply = cc in sym is ∙ none
@@ -340,6 +361,7 @@ none_replies made hash (Pairing purpose) reply none e = absurd none
 none_replies made hash (Putting put) reply none e = absurd none
 none_replies made hash (Burying removal) reply none e = absurd none
 none_replies made hash (Counting n) reply none e = absurd none
+none_replies made hash (Noting n) reply none e = absurd none
 none_replies made hash (Uncounting n) reply none e = absurd none
 none_replies made hash (Growing t) reply none e = absurd none
 

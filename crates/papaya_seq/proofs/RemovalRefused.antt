@@ -7,7 +7,7 @@ use Rattle.papaya_words.specs.Table.{TableWords, length_after}
 use Rattle.papaya_words.specs.declared.probe.Refused.{Refused}
 use Rattle.papaya_words.specs.declared.probe.Refused.TheVariants.{RemoveNothing}
 use Rattle.papaya_ask.specs.declared.ask.Ask.{Ask as Call_ask}
-use Rattle.papaya_ask.specs.declared.ask.Ask.TheVariants.{Load, Exchange, SameKey, ShowPair, SizeOf, AddToShard, MakeKey, MakePair, MakeTable as Make_own, ShowNone}
+use Rattle.papaya_ask.specs.declared.ask.Ask.TheVariants.{Load, Exchange, LoadHint, SameKey, ShowPair, SizeOf, AddToShard, MakeKey, MakePair, MakeTable as Make_own, ShowNone}
 use Rattle.papaya_ask.specs.declared.ask.Answer.{Answer as Call_answer}
 use Rattle.papaya_ask.specs.declared.ask.Answer.TheVariants.{Op, Size, Refused as Was_refused}
 use Rattle.papaya_ask.specs.declared.ask.At.{At}
@@ -28,7 +28,8 @@ use Rattle.papaya_chain_rests.specs.Goes.{IsCause, IsToMake, WasNotMade, WouldBe
 use Rattle.papaya_store.specs.Copies.{PerformsCopy}
 use Rattle.papaya_store.specs.Performs.{Exchanges, size_of}
 use Rattle.papaya_store.specs.Store.{StoreState}
-use Rattle.papaya_store.specs.Tables.{Tables, put, put_at, put_in, table_of, word_at}
+use Rattle.papaya_store.specs.Tables.{Tables, note, put, put_at, put_in, table_of, word_at}
+use Rattle.papaya_timeline.proofs.KeptHints.{noted-grown}
 use Rattle.papaya_timeline.proofs.KeptTables.{HasMoreTables, grown-same, made-grown, table_at, written-grown}
 use Rattle.papaya_timeline.proofs.StoreLemmas.{matched}
 use Rattle.papaya_seq.specs.Map.{MapState}
@@ -80,6 +81,8 @@ module _ {K V S : Type 0} where
   pub copy_grown : (eq : K → K → Bool) (hash : S → K → ℕ) (ask : CopyAsk) (s : StoreState K V S) (answer : Answer) (s' : StoreState K V S) → PerformsCopy eq hash false ask s answer s' → HasMoreTables s.words.tables s'.words.tables
   copy_grown eq hash (copies.Load at) s answer s' (_, same) = grown_stays s s' same
   copy_grown eq hash (copies.Exchange at old new) s answer s' (told, _, made) = grown_exchanged (word_at s.words at) old at new told s s' made
+  copy_grown eq hash (copies.LoadHint t x) s answer s' (_, same) = grown_stays s s' same
+  copy_grown eq hash (copies.WriteHint t x hint) s answer s' (_, is) = grown_as s s' (note s.words t x hint) (ap (λ (y : StoreState K V S). y.words) is) (noted-grown s.words t x hint)
   copy_grown eq hash (copies.SizeOf n) s answer s' (_, same) = grown_stays s s' same
   copy_grown eq hash (copies.HashOf n) s answer s' (_, _, same) = grown_stays s s' same
   copy_grown eq hash (copies.SamePair m n) s answer s' (_, same) = grown_stays s s' same
@@ -91,6 +94,7 @@ module _ {K V S F : Type 0} (eq : K → K → Bool) (hash : S → K → ℕ) (g 
   call_grown : (ask : Call_ask) (s : StoreState K V S) (f : F) (answer : Call_answer) (s' : StoreState K V S) (f' : F) → IsRemovalAnswer g matches ask s f answer s' f' → HasMoreTables s.words.tables s'.words.tables
   call_grown (Load at) s f answer s' f' (_, same, _) = grown_stays s s' same
   call_grown (Exchange at old new) s f answer s' f' (made, _) = grown_exchanged (word_at s.words at) old at new answer s s' made
+  call_grown (LoadHint t x) s f answer s' f' (_, same, _) = grown_stays s s' same
   call_grown (SameKey n) s f answer s' f' (_, same, _) = grown_stays s s' same
   call_grown (ShowPair n) s f answer s' f' (_, same) = grown_stays s s' same
   call_grown (SizeOf t) s f answer s' f' (_, same, _) = grown_stays s s' same

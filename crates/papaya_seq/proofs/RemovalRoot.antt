@@ -12,17 +12,17 @@ use Rattle.papaya_call.specs.Machine.{ask_of as call_ask_of, goes_as, passes, re
 use Rattle.papaya_call.specs.Remove.{grave_word}
 use Rattle.papaya_call.specs.declared.compute.Remembered.{Remembered}
 use Rattle.papaya_call.specs.declared.machine.State.{State}
-use Rattle.papaya_call.specs.declared.machine.State.TheVariants.{AtRoot, Making, Opening, Searching, Writing, Offering, Showing, Pairing, Putting, Burying, Counting, Uncounting, Leaving, Growing, Ended}
+use Rattle.papaya_call.specs.declared.machine.State.TheVariants.{AtRoot, Making, Opening, Searching, Writing, Offering, Showing, Pairing, Putting, Burying, Counting, Noting, Uncounting, Leaving, Growing, Ended}
 use Rattle.papaya_call.specs.declared.remove.Removal.{Removal}
 use Rattle.papaya_call.specs.declared.write.Made.{Made}
-use Rattle.papaya_ask.specs.Search.{look}
+use Rattle.papaya_ask.specs.Search.{hinted, look}
 use Rattle.papaya_ask.specs.declared.ask.Answer.{Answer as Call_answer}
 use Rattle.papaya_ask.specs.declared.ask.Answer.TheVariants.{Word as Word_read, Exchanged, Yes, Ok as Ok_done}
 use Rattle.papaya_ask.specs.declared.ask.At.TheVariants.{Next, Slot}
 use Rattle.papaya_ask.specs.declared.call.Reply.{Reply}
 use Rattle.papaya_ask.specs.declared.call.Reply.TheVariants.{Absent, Refused as Reply_refused}
 use Rattle.papaya_ask.specs.declared.call.Task.TheVariants.{RemoveIf}
-use Rattle.papaya_ask.specs.declared.search.Search.TheVariants.{Sizing, Looking, Comparing}
+use Rattle.papaya_ask.specs.declared.search.Search.TheVariants.{Sizing, Looking, Reading, Comparing}
 use Rattle.papaya_ask.specs.declared.search.Seen.{Seen}
 use Rattle.papaya_ask.specs.declared.search.Seen.TheVariants as seen
 use Rattle.papaya_chain.specs.declared.ask.Answer.{Answer}
@@ -34,14 +34,14 @@ use Rattle.papaya_rests.specs.Alone.{IsRead}
 use Rattle.papaya_rests.proofs.AloneSteps.{exchange_done}
 use Rattle.papaya_store.specs.Performs.{size_of}
 use Rattle.papaya_store.specs.Store.{StoreState, Stored, pair_of}
-use Rattle.papaya_store.specs.Tables.{Tables, put, put_in, table_of, word_at}
+use Rattle.papaya_store.specs.Tables.{Tables, hint_at, put, put_in, table_of, word_at}
 use Rattle.papaya_timeline.proofs.CoreLemmas.{cases_same}
 use Rattle.papaya_timeline.proofs.KeptTables.{table_at, written-here, written-other, written-root}
 use Rattle.papaya_seq.specs.Looks.{matches_in}
 use Rattle.papaya_seq.specs.Map.{next_in, next_of, slots_in, slots_of}
 use Rattle.papaya_seq.specs.Removes.{IsRemovalAnswer, IsShown}
 use Rattle.papaya_seq.proofs.SeekTurns.{IsAnswered}
-use Rattle.papaya_seq.proofs.TableSearch.{IsSearchIn, IsSeenIn, IsSettledKind, compared_in, loaded_in, settled_kind, settled_live}
+use Rattle.papaya_seq.proofs.TableSearch.{IsSearchIn, IsSeenIn, IsSettledKind, compared_in, hinted_in, loaded_in, settled_kind, settled_live}
 use Rattle.papaya_seq.proofs.Unmarked.{next_is}
 
 -- a table is as long as another, and has the same next one
@@ -174,10 +174,14 @@ module _ {K V S F : Type 0} (g : Mut F (Bor K × (Bor V × Unit {0})) Bool) (mat
       (cond_both (s.words.root == 0) (Ended Absent) (Searching (Sizing s.words.root)) (IsRootStage s.words.root) (λ _. tt) (λ _. (refl, tt)))
   root_stays (Searching (Sizing t)) answer stage read (e, same, _) = sized_root t stage.0 answer (table_of s.words.tables t) e (same_root s s' same)
   root_stays (Searching (Looking place)) answer stage read (e, same, _) =
+      let hint = hint_at s.words place.table place.probe.i in
+      stays (Searching (Looking place)) (Word_read hint) answer e (same_root s s' same) refl
+      (goes_root s.words.root mode held (hinted place hashed hint) (hinted_in (λ n. IsSettledKind (kind_of n)) s.words.root place hashed hint stage.0))
+  root_stays (Searching (Reading place)) answer stage read (e, same, _) =
       let word = word_at s.words (Slot place.table place.probe.i) in
-      stays (Searching (Looking place)) (Word_read word) answer e (same_root s s' same) refl
-      (goes_root s.words.root mode held (look place hashed word)
-      (loaded_in (λ n. IsSettledKind (kind_of n)) s.words.root (Looking place) hashed word stage (settled_kind (kind_of word) (λ marked. open_still place.probe.i (ap (λ t. kind_of (word_at s.words (Slot t place.probe.i))) (sym stage.0) ∙ marked)))))
+      stays (Searching (Reading place)) (Word_read word) answer e (same_root s s' same) refl
+      (goes_root s.words.root mode held (look place word)
+      (loaded_in (λ n. IsSettledKind (kind_of n)) s.words.root (Reading place) hashed word stage (settled_kind (kind_of word) (λ marked. open_still place.probe.i (ap (λ t. kind_of (word_at s.words (Slot t place.probe.i))) (sym stage.0) ∙ marked)))))
   root_stays (Searching (Comparing place word)) answer stage read (e, same, _) =
       stays (Searching (Comparing place word)) (Yes (matches_in matches (pair_of s (number_of word)))) answer e (same_root s s' same) refl
       (goes_root s.words.root mode held _ (compared_in (λ n. IsSettledKind (kind_of n)) s.words.root (Comparing place word) (matches_in matches (pair_of s (number_of word))) stage))
@@ -210,6 +214,7 @@ module _ {K V S F : Type 0} (g : Mut F (Bor K × (Bor V × Unit {0})) Bool) (mat
   root_stays (Pairing purpose) answer stage read told = absurd stage
   root_stays (Putting given) answer stage read told = absurd stage
   root_stays (Counting n) answer stage read told = absurd stage
+  root_stays (Noting n) answer stage read told = absurd stage
   root_stays (Growing need) answer stage read told = absurd stage
 
 -- a step leaves a removal in the root table

@@ -13,17 +13,17 @@ use Rattle.papaya_call.specs.Machine.{IsStandingState, after as call_after, agre
 use Rattle.papaya_call.specs.declared.compute.Remembered.{Remembered}
 use Rattle.papaya_call.specs.declared.machine.Machine.{Machine as Call_machine}
 use Rattle.papaya_call.specs.declared.machine.State.{State}
-use Rattle.papaya_call.specs.declared.machine.State.TheVariants.{AtRoot, Making, Opening, Searching, Writing, Offering, Showing, Pairing, Putting, Burying, Counting, Uncounting, Leaving, Growing, Ended}
+use Rattle.papaya_call.specs.declared.machine.State.TheVariants.{AtRoot, Making, Opening, Searching, Writing, Offering, Showing, Pairing, Putting, Burying, Counting, Noting, Uncounting, Leaving, Growing, Ended}
 use Rattle.papaya_call.specs.declared.remove.Removal.{Removal}
 use Rattle.papaya_call.specs.declared.write.Made.{Made}
-use Rattle.papaya_ask.specs.Search.{at_yes as search_compared, look}
+use Rattle.papaya_ask.specs.Search.{at_yes as search_compared, hinted, look}
 use Rattle.papaya_ask.specs.declared.ask.Answer.{Answer as Call_answer}
 use Rattle.papaya_ask.specs.declared.ask.Answer.TheVariants.{Word as Word_read}
 use Rattle.papaya_ask.specs.declared.ask.At.TheVariants.{Next, Root, Slot}
 use Rattle.papaya_ask.specs.declared.call.Reply.TheVariants.{Absent}
 use Rattle.papaya_ask.specs.declared.call.Task.{Task}
 use Rattle.papaya_ask.specs.declared.call.Task.TheVariants.{RemoveIf}
-use Rattle.papaya_ask.specs.declared.search.Search.TheVariants.{Sizing, Looking, Comparing}
+use Rattle.papaya_ask.specs.declared.search.Search.TheVariants.{Sizing, Looking, Reading, Comparing}
 use Rattle.papaya_ask.specs.declared.search.Seen.{Seen}
 use Rattle.papaya_ask.specs.declared.search.Seen.TheVariants as seen
 use Rattle.papaya_chain.specs.declared.ask.Answer.{Answer}
@@ -39,7 +39,7 @@ use Rattle.papaya_rests.specs.Says.{Said, Agrees, Inserts, Makes, Removes, said_
 use Rattle.papaya_rests.proofs.AloneSteps.{exchange_done}
 use Rattle.papaya_store.specs.Performs.{size_of}
 use Rattle.papaya_store.specs.Store.{StoreState, Stored, pair_of}
-use Rattle.papaya_store.specs.Tables.{table_of, word_at}
+use Rattle.papaya_store.specs.Tables.{hint_at, table_of, word_at}
 use Rattle.papaya_seq.specs.Looks.{matches_in}
 use Rattle.papaya_seq.specs.Removes.{IsRemovalAnswer, IsShown, Judges}
 use Rattle.papaya_seq.proofs.SeekTurns.{IsAnswered}
@@ -90,6 +90,7 @@ aside_unsaid (Pairing purpose) t e = absurd cc
 aside_unsaid (Putting given) t e = absurd cc
 aside_unsaid (Burying removal) t e = absurd cc
 aside_unsaid (Counting n) t e = absurd cc
+aside_unsaid (Noting n) t e = absurd cc
 aside_unsaid (Uncounting n) t e = absurd cc
 aside_unsaid (Ended reply) t e = absurd cc
 
@@ -140,7 +141,10 @@ module _ {K V S F : Type 0} (g : Mut F (Bor K × (Bor V × Unit {0})) Bool) (mat
           (unjudged (call_after (at (Searching (Sizing t))) (size_of (table_of s.words.tables t))).state f f' (sized_unsaid t (table_of s.words.tables t)) same alike)
       own_judged (Searching (Looking place)) answer stands read alike (e, _, same) =
           subst (λ a. IsJudgedIn (call_after (at (Searching (Looking place))) a).state f') (sym e)
-          (unjudged (goes_as RemoveIf mode held (look place hashed (word_at s.words (Slot place.table place.probe.i)))) f f' (goes_unsaid mode held (look place hashed (word_at s.words (Slot place.table place.probe.i)))) same alike)
+          (unjudged (goes_as RemoveIf mode held (hinted place hashed (hint_at s.words place.table place.probe.i))) f f' (goes_unsaid mode held (hinted place hashed (hint_at s.words place.table place.probe.i))) same alike)
+      own_judged (Searching (Reading place)) answer stands read alike (e, _, same) =
+          subst (λ a. IsJudgedIn (call_after (at (Searching (Reading place))) a).state f') (sym e)
+          (unjudged (goes_as RemoveIf mode held (look place (word_at s.words (Slot place.table place.probe.i)))) f f' (goes_unsaid mode held (look place (word_at s.words (Slot place.table place.probe.i)))) same alike)
       own_judged (Searching (Comparing place word)) answer stands read alike (e, _, same) =
           subst (λ a. IsJudgedIn (call_after (at (Searching (Comparing place word))) a).state f') (sym e)
           (unjudged (goes_as RemoveIf mode held (search_compared (Comparing place word) (matches_in matches (pair_of s (number_of word))))) f f' (goes_unsaid mode held (search_compared (Comparing place word) (matches_in matches (pair_of s (number_of word))))) same alike)
@@ -160,6 +164,7 @@ module _ {K V S F : Type 0} (g : Mut F (Bor K × (Bor V × Unit {0})) Bool) (mat
       own_judged (Pairing purpose) answer stands read judged told = absurd stands.0
       own_judged (Putting given) answer stands read judged told = absurd stands.0
       own_judged (Counting n) answer stands read judged told = absurd stands
+      own_judged (Noting n) answer stands read judged told = absurd stands
 
     -- a call that is set aside calls no closure
     aside_call : (made : Made) (hashed : ℕ) (state : State) (t : ℕ) (answer : Call_answer) → left_by state ≡ Some t → IsRemovalAnswer g matches (call_ask_of (record { task = RemoveIf; hash = hashed; mode = Blocking; initial = 0; made = made; remembered = record { fill = None; choice = None }; state = state })) s f answer s' f' → f' ≡ f
@@ -176,6 +181,7 @@ module _ {K V S F : Type 0} (g : Mut F (Bor K × (Bor V × Unit {0})) Bool) (mat
     aside_call made hashed (Putting given) t answer e told = absurd cc
     aside_call made hashed (Burying removal) t answer e told = absurd cc
     aside_call made hashed (Counting n) t answer e told = absurd cc
+    aside_call made hashed (Noting n) t answer e told = absurd cc
     aside_call made hashed (Uncounting n) t answer e told = absurd cc
     aside_call made hashed (Ended reply) t answer e told = absurd cc
 

@@ -4,20 +4,20 @@ use denote.Ref.{Bor}
 use Rattle.std.specs.Fn.{Mut}
 use Rattle.std.specs.Prelude.{◌==◌}
 use Rattle.papaya_call.specs.declared.machine.State.{State}
-use Rattle.papaya_call.specs.declared.machine.State.TheVariants.{AtRoot, Making, Opening, Searching, Writing, Offering, Showing, Pairing, Putting, Burying, Counting, Uncounting, Leaving, Growing, Ended}
+use Rattle.papaya_call.specs.declared.machine.State.TheVariants.{AtRoot, Making, Opening, Searching, Writing, Offering, Showing, Pairing, Putting, Burying, Counting, Noting, Uncounting, Leaving, Growing, Ended}
 use Rattle.papaya_call.specs.Machine.{IsStandingState, asks as call_asks}
 use Rattle.papaya_call.specs.declared.write.Made.{Made}
 use Rattle.papaya_ask.specs.declared.ask.Answer.{Answer as Call_answer}
 use Rattle.papaya_ask.specs.declared.ask.Answer.TheVariants.{Yes}
 use Rattle.papaya_ask.specs.declared.ask.Ask.{Ask as Call_ask}
-use Rattle.papaya_ask.specs.declared.ask.Ask.TheVariants.{Load, Exchange, SameKey, ShowNone, ShowPair, SizeOf, MakeKey, MakePair, MakeTable, AddToShard, Done as Ask_done}
+use Rattle.papaya_ask.specs.declared.ask.Ask.TheVariants.{Load, Exchange, LoadHint, WriteHint, SameKey, ShowNone, ShowPair, SizeOf, MakeKey, MakePair, MakeTable, AddToShard, Done as Ask_done}
 use Rattle.papaya_ask.specs.declared.call.Call.{Call}
 use Rattle.papaya_ask.specs.declared.call.Call.TheVariants.{RemoveIf as RemoveIf_call}
 use Rattle.papaya_ask.specs.declared.call.Reply.{Reply}
 use Rattle.papaya_ask.specs.declared.call.Task.TheVariants.{RemoveIf}
 use Rattle.papaya_ask.specs.declared.copy_ask.CopyAsk.{CopyAsk}
 use Rattle.papaya_ask.specs.declared.copy_ask.CopyAsk.TheVariants as copies
-use Rattle.papaya_ask.specs.declared.search.Search.TheVariants.{Sizing, Looking, Comparing}
+use Rattle.papaya_ask.specs.declared.search.Search.TheVariants.{Sizing, Looking, Reading, Comparing}
 use Rattle.papaya_chain.specs.declared.ask.Answer.{Answer}
 use Rattle.papaya_chain.specs.declared.ask.Answer.TheVariants as answers
 use Rattle.papaya_chain.specs.declared.ask.Ask.{Ask}
@@ -79,6 +79,7 @@ removal_asks made hash Making stands going = absurd stands
 removal_asks made hash (Opening t) stands going = absurd stands
 removal_asks made hash (Searching (Sizing t)) stands going = tt
 removal_asks made hash (Searching (Looking at)) stands going = tt
+removal_asks made hash (Searching (Reading at)) stands going = tt
 removal_asks made hash (Searching (Comparing at word)) stands going = tt
 removal_asks made hash (Writing write) stands going = absurd stands.0
 removal_asks made hash (Offering gap) stands going = absurd stands.0
@@ -87,6 +88,7 @@ removal_asks made hash (Pairing purpose) stands going = absurd stands.0
 removal_asks made hash (Putting put) stands going = absurd stands.0
 removal_asks made hash (Burying removal) stands going = tt
 removal_asks made hash (Counting n) stands going = absurd stands
+removal_asks made hash (Noting n) stands going = absurd stands
 removal_asks made hash (Uncounting n) stands going = tt
 removal_asks made hash (Leaving t) stands going = tt
 removal_asks made hash (Growing need) stands going = tt
@@ -115,10 +117,12 @@ module _ {K V S F : Type 0} (g : Mut F (Bor K × (Bor V × Unit {0})) Bool) (eq 
   going_call : (ask : Call_ask) (s : StoreState K V S) (f : F) (answer : Call_answer) (s' : StoreState K V S) (f' : F) → IsRemovalAnswer g matches ask s f answer s' f' → reply_in (asks.Call ask) ≡ None
   going_call (Load at) s f answer s' f' told = refl
   going_call (Exchange at old new) s f answer s' f' told = refl
+  going_call (LoadHint t x) s f answer s' f' told = refl
   going_call (SameKey n) s f answer s' f' told = refl
   going_call (ShowPair n) s f answer s' f' told = refl
   going_call (SizeOf t) s f answer s' f' told = refl
   going_call (AddToShard by) s f answer s' f' told = refl
+  going_call (WriteHint t x hint) s f answer s' f' told = absurd told
   going_call MakeKey s f answer s' f' told = absurd told
   going_call ShowNone s f answer s' f' told = absurd told
   going_call MakePair s f answer s' f' told = absurd told
@@ -139,6 +143,7 @@ module _ {K V S F : Type 0} (g : Mut F (Bor K × (Bor V × Unit {0})) Bool) (eq 
   log_call : (ask : Call_ask) (s : StoreState K V S) (f : F) (answer : Call_answer) (s' : StoreState K V S) (f' : F) → IsRemovalAnswer g matches ask s f answer s' f' → IsLogOf s s'
   log_call (Load at) s f answer s' f' (_, same, _) = same_log s s' same
   log_call (Exchange at old new) s f answer s' f' (made, _) = log_exchanged _ old _ answer s s' made
+  log_call (LoadHint t x) s f answer s' f' (_, same, _) = same_log s s' same
   log_call (SameKey n) s f answer s' f' (_, same, _) = same_log s s' same
   log_call (ShowPair n) s f answer s' f' (_, same) = same_log s s' same
   log_call (SizeOf t) s f answer s' f' (_, same, _) = same_log s s' same
@@ -147,6 +152,7 @@ module _ {K V S F : Type 0} (g : Mut F (Bor K × (Bor V × Unit {0})) Bool) (eq 
     pairs = ap (λ (y : StoreState K V S). y.pairs) is;
     hasher = ap (λ (y : StoreState K V S). y.hasher) is;
   }
+  log_call (WriteHint t x hint) s f answer s' f' told = absurd told
   log_call MakeKey s f answer s' f' told = absurd told
   log_call ShowNone s f answer s' f' told = absurd told
   log_call MakePair s f answer s' f' told = absurd told
@@ -156,6 +162,12 @@ module _ {K V S F : Type 0} (g : Mut F (Bor K × (Bor V × Unit {0})) Bool) (eq 
   log_copy : (ask : CopyAsk) (s : StoreState K V S) (answer : Answer) (s' : StoreState K V S) → PerformsCopy eq hash false ask s answer s' → IsLogOf s s'
   log_copy (copies.Load at) s answer s' (_, same) = same_log s s' same
   log_copy (copies.Exchange at old new) s answer s' (told, _, made) = log_exchanged _ old _ told s s' made
+  log_copy (copies.LoadHint t x) s answer s' (_, same) = same_log s s' same
+  log_copy (copies.WriteHint t x hint) s answer s' (_, is) = record {
+    keys = ap (λ (y : StoreState K V S). y.keys) is;
+    pairs = ap (λ (y : StoreState K V S). y.pairs) is;
+    hasher = ap (λ (y : StoreState K V S). y.hasher) is;
+  }
   log_copy (copies.SizeOf n) s answer s' (_, same) = same_log s s' same
   log_copy (copies.HashOf n) s answer s' (_, _, same) = same_log s s' same
   log_copy (copies.SamePair m n) s answer s' (_, same) = same_log s s' same
@@ -175,6 +187,7 @@ module _ {K V S F : Type 0} (g : Mut F (Bor K × (Bor V × Unit {0})) Bool) (eq 
   performed_call : (k : K) → ((l : K) → matches l ≡ eq k l) → (m : Machine) → m.call.task ≡ RemoveIf → (ask : Call_ask) (s : StoreState K V S) (f : F) (answer : Call_answer) (s' : StoreState K V S) (f' : F) → IsRemovalAnswer g matches ask s f answer s' f' → Performs eq whatever false ask s (removing m k) answer s' (removing m k)
   performed_call k alike m is_removal (Load at) s f answer s' f' (e, stays, _) = (e, (stays, refl))
   performed_call k alike m is_removal (Exchange at old new) s f answer s' f' (done, _) = (done, refl)
+  performed_call k alike m is_removal (LoadHint t x) s f answer s' f' (e, stays, _) = (e, (stays, refl))
   performed_call k alike m is_removal (SameKey n) s f answer s' f' (e, stays, _) = (e ∙ ap Yes (same_matches eq matches k alike (pair_of s n)), (stays, refl))
   performed_call k alike m is_removal (ShowPair n) s f answer s' f' (shown, stays) = subst (λ task. ShowsPair task whatever n s (removing m k) answer s' (removing m k)) (sym is_removal) (shows (pair_of s n) refl shown)
     where
@@ -183,6 +196,7 @@ module _ {K V S F : Type 0} (g : Mut F (Bor K × (Bor V × Unit {0})) Bool) (eq 
       shows (Some p) is (key, value, agrees, _, _, e, _) = inr (tt, p, agrees, tt, refl, is, tt, e, stays, refl)
   performed_call k alike m is_removal (SizeOf t) s f answer s' f' (e, stays, _) = (e, (stays, refl))
   performed_call k alike m is_removal (AddToShard by) s f answer s' f' (e, added, _) = (e, added, refl)
+  performed_call k alike m is_removal (WriteHint t x hint) s f answer s' f' told = absurd told
   performed_call k alike m is_removal MakeKey s f answer s' f' told = absurd told
   performed_call k alike m is_removal ShowNone s f answer s' f' told = absurd told
   performed_call k alike m is_removal MakePair s f answer s' f' told = absurd told

@@ -173,14 +173,14 @@ module _ {K V S H : Type 0} (eq : K → K → Bool) (input : K → List (List �
       pub resize_grown : HasMoreTables store.words.tables store'.words.tables
       resize_grown =
           let (es, (tales, kept)) = lone.lawful.law in
-          (stage_left eq (hash store.hasher) keys_now hash false now es (tales 0) lone.lawful.core z refl kept.allowed kept.coded kept.made (kept.resizers 0 z refl) z.state refl ask asked answer store' performs).grown
+          (stage_left eq (hash store.hasher) keys_now hash false now es (tales 0) lone.lawful.core z refl kept.allowed kept.coded kept.made kept.hints (kept.resizers 0 z refl) z.state refl ask asked answer store' performs).grown
 
       -- a refusal has a cause
       pub resize_caused : (refused : Refused) → reply ≡ Some (Reply_refused refused) → IsResizeCause z answer refused
       resize_caused refused e =
           let (es, (tales, kept)) = lone.lawful.law in
           let rests = kept.resizers 0 z refl in
-          let left = stage_left eq (hash store.hasher) keys_now hash false now es (tales 0) lone.lawful.core z refl kept.allowed kept.coded kept.made rests z.state refl ask asked answer store' performs in
+          let left = stage_left eq (hash store.hasher) keys_now hash false now es (tales 0) lone.lawful.core z refl kept.allowed kept.coded kept.made kept.hints rests z.state refl ask asked answer store' performs in
           resizer_refused (setting_of eq (low (hash store.hasher)) s.mode store.words.tables) (coding_of (low (hash store.hasher))) (run es first_state) z (tales 0).hands rests.rests answer left.made left.hands' left.told refused e
 
       -- it is a step of the core

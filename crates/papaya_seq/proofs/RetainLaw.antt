@@ -7,7 +7,7 @@ use Rattle.std.proofs.lemmas.Bool.{cases_lt}
 use Rattle.std.proofs.lemmas.Int.{fits_signed_from_abs, ints, int_wrap_fits}
 use Rattle.papaya_words.specs.Counter.{added}
 use Rattle.papaya_words.specs.Table.{TableWords}
-use Rattle.papaya_words.specs.Word.{buried_word, byte_of, kind_of, pair_of as number_of}
+use Rattle.papaya_words.specs.Word.{buried_word, kind_of, pair_of as number_of}
 use Rattle.papaya_words.specs.declared.word.Kind.TheVariants as kinds
 use Rattle.papaya_ask.specs.Search.{IsSize}
 use Rattle.papaya_ask.specs.declared.ask.At.{At}
@@ -34,6 +34,7 @@ use Rattle.papaya_store.specs.Store.{StoreState, Stored, pair_of}
 use Rattle.papaya_store.specs.Tables.{put, table_of, word_at, word_in, written}
 use Rattle.papaya_timeline.proofs.CoreLemmas.{cases_same}
 use Rattle.papaya_timeline.proofs.KeptAnswer.{Stands}
+use Rattle.papaya_timeline.proofs.KeptHints.{placed-hints}
 use Rattle.papaya_timeline.proofs.KeptOthers.{IsLeaving, leaves_kept}
 use Rattle.papaya_timeline.proofs.KeptSettings.{IsLawfulKeys, tables_hashed}
 use Rattle.papaya_timeline.proofs.KeptTables.{IsPlaced, cases_place, placed-grown, placed-here, placed-many, placed-other, table_low, written-here, written-other, written-root}
@@ -52,8 +53,7 @@ module _ {K V S : Type 0} (s : StoreState K V S) (i : ℕ) where
   -- its pair was buried, and is counted no more
   abbrev pub buried_at : StoreState K V S
   buried_at = record s {
-    words = put s.words (Slot s.words.root i) (buried_word (byte_of root_word)
-        (number_of root_word));
+    words = put s.words (Slot s.words.root i) (buried_word (number_of root_word));
     count = added s.count 0 (negsuc 0);
   }
 
@@ -102,7 +102,7 @@ module _ {K V S : Type 0} (eq : K → K → Bool) (hash : K → ℕ) (s : MapSta
   word = root_word s.store i
 
   abbrev grave : ℕ
-  grave = buried_word (byte_of word) (number_of word)
+  grave = buried_word (number_of word)
 
   abbrev store' : StoreState K V S
   store' = buried_at s.store i
@@ -144,7 +144,7 @@ module _ {K V S : Type 0} (eq : K → K → Bool) (hash : K → ℕ) (s : MapSta
   word_is = ap (code g c) (sym lives.1) ∙ kept.coded (Slot root i)
 
   number_is : number_of word ≡ p.number
-  number_is = ap number_of (sym word_is) ∙ (code_pair g c hashed.coding (Live p) p refl).0
+  number_is = ap number_of (sym word_is) ∙ (code_pair g c hashed.coding (Live p) p refl)
 
   -- it is in the log
   pub live_logged : (q : Stored K V) × (pair_of s.store (number_of word) ≡ Some q)
@@ -170,9 +170,7 @@ module _ {K V S : Type 0} (eq : K → K → Bool) (hash : K → ℕ) (s : MapSta
   ran = run-append es made start
 
   grave_is : code g c (Buried p) ≡ grave
-  grave_is =
-      ap (λ n. buried_word n p.number) (sym (code_pair g c hashed.coding (Live p) p refl).1 ∙ ap byte_of word_is)
-      ∙ ap (buried_word (byte_of word)) (sym number_is)
+  grave_is = ap buried_word (sym number_is)
 
   -- the words after it
   coded' : (at : At) → word_of g c (run (es ++ made) start) at ≡ word_at store'.words at
@@ -209,6 +207,7 @@ module _ {K V S : Type 0} (eq : K → K → Bool) (hash : K → ℕ) (s : MapSta
     tables_few = λ h. let many = placed-many s.store.words (Slot root i) grave placed in omega (arith, many, h);
     grown = placed-grown s.store.words (Slot root i) grave placed;
     coded = coded';
+    hints = λ t x. inl (placed-hints s.store.words (Slot root i) grave placed t x);
     there = λ t some comes. kept.made t some (subst (λ z. Comes z t) ran comes);
     slots = slots';
     mine_logged = λ q mine. absurd mine;

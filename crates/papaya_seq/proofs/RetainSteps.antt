@@ -3,7 +3,7 @@ use Rattle.std.proofs.Common.{◌≡◌, ◌⊎◌, inl, inr, ℕ, suc, ◌<◌,
 use denote.Ref.{Bor}
 use Rattle.std.specs.Fn.{Mut}
 use Rattle.papaya_words.specs.Table.{TableWords}
-use Rattle.papaya_words.specs.Word.{buried_word, byte_of, kind_of, pair_of as number_of}
+use Rattle.papaya_words.specs.Word.{buried_word, kind_of, pair_of as number_of}
 use Rattle.papaya_words.specs.declared.word.Kind.TheVariants as kinds
 use Rattle.papaya_ask.specs.declared.ask.Answer.{Answer}
 use Rattle.papaya_ask.specs.declared.ask.Answer.TheVariants.{Yes}
@@ -101,7 +101,7 @@ module _ {F K V S : Type 0} (g : Mut F (Bor K × (Bor V × Unit {0})) Bool) (s :
     -- or its pair was buried
     goes : s''.store ≡ buried_at s'.store i → kind_of (root_word s'.store i) ≡ kinds.Live → (p : Stored K V) → pair_of s'.store (number_of (root_word s'.store i)) ≡ Some p → Answers g f' p false f'' → IsRetaining g s f (suc i) s'' f''
     goes same live p logged answers =
-        let grave : ℕ = buried_word (byte_of (root_word s'.store i)) (number_of (root_word s'.store i)) in
+        let grave : ℕ = buried_word (number_of (root_word s'.store i)) in
         let set : root_words (buried_at s'.store i) ≡ slice_set (root_words s'.store) i grave = words_set eq hash s' lawful keys i low live in
         let here : pairs_of_word s.store (root_word s'.store i) ≡ p ∷ [] = live_pairs s.store (root_word s'.store i) p live (sym (retaining.pairs (number_of (root_word s'.store i))) ∙ logged) in
         let long : length (slice_set (root_words s'.store) i grave) ≡ length (root_words s'.store) = set_long (root_words s'.store) i grave in

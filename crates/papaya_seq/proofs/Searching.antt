@@ -1,7 +1,7 @@
--- The search of one table: each turn is one or two answers of the machine, and brings it nearer its end.
-use Rattle.std.proofs.Common.{◌≡◌, ℕ, ◌+◌, ◌*◌, ◌-◌, ◌<◌, ◌≤◌, ◌==◌, nat_lt, if◌then◌else◌, Bool, true, false, List, [], ◌∷◌, ◌++◌, Option, refl, sym, ◌∙◌, ap, subst, arith}
+-- The search of one table: each turn is one to three answers of the machine, and brings it nearer its end.
+use Rattle.std.proofs.Common.{◌≡◌, ℕ, ◌+◌, ◌*◌, ◌-◌, ◌<◌, ◌≤◌, ◌==◌, nat_lt, ltb-true, if◌then◌else◌, Bool, true, false, List, [], ◌∷◌, ◌++◌, Option, refl, sym, ◌∙◌, ap, subst, arith}
 use Rattle.std.proofs.lemmas.Bool.{cond_both, ne_eqb}
-use Rattle.papaya_words.specs.Word.{byte_of, kind_of, pair_of as number_of, top_byte}
+use Rattle.papaya_words.specs.Word.{kind_of, may_hold, pair_of as number_of}
 use Rattle.papaya_words.specs.declared.word.Kind.{Kind}
 use Rattle.papaya_words.specs.declared.word.Kind.TheVariants as kinds
 use Rattle.papaya_ask.specs.declared.ask.Answer.{Answer}
@@ -11,10 +11,10 @@ use Rattle.papaya_ask.specs.declared.ask.At.TheVariants.{Slot}
 use Rattle.papaya_ask.specs.declared.call.Task.{Task}
 use Rattle.papaya_ask.specs.declared.call.Task.TheVariants.{Get, Insert, RemoveIf, Compute}
 use Rattle.papaya_ask.specs.declared.search.Place.{Place}
-use Rattle.papaya_ask.specs.declared.search.Search.TheVariants.{Sizing, Looking, Comparing}
+use Rattle.papaya_ask.specs.declared.search.Search.TheVariants.{Sizing, Looking, Reading, Comparing}
 use Rattle.papaya_ask.specs.declared.search.Seen.{Seen}
 use Rattle.papaya_ask.specs.declared.search.Seen.TheVariants.{On, Over}
-use Rattle.papaya_ask.specs.Search.{IsSeen, at_yes, compare_byte, first_place, go_on, look, look_at, match_at, next_place}
+use Rattle.papaya_ask.specs.Search.{IsSeen, at_yes, first_place, go_on, hinted, look, look_at, match_at, next_place}
 use Rattle.papaya_call.specs.declared.machine.Machine.{Machine}
 use Rattle.papaya_call.specs.declared.machine.State.{State}
 use Rattle.papaya_call.specs.declared.machine.State.TheVariants.{AtRoot, Making, Searching}
@@ -22,35 +22,37 @@ use Rattle.papaya_call.specs.declared.compute.Gap.TheVariants.{NoRoot}
 use Rattle.papaya_call.specs.Machine.{absent, after, at_root, goes}
 use Rattle.papaya_store.specs.Store.{StoreState, pair_of}
 use Rattle.papaya_store.specs.Performs.{size_of}
-use Rattle.papaya_store.specs.Tables.{table_of, word_at}
+use Rattle.papaya_store.specs.Tables.{hint_at, table_of, word_at}
 use Rattle.papaya_seq.specs.Looks.{Comes, matches_in}
-use Rattle.papaya_seq.specs.Searches.{IsMatchedBy, IsTurn, IsTurned, Sees, SeesFrom, StandsBy, left_at, left_to, seen_by}
+use Rattle.papaya_seq.specs.Searches.{IsMatchedBy, IsTurn, IsTurnFrom, IsTurned, Sees, SeesFrom, StandsBy, left_at, left_to, seen_by}
 use Rattle.papaya_seq.specs.declared.search.Turn.{Turn}
 use Rattle.papaya_seq.specs.declared.search.Turn.TheVariants as turns
 
 -- what is left to a search that has seen this
 abbrev left_seen : Seen → ℕ
 left_seen (On (Looking at)) = left_at at
-left_seen (On (Comparing at word)) = 2 * (at.limit + 1 - at.probe.len)
+left_seen (On (Reading at)) = 3 * (at.limit + 1 - at.probe.len)
+left_seen (On (Comparing at word)) = 3 * (at.limit - at.probe.len) + 2
 left_seen _ = 0
 
 -- the next place is nearer the last one
-on_left : (at : Place) → at.probe.len ≤ at.limit → left_seen (go_on at) < 2 * (at.limit + 1 - at.probe.len)
-on_left at within = cond_both (nat_lt at.probe.len at.limit) (On (Looking (next_place at))) (Over at.table) (λ s. left_seen s < 2 * (at.limit + 1 - at.probe.len)) (λ _. omega (arith, within)) (λ _. omega (arith, within))
+on_left : (at : Place) → at.probe.len ≤ at.limit → left_seen (go_on at) < 3 * (at.limit - at.probe.len) + 2
+on_left at within = cond_both (nat_lt at.probe.len at.limit) (On (Looking (next_place at))) (Over at.table) (λ s. left_seen s < 3 * (at.limit - at.probe.len) + 2) (λ more. let l : at.probe.len < at.limit = ltb-true at.probe.len at.limit more in omega (arith, within, l)) (λ _. omega (arith, within))
 
-byte_left : (at : Place) (hash word : ℕ) → at.probe.len ≤ at.limit → left_seen (compare_byte at hash word) < left_at at
-byte_left at hash word within =
+-- a hint lowers what is left
+pub hinted_left : (at : Place) (hash hint : ℕ) → at.probe.len ≤ at.limit → left_seen (hinted at hash hint) < left_at at
+hinted_left at hash hint within =
     let next = on_left at within in
-    cond_both (byte_of word == top_byte hash) (On (Comparing at word)) (go_on at) (λ s. left_seen s < left_at at) (λ _. omega arith) (λ _. omega (arith, next))
+    cond_both (may_hold hint hash) (On (Reading at)) (go_on at) (λ s. left_seen s < left_at at) (λ _. omega arith) (λ _. omega (arith, next))
 
--- a word lowers what is left
-pub look_left : (kind : Kind) (at : Place) (hash word : ℕ) → at.probe.len ≤ at.limit → left_seen (look_at kind at hash word) < left_at at
-look_left kinds.Empty at hash word within = omega arith
-look_left kinds.Live at hash word within = byte_left at hash word within
-look_left kinds.Marked at hash word within = byte_left at hash word within
-look_left kinds.Copied at hash word within = byte_left at hash word within
-look_left kinds.Buried at hash word within = let next = on_left at within in omega (arith, next)
-look_left kinds.Closed at hash word within = let next = on_left at within in omega (arith, next)
+-- and so does a word
+pub look_left : (kind : Kind) (at : Place) (word : ℕ) → at.probe.len ≤ at.limit → left_seen (look_at kind at word) < left_seen (On (Reading at))
+look_left kinds.Empty at word within = omega (arith, within)
+look_left kinds.Live at word within = omega (arith, within)
+look_left kinds.Marked at word within = omega (arith, within)
+look_left kinds.Copied at word within = omega (arith, within)
+look_left kinds.Buried at word within = let next = on_left at within in omega (arith, next)
+look_left kinds.Closed at word within = let next = on_left at within in omega (arith, next)
 
 match_left : (kind : Kind) (at : Place) (word : ℕ) → left_seen (match_at kind at word) ≡ 0
 match_left kinds.Empty at word = refl
@@ -60,7 +62,7 @@ match_left kinds.Copied at word = refl
 match_left kinds.Buried at word = refl
 match_left kinds.Closed at word = refl
 
--- and so does a comparison
+-- and a comparison
 pub yes_left : (at : Place) (word : ℕ) (same : Bool) → at.probe.len ≤ at.limit → left_seen (at_yes (Comparing at word) same) < left_seen (On (Comparing at word))
 yes_left at word true within = let none = match_left (kind_of word) at word in omega (arith, none, within)
 yes_left at word false within = on_left at within
@@ -75,20 +77,21 @@ turn_left (turns.Over t) = refl
 on_turned : (at : Place) → IsTurned (go_on at)
 on_turned at = cond_both (nat_lt at.probe.len at.limit) (On (Looking (next_place at))) (Over at.table) IsTurned (λ _. tt) (λ _. tt)
 
+-- a hint that spares the word
+pub hinted_turned : (at : Place) (hash hint : ℕ) → ((place : Place) → hinted at hash hint ≡ On (Reading place) → ⊥) → IsTurned (hinted at hash hint)
+hinted_turned at hash hint = cond_both (may_hold hint hash) (On (Reading at)) (go_on at) (λ s. ((place : Place) → s ≡ On (Reading place) → ⊥) → IsTurned s) (λ _ none. absurd (none at refl)) (λ _ none. on_turned at)
+
 -- a word whose pair's key is not to be compared
 abbrev Uncompared : Seen → Type 0
 Uncompared seen = ((at : Place) (word : ℕ) → seen ≡ On (Comparing at word) → ⊥) → IsTurned seen
 
-byte_turned : (at : Place) (hash word : ℕ) → Uncompared (compare_byte at hash word)
-byte_turned at hash word = cond_both (byte_of word == top_byte hash) (On (Comparing at word)) (go_on at) Uncompared (λ _ none. absurd (none at word refl)) (λ _ none. on_turned at)
-
-pub look_turned : (kind : Kind) (at : Place) (hash word : ℕ) → Uncompared (look_at kind at hash word)
-look_turned kinds.Empty at hash word = λ none. tt
-look_turned kinds.Live at hash word = byte_turned at hash word
-look_turned kinds.Marked at hash word = byte_turned at hash word
-look_turned kinds.Copied at hash word = byte_turned at hash word
-look_turned kinds.Buried at hash word = λ none. on_turned at
-look_turned kinds.Closed at hash word = λ none. on_turned at
+pub look_turned : (kind : Kind) (at : Place) (word : ℕ) → Uncompared (look_at kind at word)
+look_turned kinds.Empty at word = λ none. tt
+look_turned kinds.Live at word = λ none. none at word refl
+look_turned kinds.Marked at word = λ none. none at word refl
+look_turned kinds.Copied at word = λ none. none at word refl
+look_turned kinds.Buried at word = λ none. on_turned at
+look_turned kinds.Closed at word = λ none. on_turned at
 
 match_turned : (kind : Kind) (at : Place) (word : ℕ) → IsTurned (match_at kind at word)
 match_turned kinds.Empty at word = tt
@@ -107,17 +110,18 @@ yes_turned at word false = on_turned at
 stands_on : (words : At → ℕ) (at : Place) → StandsBy words (go_on at)
 stands_on words at = cond_both (nat_lt at.probe.len at.limit) (On (Looking (next_place at))) (Over at.table) (StandsBy words) (λ _. tt) (λ _. tt)
 
-stands_byte : (words : At → ℕ) (at : Place) (hash word : ℕ) → words (Slot at.table at.probe.i) ≡ word → StandsBy words (compare_byte at hash word)
-stands_byte words at hash word is = cond_both (byte_of word == top_byte hash) (On (Comparing at word)) (go_on at) (StandsBy words) (λ _. is) (λ _. stands_on words at)
+-- nor does one that was told a hint
+pub stands_hinted : (words : At → ℕ) (at : Place) (hash hint : ℕ) → StandsBy words (hinted at hash hint)
+stands_hinted words at hash hint = cond_both (may_hold hint hash) (On (Reading at)) (go_on at) (StandsBy words) (λ _. tt) (λ _. stands_on words at)
 
 -- what a word tells stands by the word
-pub stands_look : (words : At → ℕ) (kind : Kind) (at : Place) (hash word : ℕ) → words (Slot at.table at.probe.i) ≡ word → kind_of word ≡ kind → StandsBy words (look_at kind at hash word)
-stands_look words kinds.Empty at hash word is empty = ap kind_of is ∙ empty
-stands_look words kinds.Live at hash word is e = stands_byte words at hash word is
-stands_look words kinds.Marked at hash word is e = stands_byte words at hash word is
-stands_look words kinds.Copied at hash word is e = stands_byte words at hash word is
-stands_look words kinds.Buried at hash word is e = stands_on words at
-stands_look words kinds.Closed at hash word is e = stands_on words at
+pub stands_look : (words : At → ℕ) (kind : Kind) (at : Place) (word : ℕ) → words (Slot at.table at.probe.i) ≡ word → kind_of word ≡ kind → StandsBy words (look_at kind at word)
+stands_look words kinds.Empty at word is empty = ap kind_of is ∙ empty
+stands_look words kinds.Live at word is e = is
+stands_look words kinds.Marked at word is e = is
+stands_look words kinds.Copied at word is e = is
+stands_look words kinds.Buried at word is e = stands_on words at
+stands_look words kinds.Closed at word is e = stands_on words at
 
 stands_match : (words : At → ℕ) (kind : Kind) (at : Place) (word : ℕ) → words (Slot at.table at.probe.i) ≡ word → StandsBy words (match_at kind at word)
 stands_match words kinds.Empty at word is = is
@@ -162,36 +166,53 @@ module _ {K V S : Type 0} (matches : K → Bool) (store : StoreState K V S) wher
       abbrev pub word_there : ℕ
       word_there = word_at store.words (Slot at.table at.probe.i)
 
-      -- it was loaded
-      pub sees_word : Sees matches store hash at (look at hash word_there)
+      -- and its hint
+      abbrev pub hint_there : ℕ
+      hint_there = hint_at store.words at.table at.probe.i
+
+      -- the hint was loaded
+      pub sees_hint : Sees matches store hash at (hinted at hash hint_there)
+      sees_hint m = (Word_read hint_there ∷ [], (tt, refl, refl))
+
+      -- and the word after it
+      pub reads_on : (place : Place) (seen : Seen) → hinted at hash hint_there ≡ On (Reading place) → SeesFrom matches store hash (Searching (Reading place)) seen → Sees matches store hash at seen
+      reads_on place seen reads goes_on m =
+          let looks : Machine = record m { hash = hash; state = Searching (Looking at) } in
+          let loads : Machine = record m { hash = hash; state = Searching (Reading place) } in
+          let came : Comes matches store looks (Word_read hint_there ∷ []) loads = subst (λ s. Comes matches store looks (Word_read hint_there ∷ []) (record m { hash = hash; state = goes m s })) reads (tt, refl, refl) in
+          let more = goes_on m in
+          (Word_read hint_there ∷ more.0, comes_on (Word_read hint_there ∷ []) more.0 looks loads (record m { hash = hash; state = goes m seen }) came more.1)
+
+      -- the word was loaded
+      pub sees_word : SeesFrom matches store hash (Searching (Reading at)) (look at word_there)
       sees_word m = (Word_read word_there ∷ [], (tt, refl, refl))
 
       -- and the key of its pair was compared
-      pub sees_same : (place : Place) (word : ℕ) → look at hash word_there ≡ On (Comparing place word) → Sees matches store hash at (at_yes (Comparing place word) (matches_in matches (pair_of store (number_of word))))
+      pub sees_same : (place : Place) (word : ℕ) → look at word_there ≡ On (Comparing place word) → SeesFrom matches store hash (Searching (Reading at)) (at_yes (Comparing place word) (matches_in matches (pair_of store (number_of word))))
       sees_same place word compares m =
           let same : Bool = matches_in matches (pair_of store (number_of word)) in
-          let looks : Machine = record m { hash = hash; state = Searching (Looking at) } in
+          let looks : Machine = record m { hash = hash; state = Searching (Reading at) } in
           let asks : Machine = record m { hash = hash; state = Searching (Comparing place word) } in
           let led : Machine = record m { hash = hash; state = goes m (at_yes (Comparing place word) same) } in
           let came : Comes matches store looks (Word_read word_there ∷ []) asks = subst (λ s. Comes matches store looks (Word_read word_there ∷ []) (record m { hash = hash; state = goes m s })) compares (tt, refl, refl) in
           (Word_read word_there ∷ Yes same ∷ [], comes_on (Word_read word_there ∷ []) (Yes same ∷ []) looks asks led came (tt, refl, refl))
 
       -- what was seen is a turn
-      pub turn_seen : (turn : Turn) (seen : Seen) → seen_by turn ≡ seen → Sees matches store hash at seen → IsSeen seen → StandsBy (λ w. word_at store.words w) seen → IsMatchedBy matches store hash seen → IsTurn matches store hash at turn
-      turn_seen turn seen is sees within stands matched = record { sees = subst (Sees matches store hash at) (sym is) sees; within = subst IsSeen (sym is) within; stands = subst (StandsBy (λ w. word_at store.words w)) (sym is) stands; matched = subst (IsMatchedBy matches store hash) (sym is) matched }
+      pub turn_seen : (state : State) (turn : Turn) (seen : Seen) → seen_by turn ≡ seen → SeesFrom matches store hash state seen → IsSeen seen → StandsBy (λ w. word_at store.words w) seen → IsMatchedBy matches store hash seen → IsTurnFrom matches store hash state turn
+      turn_seen state turn seen is sees within stands matched = record { sees = subst (SeesFrom matches store hash state) (sym is) sees; within = subst IsSeen (sym is) within; stands = subst (StandsBy (λ w. word_at store.words w)) (sym is) stands; matched = subst (IsMatchedBy matches store hash) (sym is) matched }
 
-      -- a word alone finds no pair
+      -- a hint or a word alone finds no pair
       matched_on : IsMatchedBy matches store hash (go_on at)
       matched_on = cond_both (nat_lt at.probe.len at.limit) (On (Looking (next_place at))) (Over at.table) (IsMatchedBy matches store hash) (λ _. tt) (λ _. tt)
 
-      matched_byte : (word : ℕ) → IsMatchedBy matches store hash (compare_byte at hash word)
-      matched_byte word = cond_both (byte_of word == top_byte hash) (On (Comparing at word)) (go_on at) (IsMatchedBy matches store hash) (λ _. tt) (λ _. matched_on)
+      pub matched_hinted : (hint : ℕ) → IsMatchedBy matches store hash (hinted at hash hint)
+      matched_hinted hint = cond_both (may_hold hint hash) (On (Reading at)) (go_on at) (IsMatchedBy matches store hash) (λ _. tt) (λ _. matched_on)
 
-      pub matched_look : (kind : Kind) (word : ℕ) → IsMatchedBy matches store hash (look_at kind at hash word)
+      pub matched_look : (kind : Kind) (word : ℕ) → IsMatchedBy matches store hash (look_at kind at word)
       matched_look kinds.Empty word = tt
-      matched_look kinds.Live word = matched_byte word
-      matched_look kinds.Marked word = matched_byte word
-      matched_look kinds.Copied word = matched_byte word
+      matched_look kinds.Live word = tt
+      matched_look kinds.Marked word = tt
+      matched_look kinds.Copied word = tt
       matched_look kinds.Buried word = matched_on
       matched_look kinds.Closed word = matched_on
 

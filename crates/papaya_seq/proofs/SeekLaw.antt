@@ -7,7 +7,7 @@ use Rattle.papaya_law.proofs.FiniteMaps.{one_length}
 use Rattle.papaya_words.specs.declared.probe.Refused.{Refused}
 use Rattle.papaya_ask.specs.declared.call.Reply.{Reply}
 use Rattle.papaya_ask.specs.declared.call.Reply.TheVariants.{Absent, Refused as Reply_refused}
-use Rattle.papaya_ask.specs.declared.search.Search.TheVariants.{Sizing, Looking, Comparing}
+use Rattle.papaya_ask.specs.declared.search.Search.TheVariants.{Sizing, Looking, Reading, Comparing}
 use Rattle.papaya_call.specs.declared.machine.State.{State}
 use Rattle.papaya_call.specs.declared.machine.State.TheVariants.{AtRoot, Searching, Leaving, Ended}
 use Rattle.papaya_call.specs.declared.write.Made.{Made}
@@ -39,6 +39,7 @@ ends_in : (made : Made) (hash : ℕ) (st : State) → Seeks st → (reply : Repl
 ends_in made hash AtRoot seeks reply e = let f : None ≡ Some reply = e in absurd cc
 ends_in made hash (Searching (Sizing t)) seeks reply e = let f : None ≡ Some reply = e in absurd cc
 ends_in made hash (Searching (Looking at)) seeks reply e = let f : None ≡ Some reply = e in absurd cc
+ends_in made hash (Searching (Reading at)) seeks reply e = let f : None ≡ Some reply = e in absurd cc
 ends_in made hash (Searching (Comparing at word)) seeks reply e = let f : None ≡ Some reply = e in absurd cc
 ends_in made hash (Leaving t) seeks reply e = let f : None ≡ Some reply = e in absurd cc
 ends_in made hash (Ended told) seeks reply e = let same : told ≡ reply = cc in subst (λ y. (y ≡ Absent) ⊎ ((refused : Refused) × (y ≡ Reply_refused refused))) same seeks

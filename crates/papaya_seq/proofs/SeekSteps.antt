@@ -4,7 +4,7 @@ use mathlib.Core.Path.{fun_ext}
 use Rattle.papaya_words.specs.Table.{TableWords, new_table}
 use Rattle.papaya_words.specs.declared.limits.TheConstants.{MAX_TABLES}
 use Rattle.papaya_ask.specs.declared.ask.Ask.{Ask as Call_ask}
-use Rattle.papaya_ask.specs.declared.ask.Ask.TheVariants.{Load, SameKey, SizeOf}
+use Rattle.papaya_ask.specs.declared.ask.Ask.TheVariants.{Load, LoadHint, SameKey, SizeOf}
 use Rattle.papaya_ask.specs.declared.ask.Answer.{Answer as Call_answer}
 use Rattle.papaya_ask.specs.declared.ask.Answer.TheVariants.{Word as Word_read}
 use Rattle.papaya_ask.specs.declared.ask.At.{At}
@@ -52,7 +52,7 @@ use Rattle.papaya_store.specs.Asks.{PerformsAsk}
 use Rattle.papaya_store.specs.Performs.{own_key, Exchanges, MakesTable, Refuses}
 use Rattle.papaya_store.specs.declared.pairs.Running.{Running}
 use Rattle.papaya_store.specs.Store.{StoreState, Stored}
-use Rattle.papaya_store.specs.Tables.{table_of, word_at, Tables, put}
+use Rattle.papaya_store.specs.Tables.{table_of, word_at, Tables, note, put}
 use Rattle.papaya_store.specs.Copies.{PerformsCopy}
 use Rattle.papaya_timeline.proofs.KeptAnswer.{IsAnswered as IsLeft}
 use Rattle.papaya_timeline.specs.Advances.{reply_in}
@@ -66,7 +66,7 @@ use Rattle.papaya_timeline.proofs.MadeTables.{copy_made}
 use Rattle.papaya_timeline.proofs.StoreLemmas.{AllSized, IsKeptAsked, numbered, performed_ask, unnumbered, matched}
 use Rattle.papaya_timeline.specs.Ends.{budget_in, budget_of}
 use Rattle.papaya_timeline.proofs.BudgetLaw.{copy_fewer}
-use Rattle.papaya_timeline.proofs.BudgetTables.{changes_at, placed-changes}
+use Rattle.papaya_timeline.proofs.BudgetTables.{changes_at, noted-budget, placed-changes}
 use Rattle.papaya_timeline.proofs.KeptMade.{refusal}
 use Rattle.papaya_timeline.proofs.KeptTables.{IsPlaced, placed-many, table_low}
 use Rattle.papaya_timeline.proofs.KeptWritten.{asked_copy, placed_copy}
@@ -146,6 +146,7 @@ module _ {K V S : Type 0} (eq : K → K → Bool) (hash : S → K → ℕ) (s : 
       by_look : (ask : Call_ask) → ask_of m ≡ asks.Call ask → (told : Call_answer) → answer ≡ answers.Call told → Looks store ask told → store' ≡ store → IsKeptAsked answer store'
       by_look (Load at) e told is looks same = performed_ask eq hash whatever false (asks.Call (Load at)) store r answer store' r all (subst IsFitAsk e (chain_ask_fits m seeking.standing)) (told, is, (looks, (same, refl)))
       by_look (SizeOf t) e told is looks same = performed_ask eq hash whatever false (asks.Call (SizeOf t)) store r answer store' r all (subst IsFitAsk e (chain_ask_fits m seeking.standing)) (told, is, (looks, (same, refl)))
+      by_look (LoadHint t x) e told is looks same = performed_ask eq hash whatever false (asks.Call (LoadHint t x)) store r answer store' r all (subst IsFitAsk e (chain_ask_fits m seeking.standing)) (told, is, (looks, (same, refl)))
       by_look (SameKey n) e told is looks same = record { fit = subst IsFit (sym (is ∙ ap answers.Call looks)) tt; sized = numbered_back }
         where
           numbered_back : AllSized store'.words.tables
@@ -180,6 +181,7 @@ module _ {K V S : Type 0} (eq : K → K → Bool) (hash : S → K → ℕ) (s : 
     where
       by_look : (ask : Call_ask) (told : Call_answer) → Looks store ask told → IsServedAsk m.call.task (asks.Call ask) (answers.Call told)
       by_look (Load at) told looks = tt
+      by_look (LoadHint t x) told looks = tt
       by_look (SameKey n) told looks = tt
       by_look (SizeOf t) told looks = tt
       by_look ask told looks = absurd looks
@@ -219,6 +221,7 @@ module _ {K V S : Type 0} (eq : K → K → Bool) (hash : S → K → ℕ) (s : 
 
       unmatched : (ask : Call_ask) (told : Call_answer) → answer ≡ answers.Call told → IsTurn eq hash store (asks.Call ask) answer store' → IsTold gq cq None (run es start) (kind_of_ask m) (follows_of m) tale.hands (asks.Call ask) answer left.made left.hands → IsUnmatched ask told
       unmatched (Load at) told is (a, a_is, looks, same) t = (_, same_told told a is a_is ∙ looks)
+      unmatched (LoadHint i x) told is (a, a_is, looks, same) t = (_, same_told told a is a_is ∙ looks)
       unmatched (SameKey n) told is (a, a_is, looks, same) t = same_told told a is a_is ∙ looks
       unmatched (SizeOf n) told is (a, a_is, looks, same) t = (_, t.tells.0.0, same_told told t.told is t.is ∙ t.tells.0.2)
       unmatched ask told is (a, a_is, looks, same) t = absurd looks
@@ -264,6 +267,7 @@ module _ {K V S : Type 0} (eq : K → K → Bool) (hash : S → K → ℕ) (s : 
 
       looks_count : (ask : Call_ask) (told : Call_answer) → Looks store ask told → store'.count ≡ store.count → IsCountedBy ask store told store'
       looks_count (Load at) told looks same = same
+      looks_count (LoadHint t x) told looks same = same
       looks_count (SameKey n) told looks same = same
       looks_count (SizeOf n) told looks same = same
       looks_count ask told looks same = absurd looks
@@ -320,6 +324,9 @@ module _ {K V S : Type 0} (eq : K → K → Bool) (hash : S → K → ℕ) (s : 
   same_words : store' ≡ store → budget_of store' ≡ budget_of store
   same_words same = ap (λ (y : StoreState K V S). budget_of y) same
 
+  noted_words : (t x hint : ℕ) → store' ≡ record store { words = note store.words t x hint } → budget_of store' ≡ budget_of store
+  noted_words t x hint same = ap (λ (y : StoreState K V S). budget_of y) same ∙ noted-budget store.words t x hint
+
   spends_exchange : (at : At) (old new : ℕ) → ask_of m ≡ asks.Copy (copies.Exchange at old new) → (told : Call_answer) → Exchanges (word_at store.words at) old (put store.words at new) told store store' → SpendsCopy (copies.Exchange at old new) (answers.Call told) (budget_of store) (budget_of store')
   spends_exchange at old new e told ex =
       matched (SpendsCopy (copies.Exchange at old new) (answers.Call told) (budget_of store) (budget_of store')) (word_at store.words at == old) _ _ ex
@@ -337,6 +344,8 @@ module _ {K V S : Type 0} (eq : K → K → Bool) (hash : S → K → ℕ) (s : 
   spends_copy : (ask : CopyAsk) → ask_of m ≡ asks.Copy ask → PerformsCopy eq hash false ask store answer store' → SpendsCopy ask answer (budget_of store) (budget_of store')
   spends_copy (copies.Load at) e (is, same) = same_words same
   spends_copy (copies.Exchange at old new) e (told, is, ex) = subst (λ y. SpendsCopy (copies.Exchange at old new) y (budget_of store) (budget_of store')) (sym is) (spends_exchange at old new e told ex)
+  spends_copy (copies.LoadHint t x) e (is, same) = same_words same
+  spends_copy (copies.WriteHint t x hint) e (is, same) = noted_words t x hint same
   spends_copy (copies.SizeOf n) e (is, same) = same_words same
   spends_copy (copies.HashOf n) e (is, fit, same) = same_words same
   spends_copy (copies.SamePair i n) e (is, same) = same_words same
@@ -345,6 +354,7 @@ module _ {K V S : Type 0} (eq : K → K → Bool) (hash : S → K → ℕ) (s : 
 
   spends_look : (ask : Call_ask) (told : Call_answer) → Looks store ask told → store' ≡ store → SpendsCall (kind_of_ask m) ask told (budget_of store) (budget_of store')
   spends_look (Load at) told looks same = same_words same
+  spends_look (LoadHint t x) told looks same = same_words same
   spends_look (SameKey n) told looks same = same_words same
   spends_look (SizeOf t) told looks same = same_words same
   spends_look ask told looks same = absurd looks

@@ -5,13 +5,13 @@ use Rattle.std.specs.Fn.{Mut}
 use Rattle.papaya_ask.specs.declared.ask.At.{At}
 use Rattle.papaya_ask.specs.declared.ask.At.TheVariants.{Root, Next, Aborted, Done, Slot}
 use Rattle.papaya_ask.specs.declared.ask.Ask.{Ask as Call_ask}
-use Rattle.papaya_ask.specs.declared.ask.Ask.TheVariants.{Load, Exchange as Ask_exchange, SameKey, SizeOf, MakeTable}
+use Rattle.papaya_ask.specs.declared.ask.Ask.TheVariants.{Load, Exchange as Ask_exchange, LoadHint, SameKey, SizeOf, MakeTable}
 use Rattle.papaya_ask.specs.declared.ask.Answer.{Answer as Call_answer}
 use Rattle.papaya_ask.specs.declared.ask.Answer.TheVariants.{Word as Word_read, Yes, Size}
 use Rattle.papaya_ask.specs.declared.ask.StepKind.{StepKind}
 use Rattle.papaya_ask.specs.declared.ask.StepKind.TheVariants as kinds
 use Rattle.papaya_ask.specs.declared.copy_ask.CopyAsk.TheVariants as copies
-use Rattle.papaya_ask.specs.declared.search.Search.TheVariants.{Sizing, Looking, Comparing}
+use Rattle.papaya_ask.specs.declared.search.Search.TheVariants.{Sizing, Looking, Reading, Comparing}
 use Rattle.papaya_call.specs.declared.machine.State.{State}
 use Rattle.papaya_call.specs.declared.machine.State.TheVariants.{AtRoot, Searching, Leaving, Ended}
 use Rattle.papaya_call.specs.declared.write.Made.{Made}
@@ -37,9 +37,13 @@ use Rattle.papaya_law.proofs.Alike.{alike_back, all_alike}
 use Rattle.papaya_law.proofs.Further.{key_agrees, key_alike}
 use Rattle.papaya_law.proofs.Grows.{all_carries, map_of_carries}
 use Rattle.papaya_law.proofs.Logs.{on_comes}
-use Rattle.papaya_law.proofs.Moments.{map_of-append}
+use Rattle.papaya_law.proofs.Moments.{allowed_rest, map_of-append, run-append}
 use Rattle.papaya_law.proofs.OneMap.{start_keeps}
+use Rattle.papaya_law.specs.Hints.{IsHint}
 use Rattle.papaya_law.specs.Invariant.{named}
+use Rattle.papaya_law.specs.Later.{IsLater}
+use Rattle.papaya_law.proofs.Hints.{hint_agrees, hint_lasts}
+use Rattle.papaya_law.proofs.Later.{later_run}
 use Rattle.papaya_rests.specs.Copier.{IsCopyAsked}
 use Rattle.papaya_rests.specs.Rests.{change_after, change_in}
 use Rattle.papaya_rests.specs.Told.{Hands as Call_hands, IsTold as IsCallTold, told_of, word_of}
@@ -47,7 +51,7 @@ use Rattle.papaya_rests.proofs.RestsNames.{IsNamed, ask_named}
 use Rattle.papaya_store.specs.Copies.{IsCallAnswer, PerformsCopy}
 use Rattle.papaya_store.specs.Performs.{own_key, size_of}
 use Rattle.papaya_store.specs.Store.{StoreState, Stored, pair_of}
-use Rattle.papaya_store.specs.Tables.{table_of, word_at}
+use Rattle.papaya_store.specs.Tables.{hint_at, table_of, word_at}
 use Rattle.papaya_store.specs.declared.pairs.KeyOf.TheVariants.{Logged}
 use Rattle.papaya_store.specs.declared.pairs.Running.{Running}
 use Rattle.papaya_timeline.specs.Advances.{reply_in}
@@ -71,11 +75,12 @@ use Rattle.papaya_seq.specs.Looks.{matches_in}
 use Rattle.papaya_seq.specs.Map.{MapState}
 use Rattle.papaya_seq.specs.Removes.{IsRemovalAnswer}
 use Rattle.papaya_seq.proofs.Lawful.{MatchesNone}
-use Rattle.papaya_seq.proofs.Seeking.{IsSeeking, Seeks, own_coding, own_hashed, own_setting, sought_coding, sought_hashed, sought_setting, sought_word}
+use Rattle.papaya_seq.proofs.Seeking.{IsSeeking, Seeks, own_coding, own_hashed, own_hint, own_setting, sought_coding, sought_hashed, sought_hint, sought_setting, sought_word}
 
 -- what a search asks for
 abbrev pub IsLook : Call_ask → Type 0
 IsLook (Load at) = Unit {0}
+IsLook (LoadHint t x) = Unit {0}
 IsLook (SameKey n) = Unit {0}
 IsLook (SizeOf t) = Unit {0}
 IsLook _ = ⊥
@@ -85,6 +90,7 @@ looks_in : (made : Made) (hash : ℕ) (st : State) → Seeks st → reply_in (as
 looks_in made hash AtRoot seeks going = tt
 looks_in made hash (Searching (Sizing t)) seeks going = tt
 looks_in made hash (Searching (Looking at)) seeks going = tt
+looks_in made hash (Searching (Reading at)) seeks going = tt
 looks_in made hash (Searching (Comparing at word)) seeks going = tt
 looks_in made hash (Leaving t) seeks going = tt
 looks_in made hash (Ended reply) seeks going = let f : Some reply ≡ None = going in absurd cc
@@ -99,6 +105,7 @@ module _ {K V S : Type 0} where
   -- each comparison is answered false
   abbrev pub Looks : StoreState K V S → Call_ask → Call_answer → Type 0
   Looks store (Load at) told = told ≡ Word_read (word_at store.words at)
+  Looks store (LoadHint t x) told = told ≡ Word_read (hint_at store.words t x)
   Looks store (SameKey n) told = told ≡ Yes false
   Looks store (SizeOf t) told = told ≡ size_of (table_of store.words.tables t)
   Looks store _ told = ⊥
@@ -118,6 +125,8 @@ module _ {K V S : Type 0} where
   turn_words eq hash store (asks.Copy (copies.Exchange at old new)) answer store' (told, is, h) =
       matched (store' ≡ record store { words = store'.words }) (word_at store.words at == old) _ _ h
       (λ _ done. words_only store store' _ done.1) (λ _ lost. words_only store store' store.words lost.1)
+  turn_words eq hash store (asks.Copy (copies.LoadHint t x)) answer store' (is, same) = words_only store store' store.words same
+  turn_words eq hash store (asks.Copy (copies.WriteHint t x hint)) answer store' (is, same) = words_only store store' _ same
   turn_words eq hash store (asks.Copy (copies.SizeOf n)) answer store' (is, same) = words_only store store' store.words same
   turn_words eq hash store (asks.Copy (copies.HashOf n)) answer store' (is, fits, same) = words_only store store' store.words same
   turn_words eq hash store (asks.Copy (copies.SamePair m n)) answer store' (is, same) = words_only store store' store.words same
@@ -140,6 +149,7 @@ module _ {K V S F : Type 0} (eq : K → K → Bool) (hash : S → K → ℕ) (g 
 
   looked : (store : StoreState K V S) → MatchesNone store matches → (ask : Call_ask) → IsLook ask → (f : F) (told : Call_answer) (store' : StoreState K V S) (f' : F) → IsRemovalAnswer g matches ask store f told store' f' → Looks store ask told × (store' ≡ store) × (f' ≡ f)
   looked store none (Load at) look f told store' f' (e, stays, kept) = (e, stays, kept)
+  looked store none (LoadHint t x) look f told store' f' (e, stays, kept) = (e, stays, kept)
   looked store none (SameKey n) look f told store' f' (e, stays, kept) = (e ∙ ap Yes (none_in store none n (pair_of store n) refl), stays, kept)
   looked store none (SizeOf t) look f told store' f' (e, stays, kept) = (e, stays, kept)
   looked store none ask look f told store' f' h = absurd look
@@ -208,6 +218,9 @@ module _ {K V S : Type 0} (eq : K → K → Bool) (hash : S → K → ℕ) (s : 
   pub coded : (at : At) → word_of gq cq (run es start) at ≡ word_at store.words at
   coded at = sought_word eq hash s h store.words.tables (run es start) at ∙ seeking.kept.coded at
 
+  hints : (t x : ℕ) → IsHint gq cq (run es start) t x (hint_at store.words t x)
+  hints t x = sought_hint eq hash s h store.words.tables ((run es start).slot t x) (hint_at store.words t x) (seeking.kept.hints t x)
+
   pub no_open : (t : ℕ) → ask_of m ≡ asks.Call (Ask_exchange Root 0 t) → IsMade store t
   no_open t e = absurd (asked_look m seeking.seeks going (Ask_exchange Root 0 t) e)
 
@@ -234,6 +247,7 @@ module _ {K V S : Type 0} (eq : K → K → Bool) (hash : S → K → ℕ) (s : 
     where
       unmoved : (ask : Call_ask) → IsLook ask → change_after (kind_of_ask m) ask told (change_in m.call.state) ≡ change_in m.call.state
       unmoved (Load at) look = refl
+      unmoved (LoadHint t x) look = refl
       unmoved (SameKey n) look = refl
       unmoved (SizeOf t) look = refl
       unmoved other look = absurd look
@@ -242,6 +256,7 @@ module _ {K V S : Type 0} (eq : K → K → Bool) (hash : S → K → ℕ) (s : 
   answered_look (Load at) e told is same =
       answered_quietly (Load at) e told (told_of (run es start) at tale.hands.call) same (is ∙ ap Word_read (sym (coded at)), refl, refl) tt
       (told_last gq cq store r es tale (own_key store r) at) (told_made gq cq store r es tale (own_key store r) at)
+  answered_look (LoadHint t x) e told is same = answered_quietly (LoadHint t x) e told tale.hands.call same ((hint_at store.words t x, hints t x, is), (refl, refl)) tt (λ p l. inl l) refl
   answered_look (SameKey n) e told is same = answered_quietly (SameKey n) e told tale.hands.call same ((λ p l number. is), (refl, refl)) tt (λ p l. inl l) refl
   answered_look (SizeOf n) e told is same =
       let call = m.call in
@@ -258,7 +273,7 @@ module _ {K V S : Type 0} (eq : K → K → Bool) (hash : S → K → ℕ) (s : 
       by_ask : (ask : Ask) → ask_of m ≡ ask → IsTurn eq hash store ask answer store' → Leaves ask answer
       by_ask (asks.Call ask) e (told, is, looks, same) = subst (Leaves (asks.Call ask)) (sym is) (answered_look ask e told looks same)
       by_ask (asks.Copy ask) e copied =
-          answered_copy eq hash gq cq store r es tale (own_key store r) hashed None refl may seeking.rests coded seeking.kept.made seeking.last seeking.carried no_open seeking.links refl suits false ask e answer store' r copied refl
+          answered_copy eq hash gq cq store r es tale (own_key store r) hashed None refl may seeking.rests coded seeking.kept.made hints seeking.last seeking.carried no_open seeking.links refl suits false ask e answer store' r copied refl
 
   -- the exchanges after it
   abbrev pub since' : List (Exchange (Stored K V))
@@ -296,11 +311,26 @@ module _ {K V S : Type 0} (eq : K → K → Bool) (hash : S → K → ℕ) (s : 
   pub stood_logged : (p : Stored K V) → Stands (run es start) p → IsLogged store' p
   stood_logged p (t, x, names) = left.logged p.number p (seeking.kept.logged t x p names)
 
+  -- what a hint says lasts
+  hint_later : (t x n : ℕ) → IsHint g c (run es start) t x n → IsHint g' c (run es' start) t x n
+  hint_later t x n is =
+      let split : run es' start ≡ run left.made (run es start) = ap (λ l. run l start) (sym assoc) ∙ run-append es left.made start in
+      let allowed : AllAllowed g (run es start) left.made = allowed_rest g es left.made start (subst (AllAllowed g start) (sym assoc) all_own) in
+      let later : IsLater g (run es start) (run es' start) = subst (IsLater g (run es start)) (sym split) (later_run g own_law.lawful left.made (run es start) allowed) in
+      hint_agrees g g' c (λ p. refl) ((run es' start).slot t x) n (hint_lasts g c own_law.coding (run es start) (run es' start) later t x n is)
+
+  hints_later : (t x : ℕ) → IsHint g' c (run es' start) t x (hint_at store'.words t x)
+  hints_later t x = elim (left.hints t x) [
+    | inl same ↦ hint_later t x (hint_at store'.words t x) (subst (IsHint g c (run es start) t x) (sym same) (seeking.kept.hints t x))
+    | inr may ↦ hint_later t x (hint_at store'.words t x) (own_hint eq hash s h store.words.tables ((run es start).slot t x) (hint_at store'.words t x) may)
+  ]
+
   -- the words keep to the law
   pub kept' : IsKept {A = Unit {0}} eq (hash s.store.hasher) s.mode store' [] es' (λ d. tale')
   kept' = record {
     allowed = all_carries g own_law.lawful g' es' start (λ k. None) (start_keeps g own_law.lawful) all_own agrees;
     coded = λ at. ap (λ l. word_of g c (run l start) at) (sym assoc) ∙ sym (sought_word eq hash s h store.words.tables (run (es ++ left.made) start) at) ∙ left.coded at;
+    hints = hints_later;
     made = λ t some comes. still_there t (left.there t some (subst (λ l. Comes (run l start) t) (sym assoc) comes));
     logged = λ t x p names. elim (left.slots t x p (subst (λ l. named ((run l start).slot t x) ≡ Some p) (sym assoc) names)) [ inl stood ↦ stood_logged p stood | inr mine ↦ left.logged p.number p (seeking.made p mine) ];
     few = left.few seeking.kept.few;
@@ -332,6 +362,7 @@ module _ {K V S : Type 0} (eq : K → K → Bool) (hash : S → K → ℕ) (s : 
     where
       look_made : (ask : Call_ask) → IsLook ask → IsTold gq cq None (run es start) (kind_of_ask m) (follows_of m) tale.hands (asks.Call ask) answer left.made left.hands → left.made ≡ []
       look_made (Load at) look told = told.tells.1
+      look_made (LoadHint t x) look told = told.tells.1.0
       look_made (SameKey n) look told = told.tells.1.0
       look_made (SizeOf n) look told = told.tells.1.0
       look_made other look told = absurd look

@@ -21,7 +21,8 @@ use Rattle.papaya_chain_rests.specs.Told.{no_hands}
 use Rattle.papaya_chain_rests.proofs.Standing.{started_stands}
 use Rattle.papaya_alone.specs.Ahead.{IsCurrent}
 use Rattle.papaya_law.specs.Code.{Coding, IsHashed}
-use Rattle.papaya_law.specs.Exchange.{Setting, State as Words}
+use Rattle.papaya_law.specs.Exchange.{Setting, State as Words, Word, Empty, Closed, Live, Marked, Copied, Buried}
+use Rattle.papaya_law.specs.Hints.{IsHintOf}
 use Rattle.papaya_law.specs.Further.{IsLawfulKey, coding_with, with_key}
 use Rattle.papaya_law.proofs.Further.{key_code, key_lawful}
 use Rattle.papaya_rests.specs.Rests.{IsModeOf}
@@ -94,6 +95,23 @@ module _ {K V S : Type 0} (eq : K → K → Bool) (hash : S → K → ℕ) (s : 
   sought_word tables z (Done t) = refl
   sought_word tables z (Slot t x) = key_code (own_setting tables) (λ k. false) h own_coding (z.slot t x)
 
+  -- and a slot the hints that it had
+  pub sought_hint : (tables : List TableWords) (w : Word (Stored K V)) (n : ℕ) → IsHintOf (own_setting tables) own_coding w n → IsHintOf (sought_setting tables) sought_coding w n
+  sought_hint tables Empty n h = h
+  sought_hint tables Closed n h = h
+  sought_hint tables (Live p) n h = h
+  sought_hint tables (Marked p) n h = h
+  sought_hint tables (Copied p) n h = h
+  sought_hint tables (Buried p) n h = h
+
+  pub own_hint : (tables : List TableWords) (w : Word (Stored K V)) (n : ℕ) → IsHintOf (sought_setting tables) sought_coding w n → IsHintOf (own_setting tables) own_coding w n
+  own_hint tables Empty n h = h
+  own_hint tables Closed n h = h
+  own_hint tables (Live p) n h = h
+  own_hint tables (Marked p) n h = h
+  own_hint tables (Copied p) n h = h
+  own_hint tables (Buried p) n h = h
+
   module _ (keys : IsLawfulKeys eq (hash s.store.hasher)) (fits : h < 2 ^ 64) where
     -- the map's own keys are placed by their hashes
     pub own_hashed : (store : StoreState K V S) → IsCore {A = Unit {0}} store [] s.mode → IsHashed (own_setting store.words.tables) own_coding
@@ -117,7 +135,7 @@ module _ {K V S : Type 0} (eq : K → K → Bool) (hash : S → K → ℕ) (s : 
           tale = tale;
           core = core;
           kept = subst (λ l. IsKept {A = Unit {0}} eq (hash s.store.hasher) s.mode s.store [] l (λ d. tale)) same_es
-              (record { allowed = kept.allowed; coded = kept.coded; made = kept.made; logged = kept.logged; few = kept.few; tables_few = kept.tables_few; calls = λ d r e. absurd cc; resizers = λ d z e. absurd cc; visitors = λ d v e. absurd cc; apart = λ d e r q x. absurd cc });
+              (record { allowed = kept.allowed; coded = kept.coded; hints = kept.hints; made = kept.made; logged = kept.logged; few = kept.few; tables_few = kept.tables_few; calls = λ d r e. absurd cc; resizers = λ d z e. absurd cc; visitors = λ d v e. absurd cc; apart = λ d e r q x. absurd cc });
           rests = record {
             chunked = core.chunked;
             call = record { hash = refl; mode = mode_of s.mode; made = record { keys = λ q l. absurd l; made_is = tt; fill_is = tt; choice_is = tt }; stage = tt };

@@ -10,7 +10,7 @@ use Rattle.papaya_ask.specs.declared.ask.Answer.{Answer as Call_answer}
 use Rattle.papaya_ask.specs.declared.ask.At.{At}
 use Rattle.papaya_ask.specs.declared.ask.At.TheVariants.{Root, Next, Aborted, Done, Slot}
 use Rattle.papaya_ask.specs.declared.ask.Ask.{Ask as Call_ask}
-use Rattle.papaya_ask.specs.declared.ask.Ask.TheVariants.{Load, Exchange, SameKey, ShowNone, ShowPair, SizeOf, MakeKey, MakePair, MakeTable, AddToShard, Done as Ask_done}
+use Rattle.papaya_ask.specs.declared.ask.Ask.TheVariants.{Load, Exchange, LoadHint, WriteHint, SameKey, ShowNone, ShowPair, SizeOf, MakeKey, MakePair, MakeTable, AddToShard, Done as Ask_done}
 use Rattle.papaya_ask.specs.declared.ask.Answer.TheVariants.{Ok as Ok_done}
 use Rattle.papaya_ask.specs.declared.copy_ask.CopyAsk.{CopyAsk}
 use Rattle.papaya_ask.specs.declared.copy_ask.CopyAsk.TheVariants as copies
@@ -21,7 +21,9 @@ use Rattle.papaya_store.specs.Copies.{PerformsCopy}
 use Rattle.papaya_store.specs.New.{HasCapacity}
 use Rattle.papaya_store.specs.Performs.{Exchanges, HasKey, HasNoPair, LogsKey, LogsPair, MakesTable, Performs, Refuses, Stays}
 use Rattle.papaya_store.specs.Store.{StoreState}
-use Rattle.papaya_store.specs.Tables.{Tables, put, put_at, put_in, word_at, written}
+use Rattle.papaya_store.specs.Tables.{Tables, hinted, note, put, put_at, put_in, word_at, written}
+use Rattle.papaya_timeline.proofs.KeptHints.{by-table, hinted-same}
+use Rattle.papaya_timeline.proofs.KeptTables.{table_there}
 use Rattle.papaya_timeline.proofs.ShowLemmas.{none_shown, pair_shown}
 use Rattle.papaya_timeline.proofs.StoreLemmas.{matched}
 use Rattle.papaya_seq.specs.Lengths.{IsLongEnough, lengths_of}
@@ -62,6 +64,11 @@ put_lengths w (Aborted n) word = put_at_lengths (Aborted n) n w word
 put_lengths w (Done n) word = put_at_lengths (Done n) n w word
 put_lengths w (Slot n i) word = put_at_lengths (Slot n i) n w word
 
+-- and a hint that is written leaves them
+pub note_lengths : (w : Tables) (t x hint : ℕ) → lengths_of (note w t x hint) ≡ lengths_of w
+note_lengths w t x hint = by-table w t x hint (λ v. lengths_of v ≡ lengths_of w) refl
+    (λ table there. set_lengths w.tables (t - 1) table (hinted table x hint) (table_there w.tables t table there).1 (hinted-same table x hint long refl))
+
 module _ {K V S : Type 0} (Asked : ℕ → Type 0) (s s' : StoreState K V S) where
   -- the tables stay as long as they were, or one is made that was asked for so long
   abbrev pub IsLengthened : Type 0
@@ -69,6 +76,9 @@ module _ {K V S : Type 0} (Asked : ℕ → Type 0) (s s' : StoreState K V S) whe
 
   as_long : s' ≡ s → IsLengthened
   as_long same = inl (ap (λ (y : StoreState K V S). lengths_of y.words) same)
+
+  noted_long : (t x hint : ℕ) → s' ≡ record s { words = note s.words t x hint } → IsLengthened
+  noted_long t x hint same = inl (ap (λ (y : StoreState K V S). lengths_of y.words) same ∙ note_lengths s.words t x hint)
 
   -- an exchange
   exchanged_long : (at : At) (found old new : ℕ) (told : Call_answer) → Exchanges found old (put s.words at new) told s s' → IsLengthened
@@ -87,6 +97,8 @@ module _ {K V S : Type 0} (eq : K → K → Bool) (refuse : Bool) where
   pub copy_long : (hash : S → K → ℕ) (ask : CopyAsk) (s : StoreState K V S) (a : Answer) (s' : StoreState K V S) → PerformsCopy eq hash refuse ask s a s' → IsLengthened (λ slots. (limit : ℕ) × (ask ≡ copies.MakeTable slots limit)) s s'
   copy_long hash (copies.Load at) s a s' (is, same) = as_long _ s s' same
   copy_long hash (copies.Exchange at old new) s a s' (told, is, h) = exchanged_long _ s s' at (word_at s.words at) old new told h
+  copy_long hash (copies.LoadHint t x) s a s' (is, same) = as_long _ s s' same
+  copy_long hash (copies.WriteHint t x hint) s a s' (is, same) = noted_long _ s s' t x hint same
   copy_long hash (copies.SizeOf n) s a s' (is, same) = as_long _ s s' same
   copy_long hash (copies.HashOf n) s a s' (is, hashed, same) = as_long _ s s' same
   copy_long hash (copies.SamePair m n) s a s' (is, same) = as_long _ s s' same
@@ -100,6 +112,8 @@ module _ {K V S : Type 0} (eq : K → K → Bool) (refuse : Bool) where
   copy_counts hash (copies.Load at) s a s' (is, same) = ap (λ (y : StoreState K V S). y.count) same
   copy_counts hash (copies.Exchange at old new) s a s' (told, is, h) =
       matched (s'.count ≡ s.count) (word_at s.words at == old) _ _ h (λ _ done. ap (λ (y : StoreState K V S). y.count) done.1) (λ _ lost. ap (λ (y : StoreState K V S). y.count) lost.1)
+  copy_counts hash (copies.LoadHint t x) s a s' (is, same) = ap (λ (y : StoreState K V S). y.count) same
+  copy_counts hash (copies.WriteHint t x hint) s a s' (is, same) = ap (λ (y : StoreState K V S). y.count) same
   copy_counts hash (copies.SizeOf n) s a s' (is, same) = ap (λ (y : StoreState K V S). y.count) same
   copy_counts hash (copies.HashOf n) s a s' (is, hashed, same) = ap (λ (y : StoreState K V S). y.count) same
   copy_counts hash (copies.SamePair m n) s a s' (is, same) = ap (λ (y : StoreState K V S). y.count) same
@@ -108,9 +122,10 @@ module _ {K V S : Type 0} (eq : K → K → Bool) (refuse : Bool) where
       matched (s'.count ≡ s.count) refuse _ _ h (λ _ none. ap (λ (y : StoreState K V S). y.count) none.1)
       (λ _ makes. elim makes [ inl refused ↦ ap (λ (y : StoreState K V S). y.count) refused.1 | inr (e, few, made) ↦ ap (λ (y : StoreState K V S). y.count) made ])
 
--- an ask of a call counts where it adds to the count
+-- an ask of a call counts where it adds to the count; that and a hint are answered `Ok`
 abbrev pub IsCountedBy : {K V S : Type 0} → Call_ask → StoreState K V S → Call_answer → StoreState K V S → Type 0
 IsCountedBy (AddToShard by) s a s' = a ≡ Ok_done
+IsCountedBy (WriteHint t x hint) s a s' = (a ≡ Ok_done) × (s'.count ≡ s.count)
 IsCountedBy ask s a s' = s'.count ≡ s.count
 
 module _ {K V S A : Type 0} (eq : K → K → Bool) (says : Says K V A) (refuse : Bool) where
@@ -118,6 +133,8 @@ module _ {K V S A : Type 0} (eq : K → K → Bool) (says : Says K V A) (refuse 
   pub own_long : (ask : Call_ask) (s : StoreState K V S) (r : Running K V A) (a : Call_answer) (s' : StoreState K V S) (r' : Running K V A) → Performs eq says refuse ask s r a s' r' → IsLengthened (λ slots. (limit : ℕ) × (ask ≡ MakeTable slots limit)) s s'
   own_long (Load at) s r a s' r' (e, stays) = as_long _ s s' stays.0
   own_long (Exchange at old new) s r a s' r' (h, moved) = exchanged_long _ s s' at (word_at s.words at) old new a h
+  own_long (LoadHint t x) s r a s' r' (e, stays) = as_long _ s s' stays.0
+  own_long (WriteHint t x hint) s r a s' r' (e, same, moved) = noted_long _ s s' t x hint same
   own_long (SameKey n) s r a s' r' (e, stays) = as_long _ s s' stays.0
   own_long ShowNone s r a s' r' h = as_long _ s s' (none_shown says s r a s' r' h).store
   own_long (ShowPair n) s r a s' r' h = as_long _ s s' (pair_shown says r.machine.call.task n s r a s' r' h).store
@@ -138,6 +155,8 @@ module _ {K V S A : Type 0} (eq : K → K → Bool) (says : Says K V A) (refuse 
   own_counts (Load at) s r a s' r' (e, stays) = ap (λ (y : StoreState K V S). y.count) stays.0
   own_counts (Exchange at old new) s r a s' r' (h, moved) =
       matched (s'.count ≡ s.count) (word_at s.words at == old) _ _ h (λ _ done. ap (λ (y : StoreState K V S). y.count) done.1) (λ _ lost. ap (λ (y : StoreState K V S). y.count) lost.1)
+  own_counts (LoadHint t x) s r a s' r' (e, stays) = ap (λ (y : StoreState K V S). y.count) stays.0
+  own_counts (WriteHint t x hint) s r a s' r' (e, same, moved) = (e, ap (λ (y : StoreState K V S). y.count) same)
   own_counts (SameKey n) s r a s' r' (e, stays) = ap (λ (y : StoreState K V S). y.count) stays.0
   own_counts ShowNone s r a s' r' h = ap (λ (y : StoreState K V S). y.count) (none_shown says s r a s' r' h).store
   own_counts (ShowPair n) s r a s' r' h = ap (λ (y : StoreState K V S). y.count) (pair_shown says r.machine.call.task n s r a s' r' h).store

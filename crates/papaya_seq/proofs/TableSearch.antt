@@ -1,13 +1,13 @@
 -- A search stays in its table until it is over, and compares only words that it may.
 use Rattle.std.proofs.Common.{◌≡◌, ℕ, ◌==◌, nat_lt, Bool, true, false, refl}
 use Rattle.std.proofs.lemmas.Bool.{cond_both}
-use Rattle.papaya_words.specs.Word.{byte_of, kind_of, top_byte}
+use Rattle.papaya_words.specs.Word.{kind_of, may_hold}
 use Rattle.papaya_words.specs.declared.word.Kind.{Kind}
 use Rattle.papaya_words.specs.declared.word.Kind.TheVariants as kinds
-use Rattle.papaya_ask.specs.Search.{at_size, at_word, at_yes, compare_byte, go_on, look_at, match_at, next_place}
+use Rattle.papaya_ask.specs.Search.{at_size, at_word, at_yes, go_on, hinted, look_at, match_at, next_place}
 use Rattle.papaya_ask.specs.declared.search.Place.{Place}
 use Rattle.papaya_ask.specs.declared.search.Search.{Search}
-use Rattle.papaya_ask.specs.declared.search.Search.TheVariants.{Sizing, Looking, Comparing}
+use Rattle.papaya_ask.specs.declared.search.Search.TheVariants.{Sizing, Looking, Reading, Comparing}
 use Rattle.papaya_ask.specs.declared.search.Seen.{Seen}
 use Rattle.papaya_ask.specs.declared.search.Seen.TheVariants as seen
 use Rattle.papaya_alone.specs.Rank.{table_of}
@@ -25,6 +25,7 @@ module _ (May : ℕ → Type 0) where
   abbrev pub MayCompare : Search → Type 0
   MayCompare (Sizing table) = Unit {0}
   MayCompare (Looking at) = Unit {0}
+  MayCompare (Reading at) = Unit {0}
   MayCompare (Comparing at word) = May word
 
   -- a search is in this table
@@ -43,16 +44,16 @@ module _ (May : ℕ → Type 0) where
     go_on_in : (at : Place) → at.table ≡ t → IsSeenIn t (go_on at)
     go_on_in at here = cond_both (nat_lt at.probe.len at.limit) (seen.On (Looking (next_place at))) (seen.Over at.table) (IsSeenIn t) (λ _. (here, tt)) (λ _. here)
 
-    byte_in : (at : Place) (hash word : ℕ) → at.table ≡ t → May word → IsSeenIn t (compare_byte at hash word)
-    byte_in at hash word here may = cond_both (byte_of word == top_byte hash) (seen.On (Comparing at word)) (go_on at) (IsSeenIn t) (λ _. (here, may)) (λ _. go_on_in at here)
+    pub hinted_in : (at : Place) (hash hint : ℕ) → at.table ≡ t → IsSeenIn t (hinted at hash hint)
+    hinted_in at hash hint here = cond_both (may_hold hint hash) (seen.On (Reading at)) (go_on at) (IsSeenIn t) (λ _. (here, tt)) (λ _. go_on_in at here)
 
-    look_in : (kind : Kind) (at : Place) (hash word : ℕ) → at.table ≡ t → (IsPairKind kind → May word) → IsSeenIn t (look_at kind at hash word)
-    look_in kinds.Empty at hash word here may = here
-    look_in kinds.Buried at hash word here may = go_on_in at here
-    look_in kinds.Closed at hash word here may = go_on_in at here
-    look_in kinds.Live at hash word here may = byte_in at hash word here (may tt)
-    look_in kinds.Marked at hash word here may = byte_in at hash word here (may tt)
-    look_in kinds.Copied at hash word here may = byte_in at hash word here (may tt)
+    look_in : (kind : Kind) (at : Place) (word : ℕ) → at.table ≡ t → (IsPairKind kind → May word) → IsSeenIn t (look_at kind at word)
+    look_in kinds.Empty at word here may = here
+    look_in kinds.Buried at word here may = go_on_in at here
+    look_in kinds.Closed at word here may = go_on_in at here
+    look_in kinds.Live at word here may = (here, may tt)
+    look_in kinds.Marked at word here may = (here, may tt)
+    look_in kinds.Copied at word here may = (here, may tt)
 
     match_in : (kind : Kind) (at : Place) (word : ℕ) → kind_of word ≡ kind → at.table ≡ t → May word → IsSeenIn t (match_at kind at word)
     match_in kinds.Copied at word is here may = here
@@ -65,18 +66,21 @@ module _ (May : ℕ → Type 0) where
     -- whatever it is answered
     pub loaded_in : (search : Search) (hash word : ℕ) → IsSearchIn t search → (IsPairKind (kind_of word) → May word) → IsSeenIn t (at_word search hash word)
     loaded_in (Sizing table) hash word now may = now
-    loaded_in (Looking at) hash word now may = look_in (kind_of word) at hash word now.0 may
+    loaded_in (Looking at) hash hint now may = hinted_in at hash hint now.0
+    loaded_in (Reading at) hash word now may = look_in (kind_of word) at word now.0 may
     loaded_in (Comparing at read) hash word now may = now
 
     pub compared_in : (search : Search) (same : Bool) → IsSearchIn t search → IsSeenIn t (at_yes search same)
     compared_in (Sizing table) same now = now
     compared_in (Looking at) same now = now
+    compared_in (Reading at) same now = now
     compared_in (Comparing at word) true now = match_in (kind_of word) at word refl now.0 now.1
     compared_in (Comparing at word) false now = go_on_in at now.0
 
     pub sized_in : (search : Search) (hash slots limit : ℕ) → IsSearchIn t search → IsSearchIn t (at_size search hash slots limit)
     sized_in (Sizing table) hash slots limit now = now
     sized_in (Looking at) hash slots limit now = now
+    sized_in (Reading at) hash slots limit now = now
     sized_in (Comparing at word) hash slots limit now = now
 
 -- a word that is Live or was copied, as all pairs are of a table without a next one

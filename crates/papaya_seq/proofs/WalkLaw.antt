@@ -121,7 +121,7 @@ module _ {K V S A : Type 0} (eq : K → K → Bool) (hash : K → ℕ) (callers 
       is = kept.coded (Slot t x)
 
       of_pair : (p : Stored K V) → named w ≡ Some p → pair_of store n ≡ Some p
-      of_pair p name = ap (pair_of store) (sym names ∙ ap number_of (sym is) ∙ (code_pair g c hashed.coding w p name).0) ∙ kept.logged t x p name
+      of_pair p name = ap (pair_of store) (sym names ∙ ap number_of (sym is) ∙ (code_pair g c hashed.coding w p name)) ∙ kept.logged t x p name
 
   -- the pairs of a table that is there
   pairs_are : (t : ℕ) (table : TableWords) → table_of store.words.tables t ≡ Some table → pairs_at store t ≡ pairs_in (now.slot t) (g.size t)
@@ -187,7 +187,7 @@ module _ {K V S A : Type 0} (eq : K → K → Bool) (hash : K → ℕ) (callers 
         word_is j e = there_is j ∙ ap (code g c) e
 
         named_so : number_of (code g c (Marked p)) ≡ p.number
-        named_so = (code_pair g c hashed.coding (Marked p) p refl).0
+        named_so = (code_pair g c hashed.coding (Marked p) p refl)
 
     -- what a search sees of the pair where it stands
     stands : (j : ℕ) × (j < g.places u) × (g.place p.key u j ≡ x) × ((look g now p.key u j ≡ Here p) ⊎ (look g now p.key u j ≡ Leaving p))

@@ -1,7 +1,7 @@
 -- A lookup by the words that stand in the tables.
 use Rattle.std.specs.Prelude.{◌≡◌, Bool, false, Option, Some, None, List, [], ◌∷◌}
 use Rattle.papaya_ask.specs.declared.ask.Ask.{Ask}
-use Rattle.papaya_ask.specs.declared.ask.Ask.TheVariants.{Load, SameKey, SizeOf, Done}
+use Rattle.papaya_ask.specs.declared.ask.Ask.TheVariants.{Load, LoadHint, SameKey, SizeOf, Done}
 use Rattle.papaya_ask.specs.declared.ask.Answer.{Answer}
 use Rattle.papaya_ask.specs.declared.ask.Answer.TheVariants.{Word, Yes}
 use Rattle.papaya_ask.specs.declared.ask.At.TheVariants.{Root, Slot}
@@ -11,7 +11,7 @@ use Rattle.papaya_call.specs.declared.machine.Machine.{Machine}
 use Rattle.papaya_call.specs.Machine.{after, ask_of}
 use Rattle.papaya_store.specs.Performs.{size_of}
 use Rattle.papaya_store.specs.Store.{StoreState, Stored, pair_of}
-use Rattle.papaya_store.specs.Tables.{table_of, word_at}
+use Rattle.papaya_store.specs.Tables.{hint_at, table_of, word_at}
 use Rattle.papaya_seq.specs.Map.{HasNone, Holds}
 
 -- does the key that is looked for match the pair's, where there is one
@@ -23,14 +23,17 @@ matches_in matches (Some p) = matches p.key
 abbrev pub IsSearchAsk : Ask → Type 0
 IsSearchAsk (Load Root) = Unit {0}
 IsSearchAsk (Load (Slot t i)) = Unit {0}
+IsSearchAsk (LoadHint t i) = Unit {0}
 IsSearchAsk (SameKey n) = Unit {0}
 IsSearchAsk (SizeOf t) = Unit {0}
 IsSearchAsk _ = ⊥
 
 module _ {K V S : Type 0} (matches : K → Bool) (store : StoreState K V S) where
-  -- a load is answered by the word that stands there, a size by the table, a comparison by the pair
+  -- a load is answered by the word or the hint that stands there, a size by the table, a comparison
+  -- by the pair
   abbrev pub IsToldBy : Ask → Answer → Type 0
   IsToldBy (Load at) answer = answer ≡ Word (word_at store.words at)
+  IsToldBy (LoadHint t i) answer = answer ≡ Word (hint_at store.words t i)
   IsToldBy (SameKey n) answer = answer ≡ Yes (matches_in matches (pair_of store n))
   IsToldBy (SizeOf t) answer = answer ≡ size_of (table_of store.words.tables t)
   IsToldBy _ answer = ⊥

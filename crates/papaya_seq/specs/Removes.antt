@@ -6,12 +6,12 @@ use Rattle.papaya_words.specs.declared.probe.Refused as words
 use Rattle.papaya_ask.specs.declared.ask.Answer.{Answer}
 use Rattle.papaya_ask.specs.declared.ask.Answer.TheVariants.{Word as Word_read, Yes, Ok as Ok_done}
 use Rattle.papaya_ask.specs.declared.ask.Ask.{Ask}
-use Rattle.papaya_ask.specs.declared.ask.Ask.TheVariants.{Load, Exchange, SameKey, ShowNone, ShowPair, SizeOf, MakeKey, MakePair, MakeTable, AddToShard, Done as Ask_done}
+use Rattle.papaya_ask.specs.declared.ask.Ask.TheVariants.{Load, Exchange, LoadHint, WriteHint, SameKey, ShowNone, ShowPair, SizeOf, MakeKey, MakePair, MakeTable, AddToShard, Done as Ask_done}
 use Rattle.papaya_ask.specs.declared.call.Reply.{Reply}
 use Rattle.papaya_ask.specs.declared.call.Reply.TheVariants.{Absent, Removed, Kept, Refused}
 use Rattle.papaya_store.specs.Performs.{Exchanges, size_of}
 use Rattle.papaya_store.specs.Store.{StoreState, Stored, pair_of}
-use Rattle.papaya_store.specs.Tables.{put, table_of, word_at}
+use Rattle.papaya_store.specs.Tables.{hint_at, put, table_of, word_at}
 use Rattle.papaya_words.specs.Counter.{added}
 use Rattle.papaya_seq.specs.Looks.{matches_in}
 use Rattle.papaya_seq.specs.Map.{HasNone, Holds, KeepsRemoving, MapState, Removes, Unchanged, entry_of}
@@ -31,8 +31,9 @@ IsShown {K = K} {V = V} g (Some p) f answer f' = (key : Bor K) × (value : Bor V
     × (key.now ≡ p.key) × (value.now ≡ p.value) × (answer ≡ Yes agrees)
     × Called g f (key, (value, tt)) agrees f'
 
--- a removal shows only a pair, and makes nothing
+-- a removal shows only a pair, makes nothing and writes no hint
 abbrev pub IsRemovalAsk : Ask → Type 0
+IsRemovalAsk (WriteHint t i hint) = ⊥
 IsRemovalAsk ShowNone = ⊥
 IsRemovalAsk MakeKey = ⊥
 IsRemovalAsk MakePair = ⊥
@@ -47,6 +48,8 @@ module _ {K V S F : Type 0} (g : Mut F (Bor K × (Bor V × Unit {0})) Bool) (mat
       × (f' ≡ f)
   IsRemovalAnswer (Exchange at old new) s f answer s' f' =
       Exchanges (word_at s.words at) old (put s.words at new) answer s s' × (f' ≡ f)
+  IsRemovalAnswer (LoadHint t i) s f answer s' f' =
+      (answer ≡ Word_read (hint_at s.words t i)) × (s' ≡ s) × (f' ≡ f)
   IsRemovalAnswer (SameKey n) s f answer s' f' =
       (answer ≡ Yes (matches_in matches (pair_of s n))) × (s' ≡ s) × (f' ≡ f)
   IsRemovalAnswer (ShowPair n) s f answer s' f' = IsShown g (pair_of s n) f answer f' × (s' ≡ s)

@@ -6,7 +6,7 @@ use Rattle.papaya_ask.specs.declared.ask.Answer.{Answer}
 use Rattle.papaya_ask.specs.declared.ask.At.{At}
 use Rattle.papaya_ask.specs.declared.ask.At.TheVariants.{Slot}
 use Rattle.papaya_ask.specs.declared.search.Place.{Place}
-use Rattle.papaya_ask.specs.declared.search.Search.TheVariants.{Sizing, Looking, Comparing}
+use Rattle.papaya_ask.specs.declared.search.Search.TheVariants.{Sizing, Looking, Reading, Comparing}
 use Rattle.papaya_ask.specs.declared.search.Seen.{Seen}
 use Rattle.papaya_ask.specs.declared.search.Seen.TheVariants.{On, Empty, Here, Over}
 use Rattle.papaya_ask.specs.Search.{IsSeen}
@@ -20,10 +20,11 @@ use Rattle.papaya_seq.specs.Looks.{Comes, matches_in}
 use Rattle.papaya_seq.specs.declared.search.Turn.{Turn}
 use Rattle.papaya_seq.specs.declared.search.Turn.TheVariants as turns
 
--- the search compares no key next, and asks for no size
+-- the search loads no word and compares no key next, and asks for no size
 abbrev pub IsTurned : Seen → Type 0
 IsTurned (On (Sizing t)) = ⊥
 IsTurned (On (Looking at)) = Unit {0}
+IsTurned (On (Reading at)) = ⊥
 IsTurned (On (Comparing at word)) = ⊥
 IsTurned (Empty at) = Unit {0}
 IsTurned (Here at word) = Unit {0}
@@ -36,10 +37,10 @@ seen_by (turns.Empty at) = Empty at
 seen_by (turns.Here at word) = Here at word
 seen_by (turns.Over t) = Over t
 
--- How many answers a search at this place has before it, at most: a load and a comparison for each
--- place.
+-- How many answers a search at this place has before it, at most: for each place its hint, its word
+-- and a comparison.
 abbrev pub left_at : Place → ℕ
-left_at at = 2 * (at.limit + 1 - at.probe.len) + 1
+left_at at = 3 * (at.limit + 1 - at.probe.len) + 1
 
 -- what is left after a turn
 abbrev pub left_to : Turn → ℕ
@@ -71,12 +72,20 @@ module _ {K V S : Type 0} (matches : K → Bool) (store : StoreState K V S) (has
   abbrev pub Sees : Place → Seen → Type 0
   Sees at seen = SeesFrom (Searching (Looking at)) seen
 
-  -- A turn leads on from the place so.
-  pub record IsTurn (at : Place) (turn : Turn) : Type 0 where
-    pub sees : Sees at (seen_by turn)
+  -- A turn leads on from this state so.
+  pub record IsTurnFrom (state : State) (turn : Turn) : Type 0 where
+    pub sees : SeesFrom state (seen_by turn)
     pub within : IsSeen (seen_by turn)
     pub stands : StandsBy (λ at. word_at store.words at) (seen_by turn)
     pub matched : IsMatchedBy (seen_by turn)
+
+  -- A turn leads on so from a place, by its hint, and where that says nothing or is the key's, by
+  -- its word.
+  abbrev pub IsTurn : Place → Turn → Type 0
+  IsTurn at turn = IsTurnFrom (Searching (Looking at)) turn
+
+  abbrev pub IsReadTurn : Place → Turn → Type 0
+  IsReadTurn at turn = IsTurnFrom (Searching (Reading at)) turn
 
   -- The search of the root led so from the call's begin.
   pub record IsRootTurn (turn : Turn) : Type 0 where

@@ -59,6 +59,7 @@ fn answer_removal<K: Hash + Eq, V, S: BuildHasher, Q: Equivalent<K>, F: FnMut(&K
     match ask {
         CallAsk::Load(at) => CallAnswer::Word(store.word(at)),
         CallAsk::Exchange(at, old, new) => store.exchange(at, old, new),
+        CallAsk::LoadHint(table, slot) => CallAnswer::Word(store.hint(table, slot)),
         CallAsk::SameKey(pair) => CallAnswer::Yes(matches(store, pair, key)),
         CallAsk::ShowPair(pair) => show(store, pair, agrees),
         CallAsk::SizeOf(table) => store.size_of(table),
@@ -66,8 +67,9 @@ fn answer_removal<K: Hash + Eq, V, S: BuildHasher, Q: Equivalent<K>, F: FnMut(&K
             store.add_to_shard(0, by);
             CallAnswer::Ok
         }
-        // A removal shows only a pair, and makes nothing.
-        CallAsk::ShowNone
+        // A removal shows only a pair, makes nothing and writes no hint.
+        CallAsk::WriteHint(..)
+        | CallAsk::ShowNone
         | CallAsk::MakeKey
         | CallAsk::MakePair
         | CallAsk::MakeTable { .. }
@@ -96,9 +98,8 @@ fn bury<K: Hash + Eq, V, S: BuildHasher, F: FnMut(&K, &V) -> bool>(
         CallAnswer::Yes(false) => return Reply::Kept(pair),
         _ => unreachable!(),
     }
-    let word = Word(removal.word);
     let at = At::Slot(removal.place.table, removal.place.probe.i);
-    let _ = store.exchange(at, removal.word, Word::buried(word.hash_byte(), pair).0);
+    let _ = store.exchange(at, removal.word, Word::buried(pair).0);
     store.add_to_shard(0, -1);
     Reply::Removed(pair)
 }

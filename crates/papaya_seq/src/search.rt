@@ -1,8 +1,8 @@
 //! The search of one table for a key, by the words that stand there: one loop for every call.
-ghost use Rattle.std.specs.Prelude.{◌≡◌, ◌<◌, ℕ, Some, length};
+ghost use Rattle.std.specs.Prelude.{◌≡◌, ◌+◌, ◌<◌, ℕ, Some, length};
 ghost use Rattle.papaya_ask.specs.Search.{IsSize, IsWithin};
 ghost use Rattle.papaya_store.specs.Tables.{table_of};
-ghost use Rattle.papaya_seq.specs.Searches.{IsRootTurn, IsTurn, IsTurned, left_at, left_to, seen_by};
+ghost use Rattle.papaya_seq.specs.Searches.{IsReadTurn, IsRootTurn, IsTurn, IsTurned, left_at, left_to, seen_by};
 ghost use Rattle.papaya_seq.specs.declared.search.Turn.TheVariants.{Next};
 
 use crate::lookup::matches;
@@ -26,7 +26,7 @@ pub(crate) enum Turn {
     Over(u64),
 }
 
-/// What a search has seen that compares no key next, as a turn.
+/// What a search has seen that loads no word and compares no key next, as a turn.
 #[inline(always)]
 fn turn_of(seen: Seen) -> Turn
     requires { IsTurned seen }
@@ -41,8 +41,29 @@ fn turn_of(seen: Seen) -> Turn
     }
 }
 
-/// Looks at one place of a table: loads its word, and compares the key of the pair that it names
-/// where the hash byte agrees.
+/// Loads the word at one place of a table, and compares the key of the pair that it names.
+#[inline(always)]
+fn read_at<K: Hash + Eq, V, S: BuildHasher, Q: Equivalent<K>>(
+    store: &Store<K, V, S>,
+    key: &Q,
+    at: Place,
+) -> Turn
+    requires { IsWithin at }
+    ensures turn { (hash : ℕ) → IsReadTurn (Q.matches key.now) store.now hash at result }
+    ensures fewer { left_to result + 1 < left_at at }
+{
+    let word = store.word(At::Slot(at.table, at.probe.i));
+    let seen = at.look(word);
+    match seen {
+        Seen::On(Search::Comparing(place, named)) => {
+            let same = matches(store, Word(named).pair(), key);
+            turn_of(Search::Comparing(place, named).at_yes(same))
+        }
+        _ => turn_of(seen),
+    }
+}
+
+/// Looks at one place of a table: loads its hint, and goes on where that is another key's.
 #[inline(always)]
 fn look_at<K: Hash + Eq, V, S: BuildHasher, Q: Equivalent<K>>(
     store: &Store<K, V, S>,
@@ -54,13 +75,10 @@ fn look_at<K: Hash + Eq, V, S: BuildHasher, Q: Equivalent<K>>(
     ensures turn { IsTurn (Q.matches key.now) store.now hash at result }
     ensures fewer { left_to result < left_at at }
 {
-    let word = store.word(At::Slot(at.table, at.probe.i));
-    let seen = at.look(hash, word);
+    let hint = store.hint(at.table, at.probe.i);
+    let seen = at.hinted(hash, hint);
     match seen {
-        Seen::On(Search::Comparing(place, named)) => {
-            let same = matches(store, Word(named).pair(), key);
-            turn_of(Search::Comparing(place, named).at_yes(same))
-        }
+        Seen::On(Search::Reading(place)) => read_at(store, key, place),
         _ => turn_of(seen),
     }
 }

@@ -18,7 +18,7 @@ use papaya_chain::machine::Machine;
 use papaya_store::pairs::{KeyOf, Running};
 use papaya_store::store::Store;
 use papaya_words::probe::ResizeMode;
-use papaya_words::word::{Kind, Word, h2};
+use papaya_words::word::{Kind, Word, hint};
 use std::alloc::Global;
 use std::hash::{BuildHasher, Hash};
 
@@ -54,9 +54,10 @@ fn write<K: Hash + Eq + Drop, V: Drop, S: BuildHasher>(
         _ => unreachable!(),
     };
     let at = At::Slot(write.place.table, write.place.probe.i);
-    let _ = store.exchange(at, write.old, Word::live(h2(hash), pair).0);
+    let _ = store.exchange(at, write.old, Word::live(pair).0);
     if write.old == 0 {
         store.add_to_shard(0, 1);
+        store.note(write.place.table, write.place.probe.i, hint(hash));
         return (Reply::Inserted(pair), None);
     }
     let old = Word(write.old).pair();

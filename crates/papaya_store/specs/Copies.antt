@@ -6,12 +6,12 @@ use Rattle.papaya_words.specs.declared.probe.Refused.TheVariants.{Memory}
 use Rattle.papaya_ask.specs.declared.ask.Answer.{Answer as Call_answer}
 use Rattle.papaya_ask.specs.declared.ask.Answer.TheVariants.{Word as Word_read, Yes, Ok as Ok_done, Refused as Was_refused}
 use Rattle.papaya_ask.specs.declared.copy_ask.CopyAsk.{CopyAsk}
-use Rattle.papaya_ask.specs.declared.copy_ask.CopyAsk.TheVariants.{Load, Exchange, SizeOf, HashOf, SamePair, Count, MakeTable}
+use Rattle.papaya_ask.specs.declared.copy_ask.CopyAsk.TheVariants.{Load, Exchange, LoadHint, WriteHint, SizeOf, HashOf, SamePair, Count, MakeTable}
 use Rattle.papaya_chain.specs.declared.ask.Answer.{Answer}
 use Rattle.papaya_chain.specs.declared.ask.Answer.TheVariants as answers
 use Rattle.papaya_store.specs.Performs.{Exchanges, MakesTable, Refuses, size_of}
 use Rattle.papaya_store.specs.Store.{StoreState, Stored, pair_of}
-use Rattle.papaya_store.specs.Tables.{put, table_of, word_at}
+use Rattle.papaya_store.specs.Tables.{hint_at, note, put, table_of, word_at}
 
 -- have two pairs equal keys, where both are there
 abbrev pub same_keys : {K V : Type 0} → (K → K → Bool) → Option (Stored K V) → Option (Stored K V)
@@ -34,8 +34,8 @@ abbrev pub IsCallAnswer : Answer → (Call_answer → Type 0) → Type 0
 IsCallAnswer answer Is = (told : Call_answer) × (answer ≡ answers.Call told) × Is told
 
 module _ {K V S : Type 0} where
-  -- just one ask is answered: a load and an exchange by the word that stands there, a size by the
-  -- table, a hash and a comparison by the pairs of the log
+  -- just one ask is answered: a load and an exchange by the word or the hint that stands there, a
+  -- size by the table, a hash and a comparison by the pairs of the log
   abbrev pub PerformsCopy : (K → K → Bool) → (S → K → ℕ) → Bool → CopyAsk → StoreState K V S
       → Answer → StoreState K V S → Type 0
   PerformsCopy eq hash refuse (Load at) s answer s' =
@@ -43,6 +43,10 @@ module _ {K V S : Type 0} where
   PerformsCopy eq hash refuse (Exchange at old new) s answer s' =
       IsCallAnswer answer
       (λ told. Exchanges (word_at s.words at) old (put s.words at new) told s s')
+  PerformsCopy eq hash refuse (LoadHint n i) s answer s' =
+      (answer ≡ answers.Call (Word_read (hint_at s.words n i))) × (s' ≡ s)
+  PerformsCopy eq hash refuse (WriteHint n i hint) s answer s' =
+      (answer ≡ answers.Call Ok_done) × (s' ≡ record s { words = note s.words n i hint })
   PerformsCopy eq hash refuse (SizeOf n) s answer s' =
       (answer ≡ answers.Call (size_of (table_of s.words.tables n))) × (s' ≡ s)
   PerformsCopy eq hash refuse (HashOf n) s answer s' =

@@ -5,7 +5,7 @@ use Rattle.papaya_words.specs.Table.{TableWords, new_table}
 use Rattle.papaya_words.specs.declared.limits.TheConstants.{MAX_TABLES, MAX_LOG_LEN}
 use Rattle.papaya_words.specs.declared.probe.Refused.TheVariants.{Memory, Capacity}
 use Rattle.papaya_ask.specs.declared.ask.Ask.{Ask}
-use Rattle.papaya_ask.specs.declared.ask.Ask.TheVariants.{Load, Exchange, SameKey, ShowNone, ShowPair, SizeOf, MakeKey, MakePair, MakeTable, AddToShard, Done as Ask_done}
+use Rattle.papaya_ask.specs.declared.ask.Ask.TheVariants.{Load, Exchange, LoadHint, WriteHint, SameKey, ShowNone, ShowPair, SizeOf, MakeKey, MakePair, MakeTable, AddToShard, Done as Ask_done}
 use Rattle.papaya_ask.specs.declared.ask.Answer.{Answer}
 use Rattle.papaya_ask.specs.declared.ask.Answer.TheVariants.{Word as Word_read, Exchanged, Found as Found_instead, Yes, Op, Size, Made as Made_number, Ok as Ok_done, Refused as Was_refused}
 use Rattle.papaya_call.specs.Answers.{Says, op_kind}
@@ -16,7 +16,7 @@ use Rattle.papaya_ask.specs.declared.call.Task.TheVariants as tasks
 use Rattle.papaya_store.specs.declared.pairs.KeyOf.{KeyOf}
 use Rattle.papaya_store.specs.declared.pairs.KeyOf.TheVariants.{Own, Logged}
 use Rattle.papaya_store.specs.declared.pairs.Running.{Running}
-use Rattle.papaya_store.specs.Tables.{Tables, table_of, word_at, put}
+use Rattle.papaya_store.specs.Tables.{Tables, hint_at, note, table_of, word_at, put}
 use Rattle.papaya_store.specs.Store.{StoreState, Stored, pair_of}
 
 -- the key of a call under way
@@ -151,14 +151,18 @@ module _ {K V S A : Type 0} where
   MakesOr refuse answer s r s' r' Makes = MatchBool refuse
       ((answer ≡ Was_refused Memory) × Stays s r s' r') Makes
 
-  -- just one ask is answered: a load and an exchange by the word that stands there, a size by the
-  -- table, a showing by the closure's answers
+  -- just one ask is answered: a load and an exchange by the word or the hint that stands there, a
+  -- size by the table, a showing by the closure's answers
   abbrev pub Performs : (K → K → Bool) → Says K V A → Bool → Ask → StoreState K V S → Running K V A
       → Answer → StoreState K V S → Running K V A → Type 0
   Performs eq says refuse (Load at) s r answer s' r' = (answer ≡ Word_read (word_at s.words at))
       × Stays s r s' r'
   Performs eq says refuse (Exchange at old new) s r answer s' r' =
       Exchanges (word_at s.words at) old (put s.words at new) answer s s' × (r' ≡ r)
+  Performs eq says refuse (LoadHint n i) s r answer s' r' =
+      (answer ≡ Word_read (hint_at s.words n i)) × Stays s r s' r'
+  Performs eq says refuse (WriteHint n i hint) s r answer s' r' =
+      (answer ≡ Ok_done) × (s' ≡ record s { words = note s.words n i hint }) × (r' ≡ r)
   Performs eq says refuse (SameKey n) s r answer s' r' =
       (answer ≡ Yes (same eq (own_key s r) (pair_of s n))) × Stays s r s' r'
   Performs eq says refuse ShowNone s r answer s' r' = DecidesNone says s r answer s' r'

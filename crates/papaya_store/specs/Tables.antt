@@ -1,6 +1,6 @@
 -- The words of all tables.
 use Rattle.std.specs.Prelude.{ℕ, ◌-◌, ◌==◌, if◌then◌else◌, List, Option, Some, None, slice_get, slice_index, slice_set, nat_lt, length}
-use Rattle.papaya_words.specs.Table.{TableWords}
+use Rattle.papaya_words.specs.Table.{TableWords, noted}
 use Rattle.papaya_ask.specs.declared.ask.At.{At}
 use Rattle.papaya_ask.specs.declared.ask.At.TheVariants.{Root, Next, Aborted, Done, Slot}
 
@@ -50,3 +50,25 @@ put w (Next n) word = put_at (Next n) n w word
 put w (Aborted n) word = put_at (Aborted n) n w word
 put w (Done n) word = put_at (Done n) n w word
 put w (Slot n i) word = put_at (Slot n i) n w word
+
+-- the hint of a slot of a table; 0 where there is no such slot
+abbrev pub slot_hint : TableWords → ℕ → ℕ
+slot_hint t i = if nat_lt i (length t.slots) then slice_index t.hints i else 0
+
+-- the hint that stands at a slot
+abbrev pub hint_at : Tables → (n i : ℕ) → ℕ
+hint_at w n i = word_in (λ t. slot_hint t i) (table_of w.tables n)
+
+-- a table after a hint was written to one of its slots: one that stood there stays
+abbrev pub hinted : TableWords → (i hint : ℕ) → TableWords
+hinted t i hint = if nat_lt i (length t.slots) then record t { hints = noted t.hints i hint } else t
+
+-- the tables after a hint was written to the one at place k
+abbrev pub hint_in : Option TableWords → List TableWords → (k i hint : ℕ) → List TableWords
+hint_in None tables k i hint = tables
+hint_in (Some t) tables k i hint = slice_set tables k (hinted t i hint)
+
+-- the words after a hint was written
+abbrev pub note : Tables → (n i hint : ℕ) → Tables
+note w n i hint = if n == 0 then w else record w
+    { tables = hint_in (slice_get w.tables (n - 1)) w.tables (n - 1) i hint }

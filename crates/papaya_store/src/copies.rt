@@ -43,6 +43,11 @@ impl<K: Hash + Eq + Drop, V: Drop, S: BuildHasher> Store<K, V, S> {
         match ask {
             CopyAsk::Load(at) => Answer::Call(CallAnswer::Word(self.word(at))),
             CopyAsk::Exchange(at, old, new) => Answer::Call(self.exchange(at, old, new)),
+            CopyAsk::LoadHint(n, i) => Answer::Call(CallAnswer::Word(self.hint(n, i))),
+            CopyAsk::WriteHint(n, i, hint) => {
+                self.note(n, i, hint);
+                Answer::Call(CallAnswer::Ok)
+            }
             CopyAsk::SizeOf(n) => Answer::Call(self.size_of(n)),
             CopyAsk::HashOf(n) => self.hash_of_pair(n),
             CopyAsk::SamePair(first, second) => {

@@ -14,6 +14,7 @@ ghost use Rattle.papaya_keys.specs.Sizes.{IsSizeRefusal};
 ghost use Rattle.papaya_keys.specs.Sizes.{IsAllowed};
 ghost use Rattle.papaya_keys.specs.Sizes.{IsTooMuch};
 ghost use Rattle.papaya_store.specs.Tables.{table_of, word_at, put, put_in, written};
+ghost use Rattle.papaya_store.specs.Tables.{hint_at, hint_in, hinted, note};
 ghost use Rattle.papaya_store.specs.Store.{pair_of};
 ghost use Rattle.papaya_keys.specs.Hashes.{hash_of};
 ghost use Rattle.papaya_store.specs.Performs.{Exchanges, size_of, Performs, IsMake, Judges};
@@ -60,6 +61,26 @@ fn write_in(table: &mut Table, at: At, word: u64)
                 table.put(i, word);
             }
         }
+    }
+}
+
+/// Writes the hint of a slot of the table at place `k`, where there is such a one.
+#[inline(always)]
+fn note_in(tables: &mut Vec<Table>, k: usize, i: usize, hint: u8)
+    ensures { tables.new.items ≡ hint_in (slice_get tables.old.items k) tables.old.items k i hint }
+{
+    if k < tables.len() {
+        note_slot(&mut tables[k], i, hint);
+    }
+}
+
+/// Writes the hint of a slot of a table, where there is such a slot.
+#[inline(always)]
+fn note_slot(table: &mut Table, i: usize, hint: u8)
+    ensures { table.new ≡ hinted table.old i hint }
+{
+    if i < table.len() {
+        table.set_hint(i, hint);
     }
 }
 
@@ -249,6 +270,27 @@ impl<K: Hash + Eq, V, S: BuildHasher> Store<K, V, S> {
         };
         if n != 0 {
             put_in(&mut self.tables, n as usize - 1, at, word);
+        }
+    }
+
+    /// The hint that stands at a slot, 0 where there is no such slot.
+    #[inline(always)]
+    pub fn hint(&self, n: u64, i: usize) -> u64
+        ensures { result ≡ hint_at self.now.words n i }
+    {
+        match self.table(n) {
+            Some(table) if i < table.len() => table.hint(i) as u64,
+            _ => 0,
+        }
+    }
+
+    /// Writes the hint of a slot that has none, where there is such a slot.
+    #[inline(always)]
+    pub fn note(&mut self, n: u64, i: usize, hint: u8)
+        ensures { self.new ≡ record self.old { words = note self.old.words n i hint } }
+    {
+        if n != 0 {
+            note_in(&mut self.tables, n as usize - 1, i, hint);
         }
     }
 
@@ -540,6 +582,11 @@ impl<K: Hash + Eq + Drop, V: Drop, S: BuildHasher> Store<K, V, S> {
         match ask {
             Ask::Load(at) => Answer::Word(self.word(at)),
             Ask::Exchange(at, old, new) => self.exchange(at, old, new),
+            Ask::LoadHint(n, i) => Answer::Word(self.hint(n, i)),
+            Ask::WriteHint(n, i, hint) => {
+                self.note(n, i, hint);
+                Answer::Ok
+            }
             Ask::SameKey(n) => Answer::Yes(self.same_key(n, &running.key)),
             Ask::ShowNone => self.decide_none(running),
             Ask::ShowPair(n) => self.show(n, running),

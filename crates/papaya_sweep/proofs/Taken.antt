@@ -335,7 +335,7 @@ module _ {K V S H : Type 0} (eq : K → K → Bool) (input : K → List (List �
 
   -- a word has the number of the pair that it names
   number_in : (log : List (Event K V S)) → Lawful log → (t x word : ℕ) → word_in eq hashing b log (Slot t x) ≡ word → (p : Stored K V) → named ((state_of log).slot t x) ≡ Some p → pair_of word ≡ p.index
-  number_in log l t x word stands p names = ap pair_of (sym stands) ∙ (code_pair (G eq input build write finish classes respects b log) Cs (hashed eq input build write finish classes respects b log l).coding ((state_of log).slot t x) p names).0
+  number_in log l t x word stands p names = ap pair_of (sym stands) ∙ (code_pair (G eq input build write finish classes respects b log) Cs (hashed eq input build write finish classes respects b log l).coding ((state_of log).slot t x) p names)
 
   module _ (name : Book) (v0 v log : List (Event K V S)) (t x word new found : ℕ) (pair0 pair : Option (Stored K V)) (stood : IsSlot eq hashing b name t x word v0 pair0) (s : IsSlotTried eq hashing b name t x (Some steps_of_kind.Bury) word new None names.Nothing v found log pair) (is : (found == word) ≡ true) (shown gone : Stored K V) (one : pair0 ≡ Some shown) (other : pair ≡ Some gone) where
     -- the pair that went has the number of the one that stood there

@@ -7,7 +7,7 @@ use Rattle.papaya_call.specs.Answers.{Says}
 use Rattle.papaya_ask.specs.declared.ask.At.{At}
 use Rattle.papaya_ask.specs.declared.ask.At.TheVariants.{Root}
 use Rattle.papaya_ask.specs.declared.ask.Ask.{Ask as Call_ask}
-use Rattle.papaya_ask.specs.declared.ask.Ask.TheVariants.{Load, Exchange as Ask_exchange, SameKey, ShowNone, ShowPair, SizeOf, MakeKey, MakePair, MakeTable, AddToShard, Done as Ask_done}
+use Rattle.papaya_ask.specs.declared.ask.Ask.TheVariants.{Load, Exchange as Ask_exchange, SameKey, ShowNone, ShowPair, SizeOf, MakeKey, MakePair, MakeTable, AddToShard, Done as Ask_done, LoadHint, WriteHint}
 use Rattle.papaya_ask.specs.declared.ask.Answer.{Answer as Call_answer}
 use Rattle.papaya_ask.specs.declared.ask.Answer.TheVariants.{Made as Made_number, Refused as Was_refused}
 use Rattle.papaya_ask.specs.declared.ask.StepKind.{StepKind}
@@ -37,14 +37,14 @@ use Rattle.papaya_store.specs.Asks.{PerformsAsk}
 use Rattle.papaya_store.specs.Copies.{PerformsCopy}
 use Rattle.papaya_store.specs.Performs.{Exchanges, HasKey, HasNoPair, LogsKey, LogsPair, MakesTable, Performs, Refuses, Stays}
 use Rattle.papaya_store.specs.Store.{StoreState, Stored}
-use Rattle.papaya_store.specs.Tables.{Tables, put, table_of, word_at}
+use Rattle.papaya_store.specs.Tables.{Tables, note, put, table_of, word_at}
 use Rattle.papaya_timeline.specs.declared.seat.Seat.{Seat}
 use Rattle.papaya_timeline.specs.Callers.{running}
 use Rattle.papaya_timeline.specs.Core.{IsCore}
 use Rattle.papaya_timeline.specs.Ends.{budget_in, budget_of, exchanges_in}
 use Rattle.papaya_timeline.specs.Kept.{IsCall, IsKept, IsMade, Tale, coding_of, low, places_in, setting_of, slots_in}
 use Rattle.papaya_timeline.proofs.BudgetLaw.{IsFewer, call_fewer, copy_fewer}
-use Rattle.papaya_timeline.proofs.BudgetTables.{changes_at, exchanges_few, placed-changes}
+use Rattle.papaya_timeline.proofs.BudgetTables.{changes_at, exchanges_few, noted-budget, placed-changes}
 use Rattle.papaya_timeline.proofs.KeptExchange.{changes, root_empty}
 use Rattle.papaya_timeline.proofs.KeptMade.{refusal}
 use Rattle.papaya_timeline.proofs.KeptSettings.{IsLawfulKeys, tables_hashed}
@@ -132,6 +132,10 @@ module _ {K V S A : Type 0} (eq : K → K → Bool) (hash : K → ℕ) (law : Is
     pub same_words : store' ≡ store → budget_of store' ≡ budget_of store
     same_words same = ap (λ (y : StoreState K V S). budget_of y) same
 
+    -- and after one that writes a hint
+    pub noted_words : (t x hint : ℕ) → store' ≡ record store { words = note store.words t x hint } → budget_of store' ≡ budget_of store
+    noted_words t x hint same = ap (λ (y : StoreState K V S). budget_of y) same ∙ noted-budget store.words t x hint
+
     -- a table, made or refused
     pub made_or : (told : Call_answer) (slots limit : ℕ) (R : Call_answer → Type 0) → ((n : ℕ) → (budget_of store').tables < (budget_of store).tables → R (Made_number n)) → ((refused : _) → budget_of store' ≡ budget_of store → R (Was_refused refused)) → (Refuses MAX_TABLES (length store.words.tables) told × (store' ≡ store)) ⊎ MakesTable told slots limit store store' → R told
     made_or told slots limit R made none (inl (refuses, same)) = let no = refusal _ _ told refuses in subst R (sym no.1) (none no.0 (same_words same))
@@ -152,6 +156,8 @@ module _ {K V S A : Type 0} (eq : K → K → Bool) (hash : K → ℕ) (law : Is
           (λ hit done. subst (λ y. SpendsCopy (copies.Exchange at old new) (answers.Call y) (budget_of store) (budget_of store')) (sym done.0)
           (subst (λ (y : StoreState K V S). ((budget_of y).tables ≡ (budget_of store).tables) × ((budget_of y).exchanges < (budget_of store).exchanges)) (sym done.1) (spent at old new refl hit)))
           (λ miss lost. subst (λ y. SpendsCopy (copies.Exchange at old new) (answers.Call y) (budget_of store) (budget_of store')) (sym lost.0) (same_words lost.1)))
+      copied_spends (copies.LoadHint t x) spent answer (is, same) = same_words same
+      copied_spends (copies.WriteHint t x hint) spent answer (is, same) = noted_words t x hint same
       copied_spends (copies.SizeOf n) spent answer (is, same) = same_words same
       copied_spends (copies.HashOf n) spent answer (is, fits, same) = same_words same
       copied_spends (copies.SamePair m n) spent answer (is, same) = same_words same
@@ -220,6 +226,8 @@ module _ {K V S A : Type 0} (eq : K → K → Bool) (hash : K → ℕ) (law : Is
       spends_call (SameKey n) e told (is, stays) = same_words store' stays.0
       spends_call ShowNone e told h = same_words store' (none_shown says store r told store' later h).store
       spends_call (ShowPair n) e told h = same_words store' (pair_shown says r.machine.call.task n store r told store' later h).store
+      spends_call (LoadHint t x) e told (is, stays) = same_words store' stays.0
+      spends_call (WriteHint t x hint) e told (is, same, as_was) = noted_words store' t x hint same
       spends_call (SizeOf n) e told (is, stays) = same_words store' stays.0
       spends_call MakeKey e told h = matched (budget_of store' ≡ budget_of store) refuse _ _ h (λ _ none. same_words store' none.1.0) (λ _ makes. key_spends makes)
         where

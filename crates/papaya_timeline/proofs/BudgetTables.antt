@@ -1,5 +1,5 @@
 -- What a write of a word spends, and the making of a table; and how much may be spent at most.
-use Rattle.std.proofs.Common.{◌≡◌, ℕ, suc, ◌+◌, ◌-◌, ◌^◌, ◌==◌, ◌<◌, ◌≤◌, Bool, true, false, cond, List, length, slice_get, slice_set, slice_index, sum_by, All, Some, sym, ◌∙◌, ap, subst, arith, length-set, lt-ltb}
+use Rattle.std.proofs.Common.{◌≡◌, ℕ, suc, ◌+◌, ◌-◌, ◌^◌, ◌==◌, ◌<◌, ◌≤◌, Bool, true, false, cond, List, length, slice_get, slice_set, slice_index, sum_by, All, Some, refl, sym, ◌∙◌, ap, subst, arith, length-set, lt-ltb}
 use Rattle.std.proofs.lemmas.List.Sums.{sum_by-set, sum_by-le}
 use Rattle.std.proofs.Math.ListN.{get_or}
 use Rattle.std.proofs.lemmas.Option.{slice_get_within, get_or_from_slice_get, slice_get-get_or}
@@ -9,10 +9,11 @@ use Rattle.papaya_words.specs.declared.word.Kind.{Kind}
 use Rattle.papaya_words.specs.declared.word.Kind.TheVariants.{Empty, Live, Marked, Copied, Buried, Closed}
 use Rattle.papaya_ask.specs.declared.ask.At.{At}
 use Rattle.papaya_ask.specs.declared.ask.At.TheVariants.{Root, Next, Aborted, Done, Slot}
-use Rattle.papaya_store.specs.Tables.{Tables, table_of, word_in, word_at, written, put, put_at}
-use Rattle.papaya_timeline.specs.Ends.{changes_of, changes_of_word, copies_of, ends_of, exchanges_in, exchanges_of, links_of}
+use Rattle.papaya_store.specs.Tables.{hinted, note, Tables, table_of, word_in, word_at, written, put, put_at}
+use Rattle.papaya_timeline.specs.Ends.{budget_in, changes_of, changes_of_word, copies_of, ends_of, exchanges_in, exchanges_of, links_of}
 use Rattle.papaya_timeline.proofs.CallersLemmas.{differs}
 use Rattle.papaya_timeline.proofs.KeptTables.{IsPlaced, put-table, table_at, table_there}
+use Rattle.papaya_timeline.proofs.KeptHints.{by-table, hinted-same}
 
 -- how often the word at a place may still change, in so many tables
 abbrev pub changes_at : (tables : ℕ) → At → ℕ → ℕ
@@ -70,6 +71,19 @@ placed-changes w (Slot n i) new (t, there, lt) =
     (let slots = sum-set_word changes_of_word t.slots i new lt in
     let is : exchanges_of (written (Slot n i) t new) ≡ exchanges_of (record t { slots = slice_set t.slots i new }) = ap (λ b. exchanges_of (cond b (record t { slots = slice_set t.slots i new }) t)) (lt-ltb i (length t.slots) lt) in
     omega (arith, slots, is)))
+
+-- a hint that is written spends nothing
+pub noted-budget : (w : Tables) (n i hint : ℕ) → budget_in (note w n i hint) ≡ budget_in w
+noted-budget w n i hint = by-table w n i hint (λ v. budget_in v ≡ budget_in w) refl (
+    λ t there.
+    let tables = slice_set w.tables (n - 1) (hinted t i hint) in
+    let many : length tables ≡ length w.tables = length-set w.tables (n - 1) (hinted t i hint) in
+    let same : exchanges_of (hinted t i hint) ≡ exchanges_of t = hinted-same t i hint exchanges_of refl in
+    let sums = sum-set exchanges_of w.tables (n - 1) t (hinted t i hint) (table_there w.tables n t there).1 in
+    let sum : sum_by exchanges_of tables ≡ sum_by exchanges_of w.tables = omega (arith, sums, same) in
+    ap (λ m. record { tables = 2 ^ 32 - m; exchanges = sum_by exchanges_of tables + (m - w.root) }) many
+    ∙ ap (λ m. record { tables = 2 ^ 32 - length w.tables; exchanges = m + (length w.tables - w.root) }) sum
+    )
 
 -- a slot changes thrice at most
 few_changes : (kind : Kind) → changes_of kind ≤ 3

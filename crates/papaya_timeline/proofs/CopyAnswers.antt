@@ -11,7 +11,7 @@ use Rattle.papaya_ask.specs.declared.ask.StepKind.{StepKind}
 use Rattle.papaya_ask.specs.declared.ask.Answer.{Answer as Call_answer}
 use Rattle.papaya_ask.specs.declared.ask.Answer.TheVariants.{Word as Word_read, Exchanged, Found as Found_instead, Yes, Size, Made as Made_number, Refused as Was_refused}
 use Rattle.papaya_ask.specs.declared.copy_ask.CopyAsk.{CopyAsk}
-use Rattle.papaya_ask.specs.declared.copy_ask.CopyAsk.TheVariants.{Load, Exchange as Copy_exchange, SizeOf, HashOf, SamePair, Count, MakeTable}
+use Rattle.papaya_ask.specs.declared.copy_ask.CopyAsk.TheVariants.{Load, Exchange as Copy_exchange, LoadHint, WriteHint, SizeOf, HashOf, SamePair, Count, MakeTable}
 use Rattle.papaya_law.specs.Allows.{Allows}
 use Rattle.papaya_law.specs.Class.{IsOn}
 use Rattle.papaya_law.specs.Code.{Coding}
@@ -28,13 +28,15 @@ use Rattle.papaya_chain_rests.specs.Told.{Hands, IsCopyTold, told_of}
 use Rattle.papaya_store.specs.Copies.{IsHash, PerformsCopy, hash_in, same_keys}
 use Rattle.papaya_store.specs.Performs.{Exchanges, MakesTable, Refuses, size_of}
 use Rattle.papaya_store.specs.Store.{StoreState, Stored, pair_of, stored_in}
-use Rattle.papaya_store.specs.Tables.{table_of, word_at, put}
+use Rattle.papaya_store.specs.Tables.{hint_at, note, table_of, word_at, put}
 use Rattle.papaya_timeline.specs.Kept.{IsMade, slots_in, places_in}
 use Rattle.papaya_timeline.proofs.KeptAnswer.{Stands}
 use Rattle.papaya_timeline.proofs.KeptExchange.{IsCopied_on, copies}
 use Rattle.papaya_timeline.proofs.KeptMade.{refusal}
 use Rattle.papaya_timeline.proofs.KeptTables.{HasMoreTables, IsPlaced, cases_place, grown-same, made-grown, made-there, placed-grown, placed-many, placed-here, placed-other, word-made}
 use Rattle.papaya_timeline.proofs.StoreLemmas.{matched}
+use Rattle.papaya_timeline.proofs.KeptHints.{KeepsHints, made-hints, noted-grown, noted-keeps, noted-many, noted-words, placed-hints}
+use Rattle.papaya_law.specs.Hints.{IsHint}
 
 -- The setting and the coding are those of the store's tables and pairs.
 pub record Suits {Q K V S : Type 0} (eq : K → K → Bool) (hashes : S → K → ℕ) (g : Setting Q (Stored K V)) (c : Coding Q (Stored K V)) (store : StoreState K V S) : Type 0 where
@@ -61,6 +63,7 @@ module _ {Q K V S : Type 0} (g : Setting Q (Stored K V)) (c : Coding Q (Stored K
     pub tables_few : length store.words.tables ≤ MAX_TABLES → length store'.words.tables ≤ MAX_TABLES
     pub grown : HasMoreTables store.words.tables store'.words.tables
     pub coded : (at : At) → word_of g c (run (es ++ made) start) at ≡ word_at store'.words at
+    pub hints : KeepsHints g c now store.words store'.words
     pub there : (t : ℕ) → 0 < t → Comes (run (es ++ made) start) t → IsMade store t
     pub slots : (t x : ℕ) (p : Stored K V) → named ((run (es ++ made) start).slot t x) ≡ Some p → Stands now p
     pub last : (p : Stored K V) → hands'.call.last ≡ Some p → (hands.call.last ≡ Some p) ⊎ Stands now p
@@ -94,6 +97,7 @@ module _ {Q K V S : Type 0} (g : Setting Q (Stored K V)) (c : Coding Q (Stored K
       tables_few = λ h. h;
       grown = grown-same store.words.tables;
       coded = λ at. ap (λ z. word_of g c z at) none_made ∙ coded at;
+      hints = λ n i. inl refl;
       there = λ t some comes. there t some (subst (λ z. Comes z t) none_made comes);
       slots = λ t x p h. (t, x, ap (λ z. named (z.slot t x)) (sym none_made) ∙ h);
       last = last;
@@ -123,6 +127,7 @@ module _ {Q K V S : Type 0} (g : Setting Q (Stored K V)) (c : Coding Q (Stored K
           tables_few = λ h. let many = placed-many store.words at new placed in omega (arith, many, h);
           grown = placed-grown store.words at new placed;
           coded = λ other. ap (λ z. word_of g c z other) to ∙ written_at other;
+          hints = λ n i. inl (placed-hints store.words at new placed n i);
           there = λ t some h. comes t some (subst (λ z. Comes z t) to h);
           slots = λ t y p h. slots t y p (ap (λ z. named (z.slot t y)) (sym to) ∙ h);
           last = last;
@@ -136,6 +141,28 @@ module _ {Q K V S : Type 0} (g : Setting Q (Stored K V)) (c : Coding Q (Stored K
           | inl same ↦ ap (word_of g c (state_after now by)) same ∙ written.here ∙ sym (placed-here store.words at new placed) ∙ ap (word_at (put store.words at new)) (sym same)
           | inr differ ↦ written.others other differ ∙ coded other ∙ sym (placed-other store.words at new placed other differ)
         ]
+
+    -- a hint that was written
+    noted_left : (Tells : List (Exchange (Stored K V)) → Hands (Stored K V) → Type 0) (t x n : ℕ) (a : Answer) (store' : StoreState K V S) → store' ≡ record store { words = note store.words t x n } → Tells [] hands → IsHint g c now t x n → ((u : ℕ) → a ≡ answers.Call (Made_number u) → ⊥) → IsLeft Tells a store'
+    noted_left Tells t x n a store' same told may never = subst (IsLeft Tells a) (sym same) (record {
+      made = [];
+      hands' = hands;
+      told = told;
+      hasher_is = refl;
+      keys_are = refl;
+      pairs_are = refl;
+      sum_is = refl;
+      tables_few = λ h. subst (λ l. l ≤ MAX_TABLES) (sym (noted-many store.words t x n)) h;
+      grown = noted-grown store.words t x n;
+      coded = λ at. ap (λ z. word_of g c z at) none_made ∙ coded at ∙ sym (noted-words store.words t x n at);
+      hints = noted-keeps g c now store.words t x n may;
+      there = λ u some comes. there u some (subst (λ z. Comes z u) none_made comes);
+      slots = λ u y p h. (u, y, ap (λ z. named (z.slot u y)) (sym none_made) ∙ h);
+      last = λ p h. inl h;
+      carried = λ p h. inl h;
+      same_made = refl;
+      opens = λ u is. absurd (never u is);
+    })
 
     -- a table that was made, or refused
     pub table_left : (Tells : List (Exchange (Stored K V)) → Hands (Stored K V) → Type 0) (slots limit : ℕ) (a : Call_answer) (store' : StoreState K V S) → Tells [] hands → (Refuses MAX_TABLES (length store.words.tables) a × (store' ≡ store)) ⊎ MakesTable a slots limit store store' → IsLeft Tells (answers.Call a) store'
@@ -156,6 +183,7 @@ module _ {Q K V S : Type 0} (g : Setting Q (Stored K V)) (c : Coding Q (Stored K
           tables_few = λ h. let more : length (store.words.tables ++ new_table n slots limit ∷ []) ≡ length store.words.tables + 1 = length-append store.words.tables (new_table n slots limit ∷ []) in omega (arith, more, few);
           grown = made-grown store.words n slots limit;
           coded = λ at. ap (λ z. word_of g c z at) none_made ∙ coded at ∙ sym (word-made store.words n slots limit at);
+          hints = λ m i. inl (made-hints store.words n slots limit m i);
           there = λ t some comes. there t some (subst (λ z. Comes z t) none_made comes);
           slots = λ t x p h. (t, x, ap (λ z. named (z.slot t x)) (sym none_made) ∙ h);
           last = λ p h. inl h;
@@ -177,12 +205,14 @@ module _ {Q K V S : Type 0} (g : Setting Q (Stored K V)) (c : Coding Q (Stored K
     told_stood (Done t) p h = inl h
     told_stood (Slot t x) p h = named_last t x p (named (now.slot t x)) refl h
 
-    -- Who asks for this names what is there, and may make the exchange; the table that it follows and the one that it links are there.
+    -- Who asks for this names what is there, and may make the exchange; the table that it follows and the one that it links are there. A hint that it reads, and one that it writes, may be there.
     pub record IsAsker (kind : Option StepKind) (follows : ℕ) (ask : CopyAsk) : Type 0 where
       pub names : AreThere g c now hands.call.last hands.kept ask
       pub may : (at : At) (old new : ℕ) → ask ≡ Copy_exchange at old new → word_of g c now at ≡ old → (e : Exchange (Stored K V)) × IsCopyAsked c kind at new now hands.kept e × Allows g now e × IsWritten g c now at new (state_after now e)
       pub low : (slots limit : ℕ) → ask ≡ MakeTable slots limit → follows ≤ length store.words.tables
       pub links : (behind old t : ℕ) → ask ≡ Copy_exchange (Next behind) old t → IsMade store t
+      pub reads : (t x : ℕ) → ask ≡ LoadHint t x → IsHint g c now t x (hint_at store.words t x)
+      pub writes : (t x n : ℕ) → ask ≡ WriteHint t x n → IsHint g c now t x n
 
     module _ (eq : K → K → Bool) (hashes : S → K → ℕ) (last : (p : Stored K V) → hands.call.last ≡ Some p → pair_of store p.number ≡ Some p) (carried : (p : Stored K V) → hands.kept ≡ Some p → pair_of store p.number ≡ Some p) (suits : Suits eq hashes g c store) (kind : Option StepKind) (follows : ℕ) where
       -- what the asker is told
@@ -246,6 +276,12 @@ module _ {Q K V S : Type 0} (g : Setting Q (Stored K V)) (c : Coding Q (Stored K
           (told_stood at) (λ p h. inl h) refl (λ t made. let f = sym is ∙ made in absurd cc)
       copied_left refuse (Copy_exchange at old new) asker a store' (told, is, h) =
           subst (λ y. IsLeft (Hears (Copy_exchange at old new) y) y store') (sym is) (exchanged at old new asker told store' h)
+      copied_left refuse (LoadHint t x) asker a store' (is, same) =
+          quiet_left (Hears (LoadHint t x) a) a store' hands same
+          ((hint_at store.words t x, asker.reads t x refl, is), (refl, refl))
+          (λ p h. inl h) (λ p h. inl h) refl (λ u made. let f = sym is ∙ made in absurd cc)
+      copied_left refuse (WriteHint t x n) asker a store' (is, same) =
+          noted_left (Hears (WriteHint t x n) a) t x n a store' same (is, (refl, refl)) (asker.writes t x n refl) (λ u made. let f = sym is ∙ made in absurd cc)
       copied_left refuse (SizeOf n) asker a store' (is, same) =
           let words = on_there n asker.names in
           let size : a ≡ answers.Call (Size (g.size n) words.0.limit) = is ∙ ap (λ o. answers.Call (size_of o)) words.1 ∙ ap (λ y. answers.Call (Size y words.0.limit)) (sym (suits.sizes n ∙ ap slots_in words.1)) in

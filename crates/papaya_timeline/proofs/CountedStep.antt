@@ -7,7 +7,7 @@ use Rattle.papaya_call.specs.Answers.{Says}
 use Rattle.papaya_ask.specs.declared.ask.At.{At}
 use Rattle.papaya_ask.specs.declared.ask.At.TheVariants.{Root, Next, Aborted, Done, Slot}
 use Rattle.papaya_ask.specs.declared.ask.Ask.{Ask as Call_ask}
-use Rattle.papaya_ask.specs.declared.ask.Ask.TheVariants.{Load, Exchange as Ask_exchange, SameKey, ShowNone, ShowPair, SizeOf, MakeKey, MakePair, MakeTable, AddToShard, Done as Ask_done}
+use Rattle.papaya_ask.specs.declared.ask.Ask.TheVariants.{Load, Exchange as Ask_exchange, SameKey, ShowNone, ShowPair, SizeOf, MakeKey, MakePair, MakeTable, AddToShard, Done as Ask_done, LoadHint, WriteHint}
 use Rattle.papaya_ask.specs.declared.ask.Answer.{Answer as Call_answer}
 use Rattle.papaya_ask.specs.declared.ask.StepKind.{StepKind}
 use Rattle.papaya_ask.specs.declared.ask.StepKind.TheVariants as kinds
@@ -72,6 +72,8 @@ module _ {K V S A : Type 0} (eq : K → K → Bool) (says : Says K V A) where
   sum_called refuse (SameKey n) s r a s' r' h = quiet s s' h.1.0
   sum_called refuse ShowNone s r a s' r' h = quiet s s' (none_shown says s r a s' r' h).store
   sum_called refuse (ShowPair n) s r a s' r' h = quiet s s' (pair_shown says r.machine.call.task n s r a s' r' h).store
+  sum_called refuse (LoadHint t x) s r a s' r' h = quiet s s' h.1.0
+  sum_called refuse (WriteHint t x hint) s r a s' r' h = same_count s s' (ap (λ (y : StoreState K V S). y.count.sum) h.1)
   sum_called refuse (SizeOf n) s r a s' r' h = quiet s s' h.1.0
   sum_called refuse MakeKey s r a s' r' h = matched (Adds (pos 0) s s') refuse _ _ h (λ _ none. quiet s s' none.1.0) (λ _ makes. key_made s r a s' r' _ _ makes)
   sum_called refuse MakePair s r a s' r' h = matched (Adds (pos 0) s s') refuse _ _ h (λ _ none. quiet s s' none.1.0) (λ _ makes. pair_made s r a s' r' _ _ makes)
@@ -89,6 +91,8 @@ module _ {K V S A : Type 0} (eq : K → K → Bool) (says : Says K V A) where
         matched (Adds (pos 0) s s') (word_at s.words at == old) _ _ h
         (λ _ done. same_count s s' (ap (λ (y : StoreState K V S). y.count.sum) done.1))
         (λ _ lost. quiet s s' lost.1)
+    sum_copied refuse (copies.LoadHint t x) s a s' h = quiet s s' h.1
+    sum_copied refuse (copies.WriteHint t x hint) s a s' h = same_count s s' (ap (λ (y : StoreState K V S). y.count.sum) h.1)
     sum_copied refuse (copies.SizeOf n) s a s' h = quiet s s' h.1
     sum_copied refuse (copies.HashOf n) s a s' h = quiet s s' h.2
     sum_copied refuse (copies.SamePair m n) s a s' h = quiet s s' h.1
@@ -140,6 +144,8 @@ module _ {K P : Type 0} (g : Setting K P) (c : Coding K P) (k : K) (s : State P)
   call_grows hands (SameKey n) a es hands' h = inl (h.1.0, refl)
   call_grows hands ShowNone a es hands' h = inl (h.1.0, refl)
   call_grows hands (ShowPair n) a es hands' h = inl (h.1.0, refl)
+  call_grows hands (LoadHint t x) a es hands' h = inl (h.1.0, refl)
+  call_grows hands (WriteHint t x hint) a es hands' h = inl (h.1.0, refl)
   call_grows hands (SizeOf t) a es hands' h = inl (h.1.0, refl)
   call_grows hands MakeKey a es hands' h = inl (h.1.0, refl)
   call_grows hands MakePair a es hands' (inl h) = inl (h.1.0, refl)
@@ -155,6 +161,8 @@ module _ {K P : Type 0} (g : Setting K P) (c : Coding K P) (k : K) (s : State P)
       (λ _ done. inr (let asked = done.1 in (asked.0, asked.2, copy_grows c kind at new s hands.kept asked.0 asked.1)))
       (λ _ lost. inl (lost.1, refl))
   copied_grows follows hands (copies.Load at) a es hands' h = inl (h.1, refl)
+  copied_grows follows hands (copies.LoadHint t x) a es hands' h = inl (h.1.0, refl)
+  copied_grows follows hands (copies.WriteHint t x hint) a es hands' h = inl (h.1.0, refl)
   copied_grows follows hands (copies.SizeOf t) a es hands' h = inl (h.1.0, refl)
   copied_grows follows hands (copies.HashOf n) a es hands' h = inl (h.1, refl)
   copied_grows follows hands (copies.SamePair m n) a es hands' h = inl (h.1.0, refl)

@@ -5,7 +5,7 @@ use Rattle.papaya_words.specs.declared.limits.TheConstants.{MAX_LOG_LEN}
 use Rattle.papaya_words.specs.declared.probe.Refused.TheVariants.{Capacity, RemoveNothing}
 use Rattle.papaya_call.specs.Answers.{Says}
 use Rattle.papaya_ask.specs.declared.ask.Ask.{Ask as Call_ask}
-use Rattle.papaya_ask.specs.declared.ask.Ask.TheVariants.{Load, Exchange as Ask_exchange, SameKey, ShowNone, ShowPair, SizeOf, MakeKey, MakePair, MakeTable, AddToShard, Done as Ask_done}
+use Rattle.papaya_ask.specs.declared.ask.Ask.TheVariants.{Load, Exchange as Ask_exchange, SameKey, ShowNone, ShowPair, SizeOf, MakeKey, MakePair, MakeTable, AddToShard, Done as Ask_done, LoadHint, WriteHint}
 use Rattle.papaya_ask.specs.declared.ask.Answer.{Answer as Call_answer}
 use Rattle.papaya_ask.specs.declared.ask.Answer.TheVariants.{Op, Refused as Was_refused}
 use Rattle.papaya_ask.specs.declared.ask.OpKind.{OpKind}
@@ -72,6 +72,8 @@ module _ {K V S A : Type 0} (eq : K → K → Bool) (says : Says K V A) (refuse 
       by_task tasks.Compute (inr (p, there, (x, op, y, has, gives, e, same, later))) = cc
       by_task tasks.Get (e, stays) = cc
       by_task (tasks.Insert replace) (e, stays) = cc
+  call_unrefused (LoadHint t x) (e, stays) is = cc
+  call_unrefused (WriteHint t x hint) (e, same, as_was) is = cc
   call_unrefused (SizeOf n) (e, stays) is = size_unrefused (table_of s.words.tables n) (sym e ∙ is)
   call_unrefused MakeKey h is =
       matched ⊥ refuse _ _ h
@@ -109,6 +111,8 @@ module _ {K V S : Type 0} (eq : K → K → Bool) (hash : S → K → ℕ) (refu
       matched ⊥ (word_at s.words at == old) _ _ ex
       (λ _ done. let f = done.0 in cc)
       (λ _ lost. let f = lost.0 in cc)
+  copy_unrefused (copies.LoadHint t x) (e, same) is = cc
+  copy_unrefused (copies.WriteHint t x hint) (e, same) is = cc
   copy_unrefused (copies.SizeOf t) (e, same) is = size_unrefused (table_of s.words.tables t) (let f : answers.Call (size_of (table_of s.words.tables t)) ≡ answers.Call (Was_refused RemoveNothing) = sym e ∙ is in cc)
   copy_unrefused (copies.HashOf n) (e, hashes, same) is = hash_unrefused (pair_of s n) (sym e ∙ is)
     where

@@ -4,7 +4,7 @@ use Rattle.papaya_ask.specs.declared.ask.At.{At}
 use Rattle.papaya_call.specs.Answers.{op_kind}
 use Rattle.papaya_call.specs.declared.answers.Operation.{Operation}
 use Rattle.papaya_ask.specs.declared.ask.Ask.{Ask}
-use Rattle.papaya_ask.specs.declared.ask.Ask.TheVariants.{Load, Exchange as Ask_exchange, SameKey, ShowNone, ShowPair, SizeOf, MakeKey, MakePair, MakeTable, AddToShard, Done as Ask_done}
+use Rattle.papaya_ask.specs.declared.ask.Ask.TheVariants.{Load, Exchange as Ask_exchange, SameKey, ShowNone, ShowPair, SizeOf, MakeKey, MakePair, MakeTable, AddToShard, Done as Ask_done, LoadHint, WriteHint}
 use Rattle.papaya_ask.specs.declared.ask.Answer.{Answer}
 use Rattle.papaya_ask.specs.declared.ask.Answer.TheVariants.{Word as Word_read, Exchanged, Found as Found_instead, Yes, Op, Size, Made as Made_number, Ok as Ok_done, Refused as Was_refused}
 use Rattle.papaya_ask.specs.declared.ask.OpKind.{OpKind}
@@ -75,6 +75,8 @@ module _ {K P : Type 0} (g : Setting K P) (c : Coding K P) (k : K) (s : State P)
       (λ (none : answer ≡ Ok_done). inl (h.1.0, ap (shown_event (Some n)) none))
       other)
       h.0
+  told_cases (LoadHint t x) answer es hands' h = inl (h.1.0, refl)
+  told_cases (WriteHint t x hint) answer es hands' h = inl (h.1.0, refl)
   told_cases (SizeOf t) answer es hands' h = inl (h.1.0, refl)
   told_cases MakeKey answer es hands' h = inl (h.1.0, refl)
   told_cases MakePair answer es hands' h = ⊎_elim (λ quiet. inl (quiet.1.0, refl)) (λ made. inl (made.3, refl)) h
@@ -138,6 +140,8 @@ event_cases P other changed moved asked shown kind (Ask_exchange at old new) ans
 event_cases P other changed moved asked shown kind (SameKey n) answer = other
 event_cases P other changed moved asked shown kind ShowNone answer = shown_cases P other asked None (shown None) answer
 event_cases P other changed moved asked shown kind (ShowPair n) answer = shown_cases P other asked (Some n) (shown (Some n)) answer
+event_cases P other changed moved asked shown kind (LoadHint t x) answer = other
+event_cases P other changed moved asked shown kind (WriteHint t x hint) answer = other
 event_cases P other changed moved asked shown kind (SizeOf n) answer = other
 event_cases P other changed moved asked shown kind MakeKey answer = other
 event_cases P other changed moved asked shown kind MakePair answer = other
@@ -182,6 +186,8 @@ event_none before kind ShowNone answer e = by_answer answer e
     by_answer Ok_done e = inl e
     by_answer (Was_refused refused) e = inl e
 event_none before kind (ShowPair n) answer e = inl (sym (shown_cases (λ y. none_by y before ≡ before) refl (λ m agrees. refl) (Some n) (λ op. refl) answer) ∙ e)
+event_none before kind (LoadHint t x) answer e = inl e
+event_none before kind (WriteHint t x hint) answer e = inl e
 event_none before kind (SizeOf n) answer e = inl e
 event_none before kind MakeKey answer e = inl e
 event_none before kind MakePair answer e = inl e
@@ -229,6 +235,8 @@ event_change before kind (Ask_exchange at old new) answer once = by_answer answe
 event_change before kind (SameKey n) answer once = refl
 event_change before kind ShowNone answer once = shown_cases (λ y. change_by y before ≡ before) refl (λ m agrees. refl) None (λ op. refl) answer
 event_change before kind (ShowPair n) answer once = shown_cases (λ y. change_by y before ≡ before) refl (λ m agrees. refl) (Some n) (λ op. refl) answer
+event_change before kind (LoadHint t x) answer once = refl
+event_change before kind (WriteHint t x hint) answer once = refl
 event_change before kind (SizeOf n) answer once = refl
 event_change before kind MakeKey answer once = refl
 event_change before kind MakePair answer once = refl
@@ -243,6 +251,8 @@ unchanged_before before kind (Ask_exchange at old new) answer once e = once at o
 unchanged_before before kind (SameKey n) answer once e = e
 unchanged_before before kind ShowNone answer once e = e
 unchanged_before before kind (ShowPair n) answer once e = e
+unchanged_before before kind (LoadHint t x) answer once e = e
+unchanged_before before kind (WriteHint t x hint) answer once e = e
 unchanged_before before kind (SizeOf n) answer once e = e
 unchanged_before before kind MakeKey answer once e = e
 unchanged_before before kind MakePair answer once e = e

@@ -47,6 +47,8 @@ module _ {K V S : Type 0} (eq : K → K → Bool) (hash : S → K → ℕ) (refu
   copy_keys (copies.Load at) s a s' (e, same) = ap (λ (y : StoreState K V S). y.keys) same
   copy_keys (copies.Exchange at old new) s a s' (told, e, ex) =
       matched (s'.keys ≡ s.keys) (word_at s.words at == old) _ _ ex (λ _ done. ap (λ (y : StoreState K V S). y.keys) done.1) (λ _ lost. ap (λ (y : StoreState K V S). y.keys) lost.1)
+  copy_keys (copies.LoadHint t x) s a s' (e, same) = ap (λ (y : StoreState K V S). y.keys) same
+  copy_keys (copies.WriteHint t x hint) s a s' (e, same) = ap (λ (y : StoreState K V S). y.keys) same
   copy_keys (copies.SizeOf t) s a s' (e, same) = ap (λ (y : StoreState K V S). y.keys) same
   copy_keys (copies.HashOf n) s a s' (e, hashes, same) = ap (λ (y : StoreState K V S). y.keys) same
   copy_keys (copies.SamePair m n) s a s' (e, same) = ap (λ (y : StoreState K V S). y.keys) same

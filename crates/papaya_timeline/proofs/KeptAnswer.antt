@@ -34,6 +34,7 @@ use Rattle.papaya_store.specs.Performs.{key_at, own_key}
 use Rattle.papaya_store.specs.Store.{StoreState, Stored, pair_of}
 use Rattle.papaya_store.specs.Tables.{put, word_at}
 use Rattle.papaya_timeline.proofs.KeptTables.{HasMoreTables, IsPlaced, cases_place, grown-same, placed-grown, placed-many, placed-here, placed-other}
+use Rattle.papaya_timeline.proofs.KeptHints.{KeepsHints, placed-hints}
 
 -- the pair stands in a slot
 abbrev pub Stands : {P : Type 0} → State P → P → Type 0
@@ -64,6 +65,7 @@ module _ {Q K V S A : Type 0} (g : Setting Q (Stored K V)) (c : Coding Q (Stored
     pub grown : HasMoreTables store.words.tables store'.words.tables
     -- the words are those that the exchanges leave
     pub coded : (at : At) → word_of g c (run (es ++ made) start) at ≡ word_at store'.words at
+    pub hints : KeepsHints g c words_now store.words store'.words
     pub there : (t : ℕ) → 0 < t → Comes (run (es ++ made) start) t → IsMade store t
     -- a pair that a slot names stood in one before, or is one that the call made
     pub slots : (t x : ℕ) (p : Stored K V) → named ((run (es ++ made) start).slot t x) ≡ Some p → Stands words_now p ⊎ IsOneOf tale.hands.call.made p
@@ -85,6 +87,7 @@ module _ {Q K V S A : Type 0} (g : Setting Q (Stored K V)) (c : Coding Q (Stored
     pub tables_few : length store.words.tables ≤ MAX_TABLES → length store'.words.tables ≤ MAX_TABLES
     pub grown : HasMoreTables store.words.tables store'.words.tables
     pub words : (at : At) → word_at store'.words at ≡ word_at store.words at
+    pub hints : KeepsHints g c words_now store.words store'.words
 
   -- What it tells of pairs.
   pub record HasHands (store' : StoreState K V S) (hands : Hands (Stored K V)) : Type 0 where
@@ -130,6 +133,7 @@ module _ {Q K V S A : Type 0} (g : Setting Q (Stored K V)) (c : Coding Q (Stored
       tables_few = logs.tables_few;
       grown = logs.grown;
       coded = λ at. ap (λ z. word_of g c z at) none_made ∙ coded at ∙ sym (logs.words at);
+      hints = logs.hints;
       there = λ t some comes. there t some (subst (λ z. Comes z t) none_made comes);
       slots = λ t x p h. inl (t, x, ap (λ z. named (z.slot t x)) (sym none_made) ∙ h);
       unchanged = λ none. (sym still ∙ sym (changed ask e a [] hands told) ∙ none, λ t x p h. (t, x, ap (λ z. named (z.slot t x)) (sym none_made) ∙ h));
@@ -141,7 +145,7 @@ module _ {Q K V S A : Type 0} (g : Setting Q (Stored K V)) (c : Coding Q (Stored
 
     -- the logs as they were, but for the count
     pub same_logs : own_key store r ≡ own → (count : Count) → HasLogs key (record store { count = count }) r
-    same_logs owns count = record { keys = λ at k h. h; own_is = owns; logged = λ n p h. h; longer = omega arith; few = λ h. h; tables_few = λ h. h; grown = grown-same store.words.tables; words = λ at. refl }
+    same_logs owns count = record { keys = λ at k h. h; own_is = owns; logged = λ n p h. h; longer = omega arith; few = λ h. h; tables_few = λ h. h; grown = grown-same store.words.tables; words = λ at. refl; hints = λ n i. inl refl }
 
     -- an answer that leaves words, logs and call, but for the count
     pub quiet : own_key store r ≡ own → (ask : Ask) → ask_of r.machine ≡ ask → (a : Answer) (store' : StoreState K V S) (later : Running K V A) (hands : Hands (Stored K V)) (count : Count) → store' ≡ record store { count = count } → later ≡ r
@@ -183,6 +187,7 @@ module _ {Q K V S A : Type 0} (g : Setting Q (Stored K V)) (c : Coding Q (Stored
           tables_few = λ h. let many = placed-many store.words at new placed in omega (arith, many, h);
           grown = placed-grown store.words at new placed;
           coded = λ other. ap (λ z. word_of g c z other) to ∙ written_at other;
+          hints = λ n i. inl (placed-hints store.words at new placed n i);
           there = λ t some h. comes t some (subst (λ z. Comes z t) to h);
           slots = λ t y p h. slots t y p (ap (λ z. named (z.slot t y)) (sym to) ∙ h);
           unchanged = λ none. let u = unchanged none in (u.0, λ t y p h. u.1 t y p (ap (λ z. named (z.slot t y)) (sym to) ∙ h));

@@ -34,7 +34,7 @@ use Rattle.papaya_timeline.specs.Core.{CoreState}
 use Rattle.papaya_timeline.specs.Kept.{HasAnswers, IsKept, IsCall, IsResizing, IsVisiting, Tale, is_blocking, setting_of, coding_of, low, begun_tales, visit_tale}
 use Rattle.papaya_store.specs.New.{HasCapacity}
 use Rattle.papaya_store.specs.Store.{StoreState, Stored}
-use Rattle.papaya_store.specs.Tables.{Tables, table_of, word_at, word_in}
+use Rattle.papaya_store.specs.Tables.{Tables, hint_at, slot_hint, table_of, word_at, word_in}
 use Rattle.papaya_timeline.proofs.CallersLemmas.{differs, resizing-elsewhere, resizing-here, resizing-with_seat, running-elsewhere, running-here, running-with_seat, same_item, visiting-elsewhere, visiting-here, visiting-with_seat}
 use Rattle.papaya_timeline.proofs.CoreLemmas.{cases_same}
 use Rattle.papaya_timeline.proofs.KeptClosures.{begun_answers}
@@ -42,6 +42,7 @@ use Rattle.papaya_timeline.proofs.KeptTables.{word-made}
 use Rattle.papaya_timeline.proofs.VisitBegins.{visit_begins}
 use Rattle.papaya_chain_rests.specs.VisitTold as visits
 use Rattle.papaya_store.specs.declared.visits.Visiting.{Visiting}
+use Rattle.papaya_timeline.proofs.KeptHints.{made-hints}
 
 -- a core's machines resize as its setting does
 mode_of : (mode : ResizeMode) → IsModeOf mode (is_blocking mode)
@@ -55,6 +56,10 @@ no_words (Next n) = elim (n == 0) as (λ b. 0 ≡ word_in (λ t. t.next) (cond b
 no_words (Aborted n) = elim (n == 0) as (λ b. 0 ≡ word_in (λ t. t.aborted) (cond b None (slice_get {X = TableWords} [] (n - 1)))) [ true ↦ refl | false ↦ refl ]
 no_words (Done n) = elim (n == 0) as (λ b. 0 ≡ word_in (λ t. t.done) (cond b None (slice_get {X = TableWords} [] (n - 1)))) [ true ↦ refl | false ↦ refl ]
 no_words (Slot n i) = elim (n == 0) as (λ b. 0 ≡ word_in (λ t. slice_index t.slots i) (cond b None (slice_get {X = TableWords} [] (n - 1)))) [ true ↦ refl | false ↦ refl ]
+
+-- nor a hint
+no_hints : (n i : ℕ) → hint_at (record { root = 0; tables = [] }) n i ≡ 0
+no_hints n i = elim (n == 0) as (λ b. word_in (λ t. slot_hint t i) (cond b None (slice_get {X = TableWords} [] (n - 1))) ≡ 0) [ true ↦ refl | false ↦ refl ]
 
 module _ {K V S A : Type 0} (eq : K → K → Bool) (hash : K → ℕ) where
   module _ (s : CoreState K V S A) (caller : ℕ) (call : Call K V A) (fits : (k : K) → key_of call ≡ Some k → hash k < 2 ^ 64) (chunked : IsChunked s.mode) (es : List (Exchange (Stored K V))) (tales : ℕ → Tale K V) (kept : IsKept eq hash s.mode s.store s.callers es tales) where
@@ -174,7 +179,7 @@ module _ {K V S A : Type 0} (eq : K → K → Bool) (hash : K → ℕ) where
 
     -- the core after the begin
     pub begin_kept : IsKept eq hash s.mode s.store callers' es tales'
-    begin_kept = record { allowed = kept.allowed; coded = kept.coded; made = kept.made; logged = kept.logged; few = kept.few; tables_few = kept.tables_few; calls = calls; resizers = resizers; visitors = visitors; apart = apart }
+    begin_kept = record { allowed = kept.allowed; coded = kept.coded; hints = kept.hints; made = kept.made; logged = kept.logged; few = kept.few; tables_few = kept.tables_few; calls = calls; resizers = resizers; visitors = visitors; apart = apart }
 
 module _ {K V S : Type 0} (A : Type 0) (eq : K → K → Bool) (hash : K → ℕ) where
   module _ (mode : ResizeMode) (store : StoreState K V S) (pairs : store.pairs ≡ []) (tales : ℕ → Tale K V) where
@@ -190,6 +195,7 @@ module _ {K V S : Type 0} (A : Type 0) (eq : K → K → Bool) (hash : K → ℕ
     empty_kept = record {
       allowed = tt;
       coded = coded;
+      hints = no_hints;
       made = λ t some comes. absurd (elim comes [ inl first ↦ (let f : 0 ≡ t = first in omega arith) | inr (u, next) ↦ (let f : 0 ≡ t = next in omega arith) ]);
       logged = λ t x p l. absurd cc;
       few = few;
@@ -212,6 +218,7 @@ module _ {K V S : Type 0} (A : Type 0) (eq : K → K → Bool) (hash : K → ℕ
     opened_kept len limit = record {
       allowed = ((refl, omega arith), tt);
       coded = coded;
+      hints = λ n i. made-hints (record { root = 0; tables = [] }) 1 len limit n i ∙ no_hints n i;
       made = λ t some comes. elim comes [
         | inl first ↦ (new_table 1 len limit, subst (λ y. table_of (new_table 1 len limit ∷ []) y ≡ Some (new_table 1 len limit)) first refl)
         | inr (u, next) ↦ absurd (let f : 0 ≡ t = next in omega arith)

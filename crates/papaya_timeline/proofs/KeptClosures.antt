@@ -2,7 +2,7 @@
 use Rattle.std.proofs.Common.{◌≡◌, ℕ, Bool, true, false, Option, None, Some, ◌⊎◌, inl, inr, refl, sym, ◌∙◌, ap, subst}
 use Rattle.papaya_call.specs.Answers.{Says}
 use Rattle.papaya_ask.specs.declared.ask.Ask.{Ask as Call_ask}
-use Rattle.papaya_ask.specs.declared.ask.Ask.TheVariants.{Load, Exchange, SameKey, ShowNone, ShowPair, SizeOf, MakeKey, MakePair, MakeTable, AddToShard, Done as Ask_done}
+use Rattle.papaya_ask.specs.declared.ask.Ask.TheVariants.{Load, Exchange, SameKey, ShowNone, ShowPair, SizeOf, MakeKey, MakePair, MakeTable, AddToShard, Done as Ask_done, LoadHint, WriteHint}
 use Rattle.papaya_ask.specs.declared.ask.Answer.{Answer as Call_answer}
 use Rattle.papaya_ask.specs.declared.call.Call.{Call}
 use Rattle.papaya_ask.specs.declared.call.Call.TheVariants.{Get, Insert, TryInsert, RemoveIf, Compute, Reserve, CopyAll, Clear, Retain, Walk}
@@ -67,6 +67,8 @@ module _ {K V S A : Type 0} (eq : K → K → Bool) (says : Says K V A) where
   answers_performed refuse (SameKey n) s r a s' r' h has = same_call r r' has h.1.1
   answers_performed refuse ShowNone s r a s' r' h has = shown_answers s r a s' r' (none_shown says s r a s' r' h) has
   answers_performed refuse (ShowPair n) s r a s' r' h has = shown_answers s r a s' r' (pair_shown says r.machine.call.task n s r a s' r' h) has
+  answers_performed refuse (LoadHint t x) s r a s' r' h has = same_call r r' has h.1.1
+  answers_performed refuse (WriteHint t x hint) s r a s' r' h has = same_call r r' has h.2
   answers_performed refuse (SizeOf n) s r a s' r' h has = same_call r r' has h.1.1
   answers_performed refuse MakeKey s r a s' r' h has = matched (HasAnswers r'.answers) refuse _ _ h (λ _ none. same_call r r' has none.1.1) (λ _ makes. key_logged s r a s' r' _ _ has makes)
   answers_performed refuse MakePair s r a s' r' h has = matched (HasAnswers r'.answers) refuse _ _ h (λ _ none. same_call r r' has none.1.1) (λ _ makes. pair_logged s r a s' r' _ _ has makes)

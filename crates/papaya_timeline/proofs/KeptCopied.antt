@@ -14,14 +14,14 @@ use Rattle.papaya_chain.specs.declared.ask.Answer.{Answer}
 use Rattle.papaya_chain.specs.Machine.{ask_of, follows_of, kind_of_ask}
 use Rattle.papaya_chain_rests.specs.Goes.{link_in}
 use Rattle.papaya_chain_rests.specs.Rests.{Rests}
-use Rattle.papaya_chain_rests.proofs.Names.{copies_there}
+use Rattle.papaya_chain_rests.proofs.Names.{copies_may_hint, copies_there}
 use Rattle.papaya_copy.specs.declared.link.Link.TheVariants.{Linking}
 use Rattle.papaya_store.specs.declared.pairs.Running.{Running}
 use Rattle.papaya_timeline.specs.Kept.{IsMade, Tale}
 use Rattle.papaya_store.specs.Copies.{PerformsCopy}
 use Rattle.papaya_store.specs.Performs.{own_key}
 use Rattle.papaya_store.specs.Store.{StoreState, Stored, pair_of}
-use Rattle.papaya_store.specs.Tables.{word_at}
+use Rattle.papaya_store.specs.Tables.{hint_at, word_at}
 use Rattle.papaya_timeline.proofs.FollowedTables.{machine_follows}
 use Rattle.papaya_timeline.proofs.KeptAnswer.{IsAnswered, changed}
 use Rattle.papaya_timeline.proofs.KeptTables.{table_low}
@@ -34,6 +34,7 @@ use Rattle.papaya_words.specs.declared.limits.TheConstants.{MAX_LOG_LEN}
 use Rattle.papaya_rests.specs.Copier.{AreThere}
 use Rattle.papaya_rests.specs.Told.{IsOneOf}
 pub use Rattle.papaya_timeline.proofs.CopyAnswers.{Suits}
+use Rattle.papaya_law.specs.Hints.{IsHint}
 
 module _ {Q K V S A : Type 0} (eq : K → K → Bool) (hashes : S → K → ℕ) (g : Setting Q (Stored K V)) (c : Coding Q (Stored K V)) (store : StoreState K V S) (r : Running K V A) (es : List (Exchange (Stored K V))) (tale : Tale K V) (own : Option K)
     (hashed : IsHashed g c) (key : Q)
@@ -41,6 +42,7 @@ module _ {Q K V S A : Type 0} (eq : K → K → Bool) (hashes : S → K → ℕ)
     (rests : Rests g c tale.begun tale.since key r.machine tale.hands)
     (coded : (at : At) → word_of g c (run es start) at ≡ word_at store.words at)
     (there : (t : ℕ) → 0 < t → Comes (run es start) t → IsMade store t)
+    (hints : (t x : ℕ) → IsHint g c (run es start) t x (hint_at store.words t x))
     (last : (p : Stored K V) → tale.hands.call.last ≡ Some p → pair_of store p.number ≡ Some p)
     (carried : (p : Stored K V) → tale.hands.kept ≡ Some p → pair_of store p.number ≡ Some p)
     (opens : (t : ℕ) → ask_of r.machine ≡ asks.Call (Ask_exchange Root 0 t) → IsMade store t)
@@ -61,6 +63,8 @@ module _ {Q K V S A : Type 0} (eq : K → K → Bool) (hashes : S → K → ℕ)
         let words = on_there g c store r es tale own hashed key split may rests coded there opens links owns suits.sizes (follows_of r.machine) on in
         table_low store.words.tables (follows_of r.machine) words.0 words.1;
     links = λ behind old t is. links behind t (machine_links r.machine behind old t (e ∙ ap asks.Copy is));
+    reads = λ t x is. hints t x;
+    writes = λ t x n is. subst (λ l. IsHint g c (run l start) t x n) split (copies_may_hint g c hashed tale.begun tale.since may key r.machine tale.hands rests t x n (e ∙ ap asks.Copy is));
   }
 
   -- each ask
@@ -79,6 +83,7 @@ module _ {Q K V S A : Type 0} (eq : K → K → Bool) (hashes : S → K → ℕ)
         tables_few = left.tables_few;
         grown = left.grown;
         coded = left.coded;
+        hints = left.hints;
         there = left.there;
         slots = λ t x p h. inl (left.slots t x p h);
         unchanged = λ none. (sym (changed g c store r es tale own hashed key rests coded there (asks.Copy ask) e a left.made left.hands' left.told) ∙ none, left.slots);

@@ -4,7 +4,7 @@ use Rattle.std.specs.Cmp.{IsEquivalence}
 use Rattle.papaya_words.specs.declared.probe.ResizeMode.{ResizeMode}
 use Rattle.papaya_call.specs.Answers.{Says}
 use Rattle.papaya_ask.specs.declared.ask.Ask as call_asks
-use Rattle.papaya_ask.specs.declared.ask.Ask.TheVariants.{Load, Exchange as Ask_exchange, SameKey, ShowNone, ShowPair, SizeOf, MakeKey, MakePair, MakeTable, AddToShard, Done as Ask_done}
+use Rattle.papaya_ask.specs.declared.ask.Ask.TheVariants.{Load, Exchange as Ask_exchange, SameKey, ShowNone, ShowPair, SizeOf, MakeKey, MakePair, MakeTable, AddToShard, Done as Ask_done, LoadHint, WriteHint}
 use Rattle.papaya_ask.specs.declared.ask.Answer as call_answers
 use Rattle.papaya_ask.specs.declared.ask.Answer.TheVariants.{Exchanged, Found as Found_instead}
 use Rattle.papaya_ask.specs.declared.call.Call.{Call}
@@ -58,6 +58,8 @@ module _ {K V S A : Type 0} (eq : K → K → Bool) (says : Says K V A) where
   call-hasher refuse (SameKey n) s r a s' r' (e, stays) = stays-hasher s r s' r' stays
   call-hasher refuse ShowNone s r a s' r' h = ap (λ (y : StoreState K V S). y.hasher) (none_shown says s r a s' r' h).store
   call-hasher refuse (ShowPair n) s r a s' r' h = ap (λ (y : StoreState K V S). y.hasher) (pair_shown says r.machine.call.task n s r a s' r' h).store
+  call-hasher refuse (LoadHint t x) s r a s' r' (e, stays) = stays-hasher s r s' r' stays
+  call-hasher refuse (WriteHint t x hint) s r a s' r' (e, same, moved) = ap (λ (y : StoreState K V S). y.hasher) same
   call-hasher refuse (SizeOf n) s r a s' r' (e, stays) = stays-hasher s r s' r' stays
   call-hasher refuse MakeKey s r a s' r' h =
       matched (s'.hasher ≡ s.hasher) refuse _ _ h (λ _ none. stays-hasher s r s' r' none.1)
@@ -78,6 +80,8 @@ module _ {K V S : Type 0} (eq : K → K → Bool) (hash : S → K → ℕ) where
   copy-hasher refuse (copies.Exchange at old new) s a s' (told, is, h) =
       matched (s'.hasher ≡ s.hasher) (word_at s.words at == old) _ _ h
       (λ _ done. ap (λ (y : StoreState K V S). y.hasher) done.1) (λ _ lost. ap (λ (y : StoreState K V S). y.hasher) lost.1)
+  copy-hasher refuse (copies.LoadHint t x) s a s' (is, same) = ap (λ (y : StoreState K V S). y.hasher) same
+  copy-hasher refuse (copies.WriteHint t x hint) s a s' (is, same) = ap (λ (y : StoreState K V S). y.hasher) same
   copy-hasher refuse (copies.SizeOf n) s a s' (is, same) = ap (λ (y : StoreState K V S). y.hasher) same
   copy-hasher refuse (copies.HashOf n) s a s' (is, hashed, same) = ap (λ (y : StoreState K V S). y.hasher) same
   copy-hasher refuse (copies.SamePair m n) s a s' (is, same) = ap (λ (y : StoreState K V S). y.hasher) same

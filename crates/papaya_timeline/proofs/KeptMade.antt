@@ -33,6 +33,7 @@ use Rattle.papaya_store.specs.Tables.{table_of, word_at}
 use Rattle.papaya_timeline.proofs.KeptAnswer.{IsAnswered, Tells, own_told, quiet, same_hands, unexchanged}
 use Rattle.papaya_timeline.proofs.KeptLogs.{key_at-more, pair-more_keys, pair-more_pairs}
 use Rattle.papaya_timeline.proofs.KeptTables.{grown-same, get-append_last, made-grown, made-there, word-made}
+use Rattle.papaya_timeline.proofs.KeptHints.{made-hints}
 
 -- nothing was made: it was refused
 pub refusal : (most count : ℕ) (a : Call_answer) → Refuses most count a → (refused : Refused) × (a ≡ Was_refused refused)
@@ -92,6 +93,7 @@ module _ {Q K V S A : Type 0} (g : Setting Q (Stored K V)) (c : Coding Q (Stored
         tables_few = λ h. h;
         grown = grown-same store.words.tables;
         words = λ at. refl;
+        hints = λ m i. inl refl;
       })
       (same_hands g c store r es tale own longer) (λ t is' which. elim which [ inl (slots, limit, f) ↦ absurd cc | inr (slots, limit, f) ↦ absurd cc ])))
 
@@ -119,6 +121,7 @@ module _ {Q K V S A : Type 0} (g : Setting Q (Stored K V)) (c : Coding Q (Stored
         tables_few = λ h. h;
         grown = grown-same store.words.tables;
         words = λ at. refl;
+        hints = λ m i. inl refl;
       })
       (record {
         last = λ p h. inl h;
@@ -147,6 +150,7 @@ module _ {Q K V S A : Type 0} (g : Setting Q (Stored K V)) (c : Coding Q (Stored
         tables_few = λ h. let more : length (store.words.tables ++ new_table n slots limit ∷ []) ≡ length store.words.tables + 1 = length-append store.words.tables (new_table n slots limit ∷ []) in omega (arith, more, few);
         grown = made-grown store.words n slots limit;
         words = word-made store.words n slots limit;
+        hints = λ m i. inl (made-hints store.words n slots limit m i);
       })
       (same_hands g c store r es tale own wider)
       (λ t is' which. let f : answers.Call (Made_number n) ≡ answers.Call (Made_number t) = sym (ap answers.Call is) ∙ is' in let g : n ≡ t = cc in (new_table n slots limit, subst (λ y. table_of wider.words.tables y ≡ Some (new_table n slots limit)) g (made-there store.words n slots limit)))))

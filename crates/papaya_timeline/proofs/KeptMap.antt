@@ -42,7 +42,7 @@ module _ {K V S : Type 0} (eq : K → K → Bool) (hash : K → ℕ) (mode : Res
 
   -- a pair that is there, by the number that its word has
   pair_listed : (w : Word (Stored K V)) (p : Stored K V) → named w ≡ Some p → IsLogged store p → listed (pair_of store (number_of (code g c w))) ≡ p ∷ []
-  pair_listed w p names logged = ap (λ n. listed (pair_of store n)) (code_pair g c hashed.coding w p names).0 ∙ ap listed logged
+  pair_listed w p names logged = ap (λ n. listed (pair_of store n)) (code_pair g c hashed.coding w p names) ∙ ap listed logged
 
   -- the pair of a word
   kind_pairs : (w : Word (Stored K V)) → ((p : Stored K V) → named w ≡ Some p → IsLogged store p) → pairs_of_kind store (kind w) (number_of (code g c w)) ≡ pairs_of_word w

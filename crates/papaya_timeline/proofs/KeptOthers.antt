@@ -1,5 +1,5 @@
 -- A step of one caller leaves what all others rest on, and so keeps a core's words to the law of exchanges.
-use Rattle.std.proofs.Common.{◌≡◌, ◌≢◌, ℕ, ◌<◌, ◌≤◌, Bool, cond, List, ◌++◌, length, Option, Some, None, ◌⊎◌, inl, inr, sym, ◌∙◌, ap, subst, append_assoc, eq-eqb}
+use Rattle.std.proofs.Common.{◌≡◌, ◌≢◌, ℕ, ◌<◌, ◌≤◌, Bool, cond, List, ◌++◌, length, Option, Some, None, ◌⊎◌, inl, inr, refl, sym, ◌∙◌, ap, subst, append_assoc, eq-eqb}
 use Rattle.papaya_words.specs.declared.limits.TheConstants.{MAX_LOG_LEN, MAX_TABLES}
 use Rattle.papaya_ask.specs.declared.ask.At.{At}
 use Rattle.papaya_law.specs.Allows.{AllAllowed}
@@ -24,7 +24,7 @@ use Rattle.papaya_store.specs.declared.pairs.KeyOf.{KeyOf}
 use Rattle.papaya_store.specs.declared.pairs.Running.{Running}
 use Rattle.papaya_store.specs.Performs.{key_at}
 use Rattle.papaya_store.specs.Store.{Stored, pair_of}
-use Rattle.papaya_store.specs.Tables.{word_at}
+use Rattle.papaya_store.specs.Tables.{hint_at, word_at}
 use Rattle.papaya_timeline.specs.declared.seat.Seat.{Seat}
 use Rattle.papaya_timeline.specs.declared.seat.Work.{Work}
 use Rattle.papaya_timeline.specs.declared.seat.Work.TheVariants as works
@@ -41,6 +41,11 @@ use Rattle.papaya_chain_rests.specs.Visits.{RestsVisitor}
 use Rattle.papaya_chain_rests.proofs.VisitStays.{state_stays}
 use Rattle.papaya_chain_rests.proofs.VisitTables.{gives_carries, state_carries}
 use Rattle.papaya_store.specs.declared.visits.Visiting.{Visiting}
+use Rattle.papaya_law.specs.Hints.{IsHint}
+use Rattle.papaya_law.specs.Later.{IsLater}
+use Rattle.papaya_law.proofs.Hints.{hint_agrees, hint_lasts}
+use Rattle.papaya_law.proofs.Later.{later_run}
+use Rattle.papaya_timeline.proofs.KeptHints.{KeepsHints}
 
 module _ {K V S A : Type 0} (eq : K → K → Bool) (hash : K → ℕ) (law : IsLawfulKeys eq hash) (s : CoreState K V S A) (caller : ℕ) (s' : CoreState K V S A)
     (mode_is : s'.mode ≡ s.mode) (es : List (Exchange (Stored K V))) (tales : ℕ → Tale K V) (core : IsCore s.store s.callers s.mode) (kept : IsKept eq hash s.mode s.store s.callers es tales)
@@ -71,6 +76,7 @@ module _ {K V S A : Type 0} (eq : K → K → Bool) (hash : K → ℕ) (law : Is
     pub tables_few : length s.store.words.tables ≤ MAX_TABLES → length s'.store.words.tables ≤ MAX_TABLES
     pub grown : HasMoreTables s.store.words.tables s'.store.words.tables
     pub coded : (at : At) → word_of g c (run es' start) at ≡ word_at s'.store.words at
+    pub hints : KeepsHints g c (run es start) s.store.words s'.store.words
     pub there : (t : ℕ) → 0 < t → Comes (run es' start) t → IsMade s.store t
     pub slots : (t x : ℕ) (p : Stored K V) → named ((run es' start).slot t x) ≡ Some p → Stands (run es start) p ⊎ Mine p
     -- the stepping call's pairs are logged, and are no other call's
@@ -279,11 +285,24 @@ module _ {K V S A : Type 0} (eq : K → K → Bool) (hash : K → ℕ) (law : Is
       logged : (t x : ℕ) (p : Stored K V) → named ((run es' start).slot t x) ≡ Some p → IsLogged s'.store p
       logged t x p names = elim (left.slots t x p names) [ inl stood ↦ stood_logged p stood | inr mine ↦ left.mine_logged p mine ]
 
+      -- what a hint says lasts
+      hint_later : (n i h : ℕ) → IsHint g c (run es start) n i h → IsHint g' c (run es' start) n i h
+      hint_later n i h is =
+          let later : IsLater g (run es start) (run es' start) = subst (IsLater g (run es start)) (sym (run-append es made start)) (later_run g hashed.lawful made (run es start) (allowed_rest g es made start left.allowed)) in
+          hint_agrees g g' c (λ p. refl) ((run es' start).slot n i) h (hint_lasts g c hashed.coding (run es start) (run es' start) later n i h is)
+
+      hints : (n i : ℕ) → IsHint g' c (run es' start) n i (hint_at s'.store.words n i)
+      hints n i = elim (left.hints n i) [
+        | inl same ↦ hint_later n i (hint_at s'.store.words n i) (subst (IsHint g c (run es start) n i) (sym same) (kept.hints n i))
+        | inr may ↦ hint_later n i (hint_at s'.store.words n i) may
+      ]
+
       -- the core after the step
       pub leaves_kept : IsKept eq hash s'.mode s'.store s'.callers es' tales'
       leaves_kept = record {
         allowed = all_carries g hashed.lawful g' es' start (λ k. None) (start_keeps g hashed.lawful) left.allowed agrees;
         coded = left.coded;
+        hints = hints;
         made = λ t some comes. still_there t (left.there t some comes);
         logged = logged;
         few = left.few kept.few;

@@ -1,5 +1,5 @@
 -- Every answered ask of a call itself keeps to the law.
-use Rattle.std.proofs.Common.{◌≡◌, ℕ, ◌+◌, ◌==◌, ◌<◌, Bool, List, [], ◌∷◌, ◌++◌, length, Some, inl, inr, ◌⊎◌, refl, sym, ◌∙◌, ap, subst, arith, MatchBool}
+use Rattle.std.proofs.Common.{◌≡◌, ℕ, ◌+◌, ◌==◌, ◌<◌, Bool, ◌≤◌, List, [], ◌∷◌, ◌++◌, length, Some, inl, inr, ◌⊎◌, refl, sym, ◌∙◌, ap, subst, arith, MatchBool}
 use Rattle.papaya_words.specs.declared.limits.TheConstants.{MAX_TABLES}
 use Rattle.papaya_words.specs.declared.probe.Refused.{Refused}
 use Rattle.papaya_words.specs.declared.probe.Refused.TheVariants.{Memory}
@@ -8,7 +8,7 @@ use Rattle.papaya_call.specs.Answers.{Says}
 use Rattle.papaya_ask.specs.declared.ask.At.{At}
 use Rattle.papaya_ask.specs.declared.ask.At.TheVariants.{Root}
 use Rattle.papaya_ask.specs.declared.ask.Ask.{Ask as Call_ask}
-use Rattle.papaya_ask.specs.declared.ask.Ask.TheVariants.{Load, Exchange as Ask_exchange, SameKey, ShowNone, ShowPair, SizeOf, MakeKey, MakePair, MakeTable, AddToShard, Done as Ask_done}
+use Rattle.papaya_ask.specs.declared.ask.Ask.TheVariants.{Load, Exchange as Ask_exchange, LoadHint, WriteHint, SameKey, ShowNone, ShowPair, SizeOf, MakeKey, MakePair, MakeTable, AddToShard, Done as Ask_done}
 use Rattle.papaya_ask.specs.declared.ask.Answer.{Answer as Call_answer}
 use Rattle.papaya_ask.specs.declared.ask.Answer.TheVariants.{Word as Word_read, Exchanged, Found as Found_instead, Yes, Size, Made as Made_number, Ok as Ok_done, Refused as Was_refused}
 use Rattle.papaya_ask.specs.declared.copy_ask.CopyAsk.TheVariants.{MakeTable as Make_next}
@@ -31,13 +31,16 @@ use Rattle.papaya_store.specs.declared.pairs.Running.{Running}
 use Rattle.papaya_timeline.specs.Kept.{IsMade, Tale, coding_of, low, places_in, setting_of, slots_in}
 use Rattle.papaya_store.specs.Performs.{Exchanges, MakesTable, Performs, Refuses, own_key, same, size_of}
 use Rattle.papaya_store.specs.Store.{StoreState, Stored, pair_of}
-use Rattle.papaya_store.specs.Tables.{word_at, put}
+use Rattle.papaya_store.specs.Tables.{hint_at, note, word_at, put}
 use Rattle.papaya_timeline.proofs.ShowLemmas.{IsShowing, none_shown, pair_shown}
 use Rattle.papaya_timeline.proofs.StoreLemmas.{matched}
 use Rattle.papaya_timeline.proofs.KeptAnswer.{IsAnswered, Stands, own_told, quiet, same_hands, told_last, told_made, unexchanged}
 use Rattle.papaya_timeline.proofs.KeptMade.{key_made, none_made, pair_made, refusal, table_made}
 use Rattle.papaya_timeline.proofs.KeptTables.{grown-same}
 use Rattle.papaya_timeline.proofs.KeptWritten.{call_exchanged, on_there}
+use Rattle.papaya_timeline.proofs.KeptHints.{noted-grown, noted-keeps, noted-many, noted-words}
+use Rattle.papaya_law.specs.Hints.{IsHint}
+use Rattle.papaya_rests.proofs.RestsHints.{machine_may_hint}
 
 -- the setting and the coding of a store whose calls are by keys of the map
 abbrev pub law_setting : {K V S : Type 0} → (K → K → Bool) → (K → ℕ) → ResizeMode → StoreState K V S → Setting K (Stored K V)
@@ -52,6 +55,7 @@ module _ {K V S A : Type 0} (eq : K → K → Bool) (says : Says K V A) (hash : 
     (rests : Rests (law_setting eq hash mode store) (law_coding hash) tale.begun tale.since key r.machine tale.hands)
     (coded : (at : At) → word_of (law_setting eq hash mode store) (law_coding hash) (run es start) at ≡ word_at store.words at)
     (there : (t : ℕ) → 0 < t → Comes (run es start) t → IsMade store t)
+    (hints : (t x : ℕ) → IsHint (law_setting eq hash mode store) (law_coding hash) (run es start) t x (hint_at store.words t x))
     (last : (p : Stored K V) → tale.hands.call.last ≡ Some p → pair_of store p.number ≡ Some p)
     (opens : (t : ℕ) → ask_of r.machine ≡ asks.Call (Ask_exchange Root 0 t) → IsMade store t)
     (links : (behind t : ℕ) → link_in r.machine.phase ≡ Some (Linking behind t) → IsMade store t)
@@ -87,7 +91,7 @@ module _ {K V S A : Type 0} (eq : K → K → Bool) (says : Says K V A) (hash : 
         subst (λ z. Leaves ask a z later) (sym showing.store) (subst (Leaves ask a store) (sym other)
         (unexchanged (law_setting eq hash mode store) (law_coding hash) store r es tale (Some key) hashed key rests coded there (asks.Call ask) e (answers.Call a) store call tale.hands
         (own_told (law_setting eq hash mode store) (law_coding hash) store r es tale (Some key) hashed key rests coded there ask a [] tale.hands.call told) still
-        (record { keys = λ at j h. h; own_is = own; logged = λ m q h. h; longer = omega arith; few = λ h. h; tables_few = λ h. h; grown = grown-same store.words.tables; words = λ at. refl })
+        (record { keys = λ at j h. h; own_is = own; logged = λ m q h. h; longer = omega arith; few = λ h. h; tables_few = λ h. h; grown = grown-same store.words.tables; words = λ at. refl; hints = λ m i. inl refl })
         (same_hands (law_setting eq hash mode store) (law_coding hash) store r es tale (Some key) store) (λ t is which. absurd (never t is which))))
   ]
 
@@ -131,6 +135,31 @@ module _ {K V S A : Type 0} (eq : K → K → Bool) (says : Says K V A) (hash : 
       (told_last (law_setting eq hash mode store) (law_coding hash) store r es tale (Some key) at) (told_made (law_setting eq hash mode store) (law_coding hash) store r es tale (Some key) at)
       (untabled (Load at) a (λ slots limit f. absurd cc))
   answered_call refuse (Ask_exchange at old new) e a store' later (h, same_call) = exchanged at old new e a store' later h same_call
+  answered_call refuse (LoadHint t x) e a store' later (is, stays) =
+      answered_quietly (LoadHint t x) e a store' later tale.hands.call stays.0 stays.1
+      ((hint_at store.words t x, hints t x, is), (refl, refl)) refl (λ p h. inl h) refl
+      (untabled (LoadHint t x) a (λ slots limit f. absurd cc))
+  answered_call refuse (WriteHint t x n) e a store' later (is, same_store, same_call) =
+      let g = law_setting eq hash mode store in
+      let c = law_coding hash in
+      let written : StoreState K V S = record store { words = note store.words t x n } in
+      let may_hint : IsHint g c (run es start) t x n =
+      subst (λ l. IsHint g c (run l start) t x n) split (machine_may_hint g c tale.begun tale.since key r.machine.call tale.hands.call rests.call t x n (call_asks r.machine (WriteHint t x n) e).1) in
+      subst (λ z. Leaves (WriteHint t x n) a z later) (sym same_store) (subst (Leaves (WriteHint t x n) a written) (sym same_call)
+      (unexchanged g c store r es tale (Some key) hashed key rests coded there (asks.Call (WriteHint t x n)) e (answers.Call a) written r tale.hands
+      (own_told g c store r es tale (Some key) hashed key rests coded there (WriteHint t x n) a [] tale.hands.call (is, (refl, refl))) refl
+      (record {
+        keys = λ at j h. h;
+        own_is = own;
+        logged = λ m q h. h;
+        longer = omega arith;
+        few = λ h. h;
+        tables_few = λ h. subst (λ l. l ≤ MAX_TABLES) (sym (noted-many store.words t x n)) h;
+        grown = noted-grown store.words t x n;
+        words = noted-words store.words t x n;
+        hints = noted-keeps g c (run es start) store.words t x n may_hint;
+      })
+      (same_hands g c store r es tale (Some key) written) (λ u made which. absurd (untabled (WriteHint t x n) a (λ slots limit f. absurd cc) u made which))))
   answered_call refuse (SameKey n) e a store' later (is, stays) =
       answered_quietly (SameKey n) e a store' later tale.hands.call stays.0 stays.1
       ((λ p l number. is ∙ ap (λ o. Yes (same eq o (pair_of store n))) own ∙ ap (λ o. Yes (same eq (Some key) o)) (subst (λ m. pair_of store m ≡ Some p) number (last p l))), (refl, refl)) refl

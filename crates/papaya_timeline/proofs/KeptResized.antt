@@ -30,7 +30,7 @@ use Rattle.papaya_rests.specs.Told.{IsWritten, word_of}
 use Rattle.papaya_store.specs.Copies.{PerformsCopy}
 use Rattle.papaya_store.specs.Performs.{Exchanges, key_at}
 use Rattle.papaya_store.specs.Store.{StoreState, Stored, pair_of}
-use Rattle.papaya_store.specs.Tables.{put, word_at}
+use Rattle.papaya_store.specs.Tables.{hint_at, put, word_at}
 use Rattle.papaya_store.specs.declared.pairs.Pair.{Pair}
 use Rattle.papaya_store.specs.declared.pairs.Running.{Running}
 use Rattle.papaya_words.specs.declared.limits.TheConstants.{MAX_LOG_LEN}
@@ -51,9 +51,10 @@ use Rattle.papaya_timeline.proofs.KeptOthers as others
 use Rattle.papaya_timeline.proofs.KeptSettings.{IsLawfulKeys, tables_hashed}
 use Rattle.papaya_timeline.proofs.KeptTables.{table_low}
 use Rattle.papaya_chain_rests.proofs.LinkMade.{copying_asks, link_asks}
-use Rattle.papaya_timeline.proofs.ResizerLaws.{resizer_learns, resizer_may, resizer_names}
+use Rattle.papaya_timeline.proofs.ResizerLaws.{resizer_learns, resizer_may, resizer_may_hint, resizer_names}
 use Rattle.papaya_timeline.proofs.ResizerTables.{stage_is, stage_links, stage_made, stage_opens}
 use Rattle.papaya_timeline.proofs.StoreLemmas.{matched}
+use Rattle.papaya_law.specs.Hints.{IsHint}
 
 -- what is told more is told less
 left_weaker : {Q K V S : Type 0} (g : Setting Q (Stored K V)) (c : Coding Q (Stored K V)) (store : StoreState K V S) (es : List (Exchange (Stored K V))) (hands : Hands (Stored K V)) (T T' : List (Exchange (Stored K V)) → Hands (Stored K V) → Type 0) (a : Answer) (store' : StoreState K V S) → ((made : List (Exchange (Stored K V))) (hands' : Hands (Stored K V)) → T made hands' → T' made hands') → IsLeft g c store es hands T a store' → IsLeft g c store es hands T' a store'
@@ -68,6 +69,7 @@ left_weaker g c store es hands T T' a store' f left = record {
   tables_few = left.tables_few;
   grown = left.grown;
   coded = left.coded;
+  hints = left.hints;
   there = left.there;
   slots = left.slots;
   last = left.last;
@@ -93,6 +95,7 @@ module _ {K V S A : Type 0} (eq : K → K → Bool) (hash : K → ℕ) (law : Is
     (may : AllAllowed (setting_of {V = V} eq (low hash) s.mode s.store.words.tables) start es)
     (coded : (at : At) → word_of (setting_of eq (low hash) s.mode s.store.words.tables) (coding_of (low hash)) (run es start) at ≡ word_at s.store.words at)
     (there : (t : ℕ) → 0 < t → Comes (run es start) t → IsMade s.store t)
+    (hints : (t x : ℕ) → IsHint (setting_of {V = V} eq (low hash) s.mode s.store.words.tables) (coding_of (low hash)) (run es start) t x (hint_at s.store.words t x))
     (resizing : IsResizing eq hash s.mode s.store z es tale) where
   -- the setting, the coding and the words
   abbrev g : Setting K (Stored K V)
@@ -203,6 +206,8 @@ module _ {K V S A : Type 0} (eq : K → K → Bool) (hash : K → ℕ) (law : Is
         may = λ at old new same stands. stage_asks stage is at old new (e ∙ ap (λ y. Some y) same) stands;
         low = λ slots limit same. follows_low stage is slots limit (e ∙ ap (λ y. Some y) same);
         links = λ behind old t same. linked_made stage is behind old t (e ∙ ap (λ y. Some y) same);
+        reads = λ t x same. hints t x;
+        writes = λ t x n same. resizer_may_hint g c hashed now (map_left g es) keeps z tale.hands resizing.rests t x n (ap asks_in is ∙ e ∙ ap (λ y. Some y) same);
       })
       ask e a store' performs
 
@@ -213,8 +218,8 @@ module _ {K V S A : Type 0} (eq : K → K → Bool) (hash : K → ℕ) (law : Is
   resizing = kept.resizers caller x.before x.was
 
   -- what its answer leaves
-  pub left : IsStageLeft eq hash law hashes refuse s es (tales caller) core x.before hasher kept.allowed kept.coded kept.made resizing x.before.state x.answer s'.store
-  left = stage_left eq hash law hashes refuse s es (tales caller) core x.before hasher kept.allowed kept.coded kept.made resizing x.before.state refl x.ask x.asked x.answer s'.store x.performs
+  pub left : IsStageLeft eq hash law hashes refuse s es (tales caller) core x.before hasher kept.allowed kept.coded kept.made kept.hints resizing x.before.state x.answer s'.store
+  left = stage_left eq hash law hashes refuse s es (tales caller) core x.before hasher kept.allowed kept.coded kept.made kept.hints resizing x.before.state refl x.ask x.asked x.answer s'.store x.performs
 
   -- the setting and the coding
   abbrev g_now : Setting K (Stored K V)
@@ -247,6 +252,7 @@ module _ {K V S A : Type 0} (eq : K → K → Bool) (hash : K → ℕ) (law : Is
     tables_few = left.tables_few;
     grown = left.grown;
     coded = left.coded;
+    hints = left.hints;
     there = left.there;
     slots = λ t y p h. inl (left.slots t y p h);
     mine_logged = λ p f. absurd f;

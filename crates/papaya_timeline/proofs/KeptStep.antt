@@ -74,9 +74,9 @@ module _ {K V S A : Type 0} (eq : K → K → Bool) (hash : K → ℕ) (law : Is
       by_ask : (ask : Ask) → ask_of before.machine ≡ ask → PerformsAsk eq says hashes refuse ask s.store before a s'.store later → IsAnswered g c s.store before es (tales caller) (Some call.key) call.key ask a s'.store later
       by_ask (asks.Call ask) e (told, is, h) =
           subst (λ y. IsAnswered g c s.store before es (tales caller) (Some call.key) call.key (asks.Call ask) y s'.store later) (sym is)
-          (answered_call eq says hash s.mode s.store before es (tales caller) hashed call.key call.split (may (tales caller) call.split) call.rests kept.coded kept.made call.last call.opens call.links call.own refuse ask e told s'.store later h)
+          (answered_call eq says hash s.mode s.store before es (tales caller) hashed call.key call.split (may (tales caller) call.split) call.rests kept.coded kept.made kept.hints call.last call.opens call.links call.own refuse ask e told s'.store later h)
       by_ask (asks.Copy ask) e (h, same) =
-          answered_copy eq hashes g c s.store before es (tales caller) (Some call.key) hashed call.key call.split (may (tales caller) call.split) call.rests kept.coded kept.made call.last call.carried call.opens call.links call.own (record { sizes = λ t. refl; places = λ t. refl; numbers = λ p. refl; hashes_of = λ p. ap (λ (f : K → ℕ). f p.key % 2 ^ 64) (sym hasher); sames = λ p q. refl }) refuse ask e a s'.store later h same
+          answered_copy eq hashes g c s.store before es (tales caller) (Some call.key) hashed call.key call.split (may (tales caller) call.split) call.rests kept.coded kept.made kept.hints call.last call.carried call.opens call.links call.own (record { sizes = λ t. refl; places = λ t. refl; numbers = λ p. refl; hashes_of = λ p. ap (λ (f : K → ℕ). f p.key % 2 ^ 64) (sym hasher); sames = λ p q. refl }) refuse ask e a s'.store later h same
 
   -- the exchanges after it
   abbrev pub es' : List (Exchange (Stored K V))
@@ -105,6 +105,7 @@ module _ {K V S A : Type 0} (eq : K → K → Bool) (hash : K → ℕ) (law : Is
     tables_few = left.tables_few;
     grown = left.grown;
     coded = left.coded;
+    hints = left.hints;
     there = left.there;
     slots = left.slots;
     mine_logged = λ p mine. left.logged p.number p (call.made p mine);

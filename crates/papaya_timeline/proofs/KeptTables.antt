@@ -1,5 +1,5 @@
 -- The words and the sizes of tables after a write, and after a table was made.
-use Rattle.std.proofs.Common.{◌≡◌, ◌≢◌, ℕ, zero, suc, ◌+◌, ◌-◌, ◌==◌, ◌<◌, ◌≤◌, Bool, true, false, cond, List, [], ◌∷◌, ◌++◌, length, slice_get, slice_set, slice_index, replicate, nat_lt, Some, None, ◌⊎◌, inl, inr, ⊎_elim, refl, sym, ◌∙◌, ap, arith, length-set, lt-ltb}
+use Rattle.std.proofs.Common.{◌≡◌, ◌≢◌, ℕ, zero, suc, ◌+◌, ◌-◌, ◌==◌, ◌<◌, ◌≤◌, Bool, true, false, cond, List, [], ◌∷◌, ◌++◌, length, slice_get, slice_set, slice_index, replicate, nat_lt, Some, None, ◌⊎◌, inl, inr, ⊎_elim, refl, sym, ◌∙◌, ap, subst, arith, length-set, lt-ltb}
 use Rattle.std.proofs.lemmas.Option.{slice_get_within}
 use Rattle.papaya_words.specs.Table.{TableWords, new_table}
 use Rattle.papaya_ask.specs.declared.ask.At.{At}
@@ -85,6 +85,52 @@ written-size (Aborted n) t word = (refl, refl)
 written-size (Done n) t word = (refl, refl)
 written-size (Slot n i) t word = elim (nat_lt i (length t.slots)) as (λ b. (length (cond b (record t { slots = slice_set t.slots i word }) t).slots ≡ length t.slots) × ((cond b (record t { slots = slice_set t.slots i word }) t).limit ≡ t.limit)) [ true ↦ (length-set t.slots i word, refl) | false ↦ (refl, refl) ]
 
+-- a table that is there gives way to another
+module _ (w : Tables) (n : ℕ) (t t' : TableWords) (there : table_of w.tables n ≡ Some t) where
+  -- the tables then
+  abbrev swapped : List TableWords
+  swapped = slice_set w.tables (n - 1) t'
+
+  -- the table that came
+  pub swapped-here : table_of swapped n ≡ Some t'
+  swapped-here = let e = table_there w.tables n t there in table_at swapped n e.0 ∙ get-set_same w.tables (n - 1) t t' e.1
+
+  -- the others
+  pub swapped-other : (u : ℕ) → u ≢ n → table_of swapped u ≡ table_of w.tables u
+  swapped-other u differ = go (u == 0) refl
+    where
+      some : n ≢ 0
+      some z = let f : true ≡ false = sym (eqb-same n z) ∙ (table_there w.tables n t there).0 in cc
+        where
+          eqb-same : (m : ℕ) → m ≡ 0 → (m == 0) ≡ true
+          eqb-same m e = ap (λ y. y == 0) e
+
+      go : (b : Bool) → (u == 0) ≡ b → table_of swapped u ≡ table_of w.tables u
+      go true z = ap (λ b. cond b None (slice_get swapped (u - 1))) z ∙ sym (ap (λ b. cond b None (slice_get w.tables (u - 1))) z)
+      go false z = table_at swapped u z ∙ get-set_other w.tables (n - 1) (u - 1) t' (λ e. differ (same_number e)) ∙ sym (table_at w.tables u z)
+        where
+          same_number : u - 1 ≡ n - 1 → u ≡ n
+          same_number e =
+              let not_zero : u ≢ 0 = λ y. let f : true ≡ false = sym (ap (λ v. v == 0) y) ∙ z in cc in
+              let a : n ≢ 0 = some in
+              omega arith
+
+  -- where it is as long, each table is as long as it was
+  pub swapped-grown : length t'.slots ≡ length t.slots → t'.limit ≡ t.limit → HasMoreTables w.tables swapped
+  swapped-grown slots limit u v e = ⊎_elim
+      (λ (same : u ≡ n).
+      let f : t ≡ v = same_item t v (sym there ∙ (ap (table_of w.tables) (sym same) ∙ e)) in
+      (t', ap (table_of swapped) same ∙ swapped-here, slots ∙ ap (λ (y : TableWords). length y.slots) f, limit ∙ ap (λ (y : TableWords). y.limit) f))
+      (λ (differ : u ≢ n). (v, swapped-other u differ ∙ e, refl, refl))
+      (cases_same u n)
+
+  -- what both tables say
+  pub swapped-left : (read : TableWords → ℕ) → read t' ≡ read t → (u : ℕ) → word_in read (table_of swapped u) ≡ word_in read (table_of w.tables u)
+  swapped-left read same u = ⊎_elim
+      (λ (e : u ≡ n). ap (λ y. word_in read (table_of swapped y)) e ∙ ap (word_in read) swapped-here ∙ same ∙ sym (ap (word_in read) there) ∙ ap (λ y. word_in read (table_of w.tables y)) (sym e))
+      (λ (differ : u ≢ n). ap (word_in read) (swapped-other u differ))
+      (cases_same u n)
+
 -- a write to a table that is there
 module _ (w : Tables) (at : At) (n word : ℕ) (t : TableWords) (there : table_of w.tables n ≡ Some t) where
   -- the tables after it
@@ -104,48 +150,21 @@ module _ (w : Tables) (at : At) (n word : ℕ) (t : TableWords) (there : table_o
 
   -- the table that was written
   pub written-here : table_of (put_at at n w word).tables n ≡ Some (written at t word)
-  written-here =
-      let e = table_there w.tables n t there in
-      ap (λ (v : Tables). table_of v.tables n) put-table
-      ∙ table_at (slice_set w.tables (n - 1) (written at t word)) n e.0
-      ∙ get-set_same w.tables (n - 1) t (written at t word) e.1
+  written-here = ap (λ (v : Tables). table_of v.tables n) put-table ∙ swapped-here w n t (written at t word) there
 
   -- the others
   pub written-other : (u : ℕ) → u ≢ n → table_of (put_at at n w word).tables u ≡ table_of w.tables u
-  written-other u differ = ap (λ (v : Tables). table_of v.tables u) put-table ∙ go (u == 0) refl
-    where
-      some : n ≢ 0
-      some z = let f : true ≡ false = sym (eqb-same n z) ∙ (table_there w.tables n t there).0 in cc
-        where
-          eqb-same : (m : ℕ) → m ≡ 0 → (m == 0) ≡ true
-          eqb-same m e = ap (λ y. y == 0) e
-
-      go : (b : Bool) → (u == 0) ≡ b → table_of (slice_set w.tables (n - 1) (written at t word)) u ≡ table_of w.tables u
-      go true z = ap (λ b. cond b None (slice_get (slice_set w.tables (n - 1) (written at t word)) (u - 1))) z ∙ sym (ap (λ b. cond b None (slice_get w.tables (u - 1))) z)
-      go false z = table_at (slice_set w.tables (n - 1) (written at t word)) u z ∙ get-set_other w.tables (n - 1) (u - 1) (written at t word) (λ e. differ (same_number e)) ∙ sym (table_at w.tables u z)
-        where
-          same_number : u - 1 ≡ n - 1 → u ≡ n
-          same_number e =
-              let not_zero : u ≢ 0 = λ y. let f : true ≡ false = sym (ap (λ v. v == 0) y) ∙ z in cc in
-              let a : n ≢ 0 = some in
-              omega arith
+  written-other u differ = ap (λ (v : Tables). table_of v.tables u) put-table ∙ swapped-other w n t (written at t word) there u differ
 
   -- each table is as long as it was
   pub written-grown : HasMoreTables w.tables (put_at at n w word).tables
-  written-grown u v e = ⊎_elim
-      (λ (same : u ≡ n).
-      let f : t ≡ v = same_item t v (sym there ∙ (ap (table_of w.tables) (sym same) ∙ e)) in
+  written-grown =
       let size = written-size at t word in
-      (written at t word, ap (table_of (put_at at n w word).tables) same ∙ written-here, size.0 ∙ ap (λ (y : TableWords). length y.slots) f, size.1 ∙ ap (λ (y : TableWords). y.limit) f))
-      (λ (differ : u ≢ n). (v, written-other u differ ∙ e, refl, refl))
-      (cases_same u n)
+      subst (λ (v : Tables). HasMoreTables w.tables v.tables) (sym put-table) (swapped-grown w n t (written at t word) there size.0 size.1)
 
   -- a word that the write leaves
   pub written-left : (read : TableWords → ℕ) → read (written at t word) ≡ read t → (u : ℕ) → word_in read (table_of (put_at at n w word).tables u) ≡ word_in read (table_of w.tables u)
-  written-left read same u = ⊎_elim
-      (λ (e : u ≡ n). ap (λ y. word_in read (table_of (put_at at n w word).tables y)) e ∙ ap (word_in read) written-here ∙ same ∙ sym (ap (word_in read) there) ∙ ap (λ y. word_in read (table_of w.tables y)) (sym e))
-      (λ (differ : u ≢ n). ap (word_in read) (written-other u differ))
-      (cases_same u n)
+  written-left read same u = ap (λ (v : Tables). word_in read (table_of v.tables u)) put-table ∙ swapped-left w n t (written at t word) there read same u
 
   -- and every word of another table
   pub written-elsewhere : (read : TableWords → ℕ) (u : ℕ) → u ≢ n → word_in read (table_of (put_at at n w word).tables u) ≡ word_in read (table_of w.tables u)
@@ -261,7 +280,7 @@ module _ (w : Tables) (number slots limit : ℕ) where
   added = record w { tables = w.tables ++ new_table number slots limit ∷ [] }
 
   -- a word of which the new table says 0
-  word-grown : (read : TableWords → ℕ) → read (new_table number slots limit) ≡ 0 → (u : ℕ) → word_in read (table_of added.tables u) ≡ word_in read (table_of w.tables u)
+  pub word-grown : (read : TableWords → ℕ) → read (new_table number slots limit) ≡ 0 → (u : ℕ) → word_in read (table_of added.tables u) ≡ word_in read (table_of w.tables u)
   word-grown read none u = go (u == 0)
     where
       go : (b : Bool) → word_in read (cond b None (slice_get added.tables (u - 1))) ≡ word_in read (cond b None (slice_get w.tables (u - 1)))

@@ -73,6 +73,7 @@ module _ {K V S A : Type 0} (eq : K → K → Bool) (hash : K → ℕ) (s : Core
   without_kept = record {
     allowed = kept.allowed;
     coded = kept.coded;
+    hints = kept.hints;
     made = kept.made;
     logged = kept.logged;
     few = kept.few;
@@ -225,6 +226,7 @@ module _ {K V S A : Type 0} (eq : K → K → Bool) (hash : K → ℕ) (law : Is
       kept_then = record {
         allowed = h.kept.allowed;
         coded = h.kept.coded;
+        hints = h.kept.hints;
         made = h.kept.made;
         logged = h.kept.logged;
         few = h.kept.few;

@@ -165,7 +165,7 @@ module _ {K V : Type 0} (eq : K → K → Bool) (hash : K → ℕ) (mode mode' :
     -- the word that stood there named the pair
     stood_number : (t x old : ℕ) (p : Stored K V) → word_of g c now (Slot t x) ≡ old → now.slot t x ≡ Live p → pair_of old ≡ p.number
     stood_number t x old p stood live =
-        sym (ap pair_of stood) ∙ ap (λ w. pair_of (code g c w)) live ∙ (code_pair g c hashed.coding (Live p) p refl).0
+        sym (ap pair_of stood) ∙ ap (λ w. pair_of (code g c w)) live ∙ (code_pair g c hashed.coding (Live p) p refl)
 
     -- maps with another pair for the classes of equal keys are one
     classes_alike : (j l : K) (came : Option (Stored K V)) → eq j l ≡ true → with_class eq (replay eq es) j came ≡ with_class eq (replay eq es) l came

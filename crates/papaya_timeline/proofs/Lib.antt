@@ -36,6 +36,7 @@ pub mod KeptClosures
 pub mod KeptCopied
 pub mod KeptCore
 pub mod KeptExchange
+pub mod KeptHints
 pub mod KeptLemmas
 pub mod KeptLogs
 pub mod KeptMade

@@ -84,7 +84,7 @@ module _ {K P : Type 0} (g : Setting K P) (c : Coding K P) (begun since : List (
         removes = removes;
         pair = r.pair;
         last = r.last;
-        number = sym (code_pair g c coding r.met.was r.pair r.met.names).0 ∙ sym (ap pair_of r.met.loaded) ∙ ap pair_of word;
+        number = sym (code_pair g c coding r.met.was r.pair r.met.names) ∙ sym (ap pair_of r.met.loaded) ∙ ap pair_of word;
         same = r.same;
       }
 

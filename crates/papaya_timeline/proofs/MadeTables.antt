@@ -70,6 +70,8 @@ module _ {K V S A : Type 0} (eq : K → K → Bool) (says : Says K V A) (hash : 
   copier_made (copies.Exchange at old new) (told, is, h) n made =
       let f : told ≡ Made_number n = (let g : answers.Call told ≡ answers.Call (Made_number n) = sym is ∙ made in cc) in
       matched (IsMade s' n) (word_at s.words at == old) _ _ h (λ _ done. let g = sym done.0 ∙ f in absurd cc) (λ _ lost. let g = sym lost.0 ∙ f in absurd cc)
+  copier_made (copies.LoadHint t x) (is, same) n made = let f = sym is ∙ made in absurd cc
+  copier_made (copies.WriteHint t x hint) (is, same) n made = let f = sym is ∙ made in absurd cc
   copier_made (copies.SizeOf t) (is, same) n made = by_table (table_of s.words.tables t) (sym is ∙ made)
     where
       by_table : (o : Option TableWords) → answers.Call (size_of o) ≡ answers.Call (Made_number n) → IsMade s' n

@@ -11,14 +11,14 @@ use Rattle.papaya_ask.specs.declared.ask.OpKind.{OpKind}
 use Rattle.papaya_ask.specs.declared.call.Reply.TheVariants.{Replaced}
 use Rattle.papaya_ask.specs.declared.call.Task.{Task}
 use Rattle.papaya_ask.specs.declared.call.Task.TheVariants as tasks
-use Rattle.papaya_ask.specs.declared.search.Search.TheVariants.{Sizing, Looking, Comparing}
+use Rattle.papaya_ask.specs.declared.search.Search.TheVariants.{Sizing, Looking, Reading, Comparing}
 use Rattle.papaya_call.specs.Answers.{Says, op_kind}
 use Rattle.papaya_call.specs.declared.answers.Operation.{Operation}
 use Rattle.papaya_call.specs.declared.answers.Operation.TheVariants as operations
 use Rattle.papaya_call.specs.declared.compute.Gap.{Gap}
 use Rattle.papaya_call.specs.declared.machine.Machine.{Machine as Call_machine}
 use Rattle.papaya_call.specs.declared.machine.State.{State as Stage}
-use Rattle.papaya_call.specs.declared.machine.State.TheVariants.{AtRoot, Making, Opening, Searching, Writing, Offering, Showing, Pairing, Putting, Burying, Counting, Uncounting, Leaving, Growing, Ended}
+use Rattle.papaya_call.specs.declared.machine.State.TheVariants.{AtRoot, Making, Opening, Searching, Writing, Offering, Showing, Pairing, Putting, Burying, Counting, Noting, Uncounting, Leaving, Growing, Ended}
 use Rattle.papaya_call.specs.declared.remove.Removal.{Removal}
 use Rattle.papaya_call.specs.declared.write.Made.{Made}
 use Rattle.papaya_call.specs.declared.write.Made.TheVariants.{Nothing, Key, Pair}
@@ -35,6 +35,7 @@ use Rattle.papaya_store.specs.Store.{StoreState}
 use Rattle.papaya_timeline.specs.Ends.{HasAnswered, HasValue, IsKeyFor, IsThere}
 use Rattle.papaya_timeline.proofs.KeptMade.{refusal}
 use Rattle.papaya_timeline.proofs.StoreLemmas.{matched}
+use Rattle.papaya_call.specs.Write.{claimed_by}
 
 -- no pair is to be made of what a closure answered
 abbrev pub IsUnpaired : Stage → Type 0
@@ -65,7 +66,7 @@ leads_unpaired = record {
 
 -- nor does a write
 written_unpaired : (write : Write) (n : ℕ) → IsUnpaired (written write n)
-written_unpaired write n = cond_both (write.old == 0) (Counting n) (Ended (Replaced (pair_in write.old) n)) IsUnpaired (λ _. tt) (λ _. tt)
+written_unpaired write n = cond_both (write.old == 0) (Counting (claimed_by write n)) (Ended (Replaced (pair_in write.old) n)) IsUnpaired (λ _. tt) (λ _. tt)
 
 -- in a plain stage nothing is made of the key or the value, and no closure is asked
 abbrev IsPlain : Made → Stage → Type 0
@@ -92,11 +93,11 @@ module _ (m : Call_machine) where
   plain_in made (Searching place) (Word_read word) h = (goes_leads IsUnpaired leads_unpaired m.task m.mode m.remembered (search_loaded place m.hash word), refl)
   plain_in made (Searching place) (Yes same) h = (goes_leads IsUnpaired leads_unpaired m.task m.mode m.remembered (search_compared place same), refl)
   plain_in made (Searching place) told h = (tt, refl)
-  plain_in (Pair n) (Writing write) (Found_instead word) h = (goes_leads IsUnpaired leads_unpaired m.task m.mode m.remembered (look_seen write.place m.hash word), refl)
+  plain_in (Pair n) (Writing write) (Found_instead word) h = (goes_leads IsUnpaired leads_unpaired m.task m.mode m.remembered (look_seen write.place word), refl)
   plain_in (Pair n) (Writing write) Exchanged h = (written_unpaired write n, refl)
   plain_in (Pair n) (Writing write) told h = (tt, refl)
   plain_in made (Putting put) Exchanged h = (written_unpaired put.write put.pair, refl)
-  plain_in made (Putting put) (Found_instead word) h = (goes_leads IsUnpaired leads_unpaired m.task m.mode m.remembered (look_seen put.write.place m.hash word), refl)
+  plain_in made (Putting put) (Found_instead word) h = (goes_leads IsUnpaired leads_unpaired m.task m.mode m.remembered (look_seen put.write.place word), refl)
   plain_in made (Putting put) told h = (tt, refl)
   plain_in made (Burying removal) (Found_instead word) h =
       let machine : Call_machine = record m { made = made; state = Burying removal } in
@@ -104,6 +105,8 @@ module _ (m : Call_machine) where
   plain_in made (Burying removal) told h = (tt, refl)
   plain_in made (Counting n) Ok_done h = (tt, refl)
   plain_in made (Counting n) told h = (tt, refl)
+  plain_in made (Noting n) Ok_done h = (tt, refl)
+  plain_in made (Noting n) told h = (tt, refl)
   plain_in made (Uncounting n) Ok_done h = (tt, refl)
   plain_in made (Uncounting n) told h = (tt, refl)
   plain_in made (Leaving i) (Word_read word) h = (left_leads IsUnpaired leads_unpaired m.task m.remembered.fill i word, refl)
@@ -266,6 +269,7 @@ module _ {K V S A : Type 0} (eq : K → K → Bool) (says : Says K V A) (refuse 
   own_in made (Opening t) told e stands had h = from_plain made (Opening t) told tt h.1 had
   own_in made (Searching (Sizing t)) told e stands had h = from_plain made (Searching (Sizing t)) told tt h.1.1 had
   own_in made (Searching (Looking at)) told e stands had h = from_plain made (Searching (Looking at)) told tt h.1.1 had
+  own_in made (Searching (Reading at)) told e stands had h = from_plain made (Searching (Reading at)) told tt h.1.1 had
   own_in made (Searching (Comparing at word)) told e stands had h = from_plain made (Searching (Comparing at word)) told tt h.1.1 had
   own_in Nothing (Writing write) told e stands had h = key_has (Writing write) told (λ refused. (tt, refl)) (λ n. (refl, refl)) had h
   own_in Key (Writing write) told e stands had h = pair_has Key (Writing write) told (λ n k. k) (writer_value m.task r.value stands.0 had.1) (λ refused. (tt, refl)) (λ n. (tt, had.0, paired_value m.task n None)) had h
@@ -279,6 +283,7 @@ module _ {K V S A : Type 0} (eq : K → K → Bool) (says : Says K V A) (refuse 
   own_in made (Putting put) told e stands had h = from_plain made (Putting put) told tt h.1 had
   own_in made (Burying removal) told e stands had h = from_plain made (Burying removal) told tt h.1 had
   own_in made (Counting n) told e stands had h = from_plain made (Counting n) told tt h.2 had
+  own_in made (Noting n) told e stands had h = from_plain made (Noting n) told tt h.2 had
   own_in made (Uncounting n) told e stands had h = from_plain made (Uncounting n) told tt h.2 had
   own_in made (Leaving t) told e stands had h = from_plain made (Leaving t) told tt h.1.1 had
   own_in made (Growing need) told e stands had h = from_plain made (Growing need) told tt h.1.1 had

@@ -11,11 +11,11 @@ use Rattle.papaya_ask.specs.declared.call.Reply.{Reply}
 use Rattle.papaya_ask.specs.declared.call.Reply.TheVariants.{Refused as Reply_refused}
 use Rattle.papaya_ask.specs.declared.call.Task.{Task}
 use Rattle.papaya_ask.specs.declared.call.Task.TheVariants as tasks
-use Rattle.papaya_ask.specs.declared.search.Search.TheVariants.{Sizing, Looking, Comparing}
+use Rattle.papaya_ask.specs.declared.search.Search.TheVariants.{Sizing, Looking, Reading, Comparing}
 use Rattle.papaya_call.specs.Answers.{Says, op_kind}
 use Rattle.papaya_call.specs.declared.machine.Machine.{Machine as Call_machine}
 use Rattle.papaya_call.specs.declared.machine.State.{State as Stage}
-use Rattle.papaya_call.specs.declared.machine.State.TheVariants.{AtRoot, Making, Opening, Searching, Writing, Offering, Showing, Pairing, Putting, Burying, Counting, Uncounting, Leaving, Growing, Ended}
+use Rattle.papaya_call.specs.declared.machine.State.TheVariants.{AtRoot, Making, Opening, Searching, Writing, Offering, Showing, Pairing, Putting, Burying, Counting, Noting, Uncounting, Leaving, Growing, Ended}
 use Rattle.papaya_call.specs.declared.write.Made.{Made}
 use Rattle.papaya_call.specs.declared.write.Made.TheVariants.{Nothing, Key, Pair}
 use Rattle.papaya_call.specs.Machine.{HasClosure, IsComputer, IsStandingState, asks as call_asks}
@@ -146,6 +146,7 @@ module _ {K V S A : Type 0} (eq : K → K → Bool) (says : Says K V A) (hash : 
     served_in made (Opening t) told e stands had h = tt
     served_in made (Searching (Sizing t)) told e stands had h = tt
     served_in made (Searching (Looking at)) told e stands had h = tt
+    served_in made (Searching (Reading at)) told e stands had h = tt
     served_in made (Searching (Comparing at word)) told e stands had h = tt
     served_in Nothing (Writing write) told e stands had h = key_served told had.0 h
     served_in Key (Writing write) told e stands had h = pair_served told had.0 (writer_value call.task r.value stands.0 had.1) h
@@ -159,6 +160,7 @@ module _ {K V S A : Type 0} (eq : K → K → Bool) (says : Says K V A) (hash : 
     served_in made (Putting put) told e stands had h = tt
     served_in made (Burying removal) told e stands had h = tt
     served_in made (Counting n) told e stands had h = tt
+    served_in made (Noting n) told e stands had h = tt
     served_in made (Uncounting n) told e stands had h = tt
     served_in made (Leaving t) told e stands had h = tt
     served_in made (Growing need) told e stands had h = tt

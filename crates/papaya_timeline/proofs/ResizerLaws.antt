@@ -6,7 +6,7 @@ use Rattle.papaya_words.specs.declared.probe.ResizeMode.{ResizeMode}
 use Rattle.papaya_ask.specs.declared.ask.At.{At}
 use Rattle.papaya_ask.specs.declared.copy_ask.CopyAsk.{CopyAsk}
 use Rattle.papaya_ask.specs.declared.call.Reply.TheVariants.{Refused as Reply_refused}
-use Rattle.papaya_ask.specs.declared.copy_ask.CopyAsk.TheVariants.{Exchange as Copy_exchange}
+use Rattle.papaya_ask.specs.declared.copy_ask.CopyAsk.TheVariants.{Exchange as Copy_exchange, WriteHint}
 use Rattle.papaya_chain.specs.declared.ask.Answer.{Answer}
 use Rattle.papaya_chain.specs.declared.resizer.Resize.{Resize}
 use Rattle.papaya_chain.specs.declared.resizer.Resizer.{Resizer}
@@ -23,7 +23,8 @@ use Rattle.papaya_rests.specs.Told.{IsWritten, word_of}
 use Rattle.papaya_chain_rests.specs.Resizers.{IsResizeCause, IsStageAsked, IsStageTold, RestsResizer}
 use Rattle.papaya_chain_rests.specs.Told.{Hands}
 use Rattle.papaya_chain_rests.proofs.ResizerRefusals.{resizer_why}
-use Rattle.papaya_chain_rests.proofs.ResizerRests.{stage_begins, stage_carries, stage_learns, stage_may, stage_stays, stage_there}
+use Rattle.papaya_chain_rests.proofs.ResizerRests.{stage_begins, stage_carries, stage_learns, stage_may, stage_may_hint, stage_stays, stage_there}
+use Rattle.papaya_law.specs.Hints.{IsHint}
 
 module _ {K P : Type 0} where
   pub resizer_begins : (g : Setting K P) (c : Coding K P) (s : State P) (hands : Hands P) (resize : Resize) (mode : ResizeMode) (initial : ℕ) → IsChunked mode → IsModeOf mode g.blocking → RestsResizer g c s (begun resize mode initial) hands
@@ -41,6 +42,9 @@ module _ {K P : Type 0} where
   pub resizer_may : (g : Setting K P) (c : Coding K P) → IsHashed g c → (s : State P) (m : K → Option P) → IsKeeping g s m → (resizer : Resizer) (hands : Hands P) → RestsResizer g c s resizer hands → (at : At) (old new : ℕ) → ask_of resizer ≡ Some (Copy_exchange at old new) → word_of g c s at ≡ old
       → (e : Exchange P) × IsStageAsked g c s resizer.state at new hands e × Allows g s e × IsWritten g c s at new (state_after s e)
   resizer_may g c hashed s m keeps resizer hands r at old new e stands = stage_may g c hashed s m keeps hands resizer.state r.stage at old new e stands
+
+  pub resizer_may_hint : (g : Setting K P) (c : Coding K P) → IsHashed g c → (s : State P) (m : K → Option P) → IsKeeping g s m → (resizer : Resizer) (hands : Hands P) → RestsResizer g c s resizer hands → (t x n : ℕ) → ask_of resizer ≡ Some (WriteHint t x n) → IsHint g c s t x n
+  resizer_may_hint g c hashed s m keeps resizer hands r t x n e = stage_may_hint g c hashed s m keeps hands resizer.mode r.mode resizer.state r.stage t x n e
 
   pub resizer_learns : (g : Setting K P) (c : Coding K P) → IsHashed g c → (s : State P) (m : K → Option P) → IsKeeping g s m → (resizer : Resizer) (hands : Hands P) → RestsResizer g c s resizer hands → (answer : Answer) (es : List (Exchange P)) (hands' : Hands P) → IsStageTold g c s resizer.state hands answer es hands' → AllAllowed g s es × RestsResizer g c (run es s) (after resizer answer) hands'
   resizer_learns g c hashed s m keeps resizer hands r answer es hands' told =

@@ -67,6 +67,8 @@ no_hash hash count (Some p) f = absurd cc
 pub counts : {K V S : Type 0} (eq : K → K → Bool) (hash : S → K → ℕ) (refuse : Bool) (ask : CopyAsk) (s : StoreState K V S) (a : Answer) (s' : StoreState K V S) → PerformsCopy eq hash refuse ask s a s' → (count : ℕ) → a ≡ answers.Count count → (count ≡ count_of s.count.sum) × (s' ≡ s)
 counts eq hash refuse (copies.Load at) s a s' (is, same) count e = let f = sym is ∙ e in absurd cc
 counts eq hash refuse (copies.Exchange at old new) s a s' (told, is, h) count e = let f = sym is ∙ e in absurd cc
+counts eq hash refuse (copies.LoadHint t x) s a s' (is, same) count e = let f = sym is ∙ e in absurd cc
+counts eq hash refuse (copies.WriteHint t x hint) s a s' (is, same) count e = let f = sym is ∙ e in absurd cc
 counts eq hash refuse (copies.SizeOf n) s a s' (is, same) count e = let f = sym is ∙ e in absurd cc
 counts eq hash refuse (copies.HashOf n) s a s' (is, fits, same) count e = absurd (no_hash (hash s.hasher) count (pair_of s n) (sym is ∙ e))
 counts eq hash refuse (copies.SamePair m n) s a s' (is, same) count e = let f = sym is ∙ e in absurd cc

@@ -446,6 +446,7 @@ module _ {K V S A : Type 0} (eq : K → K → Bool) (hash : S → K → ℕ) (s 
             record {
               allowed = f.kept.allowed;
               coded = f.kept.coded;
+              hints = f.kept.hints;
               made = f.kept.made;
               logged = f.kept.logged;
               few = f.kept.few;

@@ -9,7 +9,7 @@ use Rattle.papaya_ask.specs.declared.ask.OpKind.{OpKind}
 use Rattle.papaya_ask.specs.declared.ask.StepKind.{StepKind}
 use Rattle.papaya_ask.specs.declared.ask.StepKind.TheVariants as kinds
 use Rattle.papaya_ask.specs.declared.copy_ask.CopyAsk.{CopyAsk}
-use Rattle.papaya_ask.specs.declared.copy_ask.CopyAsk.TheVariants.{Load, Exchange as Copy_exchange, SizeOf, HashOf, SamePair, Count, MakeTable}
+use Rattle.papaya_ask.specs.declared.copy_ask.CopyAsk.TheVariants.{Load, Exchange as Copy_exchange, SizeOf, HashOf, SamePair, Count, MakeTable, LoadHint, WriteHint}
 use Rattle.papaya_call.specs.Answers.{op_kind}
 use Rattle.papaya_call.specs.declared.answers.Operation.{Operation}
 use Rattle.papaya_copy.specs.declared.carry.Carry.{Carry}
@@ -77,6 +77,7 @@ carrying_kind carry = tt
 settling_kind : (settle : Settle) → IsCopyKind (settle_kind settle)
 settling_kind settles.Looking = tt
 settling_kind settles.Closing = tt
+settling_kind settles.Shutting = tt
 settling_kind (settles.Marking word) = tt
 settling_kind (settles.Carrying word carry) = carrying_kind carry
 settling_kind (settles.Finishing word) = tt
@@ -131,6 +132,8 @@ moved_cases P other moved kind copies old new answer = by_answer answer
 copied_cases : (P : Event → Type 0) → P Other → (kind : Option StepKind) → ((old new : ℕ) (answer : Call_answer) → P (answered_event kind old new answer)) → (ask : CopyAsk) (answer : Answer) → P (event_of kind (asks.Copy ask) answer)
 copied_cases P other kind exchanged (Copy_exchange at old new) (answers.Call told) = exchanged old new told
 copied_cases P other kind exchanged (Load at) (answers.Call told) = other
+copied_cases P other kind exchanged (LoadHint t x) (answers.Call told) = other
+copied_cases P other kind exchanged (WriteHint t x hint) (answers.Call told) = other
 copied_cases P other kind exchanged (SizeOf t) (answers.Call told) = other
 copied_cases P other kind exchanged (HashOf n) (answers.Call told) = other
 copied_cases P other kind exchanged (SamePair m n) (answers.Call told) = other
@@ -243,6 +246,8 @@ module _ {K P : Type 0} (g : Setting K P) (c : Coding K P) (s : State P) (kind :
       matched ((es ≡ []) ⊎ IsCopied g c s kind hands.kept (Copy_exchange at old new) es) (word_of g c s at == old) _ _ h
       (λ same h'. let e = h'.1 in inr (record { at = at; old = old; new = new; by = e.0; ask_is = refl; stood = eqb-true (word_of g c s at) old same; asked = e.1; made = e.2 }))
       (λ differ h'. inl h'.1)
+  copy_told (LoadHint t x) answer es hands' h = inl h.1.0
+  copy_told (WriteHint t x hint) answer es hands' h = inl h.1.0
   copy_told (SizeOf t) answer es hands' h = inl h.1.0
   copy_told (HashOf n) answer es hands' h = inl h.1
   copy_told (SamePair m n) answer es hands' h = inl h.1.0

@@ -164,7 +164,7 @@ module _ {K V : Type 0} (eq : K → K → Bool) (g : Setting K (Stored K V)) (c 
       subst (Step (Burying spot word)) (same_item (Copy (buries spot word)) ask e)
       (matched (Step (Burying spot word) (Copy (buries spot word))) (code g c (s.slot spot.table spot.slot) == word) (IsBuried g c s since spot hands answer es hands') (IsFoundThere g c s since spot hands answer es hands') told
       (λ hit t.
-      let number : number_of word ≡ t.pair.number = ap number_of (sym (eqb-true (code g c (s.slot spot.table spot.slot)) word hit) ∙ ap (code g c) t.live) ∙ (code_pair g c hashed.coding (Live t.pair) t.pair refl).0 ∙ number_is t.pair in
+      let number : number_of word ≡ t.pair.number = ap number_of (sym (eqb-true (code g c (s.slot spot.table spot.slot)) word hit) ∙ ap (code g c) t.live) ∙ (code_pair g c hashed.coding (Live t.pair) t.pair refl) ∙ number_is t.pair in
       inr (inr (inr (record {
         spot = spot;
         word = word;

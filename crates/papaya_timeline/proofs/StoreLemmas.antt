@@ -3,12 +3,12 @@ use Rattle.std.proofs.Common.{◌≡◌, ℕ, zero, suc, ◌-◌, ◌==◌, ◌<
 use Rattle.std.proofs.lemmas.List.{length-replicate}
 use Rattle.papaya_timeline.proofs.CallersLemmas.{differs}
 use Rattle.papaya_timeline.proofs.ShowLemmas.{IsShowing, none_shown, pair_shown}
-use Rattle.papaya_words.specs.Table.{TableWords, new_table}
+use Rattle.papaya_words.specs.Table.{TableWords, new_table, noted as noted_hints}
 use Rattle.papaya_call.specs.Answers.{Says}
 use Rattle.papaya_ask.specs.declared.ask.At.{At}
 use Rattle.papaya_ask.specs.declared.ask.At.TheVariants.{Root, Next, Aborted, Done, Slot}
 use Rattle.papaya_ask.specs.declared.ask.Ask.{Ask}
-use Rattle.papaya_ask.specs.declared.ask.Ask.TheVariants.{Load, Exchange, SameKey, ShowNone, ShowPair, SizeOf, MakeKey, MakePair, MakeTable, AddToShard, Done as Ask_done}
+use Rattle.papaya_ask.specs.declared.ask.Ask.TheVariants.{Load, Exchange, LoadHint, WriteHint, SameKey, ShowNone, ShowPair, SizeOf, MakeKey, MakePair, MakeTable, AddToShard, Done as Ask_done}
 use Rattle.papaya_ask.specs.declared.ask.Answer.{Answer}
 use Rattle.papaya_ask.specs.Search.{IsSize}
 use Rattle.papaya_ask.specs.declared.copy_ask.CopyAsk.{CopyAsk}
@@ -22,7 +22,7 @@ use Rattle.papaya_chain.specs.declared.ask.Answer.TheVariants as answers
 use Rattle.papaya_chain.specs.Machine as machine
 use Rattle.papaya_store.specs.declared.pairs.Running.{Running}
 use Rattle.papaya_words.specs.declared.limits.TheConstants.{MAX_TABLES, MAX_LOG_LEN}
-use Rattle.papaya_store.specs.Tables.{Tables, table_of, word_at, written, put, put_at, put_in}
+use Rattle.papaya_store.specs.Tables.{Tables, hint_in, hinted, note, table_of, word_at, written, put, put_at, put_in}
 use Rattle.papaya_store.specs.Store.{StoreState, Stored, pair_of}
 use Rattle.papaya_store.specs.Asks.{PerformsAsk}
 use Rattle.papaya_store.specs.Copies.{PerformsCopy, hash_in}
@@ -101,6 +101,25 @@ put-sized w (Aborted n) word all = put_at-sized (Aborted n) n w word all
 put-sized w (Done n) word all = put_at-sized (Done n) n w word all
 put-sized w (Slot n i) word all = put_at-sized (Slot n i) n w word all
 
+-- and so does a hint that is written
+hinted-size : (t : TableWords) (i hint : ℕ) → IsSize (length t.slots) t.limit → IsSize (length (hinted t i hint).slots) (hinted t i hint).limit
+hinted-size t i hint h = elim (nat_lt i (length t.slots)) as (λ b. IsSize (length (cond b (record t { hints = noted_hints t.hints i hint }) t).slots) (cond b (record t { hints = noted_hints t.hints i hint }) t).limit) [ true ↦ h | false ↦ h ]
+
+hint_in-sized : (o : Option TableWords) (tables : List TableWords) (k i hint : ℕ) → o ≡ slice_get tables k → AllSized tables → AllSized (hint_in o tables k i hint)
+hint_in-sized None tables k i hint is all j t e = all j t e
+hint_in-sized (Some u) tables k i hint is all j t e =
+    ⊎_elim
+    (λ same. all j t same)
+    (λ (new : t ≡ hinted u i hint). subst (λ v. IsSize (length v.slots) v.limit) (sym new) (hinted-size u i hint (all k u (sym is))))
+    (set-cases tables k (hinted u i hint) j t e)
+
+note-sized : (w : Tables) (n i hint : ℕ) → AllSized w.tables → AllSized (note w n i hint).tables
+note-sized w n i hint all = go (n == 0)
+  where
+    go : (b : Bool) → AllSized (cond b w (record w { tables = hint_in (slice_get w.tables (n - 1)) w.tables (n - 1) i hint })).tables
+    go true = all
+    go false = hint_in-sized (slice_get w.tables (n - 1)) w.tables (n - 1) i hint refl all
+
 pub append-sized : (tables : List TableWords) (n slots limit : ℕ) → IsSize slots limit → AllSized tables → AllSized (tables ++ new_table n slots limit ∷ [])
 append-sized tables n slots limit size all i t e =
     ⊎_elim
@@ -151,6 +170,10 @@ module _ {K V S : Type 0} where
       (λ _ done. record { fit = said a _ done.0 tt; sized = subst (λ (y : StoreState K V S). AllSized y.words.tables) (sym done.1) (put-sized s.words at new all) })
       (λ _ lost. quiet a s s' (said a _ lost.0 tt) lost.1 all)
 
+  -- a hint that is written keeps them
+  noted : (t x hint : ℕ) (s : StoreState K V S) (a : Answer) (s' : StoreState K V S) → AllSized s.words.tables → IsFit a → s' ≡ record s { words = note s.words t x hint } → IsKept a s'
+  noted t x hint s a s' all fit same = record { fit = fit; sized = subst (λ (y : StoreState K V S). AllSized y.words.tables) (sym same) (note-sized s.words t x hint all) }
+
 module _ {K V S A : Type 0} (eq : K → K → Bool) (says : Says K V A) where
   -- what an answered ask leaves
   pub performed : (refuse : Bool) (ask : Ask) (s : StoreState K V S) (r : Running K V A) (a : Answer) (s' : StoreState K V S) (r' : Running K V A) → AllSized s.words.tables → IsFitAsk ask → Performs eq says refuse ask s r a s' r' → IsKept a s'
@@ -159,6 +182,8 @@ module _ {K V S A : Type 0} (eq : K → K → Bool) (says : Says K V A) where
   performed refuse (SameKey n) s r a s' r' all fit (e, stays) = quiet a s s' (said a _ e tt) stays.0 all
   performed refuse ShowNone s r a s' r' all fit h = said_fit s r a s' r' (none_shown says s r a s' r' h) all
   performed refuse (ShowPair n) s r a s' r' all fit h = said_fit s r a s' r' (pair_shown says r.machine.call.task n s r a s' r' h) all
+  performed refuse (LoadHint t x) s r a s' r' all fit (e, stays) = quiet a s s' (said a _ e tt) stays.0 all
+  performed refuse (WriteHint t x hint) s r a s' r' all fit (e, same, _) = noted t x hint s a s' all (said a _ e tt) same
   performed refuse (SizeOf n) s r a s' r' all fit (e, stays) = quiet a s s' (sized_answer a s n all e) stays.0 all
   performed refuse MakeKey s r a s' r' all fit h =
       matched (IsKept a s') refuse _ _ h
@@ -200,6 +225,8 @@ module _ {K V S : Type 0} where
     pub performed_copy : (refuse : Bool) (ask : CopyAsk) (s : StoreState K V S) (a : Chain_answer) (s' : StoreState K V S) → AllSized s.words.tables → IsFitCopyAsk ask → PerformsCopy eq hash refuse ask s a s' → IsKeptAsked a s'
     performed_copy refuse (copies.Load at) s a s' all fit (e, same) = as_call a _ s' e (quiet _ s s' tt same all)
     performed_copy refuse (copies.Exchange at old new) s a s' all fit (told, is, ex) = as_call a told s' is (exchanged at old new s told s' all ex)
+    performed_copy refuse (copies.LoadHint t x) s a s' all fit (e, same) = as_call a _ s' e (quiet _ s s' tt same all)
+    performed_copy refuse (copies.WriteHint t x hint) s a s' all fit (e, same) = as_call a _ s' e (noted t x hint s _ s' all tt same)
     performed_copy refuse (copies.SizeOf n) s a s' all fit (e, same) = as_call a (size_of (table_of s.words.tables n)) s' e (quiet _ s s' (sized_answer _ s n all refl) same all)
     performed_copy refuse (copies.HashOf n) s a s' all fit (e, hashed, same) = record { fit = subst machine.IsFit (sym e) (by_pair (pair_of s n)); sized = subst (λ (y : StoreState K V S). AllSized y.words.tables) (sym same) all }
       where

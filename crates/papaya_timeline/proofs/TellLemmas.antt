@@ -5,7 +5,7 @@ use Rattle.papaya_call.specs.Answers.{Says, op_kind}
 use Rattle.papaya_call.specs.declared.answers.Operation.{Operation}
 use Rattle.papaya_ask.specs.declared.ask.At.{At}
 use Rattle.papaya_ask.specs.declared.ask.Ask.{Ask}
-use Rattle.papaya_ask.specs.declared.ask.Ask.TheVariants.{Load, Exchange as Ask_exchange, SameKey, ShowNone, ShowPair, SizeOf, MakeKey, MakePair, MakeTable, AddToShard, Done as Ask_done}
+use Rattle.papaya_ask.specs.declared.ask.Ask.TheVariants.{Load, Exchange as Ask_exchange, SameKey, ShowNone, ShowPair, SizeOf, MakeKey, MakePair, MakeTable, AddToShard, Done as Ask_done, LoadHint, WriteHint}
 use Rattle.papaya_ask.specs.declared.ask.Answer.{Answer}
 use Rattle.papaya_ask.specs.declared.ask.Answer.TheVariants.{Word as Word_read, Exchanged, Found as Found_instead, Yes, Op, Size, Made as Made_number, Ok as Ok_done, Refused as Was_refused}
 use Rattle.papaya_ask.specs.declared.ask.OpKind.{OpKind}
@@ -94,6 +94,8 @@ event_tells kind (ShowPair n) answer = by_answer answer
     by_answer (Made_number m) = tt
     by_answer Ok_done = tt
     by_answer (Was_refused refused) = tt
+event_tells kind (LoadHint t x) answer = tt
+event_tells kind (WriteHint t x hint) answer = tt
 event_tells kind (SizeOf n) answer = tt
 event_tells kind MakeKey answer = tt
 event_tells kind MakePair answer = tt
@@ -108,6 +110,8 @@ is_showing (ShowPair n) = true
 is_showing (Load at) = false
 is_showing (Ask_exchange at old new) = false
 is_showing (SameKey n) = false
+is_showing (LoadHint t x) = false
+is_showing (WriteHint t x hint) = false
 is_showing (SizeOf n) = false
 is_showing MakeKey = false
 is_showing MakePair = false
@@ -248,6 +252,8 @@ module _ {K V S A : Type 0} (eq : K → K → Bool) (says : Says K V A) (refuse 
     answering (Load at) h = not_shown (Load at) refl (as_was h.1.1)
     answering (Ask_exchange at old new) h = not_shown (Ask_exchange at old new) refl (as_was h.1)
     answering (SameKey n) h = not_shown (SameKey n) refl (as_was h.1.1)
+    answering (LoadHint t x) h = not_shown (LoadHint t x) refl (as_was h.1.1)
+    answering (WriteHint t x hint) h = not_shown (WriteHint t x hint) refl (as_was h.2)
     answering (SizeOf n) h = not_shown (SizeOf n) refl (as_was h.1.1)
     answering MakeKey h = not_shown MakeKey refl (key_made h)
     answering MakePair h = not_shown MakePair refl (pair_made h)
@@ -278,6 +284,8 @@ module _ {K V S A : Type 0} (eq : K → K → Bool) (says : Says K V A) (refuse 
         by_task tasks.Compute (inr (p, there, (x, op, y, has, gives, answer_is, same, later))) = inr (inr (Some n, op_kind op, refl, answer_is))
         by_task tasks.Get (e, stays) = kept (ShowPair n) stays.1
         by_task (tasks.Insert replace) (e, stays) = kept (ShowPair n) stays.1
+    at_hand (LoadHint t x) (e, stays) = kept (LoadHint t x) stays.1
+    at_hand (WriteHint t x hint) (e, same, as_was) = kept (WriteHint t x hint) as_was
     at_hand (SizeOf n) (e, stays) = kept (SizeOf n) stays.1
     at_hand MakeKey h =
         matched (AtHand MakeKey) refuse _ _ h

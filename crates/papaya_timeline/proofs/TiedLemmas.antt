@@ -1,7 +1,7 @@
 -- How calls under way stand to a history that grows by an entry.
 use Rattle.std.proofs.Common.{◌≡◌, ◌≢◌, ◌⊎◌, inl, inr, ⊎_elim, ℕ, ◌==◌, Bool, true, false, cond, Option, None, Some, List, [], ◌∷◌, ◌++◌, length, slice_get, refl, sym, ◌∙◌, ap, subst, zero, suc}
 use Rattle.papaya_ask.specs.declared.ask.Ask.{Ask as Call_ask}
-use Rattle.papaya_ask.specs.declared.ask.Ask.TheVariants.{Load, Exchange as Ask_exchange, SameKey, ShowNone, ShowPair, SizeOf, MakeKey, MakePair, MakeTable, AddToShard, Done as Ask_done}
+use Rattle.papaya_ask.specs.declared.ask.Ask.TheVariants.{Load, Exchange as Ask_exchange, SameKey, ShowNone, ShowPair, SizeOf, MakeKey, MakePair, MakeTable, AddToShard, Done as Ask_done, LoadHint, WriteHint}
 use Rattle.papaya_ask.specs.declared.ask.Answer.{Answer as Call_answer}
 use Rattle.papaya_ask.specs.declared.call.Call.{Call}
 use Rattle.papaya_ask.specs.declared.call.Call.TheVariants.{Get, Insert, TryInsert, RemoveIf, Compute, Reserve, CopyAll, Clear, Retain, Walk}
@@ -130,6 +130,8 @@ module _ {K V S A : Type 0} where
   call_grown eq says refuse ShowNone s r a s' r' (inl (none, (e, stays))) offers = still s r s' r' stays.0 stays.1
   call_grown eq says refuse ShowNone s r a s' r' (inr decides) offers = decided says None s r a s' r' (offers refl) decides
   call_grown eq says refuse (ShowPair n) s r a s' r' h offers = showed says n s r a s' r' r.machine.call.task refl h
+  call_grown eq says refuse (LoadHint t x) s r a s' r' (e, stays) offers = still s r s' r' stays.0 stays.1
+  call_grown eq says refuse (WriteHint t x hint) s r a s' r' (e, same, as_was) offers = words_changed s r s' r' (ap (λ (y : StoreState K V S). y.hasher) same) (ap (λ (y : StoreState K V S). y.keys) same) (ap (λ (y : StoreState K V S). y.pairs) same) as_was
   call_grown eq says refuse (SizeOf n) s r a s' r' (e, stays) offers = still s r s' r' stays.0 stays.1
   call_grown eq says refuse MakeKey s r a s' r' h offers =
       matched (HasMoreLogs s r s' r') refuse _ _ h
@@ -166,6 +168,8 @@ module _ {K V S A : Type 0} where
       matched (HasMoreLogs s r s' r') (word_at s.words at == old) _ _ ex
       (λ _ done. words_changed s r s' r' (ap (λ (y : StoreState K V S). y.hasher) done.1) (ap (λ (y : StoreState K V S). y.keys) done.1) (ap (λ (y : StoreState K V S). y.pairs) done.1) as_was)
       (λ _ lost. still s r s' r' lost.1 as_was)
+  copy_grown eq hash refuse (copies.LoadHint t x) s r a s' r' (e, same) as_was = still s r s' r' same as_was
+  copy_grown eq hash refuse (copies.WriteHint t x hint) s r a s' r' (e, same) as_was = words_changed s r s' r' (ap (λ (y : StoreState K V S). y.hasher) same) (ap (λ (y : StoreState K V S). y.keys) same) (ap (λ (y : StoreState K V S). y.pairs) same) as_was
   copy_grown eq hash refuse (copies.SizeOf t) s r a s' r' (e, same) as_was = still s r s' r' same as_was
   copy_grown eq hash refuse (copies.HashOf n) s r a s' r' (e, hashes, same) as_was = still s r s' r' same as_was
   copy_grown eq hash refuse (copies.SamePair m n) s r a s' r' (e, same) as_was = still s r s' r' same as_was

@@ -31,7 +31,7 @@ use Rattle.papaya_rests.specs.Copier.{AreThere, told_last}
 use Rattle.papaya_rests.specs.Told.{IsWritten, or_last, word_of}
 use Rattle.papaya_store.specs.Copies.{PerformsCopy}
 use Rattle.papaya_store.specs.Store.{StoreState, Stored, pair_of}
-use Rattle.papaya_store.specs.Tables.{put, word_at}
+use Rattle.papaya_store.specs.Tables.{hint_at, put, word_at}
 use Rattle.papaya_timeline.specs.Counted.{owed_visit}
 use Rattle.papaya_timeline.specs.Core.{CoreState, IsCore}
 use Rattle.papaya_timeline.specs.Kept.{HasAnswers, IsLogged, IsMade, IsResizing, IsVisitLink, Tale, WasShown, coding_of, low, numbers_of, setting_of}
@@ -53,6 +53,7 @@ use Rattle.papaya_chain_rests.proofs.VisitAsks.{state_may, state_named}
 use Rattle.papaya_store.specs.declared.visits.Visiting.{Visiting}
 use Rattle.papaya_store.specs.Visits.{PerformsVisit}
 use Rattle.papaya_timeline.specs.Visits.{IsUnheard}
+use Rattle.papaya_law.specs.Hints.{IsHint}
 
 -- what is told otherwise, where all else is the same
 retold : {Q K V S : Type 0} (g : Setting Q (Stored K V)) (c : Coding Q (Stored K V)) (store : StoreState K V S) (es : List (Exchange (Stored K V))) (hands : copies.Hands (Stored K V)) (T T' : List (Exchange (Stored K V)) → copies.Hands (Stored K V) → Type 0) (a : Answer) (store' : StoreState K V S) (left : IsLeft g c store es hands T a store') → T' left.made left.hands' → IsLeft g c store es hands T' a store'
@@ -67,6 +68,7 @@ retold g c store es hands T T' a store' left told = record {
   tables_few = left.tables_few;
   grown = left.grown;
   coded = left.coded;
+  hints = left.hints;
   there = left.there;
   slots = left.slots;
   last = left.last;
@@ -94,6 +96,7 @@ module _ {K V S A : Type 0} (eq : K → K → Bool) (hash : K → ℕ) (law : Is
     (may : AllAllowed (setting_of {V = V} eq (low hash) s.mode s.store.words.tables) start (begun ++ since))
     (coded : (at : At) → word_of (setting_of eq (low hash) s.mode s.store.words.tables) (coding_of (low hash)) (run (begun ++ since) start) at ≡ word_at s.store.words at)
     (there : (t : ℕ) → 0 < t → Comes (run (begun ++ since) start) t → IsMade s.store t)
+    (hints : (t x : ℕ) → IsHint (setting_of {V = V} eq (low hash) s.mode s.store.words.tables) (coding_of (low hash)) (run (begun ++ since) start) t x (hint_at s.store.words t x))
     (v : Visiting A) (hands : Hands (Stored K V))
     (rests : RestsVisitor (setting_of eq (low hash) s.mode s.store.words.tables) (coding_of (low hash)) (run begun start) (map_left (setting_of eq (low hash) s.mode s.store.words.tables) begun) since v.visitor hands)
     (has_answers : HasAnswers v.visitor.visit v.answers)
@@ -170,7 +173,7 @@ module _ {K V S A : Type 0} (eq : K → K → Bool) (hash : K → ℕ) (law : Is
   copy_left : (stage : Stage) → v.visitor.state ≡ Copying stage → Rests (Copying stage) → (ask : CopyAsk) → resizers.asks_in stage ≡ Some ask → (a : Answer) (store' : StoreState K V S) → PerformsCopy eq hashes refuse ask s.store a store' → (v' : Visiting A) → v' ≡ v → IsVisitLeft (Copying stage) a store' v'
   copy_left stage is r ask e a store' performs v' same_v =
       let tale : Tale K V = record { begun = begun; since = since; hands = hands.copy; visit = hands } in
-      let left = stage_left eq hash law hashes refuse s (begun ++ since) tale core (resizer_of v.visitor stage) hasher may coded there (copying stage is r) stage refl ask e a store' performs in
+      let left = stage_left eq hash law hashes refuse s (begun ++ since) tale core (resizer_of v.visitor stage) hasher may coded there hints (copying stage is r) stage refl ask e a store' performs in
       record {
         words = store';
         hands' = record hands { copy = left.hands'; before = since ++ left.made };
@@ -195,12 +198,12 @@ module _ {K V S A : Type 0} (eq : K → K → Bool) (hash : K → ℕ) (law : Is
   loads : (at : At) → Named (Load at) → (a : Answer) (store' : StoreState K V S) → PerformsCopy eq hashes refuse (Load at) s.store a store' → Hears (Load at) a store'
   loads at named a store' performs =
       copied_left g c s.store (begun ++ since) hands.copy coded there eq hashes last carried suits None 0 refuse (Load at)
-      (record { names = named; may = λ at old new e stands. absurd cc; low = λ slots limit e. absurd cc; links = λ behind old t e. absurd cc }) a store' performs
+      (record { names = named; may = λ at old new e stands. absurd cc; low = λ slots limit e. absurd cc; links = λ behind old t e. absurd cc; reads = λ t x e. absurd cc; writes = λ t x n e. absurd cc }) a store' performs
 
   sizes : (t : ℕ) → Named (SizeOf t) → (a : Answer) (store' : StoreState K V S) → PerformsCopy eq hashes refuse (SizeOf t) s.store a store' → Hears (SizeOf t) a store'
   sizes t named a store' performs =
       copied_left g c s.store (begun ++ since) hands.copy coded there eq hashes last carried suits None 0 refuse (SizeOf t)
-      (record { names = named; may = λ at old new e stands. absurd cc; low = λ slots limit e. absurd cc; links = λ behind old t e. absurd cc }) a store' performs
+      (record { names = named; may = λ at old new e stands. absurd cc; low = λ slots limit e. absurd cc; links = λ behind old t e. absurd cc; reads = λ t x e. absurd cc; writes = λ t x n e. absurd cc }) a store' performs
 
   -- so it is told of the word, or the size
   word_left : (state : State) (before : List (Exchange (Stored K V)) → List (Exchange (Stored K V))) → (ask : CopyAsk) → asks_in state ≡ Some (Copy ask) → (a : Answer) (store' : StoreState K V S) → (left : Hears ask a store')

@@ -43,6 +43,7 @@ use Rattle.papaya_store.specs.Visits.{PerformsVisit}
 use Rattle.papaya_timeline.specs.Visits.{IsHeard, IsUnheard}
 use Rattle.papaya_timeline.proofs.VisitAnswers as left_by
 use Rattle.papaya_timeline.proofs.VisitLinks.{links_made}
+use Rattle.papaya_timeline.proofs.KeptHints.{KeepsHints}
 
 -- a caller that has no work has none put into its seat
 module _ {K V A : Type 0} (seat : Seat K V A) (seats : List (Seat K V A)) (caller : ℕ) where
@@ -93,11 +94,11 @@ module _ {K V S A : Type 0} (eq : K → K → Bool) (hash : K → ℕ) (law : Is
   s' = record s { store = store' }
 
   abbrev HasLeft : Type 0
-  HasLeft = left_by.IsVisitLeft eq hash law says hashes refuse s core hasher tale.begun tale.since kept.allowed kept.coded kept.made v tale.hands visiting.rests visiting.answers visiting.last visiting.carried visiting.given visiting.links v.visitor.state a store' v'
+  HasLeft = left_by.IsVisitLeft eq hash law says hashes refuse s core hasher tale.begun tale.since kept.allowed kept.coded kept.made kept.hints v tale.hands visiting.rests visiting.answers visiting.last visiting.carried visiting.given visiting.links v.visitor.state a store' v'
 
   -- what the answer leaves
   left_so : IsUnheard s.store v a store' ⊎ HasLeft
-  left_so = left_by.visit_left eq hash law says hashes refuse s core hasher tale.begun tale.since kept.allowed kept.coded kept.made v tale.hands visiting.rests visiting.answers visiting.last visiting.carried visiting.given visiting.links v.visitor.state refl visiting.rests.state ask asks a store' v' performs
+  left_so = left_by.visit_left eq hash law says hashes refuse s core hasher tale.begun tale.since kept.allowed kept.coded kept.made kept.hints v tale.hands visiting.rests visiting.answers visiting.last visiting.carried visiting.given visiting.links v.visitor.state refl visiting.rests.state ask asks a store' v' performs
 
   module _ (l : HasLeft) where
     abbrev made : List (Exchange (Stored K V))
@@ -135,6 +136,7 @@ module _ {K V S A : Type 0} (eq : K → K → Bool) (hash : K → ℕ) (law : Is
       tables_few = λ h. of_store (λ y. length y.words.tables ≤ MAX_TABLES) (l.left.tables_few h);
       grown = of_store (λ y. HasMoreTables s.store.words.tables y.words.tables) l.left.grown;
       coded = of_store (λ y. (at : At) → word_of g c (run (es ++ made) start) at ≡ word_at y.words at) l.left.coded;
+      hints = of_store (λ y. KeepsHints g c (run es start) s.store.words y.words) l.left.hints;
       there = l.left.there;
       slots = λ t x p h. inl (l.left.slots t x p h);
       mine_logged = λ p f. absurd f;

@@ -178,7 +178,7 @@ module _ {K V S A : Type 0} (eq : K → K → Bool) (hash : K → ℕ) (law : Is
   dropped spot word p live stands Walk takes is = absurd cc
   dropped spot word p live stands Clear takes is = absurd cc
   dropped spot word p live stands Retain (q, number, said) is =
-      let of_word : number_in word ≡ p.number = ap number_in (sym stands ∙ ap (code g c) live) ∙ (code_pair g c hashed.coding (Live p) p refl).0 in
+      let of_word : number_in word ≡ p.number = ap number_in (sym stands ∙ ap (code g c) live) ∙ (code_pair g c hashed.coding (Live p) p refl) in
       let one : q ≡ p = one_pair q p (visiting.shown q (answered_shown tale.hands.shown q false said)) (kept.logged spot.table spot.slot p (ap named live)) (number ∙ of_word) in
       subst (λ r. IsLastAnswer tale.hands.shown r false) one said
 
@@ -267,7 +267,7 @@ module _ {K V S A : Type 0} (eq : K → K → Bool) (hash : K → ℕ) (law : Is
       (λ hit t.
       let live = subst (λ (w : Words (Stored K V)). w.slot spot.table spot.slot ≡ Live t.pair) same t.live in
       let stands : code g c (now.slot spot.table spot.slot) ≡ word = subst (λ (w : Words (Stored K V)). code g c (w.slot spot.table spot.slot) ≡ word) same (eqb-true (code g c there) word hit) in
-      let of_word : number_in word ≡ t.pair.number = ap number_in (sym stands ∙ ap (code g c) live) ∙ (code_pair g c hashed.coding (Live t.pair) t.pair refl).0 in
+      let of_word : number_in word ≡ t.pair.number = ap number_in (sym stands ∙ ap (code g c) live) ∙ (code_pair g c hashed.coding (Live t.pair) t.pair refl) in
       subst (λ y. ByEvent (event_of_visit (Some Kind_bury) (Copy (buries spot word)) y)) (sym t.is)
       (t.pair, buried spot.table spot.slot t.pair t.one, no_walk word v.visitor.visit r.2, dropped spot word t.pair live stands v.visitor.visit r.2, ap (λ n. Some n) of_word, refl))
       (λ miss t. subst (λ y. ByEvent (event_of_visit (Some Kind_bury) (Copy (buries spot word)) y)) (sym t.is) (none_moved t.none)))

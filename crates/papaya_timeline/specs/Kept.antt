@@ -20,6 +20,7 @@ use Rattle.papaya_law.specs.Code.{Coding}
 use Rattle.papaya_law.specs.Exchange.{Setting, Exchange, run, start}
 use Rattle.papaya_law.specs.Grows.{Comes, planned}
 use Rattle.papaya_law.specs.Hashing.{hashed}
+use Rattle.papaya_law.specs.Hints.{IsHint}
 use Rattle.papaya_law.specs.Invariant.{named}
 use Rattle.papaya_law.specs.Meaning.{map_left}
 use Rattle.papaya_rests.specs.Rests.{change_in}
@@ -34,7 +35,7 @@ use Rattle.papaya_chain_rests.specs.Resizers.{HasLink, RestsResizer}
 use Rattle.papaya_timeline.specs.Core.{IsCore}
 use Rattle.papaya_store.specs.Performs.{own_key}
 use Rattle.papaya_store.specs.Store.{StoreState, Stored, pair_of}
-use Rattle.papaya_store.specs.Tables.{table_of, word_at}
+use Rattle.papaya_store.specs.Tables.{hint_at, table_of, word_at}
 use Rattle.papaya_chain.specs.declared.visitor.State.{State}
 use Rattle.papaya_chain.specs.declared.visitor.State.TheVariants.{Copying}
 use Rattle.papaya_chain.specs.declared.visitor.Visit.{Visit}
@@ -193,6 +194,9 @@ module _ {K V S A : Type 0} (eq : K → K → Bool) (hash : K → ℕ) (mode : R
     pub allowed : AllAllowed (setting_of eq (low hash) mode store.words.tables) start es
     pub coded : (at : At) → word_of (setting_of eq (low hash) mode store.words.tables)
         (coding_of (low hash)) (run es start) at ≡ word_at store.words at
+    -- and each hint that stands may be there
+    pub hints : (n i : ℕ) → IsHint (setting_of eq (low hash) mode store.words.tables)
+        (coding_of (low hash)) (run es start) n i (hint_at store.words n i)
     pub made : (t : ℕ) → 0 < t → Comes (run es start) t → IsMade store t
     pub logged : (t x : ℕ) (p : Stored K V) → named ((run es start).slot t x) ≡ Some p
         → IsLogged store p

@@ -1,27 +1,33 @@
 -- The words of one table, and the lengths of tables.
-use Rattle.std.specs.Prelude.{ℕ, ◌*◌, ◌/◌, ◌-◌, Bool, ◌||◌, nat_le, if◌then◌else◌, max, List, replicate}
+use Rattle.std.specs.Prelude.{ℕ, ◌*◌, ◌/◌, ◌-◌, Bool, ◌||◌, ◌==◌, nat_le, if◌then◌else◌, max, List, replicate, slice_index, slice_set}
 use Rattle.papaya_words.specs.Probe.{limit_of}
 
--- a table: its number, how far a search of it goes, its slot words, the number of the next table or
--- 0, 1 where it was aborted, and how many slots of the table before it are copied
+-- a table: its number, how far a search of it goes, its slot words and their hints, the number of the
+-- next table or 0, 1 where it was aborted, and how many slots of the table before it are copied
 pub record TableWords : Type 0 where
   pub number : ℕ
   pub limit : ℕ
   pub slots : List ℕ
+  pub hints : List ℕ
   pub next : ℕ
   pub aborted : ℕ
   pub done : ℕ
 
--- a table as it is made: each slot is empty, and the other words are 0
+-- a table as it is made: each slot is empty, and all else is 0
 abbrev pub new_table : ℕ → ℕ → ℕ → TableWords
 new_table number len limit = record {
   number = number;
   limit = limit;
   slots = replicate len 0;
+  hints = replicate len 0;
   next = 0;
   aborted = 0;
   done = 0;
 }
+
+-- hints, after one of a slot was written: it stays where there was one
+abbrev pub noted : List ℕ → ℕ → ℕ → List ℕ
+noted hints i hint = if slice_index hints i == 0 then slice_set hints i hint else hints
 
 -- the length that follows a table's length, by the count of the map's pairs, the initial capacity,
 -- and whether a pair did not fit: it doubles from half full on, and halves up to an eighth

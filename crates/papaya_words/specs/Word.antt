@@ -1,5 +1,5 @@
 -- What the words of slots say, and how they change.
-use Rattle.std.specs.Prelude.{◌≡◌, ℕ, ◌+◌, ◌*◌, ◌/◌, ◌%◌, ◌^◌, ◌==◌, if◌then◌else◌}
+use Rattle.std.specs.Prelude.{◌≡◌, ℕ, ◌+◌, ◌*◌, ◌/◌, ◌%◌, ◌^◌, Bool, ◌==◌, ◌||◌, if◌then◌else◌}
 use Rattle.papaya_words.specs.declared.word.Kind.{Kind}
 use Rattle.papaya_words.specs.declared.word.Kind.TheVariants.{Empty, Live, Marked, Copied, Buried, Closed}
 
@@ -10,45 +10,53 @@ kind_of_code n =
     then Copied
     else if n == 4 then Buried else Closed
 
--- the kind of a word, from bits 0 to 2
+-- the kind of a word, from bits 0 to 9, of which 3 to 9 are zero
 abbrev pub kind_of : ℕ → Kind
-kind_of w = kind_of_code (w % 8)
-
--- the hash byte, from bits 3 to 9
-abbrev pub byte_of : ℕ → ℕ
-byte_of w = w / 8 % 128
+kind_of w = kind_of_code (w % 1024)
 
 -- the pair's number, from bit 10 on
 abbrev pub pair_of : ℕ → ℕ
 pair_of w = w / 1024
 
--- the word of a filled slot, from the code of its kind, the hash byte and the pair's number
-abbrev pub filled_word : ℕ → ℕ → ℕ → ℕ
-filled_word code byte pair = code + 8 * byte + 1024 * pair
+-- the word of a filled slot, from the code of its kind and the pair's number
+abbrev pub filled_word : ℕ → ℕ → ℕ
+filled_word code pair = code + 1024 * pair
 
 -- the word of a pair that is in its table
-abbrev pub live_word : ℕ → ℕ → ℕ
-live_word byte pair = filled_word 1 byte pair
+abbrev pub live_word : ℕ → ℕ
+live_word pair = filled_word 1 pair
 
 -- the word of a pair that is being copied
-abbrev pub marked_word : ℕ → ℕ → ℕ
-marked_word byte pair = filled_word 2 byte pair
+abbrev pub marked_word : ℕ → ℕ
+marked_word pair = filled_word 2 pair
 
 -- the word of a pair that was copied
-abbrev pub copied_word : ℕ → ℕ → ℕ
-copied_word byte pair = filled_word 3 byte pair
+abbrev pub copied_word : ℕ → ℕ
+copied_word pair = filled_word 3 pair
 
 -- the word of a pair that was removed
-abbrev pub buried_word : ℕ → ℕ → ℕ
-buried_word byte pair = filled_word 4 byte pair
+abbrev pub buried_word : ℕ → ℕ
+buried_word pair = filled_word 4 pair
 
 -- the top seven bits of a hash
 abbrev pub top_byte : ℕ → ℕ
 top_byte hash = hash / 2 ^ 57
 
--- two words have one hash byte and name one pair
+-- the hint of a slot that was filled by a key with this hash
+abbrev pub hint_of : ℕ → ℕ
+hint_of hash = 1 + top_byte hash
+
+-- a slot with this hint may hold a pair of a key with this hash
+abbrev pub may_hold : (hint hash : ℕ) → Bool
+may_hold hint hash = hint == 0 || hint == hint_of hash
+
+-- the hint of a slot that is Closed
+abbrev pub shut_hint : ℕ
+shut_hint = 129
+
+-- two words name one pair
 abbrev pub NamesSamePair : ℕ → ℕ → Type 0
-NamesSamePair old new = (byte_of old ≡ byte_of new) × (pair_of old ≡ pair_of new)
+NamesSamePair old new = pair_of old ≡ pair_of new
 
 -- a word of the first kind may become one of the second: what must hold of the two words
 abbrev pub MayBecome : Kind → Kind → ℕ → ℕ → Type 0
@@ -57,7 +65,7 @@ MayBecome Empty Live old new = old ≡ 0
 -- close
 MayBecome Empty Closed old new = (old ≡ 0) × (new ≡ 5)
 -- replace
-MayBecome Live Live old new = byte_of old ≡ byte_of new
+MayBecome Live Live old new = Unit {0}
 -- mark
 MayBecome Live Marked old new = NamesSamePair old new
 -- bury

@@ -10,7 +10,7 @@ use crate::probe::{Refused, limit};
 use std::alloc::Global;
 use std::marker::Model;
 
-/// A table: its slots, how far a search of it goes, and how far its resize has
+/// A table: its slots with their hints, how far a search of it goes, and how far its resize has
 /// come. Its words are plain; the shared map keeps the like in atomic words.
 ///
 /// It stands in place of 0.2.5's `RawTable` and the `State` beside it.
@@ -19,12 +19,14 @@ pub struct Table {
     number: u64,
     limit: usize,
     slots: Vec<u64>,
+    hints: Vec<u8>,
     next: u64,
     aborted: u64,
     done: u64,
 }
 
 impl Model for Table {
+    ghost use Rattle.std.specs.Prelude.{◌≡◌, length};
     ghost use Rattle.papaya_words.specs.Table.{TableWords};
 
     ghost Value = { TableWords };
@@ -33,32 +35,36 @@ impl Model for Table {
       number = t.number;
       limit = t.limit;
       slots = t.slots.items;
+      hints = t.hints.items;
       next = t.next;
       aborted = t.aborted;
       done = t.done;
     } };
+
+    ghost invariant = { λ t. length t.hints.items ≡ length t.slots.items };
 }
 
 impl Table {
-    ghost use Rattle.papaya_words.specs.Table.{new_table};
+    ghost use Rattle.papaya_words.specs.Table.{new_table, noted};
 
-    /// A table of this number, with `len` Empty slots and no next.
+    /// A table of this number, with `len` Empty slots, no hints and no next.
     ///
     /// `Refused::Memory` where the growth was refused.
     pub fn new(alloc: Global, number: u64, len: usize, limit: usize) -> Result<Table, Refused>
         ensures ok { IfOk result (λ table. table ≡ new_table number len limit) }
         ensures err { IfErr result (λ refused. refused ≡ Refused.Memory) }
     {
-        match vec![in alloc; 0; len] {
-            Ok(slots) => Ok(Table {
+        match (vec![in alloc; 0; len], vec![in alloc; 0; len]) {
+            (Ok(slots), Ok(hints)) => Ok(Table {
                 number,
                 limit,
                 slots,
+                hints,
                 next: 0,
                 aborted: 0,
                 done: 0,
             }),
-            Err(_) => Err(Refused::Memory),
+            _ => Err(Refused::Memory),
         }
     }
 
@@ -145,6 +151,26 @@ impl Table {
         ensures { self.new ≡ record self.old { slots = slice_set self.old.slots i word } }
     {
         self.slots[i] = word;
+    }
+
+    /// The hint of a slot: 0 where nobody has written one.
+    #[inline(always)]
+    pub fn hint(&self, i: usize) -> u8
+        requires { i < length self.now.slots }
+        ensures { slice_get self.now.hints i ≡ Some result }
+    {
+        self.hints[i]
+    }
+
+    /// Writes the hint of a slot that has none. One that stands there stays.
+    #[inline(always)]
+    pub fn set_hint(&mut self, i: usize, hint: u8)
+        requires { i < length self.old.slots }
+        ensures { self.new ≡ record self.old { hints = noted self.old.hints i hint } }
+    {
+        if self.hints[i] == 0 {
+            self.hints[i] = hint;
+        }
     }
 }
 

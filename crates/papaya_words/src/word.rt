@@ -1,8 +1,8 @@
 //! The words of slots: what stands in a slot of a table, and how it may change.
 ghost use Rattle.std.specs.Prelude.{◌≡◌, ℕ, ◌+◌, ◌*◌, ◌%◌, ◌^◌, ◌<◌, ◌≤◌, ◌↔◌, ◌≢◌, IsTrue};
-ghost use Rattle.papaya_words.specs.Word.{kind_of, kind_of_code, byte_of, pair_of, filled_word};
+ghost use Rattle.papaya_words.specs.Word.{kind_of, kind_of_code, pair_of, filled_word};
 ghost use Rattle.papaya_words.specs.Word.{live_word, marked_word, copied_word, buried_word};
-ghost use Rattle.papaya_words.specs.Word.{top_byte, IsSlotStep};
+ghost use Rattle.papaya_words.specs.Word.{top_byte, hint_of, may_hold, IsSlotStep};
 ghost use Rattle.papaya_words.specs.declared.word.Kind.TheVariants.{Empty, Live, Marked, Copied, Buried, Closed};
 
 /// What a slot word says. Its code in the word is its place in this list, from 0.
@@ -22,10 +22,9 @@ pub enum Kind {
     Closed,
 }
 
-/// The word of a slot: `kind + 8 * hash byte + 1024 * pair`.
+/// The word of a slot: `kind + 1024 * pair`.
 ///
-/// It stands in place of 0.2.5's tagged pointer to an entry, and of its bytes of
-/// metadata.
+/// It stands in place of 0.2.5's tagged pointer to an entry.
 #[derive(Clone, Copy, Debug, PartialEq, Eq)]
 pub struct Word(pub u64);
 
@@ -38,49 +37,45 @@ impl Word {
 
     /// The word of a slot that holds this pair.
     #[inline(always)]
-    pub fn live(h2: u8, pair: u64) -> Word
-        requires byte { h2 < 128 }
-        requires pair { pair < 2 ^ 54 }
-        ensures { result.0 ≡ live_word h2 pair }
+    pub fn live(pair: u64) -> Word
+        requires { pair < 2 ^ 54 }
+        ensures { result.0 ≡ live_word pair }
     {
-        Word(1 + 8 * h2 as u64 + 1024 * pair)
+        Word(1 + 1024 * pair)
     }
 
     /// The word of a slot whose pair is being copied.
-    pub fn marked(h2: u8, pair: u64) -> Word
-        requires byte { h2 < 128 }
-        requires pair { pair < 2 ^ 54 }
-        ensures { result.0 ≡ marked_word h2 pair }
+    pub fn marked(pair: u64) -> Word
+        requires { pair < 2 ^ 54 }
+        ensures { result.0 ≡ marked_word pair }
     {
-        Word(2 + 8 * h2 as u64 + 1024 * pair)
+        Word(2 + 1024 * pair)
     }
 
     /// The word of a slot whose pair was copied.
-    pub fn copied(h2: u8, pair: u64) -> Word
-        requires byte { h2 < 128 }
-        requires pair { pair < 2 ^ 54 }
-        ensures { result.0 ≡ copied_word h2 pair }
+    pub fn copied(pair: u64) -> Word
+        requires { pair < 2 ^ 54 }
+        ensures { result.0 ≡ copied_word pair }
     {
-        Word(3 + 8 * h2 as u64 + 1024 * pair)
+        Word(3 + 1024 * pair)
     }
 
     /// The word of a slot whose pair was removed.
     #[inline(always)]
-    pub fn buried(h2: u8, pair: u64) -> Word
-        requires byte { h2 < 128 }
-        requires pair { pair < 2 ^ 54 }
-        ensures { result.0 ≡ buried_word h2 pair }
+    pub fn buried(pair: u64) -> Word
+        requires { pair < 2 ^ 54 }
+        ensures { result.0 ≡ buried_word pair }
     {
-        Word(4 + 8 * h2 as u64 + 1024 * pair)
+        Word(4 + 1024 * pair)
     }
 
-    /// What the word says. The codes 6 and 7 stand in no table; they read as
-    /// Closed.
+    /// What the word says. Bits 3 to 9 are zero in each word that stands in a table; any
+    /// other code reads as Closed.
     #[inline(always)]
     pub fn kind(self) -> Kind
         ensures { result ≡ kind_of self.0 }
     {
-        match self.0 % 8 {
+        match self.0 % 1024 {
             0 => Kind::Empty,
             1 => Kind::Live,
             2 => Kind::Marked,
@@ -97,33 +92,22 @@ impl Word {
     {
         self.0 / 1024
     }
-
-    /// The hash byte of the pair's key, below 128: a key is compared only where
-    /// it agrees. It says nothing in an Empty or a Closed word.
-    #[inline(always)]
-    pub fn hash_byte(self) -> u8
-        ensures { result ≡ byte_of self.0 }
-    {
-        (self.0 / 8 % 128) as u8
-    }
 }
 
 /// Whether one step may put `new` where `old` stands in a slot. Nothing makes a
-/// slot Empty again, and a slot that was filled keeps its hash byte.
+/// slot Empty again.
 ///
 /// The words show neither whose keys are equal nor which of two steps an Empty
 /// slot was filled by: those are conditions of the steps, not of the words.
 pub fn legal(old: Word, new: Word) -> bool
     ensures steps { IsTrue result ↔ IsSlotStep old.0 new.0 }
     ensures not_empty { IsTrue result → kind_of new.0 ≢ Empty }
-    ensures byte { IsTrue result → kind_of old.0 ≢ Empty → byte_of new.0 ≡ byte_of old.0 }
 {
-    let same_byte = old.hash_byte() == new.hash_byte();
-    let same_pair = same_byte && old.pair() == new.pair();
+    let same_pair = old.pair() == new.pair();
     match (old.kind(), new.kind()) {
         (Kind::Empty, Kind::Live) => old == Word::EMPTY,
         (Kind::Empty, Kind::Closed) => old == Word::EMPTY && new == Word::CLOSED,
-        (Kind::Live, Kind::Live) => same_byte,
+        (Kind::Live, Kind::Live) => true,
         (Kind::Live, Kind::Marked) => same_pair,
         (Kind::Live, Kind::Buried) => same_pair,
         (Kind::Marked, Kind::Copied) => same_pair,
@@ -134,17 +118,14 @@ pub fn legal(old: Word, new: Word) -> bool
 /// A law, with nothing to run: a word says what it was made of, and a filled
 /// word is made of what it says.
 pub fn words_read_back()
-    ensures kind { (code byte pair : ℕ) → code < 8
-        → kind_of (filled_word code byte pair) ≡ kind_of_code code }
-    ensures byte { (code byte pair : ℕ) → code < 8 → byte < 128
-        → byte_of (filled_word code byte pair) ≡ byte }
-    ensures pair { (code byte pair : ℕ) → code < 8 → byte < 128
-        → pair_of (filled_word code byte pair) ≡ pair }
+    ensures kind { (code pair : ℕ) → code < 8
+        → kind_of (filled_word code pair) ≡ kind_of_code code }
+    ensures pair { (code pair : ℕ) → code < 8 → pair_of (filled_word code pair) ≡ pair }
     ensures bare { (kind_of 0 ≡ Empty) × (kind_of 5 ≡ Closed) }
-    ensures live { (w : ℕ) → kind_of w ≡ Live → w ≡ live_word (byte_of w) (pair_of w) }
-    ensures marked { (w : ℕ) → kind_of w ≡ Marked → w ≡ marked_word (byte_of w) (pair_of w) }
-    ensures copied { (w : ℕ) → kind_of w ≡ Copied → w ≡ copied_word (byte_of w) (pair_of w) }
-    ensures buried { (w : ℕ) → kind_of w ≡ Buried → w ≡ buried_word (byte_of w) (pair_of w) }
+    ensures live { (w : ℕ) → kind_of w ≡ Live → w ≡ live_word (pair_of w) }
+    ensures marked { (w : ℕ) → kind_of w ≡ Marked → w ≡ marked_word (pair_of w) }
+    ensures copied { (w : ℕ) → kind_of w ≡ Copied → w ≡ copied_word (pair_of w) }
+    ensures buried { (w : ℕ) → kind_of w ≡ Buried → w ≡ buried_word (pair_of w) }
 {}
 
 /// The hash from which the places of a search are counted.
@@ -163,3 +144,26 @@ pub fn h2(hash: u64) -> u8
 {
     (hash / 0x200_0000_0000_0000) as u8
 }
+
+/// The hint of a slot that a key with this hash has filled. A hint of 0 says
+/// nothing.
+///
+/// It stands in place of 0.2.5's byte of metadata.
+#[inline(always)]
+pub fn hint(hash: u64) -> u8
+    ensures { result ≡ hint_of hash }
+{
+    1 + h2(hash)
+}
+
+/// Whether a slot with this hint may hold a pair of a key with this hash: only
+/// then a search loads its word.
+#[inline(always)]
+pub fn may_hold(found: u64, hash: u64) -> bool
+    ensures { result ≡ may_hold found hash }
+{
+    found == 0 || found == hint(hash) as u64
+}
+
+/// The hint of a Closed slot.
+pub const SHUT: u8 = 129;

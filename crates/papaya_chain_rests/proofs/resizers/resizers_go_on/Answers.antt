@@ -1,5 +1,5 @@
 use Rattle.papaya_chain_rests.proofs.ResizerRefusals.{resizer_why}
-use Rattle.papaya_chain_rests.proofs.ResizerRests.{stage_learns, stage_may, stage_there}
+use Rattle.papaya_chain_rests.proofs.ResizerRests.{stage_learns, stage_may, stage_may_hint, stage_there}
 use Rattle.papaya_chain_rests.proofs.resizers.resizers_go_on.Goals as goal
 
 pub returns-clause-names : goal.returns-clause-names
@@ -7,6 +7,9 @@ returns-clause-names g c = λ h d hashed s m keeps resizer hands r ask e. stage_
 
 pub returns-clause-may : goal.returns-clause-may
 returns-clause-may g c = λ h d hashed s m keeps resizer hands r at old new e stands. stage_may h d hashed s m keeps hands resizer.state r.stage at old new e stands
+
+pub returns-clause-may_hint : goal.returns-clause-may_hint
+returns-clause-may_hint g c = λ h d hashed s m keeps resizer hands r t x n e. stage_may_hint h d hashed s m keeps hands resizer.mode r.mode resizer.state r.stage t x n e
 
 pub returns-clause-learns : goal.returns-clause-learns
 returns-clause-learns g c = λ h d hashed s m keeps resizer hands r answer es hands' told.

@@ -1,5 +1,5 @@
 use Rattle.papaya_law.proofs.exchanges.words_in_a_search.Goals as goal
-use Rattle.papaya_law.proofs.CodeViews.{other_byte, other_key, own_byte, past_buried, past_closed, word_of_kind}
+use Rattle.papaya_law.proofs.CodeViews.{other_key, past_buried, past_closed, word_of_kind}
 
 pub returns-clause-kind : goal.returns-clause-kind
 returns-clause-kind g c = λ h d w. word_of_kind h d w
@@ -9,12 +9,6 @@ returns-clause-past_buried g c = λ h d k w e. past_buried h d k w e
 
 pub returns-clause-past_closed : goal.returns-clause-past_closed
 returns-clause-past_closed g c = λ h d k w e. past_closed h d k w e
-
-pub returns-clause-own_byte : goal.returns-clause-own_byte
-returns-clause-own_byte g c = λ h d law k w p e same. own_byte h d law k w p e same
-
-pub returns-clause-other_byte : goal.returns-clause-other_byte
-returns-clause-other_byte g c = λ h d law k w p e differ. other_byte h d law k w p e differ
 
 pub returns-clause-other_key : goal.returns-clause-other_key
 returns-clause-other_key g c = λ h k w p e differ. other_key h k w p e differ

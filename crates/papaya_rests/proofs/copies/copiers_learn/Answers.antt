@@ -1,4 +1,4 @@
-use Rattle.papaya_rests.proofs.CopierCopies.{copying_compared, copying_counted, copying_exchanged, copying_found, copying_hashed, copying_loaded, copying_made, copying_refused, copying_sized}
+use Rattle.papaya_rests.proofs.CopierCopies.{copying_compared, copying_counted, copying_exchanged, copying_found, copying_hashed, copying_hinted, copying_loaded, copying_made, copying_noted, copying_refused, copying_sized}
 use Rattle.papaya_rests.proofs.CopierExchange.{asked_allowed}
 use Rattle.papaya_rests.proofs.copies.copiers_learn.Goals as goal
 
@@ -7,6 +7,12 @@ returns-clause-begins g c = λ h d s last kept aim r. (r, tt)
 
 pub returns-clause-load : goal.returns-clause-load
 returns-clause-load g c = λ h d hashed s m keeps mode moded last kept copying r at chunked e. copying_loaded h d hashed s m keeps mode moded last kept chunked copying r at e
+
+pub returns-clause-hint : goal.returns-clause-hint
+returns-clause-hint g c = λ h d hashed s m keeps mode moded last kept copying r t x e n is. copying_hinted h d hashed s m keeps mode moded last kept copying r t x e n is
+
+pub returns-clause-noted : goal.returns-clause-noted
+returns-clause-noted g c = λ h d hashed s m keeps mode moded last kept copying r t x n e. (copying_noted h d hashed s m keeps mode moded last kept copying r t x n e).1
 
 pub returns-clause-exchanged : goal.returns-clause-exchanged
 returns-clause-exchanged g c = λ h d hashed s m keeps mode moded last kept copying r at old new e stands x asked.

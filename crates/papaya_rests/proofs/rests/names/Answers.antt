@@ -2,7 +2,7 @@ use Rattle.papaya_rests.proofs.rests.names.Goals as goal
 use Rattle.std.proofs.Common.{subst}
 use Rattle.papaya_call.specs.Machine.{ask_of}
 use Rattle.papaya_rests.proofs.RestsHeld.{machine_made}
-use Rattle.papaya_rests.proofs.RestsNames.{IsNamed, ask_named, slot_named}
+use Rattle.papaya_rests.proofs.RestsNames.{IsNamed, ask_named, hint_named, slot_named}
 use Rattle.papaya_rests.proofs.RestsOpened.{machine_opened}
 
 pub returns-clause-size : goal.returns-clause-size
@@ -13,6 +13,9 @@ returns-clause-next g c = λ s c' hashed begun since may k m hands rests t e. su
 
 pub returns-clause-slot : goal.returns-clause-slot
 returns-clause-slot g c = λ s c' hashed begun since may k m hands rests t x e. slot_named s c' hashed begun since may k (ask_of m) (ask_named s c' hashed begun since may k hands m.task m.hash m.made m.state rests.stage) t x e
+
+pub returns-clause-hint : goal.returns-clause-hint
+returns-clause-hint g c = λ s c' hashed begun since may k m hands rests t x e. hint_named s c' hashed begun since may k (ask_of m) (ask_named s c' hashed begun since may k hands m.task m.hash m.made m.state rests.stage) t x e
 
 pub returns-clause-opened : goal.returns-clause-opened
 returns-clause-opened g c = λ m answer t e. machine_opened m t answer e

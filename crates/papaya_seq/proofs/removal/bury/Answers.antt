@@ -22,7 +22,7 @@ returns-clause-buried g c matches m =
     let said : c.show.result ≡ Yes true = search rules in
     let s = c.args.store.now in
     let at = Slot c.args.removal.place.table c.args.removal.place.probe.i in
-    let grave : c.buried.result.0 ≡ grave_word c.args.removal.word = c.buried.ensures ∙ ap (λ b. buried_word b c.pair-pair.result) c.hash_byte.ensures ∙ ap (buried_word _) c.pair-pair.ensures in
+    let grave : c.buried.result.0 ≡ grave_word c.args.removal.word = c.buried.ensures ∙ ap buried_word c.pair-pair.ensures in
     removed g.F.FnMut matches s c.args.agrees.now c.args.removal m c.show.new.agrees
     (subst (λ n. IsShown g.F.FnMut (pair_of s n) c.args.agrees.now (Yes true) c.show.new.agrees) c.pair-pair.ensures (subst (λ a. IsShown g.F.FnMut (pair_of s c.pair-pair.result) c.args.agrees.now a c.show.new.agrees) said c.show.ensures.shown))
     c.exchange.new.self c.add_to_shard.new.self

@@ -1,31 +1,28 @@
-use Rattle.std.proofs.Common.{rules, ◌≡◌, refl, sym, ◌∙◌, ap, subst}
-use Rattle.papaya_ask.specs.declared.search.Search.TheVariants.{Comparing}
+use Rattle.std.proofs.Common.{rules, ◌≡◌, sym, ◌∙◌, ap, subst}
+use Rattle.papaya_ask.specs.declared.search.Search.TheVariants.{Looking, Reading}
 use Rattle.papaya_ask.specs.declared.search.Seen.TheVariants.{On}
-use Rattle.papaya_ask.specs.Search.{at_yes, look}
-use Rattle.papaya_words.specs.Word.{kind_of}
+use Rattle.papaya_ask.specs.Search.{hinted}
+use Rattle.papaya_call.specs.declared.machine.State.TheVariants.{Searching}
 use Rattle.papaya_store.specs.Tables.{word_at}
-use Rattle.papaya_seq.specs.Searches.{IsMatchedBy, Sees, StandsBy}
-use Rattle.papaya_seq.proofs.Searching.{matched_look, matched_yes, sees_same, sees_word, stands_look, stands_yes, turn_seen, word_there}
+use Rattle.papaya_seq.specs.Searches.{IsMatchedBy, Sees, StandsBy, seen_by}
+use Rattle.papaya_seq.proofs.Searching.{hint_there, matched_hinted, reads_on, sees_hint, stands_hinted, turn_seen}
 use Rattle.papaya_seq.proofs.search.look_at.Goals as goal
 
-pub returns-in-On-Comparing-clause-turn : goal.returns-in-On-Comparing-clause-turn
-returns-in-On-Comparing-clause-turn g c =
+pub returns-in-On-Reading-clause-turn : goal.returns-in-On-Reading-clause-turn
+returns-in-On-Reading-clause-turn g c =
     let matches = g.Q.Equivalent.matches c.args.key.now in
     let store = c.args.store.now in
-    let compares : look c.args.at c.args.hash (word_there matches store c.args.hash c.args.at) ≡ On (Comparing c.in-On-Comparing.place c.in-On-Comparing.named) = search rules in
-    turn_seen matches store c.args.hash c.args.at c.turn_of.result c.at_yes.result c.turn_of.ensures
-    (subst (Sees matches store c.args.hash c.args.at) (sym (c.at_yes.ensures.value ∙ ap (at_yes (Comparing c.in-On-Comparing.place c.in-On-Comparing.named)) (c.matches-same.ensures ∙ search rules))) (sees_same matches store c.args.hash c.args.at c.in-On-Comparing.place c.in-On-Comparing.named compares))
-    c.at_yes.ensures.seen
-    (subst (StandsBy (λ w. word_at store.words w)) (sym c.at_yes.ensures.value) (stands_yes (λ w. word_at store.words w) c.in-On-Comparing.place c.in-On-Comparing.named c.matches-same.result
-    (subst (StandsBy (λ w. word_at store.words w)) compares (stands_look (λ w. word_at store.words w) (kind_of (word_there matches store c.args.hash c.args.at)) c.args.at c.args.hash (word_there matches store c.args.hash c.args.at) refl refl))))
-    (subst (IsMatchedBy matches store c.args.hash) (sym c.at_yes.ensures.value) (matched_yes matches store c.args.hash c.in-On-Comparing.place c.in-On-Comparing.named c.matches-same.result (c.matches-same.ensures ∙ search rules)))
+    let turn = c.read_at.ensures.turn c.args.hash in
+    let reads : hinted c.args.at c.args.hash (hint_there matches store c.args.hash c.args.at) ≡ On (Reading c.in-On-Reading.place) = search rules in
+    record { sees = reads_on matches store c.args.hash c.args.at c.in-On-Reading.place (seen_by c.read_at.result) reads turn.sees; within = turn.within; stands = turn.stands; matched = turn.matched }
 
 pub returns-in_default-clause-turn : goal.returns-in_default-clause-turn
 returns-in_default-clause-turn g c =
     let matches = g.Q.Equivalent.matches c.args.key.now in
     let store = c.args.store.now in
-    turn_seen matches store c.args.hash c.args.at c.turn_of-in_default.result c.look-seen.result c.turn_of-in_default.ensures
-    (subst (Sees matches store c.args.hash c.args.at) (sym (c.look-seen.ensures.value ∙ ap (look c.args.at c.args.hash) c.word-word.ensures)) (sees_word matches store c.args.hash c.args.at))
-    c.look-seen.ensures.seen
-    (subst (StandsBy (λ w. word_at store.words w)) (sym (c.look-seen.ensures.value ∙ ap (look c.args.at c.args.hash) c.word-word.ensures)) (stands_look (λ w. word_at store.words w) (kind_of (word_there matches store c.args.hash c.args.at)) c.args.at c.args.hash (word_there matches store c.args.hash c.args.at) refl refl))
-    (subst (IsMatchedBy matches store c.args.hash) (sym (c.look-seen.ensures.value ∙ ap (look c.args.at c.args.hash) c.word-word.ensures)) (matched_look matches store c.args.hash c.args.at (kind_of (word_there matches store c.args.hash c.args.at)) (word_there matches store c.args.hash c.args.at)))
+    let told = c.hinted-seen.ensures.value ∙ ap (hinted c.args.at c.args.hash) c.hint-hint.ensures in
+    turn_seen matches store c.args.hash c.args.at (Searching (Looking c.args.at)) c.turn_of.result c.hinted-seen.result c.turn_of.ensures
+    (subst (Sees matches store c.args.hash c.args.at) (sym told) (sees_hint matches store c.args.hash c.args.at))
+    c.hinted-seen.ensures.seen
+    (subst (StandsBy (λ w. word_at store.words w)) (sym told) (stands_hinted (λ w. word_at store.words w) c.args.at c.args.hash (hint_there matches store c.args.hash c.args.at)))
+    (subst (IsMatchedBy matches store c.args.hash) (sym told) (matched_hinted matches store c.args.hash c.args.at (hint_there matches store c.args.hash c.args.at)))

@@ -1,5 +1,4 @@
 use Rattle.std.proofs.Common.{rules, ◌≡◌, ℕ, false, refl, ◌∙◌, ap}
-use Rattle.papaya_words.specs.Word.{live_word}
 use Rattle.papaya_call.specs.Answers.{Says, first_or, rest_of}
 use Rattle.papaya_call.specs.declared.answers.Operation.TheVariants.{Abort}
 use Rattle.papaya_call.specs.declared.answers.Listed.{Listed}
@@ -38,11 +37,11 @@ returns-then-write-eq0 g c m =
     let at = (goal.at.returns-then-write-eq0 g c).After-perform in
     let key = logged g at m in
     let pair = pair_was_logged g.K.PartialEq.eq (hashes g) (said g) c.args.store.now c.args.key c.args.value _ refl refl c.perform-logged.result c.perform-logged.new.self c.perform-logged.new.running c.perform-logged.ensures.performs c.args.hash c.args.write m key c.perform.result c.perform.new.self c.perform.new.running c.perform.ensures.performs c.in-Made.pair c.in-Made.is in
-    was_inserted g.K.PartialEq.eq (hashes g) (said g) c.args.store.now c.args.key c.args.value _ refl refl c.perform-logged.result c.perform-logged.new.self c.perform-logged.new.running c.perform-logged.ensures.performs c.args.hash c.args.write m key c.perform.result c.perform.new.self c.perform.new.running c.perform.ensures.performs c.in-Made.pair pair c.requires c.live.result.0 (c.live.ensures ∙ ap (λ b. live_word b c.in-Made.pair) c.h2.ensures.value) c.exchange.result c.exchange.new.self c.exchange.ensures (search rules) c.add_to_shard.new.self c.add_to_shard.ensures
+    was_inserted g.K.PartialEq.eq (hashes g) (said g) c.args.store.now c.args.key c.args.value _ refl refl c.perform-logged.result c.perform-logged.new.self c.perform-logged.new.running c.perform-logged.ensures.performs c.args.hash c.args.write m key c.perform.result c.perform.new.self c.perform.new.running c.perform.ensures.performs c.in-Made.pair pair c.requires c.live.result.0 c.live.ensures c.exchange.result c.exchange.new.self c.exchange.ensures (search rules) c.add_to_shard.new.self c.note.new.self c.add_to_shard.ensures c.hint.result c.hint.ensures c.note.ensures
 
 pub returns : goal.returns
 returns g c m =
     let at = (goal.at.returns g c).After-perform in
     let key = logged g at m in
     let pair = pair_was_logged g.K.PartialEq.eq (hashes g) (said g) c.args.store.now c.args.key c.args.value _ refl refl c.perform-logged.result c.perform-logged.new.self c.perform-logged.new.running c.perform-logged.ensures.performs c.args.hash c.args.write m key c.perform.result c.perform.new.self c.perform.new.running c.perform.ensures.performs c.in-Made.pair c.in-Made.is in
-    was_replaced g.K.PartialEq.eq (hashes g) (said g) c.args.store.now c.args.key c.args.value _ refl refl c.perform-logged.result c.perform-logged.new.self c.perform-logged.new.running c.perform-logged.ensures.performs c.args.hash c.args.write m key c.perform.result c.perform.new.self c.perform.new.running c.perform.ensures.performs c.in-Made.pair pair c.requires c.live.result.0 (c.live.ensures ∙ ap (λ b. live_word b c.in-Made.pair) c.h2.ensures.value) c.exchange.result c.exchange.new.self c.exchange.ensures (λ e. search rules) c.pair-old.result c.pair-old.ensures
+    was_replaced g.K.PartialEq.eq (hashes g) (said g) c.args.store.now c.args.key c.args.value _ refl refl c.perform-logged.result c.perform-logged.new.self c.perform-logged.new.running c.perform-logged.ensures.performs c.args.hash c.args.write m key c.perform.result c.perform.new.self c.perform.new.running c.perform.ensures.performs c.in-Made.pair pair c.requires c.live.result.0 c.live.ensures c.exchange.result c.exchange.new.self c.exchange.ensures (λ e. search rules) c.pair-old.result c.pair-old.ensures

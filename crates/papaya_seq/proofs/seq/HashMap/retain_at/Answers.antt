@@ -1,7 +1,7 @@
 use Rattle.std.proofs.Common.{rules, ◌≡◌, ℕ, suc, ◌+◌, ◌<◌, Bool, true, false, cond, Some, inl, inr, refl, sym, ◌∙◌, ap, subst, arith}
 use Rattle.std.specs.Prelude.{negsuc}
 use Rattle.papaya_words.specs.Counter.{added}
-use Rattle.papaya_words.specs.Word.{buried_word, byte_of, kind_of, pair_of as number_of}
+use Rattle.papaya_words.specs.Word.{buried_word, kind_of, pair_of as number_of}
 use Rattle.papaya_words.specs.declared.word.Kind.TheVariants.{Live}
 use Rattle.papaya_ask.specs.declared.ask.Answer.TheVariants.{Yes}
 use Rattle.papaya_ask.specs.declared.ask.At.TheVariants.{Slot}
@@ -60,12 +60,12 @@ module _ (g : Over) where
   buried c =
       let s = c.self.inside.store in
       let shown = (goal.at.After-add_to_shard g c).After-show in
-      let grave : c.buried-grave.result.0 ≡ buried_word (byte_of (root_word s c.args.slot)) (number_of (root_word s c.args.slot)) = c.buried-grave.ensures ∙ ap (λ b. buried_word b c.pair-2.result) (c.hash_byte.ensures ∙ ap byte_of (word_is shown)) ∙ ap (buried_word (byte_of (root_word s c.args.slot))) (c.pair-2.ensures ∙ ap number_of (word_is shown)) in
+      let grave : c.buried-grave.result.0 ≡ buried_word (number_of (root_word s c.args.slot)) = c.buried-grave.ensures ∙ ap buried_word (c.pair-2.ensures ∙ ap number_of (word_is shown)) in
       let made : c.exchange.new.self ≡ record s { words = put s.words (Slot c.args.table c.args.slot) c.buried-grave.result.0 } = exchange_made s c.exchange.new.self (Slot c.args.table c.args.slot) c.word.result c.buried-grave.result.0 c.exchange.result (sym c.word.ensures) c.exchange.ensures in
       c.add_to_shard.ensures
       ∙ ap (λ (y : StoreState g.row.K.Denot g.row.V.Denot g.row.S.Denot). record y { count = added y.count 0 (negsuc 0) }) made
       ∙ ap (λ n. record s { words = put s.words (Slot c.args.table c.args.slot) n; count = added s.count 0 (negsuc 0) }) grave
-      ∙ ap (λ t. record s { words = put s.words (Slot t c.args.slot) (buried_word (byte_of (root_word s c.args.slot)) (number_of (root_word s c.args.slot))); count = added s.count 0 (negsuc 0) }) (root shown)
+      ∙ ap (λ t. record s { words = put s.words (Slot t c.args.slot) (buried_word (number_of (root_word s c.args.slot))); count = added s.count 0 (negsuc 0) }) (root shown)
 
   -- a slot more was visited of a map that is in order
   visited : (here : Map) → IsLawfulMap g.K.PartialEq.eq (key_hash here.store.hasher) here.store here.mode here.initial → (slot : ℕ) → slot < slots_of here.store → (before after : g.row.F.Denot) (store : StoreState g.row.K.Denot g.row.V.Denot g.row.S.Denot) → IsVisited here.store slot g.F.FnMut before store after
