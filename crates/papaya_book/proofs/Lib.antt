@@ -18,6 +18,9 @@ pub mod Opening
 pub mod Making
 pub mod Settings
 pub mod Tellings
+-- hints
+pub mod Numbers
+pub mod Hinted
 pub mod Found
 pub mod Tables
 pub mod Loaded

@@ -17,6 +17,7 @@ use Rattle.papaya_book.specs.declared.rule.steps.Laying.{Laying}
 use Rattle.papaya_book.specs.declared.rule.steps.Put.{Put}
 use Rattle.papaya_book.specs.declared.rule.steps.Wish.{Wish}
 use Rattle.papaya_book.specs.Calls as calls
+use Rattle.papaya_book.specs.Hinted as hinted
 use Rattle.papaya_book.specs.Keys.{Keys}
 use Rattle.papaya_book.specs.Logs.{Stored}
 use Rattle.papaya_book.specs.Makers as makers
@@ -56,6 +57,10 @@ module _ {K V S H : Type 0} (keys : Keys K S) (book : Book K V S H) where
 
   abbrev pub IsSlotWord : ℕ → ℕ → ℕ → List (Event K V S) → Option (Named K V) → Type 0
   IsSlotWord = calls.IsSlotWord keys.eq keys.hash (begun_of book.parts) book.begun.book
+
+  -- the number may be the hint of slot x of table t after the log
+  abbrev pub IsHint : (t x hint : ℕ) → List (Event K V S) → Type 0
+  IsHint = hinted.IsSlotHint keys.eq keys.hash (begun_of book.parts)
 
   abbrev pub IsRoot : ℕ → List (Event K V S) → Option (Bor Sheet) → Type 0
   IsRoot = calls.IsRoot keys.eq keys.hash (begun_of book.parts) book.begun.book

@@ -56,6 +56,9 @@ module _ {K V S H : Type 0} {d : keyed.Ghosts S K H} where
     IsSlotWord number place word state = books.IsSlotWord d.keys w.book.now number place word
         w'.sight.log state
 
+    abbrev pub IsHint : (number place hint : ℕ) → Type 0
+    IsHint number place hint = books.IsHint d.keys w.book.now number place hint w'.sight.log
+
     abbrev pub Opens : Where Sheet → ℕ → Type 0
     Opens table found = (state : Option (Named K V))
         × books.Opens d.keys w.book.now table w.sight.log found w'.sight.log state
@@ -92,6 +95,10 @@ module _ {K V S H : Type 0} {d : keyed.Ghosts S K H} where
 
   abbrev pub CanLink : Window K V S H d → (t : ℕ) → Where Sheet → Type 0
   CanLink w t table = books.CanLink d.keys w.book.now t table w.sight.log
+
+  -- the hint may be written
+  abbrev pub MayHint : Window K V S H d → (number place hint : ℕ) → Type 0
+  MayHint w = IsHint w w
 
   abbrev pub CanTrySlot : Window K V S H d → (t x : ℕ) → Option StepKind → (words : ℕ × ℕ) → Type 0
   CanTrySlot w t x kind words = books.CanTrySlot d.keys w.book.now t x kind words w.sight.log

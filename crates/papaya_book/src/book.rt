@@ -13,6 +13,7 @@ ghost use Rattle.papaya_book.specs.declared.rule.entry.Named.TheVariants.{Nothin
 pub mod copies;
 pub mod exchanges;
 pub mod gains;
+pub mod hints;
 pub mod kept;
 pub mod layer;
 pub mod logs;
@@ -28,7 +29,8 @@ use crate::rule::steps::{Look, Put, Sought, Try, Wish};
 use crate::rule::token::token;
 use crate::rule::trade;
 use crate::rule::trade::{Sight, Trade};
-use crate::table::{Cell, Table};
+use crate::slot::Cell;
+use crate::table::Table;
 use papaya_ask::ask::At;
 use papaya_log::token::tell;
 use std::hash::{BuildHasher, Hash};

@@ -13,7 +13,9 @@
 pub mod book;
 pub mod copies;
 pub mod count;
+pub mod hint;
 pub mod keyed;
 pub mod rule;
+pub mod slot;
 pub mod table;
 pub mod window;

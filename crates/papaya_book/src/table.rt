@@ -1,17 +1,12 @@
 //! Tables of atomic words.
-ghost use Rattle.std.specs.Prelude.{◌≡◌, ◌<◌, ℕ, Some, length, map, slice_get};
+ghost use Rattle.std.specs.Prelude.{◌≡◌, ◌<◌, ◌^◌, ℕ, false, Some, length, map, slice_get};
 ghost use Rattle.papaya_ask.specs.Search.{IsSize};
 ghost use Rattle.papaya_book.specs.Sheets.{Sheet, sheet_coded, AllOf, word_named};
 
-use crate::rule::entry::{Event, Named};
-use crate::rule::law::Law;
-use logbook::Word;
+use crate::slot::{Cell, Slot};
 use std::hash::{BuildHasher, Hash};
 use std::marker::Model;
 use std::sync::{Mutex, MutexGuard, Wait};
-
-/// An atomic word of the map.
-pub type Cell<K, V, S> = Word<Event<K, V, S>, Named<K, V>, Law<K, V, S>>;
 
 /// A table: its slots, how far a search of it goes, and how far its resize has come. Contracts see
 /// it as the keys of its words. Who makes its next table holds `making`, so that not each thread
@@ -22,7 +17,7 @@ pub struct Table<K: Hash + Eq, V, S: BuildHasher> {
     pub next: Cell<K, V, S>,
     pub aborted: Cell<K, V, S>,
     pub done: Cell<K, V, S>,
-    pub slots: Vec<Cell<K, V, S>>,
+    pub slots: Vec<Slot<K, V, S>>,
     pub making: Mutex<()>,
 }
 
@@ -76,7 +71,18 @@ impl<K: Hash + Eq, V, S: BuildHasher> Table<K, V, S> {
         ensures { (k : ℕ) × (slice_get self.now.slots place ≡ Some k)
             × (result.now ≡ word_named self.now.book k) }
     {
-        &self.slots[place]
+        self.slots[place].word()
+    }
+
+    /// The hint of a slot.
+    #[inline(always)]
+    pub fn hint(&self, place: usize) -> &Cell<K, V, S>
+        requires { place < length self.now.slots }
+        ensures kind { result.now.tracked ≡ false }
+        ensures book { result.now.book ≡ self.now.book }
+        ensures near { place < 2 ^ 32 }
+    {
+        self.slots[place].hint()
     }
 
     /// The word with the number of the next table.

@@ -35,8 +35,8 @@ impl<'a, K: Hash + Eq, V, S: BuildHasher> Window<'a, K, V, S> {
     ghost use Rattle.papaya_ask.specs.Search.{IsSize};
     ghost use Rattle.papaya_book.specs.Books.{IsLeft, Seals, root_then};
     ghost use Rattle.papaya_book.specs.Limits.{IsFull};
-    ghost use Rattle.papaya_book.specs.Windows.{CanPutSlot, CanTrySlot, Does, IsIn, IsLawful, IsMade, IsNext, IsRoot};
-    ghost use Rattle.papaya_book.specs.Windows.{IsSlot, IsSlotWord, IsTable, Opens, PutsSlot, Sees, TriesSlot};
+    ghost use Rattle.papaya_book.specs.Windows.{CanPutSlot, CanTrySlot, Does, IsHint, IsIn, IsLawful, IsMade, IsNext, IsRoot};
+    ghost use Rattle.papaya_book.specs.Windows.{IsSlot, IsSlotWord, IsTable, MayHint, Opens, PutsSlot, Sees, TriesSlot};
     ghost use Rattle.papaya_book.specs.declared.rule.entry.Named.TheVariants.{Pair as PairNamed, Table as TableNamed};
 
     /// What one who has seen so much, and made these exchanges, sees of the book.
@@ -90,6 +90,30 @@ impl<'a, K: Hash + Eq, V, S: BuildHasher> Window<'a, K, V, S> {
         ensures own { self.new.own ≡ self.old.own }
     {
         self.book.next(table, number, &mut self.sight)
+    }
+
+    /// One atomic load of the hint of a table's slot: 0, which says nothing, where none was written.
+    #[inline(always)]
+    pub fn hint(&mut self, table: &Table<K, V, S>, number: u64, place: usize) -> u64
+        requires table { IsTable self.old number table.now }
+        requires place { place < length table.now.slots }
+        ensures sees { Sees self.old self.new }
+        ensures hint { IsHint self.old self.new number place result }
+        ensures own { self.new.own ≡ self.old.own }
+    {
+        self.book.hint(table, number, place, &mut self.sight)
+    }
+
+    /// One atomic exchange: a slot without a hint has this one from then on. Nothing tells whether it
+    /// was written, and nothing further is seen.
+    #[inline(always)]
+    pub fn write_hint(&self, table: &Table<K, V, S>, number: u64, place: usize, hint: u8)
+        requires table { IsTable self.now number table.now }
+        requires place { place < length table.now.slots }
+        requires hint { MayHint self.now number place hint }
+    {
+        self.book
+            .write_hint(table, number, place, hint, &self.sight)
     }
 
     /// One atomic load of a table's slot: the word, and what gains the token of the pair that it

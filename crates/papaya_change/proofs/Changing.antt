@@ -10,13 +10,14 @@ use Rattle.boxcar.specs.Table.{Where}
 use Rattle.papaya_ask.specs.declared.ask.At.{At}
 use Rattle.papaya_ask.specs.declared.ask.At.TheVariants.{Root, Next, Aborted, Done, Slot}
 use Rattle.papaya_ask.specs.declared.ask.Ask.{Ask}
-use Rattle.papaya_ask.specs.declared.ask.Ask.TheVariants.{Load, SizeOf, SameKey, AddToShard}
+use Rattle.papaya_ask.specs.declared.ask.Ask.TheVariants.{Load, LoadHint, WriteHint, SizeOf, SameKey, AddToShard}
 use Rattle.papaya_ask.specs.declared.ask.Answer.{Answer}
 use Rattle.papaya_ask.specs.declared.ask.Answer.TheVariants.{Word as Word_read, Size, Yes, Ok as Ok_done}
 use Rattle.papaya_rests.specs.Followed.{IsAtTable, IsCounting, table_asked, told_table}
 use Rattle.papaya_law.specs.Allows.{AllAllowed}
 use Rattle.papaya_law.specs.Code.{IsHashed}
-use Rattle.papaya_law.specs.Exchange.{Setting, start}
+use Rattle.papaya_law.specs.Exchange.{Setting, run, start}
+use Rattle.papaya_law.specs.Hints.{IsHint}
 use Rattle.papaya_ask.specs.declared.call.Task.{Task}
 use Rattle.papaya_call.specs.Machine as calls
 use Rattle.papaya_chain.specs.declared.ask.Answer.TheVariants as answers
@@ -32,7 +33,8 @@ use Rattle.papaya_rests.specs.Rests.{IsModeOf, change_after, change_in}
 use Rattle.papaya_rests.specs.Told.{IsOneOf, IsTold, or_last, told_of, word_of}
 use Rattle.papaya_rests.specs.Told as told_calls
 use Rattle.papaya_rests.proofs.Followed.{counts_after, table_named}
-use Rattle.papaya_rests.proofs.RestsNames.{IsNamed, ask_named, slot_named}
+use Rattle.papaya_rests.proofs.RestsHints.{machine_may_hint}
+use Rattle.papaya_rests.proofs.RestsNames.{IsNamed, ask_named, hint_named, slot_named}
 use Rattle.papaya_book.specs.Sheets.{Sheet}
 use Rattle.papaya_book.specs.declared.rule.entry.Begun.{Begun}
 use Rattle.papaya_book.specs.declared.rule.entry.Event.{Event}
@@ -41,7 +43,8 @@ use Rattle.papaya_words.specs.Mode.{IsChunked}
 use Rattle.papaya_change.specs.Changing.{HasChanged, IsBringing, IsCalling, IsForm, IsFresh, hands_with}
 use Rattle.papaya_change.specs.Driver.{IsHeldAt, IsLoaded}
 use Rattle.papaya_book.specs.Hashes.{hash_of}
-use Rattle.papaya_book.specs.Logs.{Stored, exchanges_of, is_blocking, pair_named, state_of, steps_of}
+use Rattle.papaya_book.specs.Hinted.{IsSlotHint}
+use Rattle.papaya_book.specs.Logs.{Stored, coding_of, exchanges_of, is_blocking, pair_named, setting_of, state_of, steps_of}
 use Rattle.papaya_lookup.specs.Lookups.{coding_for}
 use Rattle.papaya_book.specs.Rule.{IsLawfulLog, IsPlaced}
 use Rattle.papaya_lookup.proofs.Driving.{IsResting, word_wide}
@@ -49,7 +52,7 @@ use Rattle.papaya_change.proofs.OwnSteps.{IsBarren, own_at, own_barren, own_chan
 use Rattle.papaya_change.proofs.Resting.{ChainResting, resting_later, resting_told}
 use Rattle.papaya_book.proofs.Loaded.{table_since}
 use Rattle.papaya_book.proofs.Logs.{prefix_trans, table_came}
-use Rattle.papaya_lookup.proofs.Readings.{IsQuery, allowed_with, coding, fed, hashed_with, key_form, setting}
+use Rattle.papaya_lookup.proofs.Readings.{IsQuery, allowed_with, coding, fed, hashed_with, hint_with, hint_without, key_form, setting}
 use Rattle.papaya_book.proofs.TableSizes.{sizes}
 
 -- the map resizes as its setting says
@@ -194,6 +197,24 @@ module _ {K V S H : Type 0} (eq : K → K → Bool) (input : K → List (List �
     slot_table t x (inl e) = slot_by (Load (Slot t x)) e t x (inl refl)
     slot_table t x (inr (old, new, e)) = slot_by (Rattle.papaya_ask.specs.declared.ask.Ask.TheVariants.Exchange (Slot t x) old new) e t x (inr (old, new, refl))
 
+    -- and so is one whose hint is loaded or written
+    hint_by : (ask : Ask) → ask_of m ≡ Call ask → (t x : ℕ) → (ask ≡ LoadHint t x) ⊎ ((hint : ℕ) × (ask ≡ WriteHint t x hint)) → IsHeldAt (Slot t x) log table
+    hint_by ask e t x is =
+        let on = hint_named (Wide log) Coded (hashed log r.lawful) (exchanges_of begun) r.since may k ask (named_on ask e) t x is in
+        let asked : table_asked ask ≡ Some t = ⊎_elim (λ h. ap table_asked h) (λ h. ap table_asked h.1) is in
+        has_slot t x on.1 table (held_named log r.number t table on.0.0 (named_last ask e t asked) r.holds_table)
+
+    pub hint_table : (t x : ℕ) → (ask_of m ≡ Call (LoadHint t x)) ⊎ ((hint : ℕ) × (ask_of m ≡ Call (WriteHint t x hint))) → IsHeldAt (Slot t x) log table
+    hint_table t x (inl e) = hint_by (LoadHint t x) e t x (inl refl)
+    hint_table t x (inr (hint, e)) = hint_by (WriteHint t x hint) e t x (inr (hint, refl))
+
+    -- and a hint that is written may be the slot's
+    pub hint_may : (t x n : ℕ) → ask_of m ≡ Call (WriteHint t x n) → IsSlotHint eq hash b t x n log
+    hint_may t x n e =
+        let wide = machine_may_hint (Wide log) Coded (exchanges_of begun) r.since k m.call (call_hands last made) r.rests.call t x n (call_asks m (WriteHint t x n) e).1 in
+        let here : IsHint (Wide log) Coded (state_of log) t x n = subst (λ (es : List _). IsHint (Wide log) Coded (run es start) t x n) r.is wide in
+        record { lawful = r.lawful; is = hint_without (setting_of eq (hash b.hasher) b.mode log) (coding_of (hash b.hasher)) matches by ((state_of log).slot t x) n here }
+
     -- where a load names a place that calls load
     pub load_table : (at : At) → ask_of m ≡ Call (Load at) → Rattle.papaya_rests.specs.Followed.MayAsk m.call.task (calls.kind_of_ask m.call) (Load at) → IsHeldAt at log table
     load_table Root e asks = tt
@@ -287,6 +308,12 @@ module _ {K V S H : Type 0} (eq : K → K → Bool) (input : K → List (List �
     loads (Aborted t) word table' last' asks h = absurd h
     loads (Done t) word table' last' asks h = absurd h
 
+    -- a hint was loaded
+    pub hinted : (t x n : ℕ) → ask_of m ≡ Call (LoadHint t x) → IsSlotHint eq hash b t x n log' → Calling log' (after m (answers.Call (Word_read n))) table last kept made taken put fresh
+    hinted t x n asks is =
+        let hint : IsHint (Wide log') Coded (state_of log') t x n = hint_with (setting_of eq (hash b.hasher) b.mode log') (coding_of (hash b.hasher)) matches by ((state_of log').slot t x) n is.is in
+        quiet (LoadHint t x) asks (Word_read n) last made table fresh (record { told = ((n, hint, refl), (refl, refl)); same = refl; busy = λ z. z; brings = barren (LoadHint t x) asks tt (Word_read n) fresh }) still r.last_placed r.made_placed
+
   module _ (log : List (Event K V S)) (m : Machine) (table : Option (Bor Sheet)) (last kept : Option (Stored K V)) (made : List (Stored K V)) (taken put : Option (Stored K V)) (fresh : Option (Where Sheet × Pen)) (r : Calling log m table last kept made taken put fresh) where
     abbrev same_log : IsPrefix log log
     same_log = ([], append-nil log)
@@ -312,3 +339,9 @@ module _ {K V S H : Type 0} (eq : K → K → Bool) (input : K → List (List �
     counted by asks =
         answered log log log r.lawful r.lawful same_log same_log m table last kept made taken put fresh r (AddToShard by) asks Ok_done last made (refl, (refl, refl)) table taken put fresh r.holds_table r.last_placed r.made_placed r.taken_placed r.changed
         (barren log log same_log r.lawful m table last kept made taken put fresh r (AddToShard by) asks tt Ok_done fresh)
+
+    -- and its hint was written
+    pub noted : (t x n : ℕ) → ask_of m ≡ Call (WriteHint t x n) → Calling log (after m (answers.Call Ok_done)) table last kept made taken put fresh
+    noted t x n asks =
+        answered log log log r.lawful r.lawful same_log same_log m table last kept made taken put fresh r (WriteHint t x n) asks Ok_done last made (refl, (refl, refl)) table taken put fresh r.holds_table r.last_placed r.made_placed r.taken_placed r.changed
+        (barren log log same_log r.lawful m table last kept made taken put fresh r (WriteHint t x n) asks tt Ok_done fresh)

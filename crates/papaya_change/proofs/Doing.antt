@@ -4,7 +4,7 @@ use Rattle.std.proofs.lemmas.List.{map-append}
 use Rattle.papaya_ask.specs.declared.ask.Answer.{Answer}
 use Rattle.papaya_ask.specs.declared.ask.Answer.TheVariants.{Word as Word_read, Exchanged, Found as Found_instead, Yes, Op, Made as Made_number, Ok as Ok_done}
 use Rattle.papaya_ask.specs.declared.ask.Ask.{Ask}
-use Rattle.papaya_ask.specs.declared.ask.Ask.TheVariants.{Load, Exchange, SameKey, ShowNone, ShowPair, SizeOf, MakeKey, MakePair, MakeTable, AddToShard, Done}
+use Rattle.papaya_ask.specs.declared.ask.Ask.TheVariants.{Load, Exchange, LoadHint, WriteHint, SameKey, ShowNone, ShowPair, SizeOf, MakeKey, MakePair, MakeTable, AddToShard, Done}
 use Rattle.papaya_ask.specs.declared.ask.At.TheVariants.{Root, Next, Aborted, Done as Done_word, Slot}
 use Rattle.papaya_ask.specs.declared.ask.OpKind.{OpKind}
 use Rattle.papaya_ask.specs.declared.ask.OpKind.TheVariants as ops
@@ -14,7 +14,8 @@ use Rattle.papaya_ask.specs.declared.call.Task.{Task}
 use Rattle.papaya_ask.specs.declared.call.Task.TheVariants.{Get, Insert, RemoveIf, Compute}
 use Rattle.papaya_call.specs.declared.compute.Gap.{Gap}
 use Rattle.papaya_call.specs.declared.remove.Removal.{Removal}
-use Rattle.papaya_ask.specs.declared.search.Search.TheVariants.{Sizing, Looking, Comparing}
+use Rattle.papaya_ask.specs.declared.search.Search.TheVariants.{Sizing, Looking, Reading, Comparing}
+use Rattle.papaya_call.specs.declared.write.Claimed.{Claimed}
 use Rattle.papaya_call.specs.declared.write.Made.{Made}
 use Rattle.papaya_call.specs.declared.write.Made.TheVariants.{Nothing, Key, Pair}
 use Rattle.papaya_call.specs.declared.machine.Machine.{Machine}
@@ -27,9 +28,10 @@ use Rattle.papaya_chain_rests.specs.Rests.{left_by}
 use Rattle.papaya_chain_rests.proofs.Names.{call_asks}
 use Rattle.papaya_chain_rests.proofs.Replies.{aside_asks}
 use Rattle.papaya_call.specs.declared.machine.State.{State}
-use Rattle.papaya_call.specs.declared.machine.State.TheVariants.{AtRoot, Making, Opening, Searching, Writing, Offering, Showing, Pairing, Putting, Burying, Counting, Uncounting, Leaving, Growing, Ended}
+use Rattle.papaya_call.specs.declared.machine.State.TheVariants.{AtRoot, Making, Opening, Searching, Writing, Offering, Showing, Pairing, Putting, Burying, Counting, Noting, Uncounting, Leaving, Growing, Ended}
 use Rattle.papaya_call.specs.Compute.{offered}
 use Rattle.papaya_call.specs.Machine.{after, ask_of, asks, decided, judged}
+use Rattle.papaya_call.specs.Write.{claimed_by}
 use Rattle.papaya_ask.specs.Search.{look as look_seen, at_word as search_loaded, at_yes as search_compared}
 use Rattle.papaya_law.specs.Exchange.{Exchange as Law_exchange}
 use Rattle.papaya_law.specs.Grows.{exchanges}
@@ -92,9 +94,9 @@ offered_unchanged gap ops.Remove = refl
 offered_unchanged gap (ops.Abort t) = refl
 
 -- a pair that was written is in the map
-written_changed : (b : Bool) (old n : ℕ) → is_some (change_in (cond b (Counting n) (Ended (Replaced old n)))) ≡ true
-written_changed true old n = refl
-written_changed false old n = refl
+written_changed : (b : Bool) (claimed : Claimed) (old n : ℕ) → is_some (change_in (cond b (Counting claimed) (Ended (Replaced old n)))) ≡ true
+written_changed true claimed old n = refl
+written_changed false claimed old n = refl
 
 -- whether the map is changed after an exchange that was made, or after something else
 abbrev Moves : Bool → (before later : Bool) → Type 0
@@ -117,15 +119,18 @@ module _ (m : Machine) where
   step made (Searching (Looking at)) (Word_read word) = goes_leads IsUnchanged leads_unchanged m.task m.mode m.remembered (search_loaded (Looking at) m.hash word)
   step made (Searching (Looking at)) (Yes same) = goes_leads IsUnchanged leads_unchanged m.task m.mode m.remembered (search_compared (Looking at) same)
   step made (Searching (Looking at)) answer = refl
+  step made (Searching (Reading at)) (Word_read word) = goes_leads IsUnchanged leads_unchanged m.task m.mode m.remembered (search_loaded (Reading at) m.hash word)
+  step made (Searching (Reading at)) (Yes same) = goes_leads IsUnchanged leads_unchanged m.task m.mode m.remembered (search_compared (Reading at) same)
+  step made (Searching (Reading at)) answer = refl
   step made (Searching (Comparing at by)) (Word_read word) = goes_leads IsUnchanged leads_unchanged m.task m.mode m.remembered (search_loaded (Comparing at by) m.hash word)
   step made (Searching (Comparing at by)) (Yes same) = goes_leads IsUnchanged leads_unchanged m.task m.mode m.remembered (search_compared (Comparing at by) same)
   step made (Searching (Comparing at by)) answer = refl
-  step Nothing (Writing write) (Found_instead word) = goes_leads IsUnchanged leads_unchanged m.task m.mode m.remembered (look_seen write.place m.hash word)
+  step Nothing (Writing write) (Found_instead word) = goes_leads IsUnchanged leads_unchanged m.task m.mode m.remembered (look_seen write.place word)
   step Nothing (Writing write) answer = refl
-  step Key (Writing write) (Found_instead word) = goes_leads IsUnchanged leads_unchanged m.task m.mode m.remembered (look_seen write.place m.hash word)
+  step Key (Writing write) (Found_instead word) = goes_leads IsUnchanged leads_unchanged m.task m.mode m.remembered (look_seen write.place word)
   step Key (Writing write) answer = refl
-  step (Pair n) (Writing write) (Found_instead word) = goes_leads IsUnchanged leads_unchanged m.task m.mode m.remembered (look_seen write.place m.hash word)
-  step (Pair n) (Writing write) Exchanged = (refl, written_changed (write.old == 0) (Rattle.papaya_words.specs.Word.pair_of write.old) n)
+  step (Pair n) (Writing write) (Found_instead word) = goes_leads IsUnchanged leads_unchanged m.task m.mode m.remembered (look_seen write.place word)
+  step (Pair n) (Writing write) Exchanged = (refl, written_changed (write.old == 0) (claimed_by write n) (Rattle.papaya_words.specs.Word.pair_of write.old) n)
   step (Pair n) (Writing write) answer = refl
   step made (Offering gap) (Op kind) = offered_unchanged gap kind
   step made (Offering gap) answer = refl
@@ -138,14 +143,16 @@ module _ (m : Machine) where
   step Key (Pairing purpose) answer = refl
   step (Pair i) (Pairing purpose) (Made_number n) = provides_leads IsUnchanged leads_unchanged purpose n
   step (Pair i) (Pairing purpose) answer = refl
-  step made (Putting put) (Found_instead word) = goes_leads IsUnchanged leads_unchanged m.task m.mode m.remembered (look_seen put.write.place m.hash word)
-  step made (Putting put) Exchanged = (refl, written_changed (put.write.old == 0) (Rattle.papaya_words.specs.Word.pair_of put.write.old) put.pair)
+  step made (Putting put) (Found_instead word) = goes_leads IsUnchanged leads_unchanged m.task m.mode m.remembered (look_seen put.write.place word)
+  step made (Putting put) Exchanged = (refl, written_changed (put.write.old == 0) (claimed_by put.write put.pair) (Rattle.papaya_words.specs.Word.pair_of put.write.old) put.pair)
   step made (Putting put) answer = refl
   step made (Burying removal) (Found_instead word) = beaten_leads IsUnchanged leads_unchanged (record m { made = made; state = Burying removal }) removal word
   step made (Burying removal) Exchanged = (refl, refl)
   step made (Burying removal) answer = refl
   step made (Counting n) Ok_done = refl
+  step made (Noting n) Ok_done = refl
   step made (Counting n) answer = refl
+  step made (Noting n) answer = refl
   step made (Uncounting n) Ok_done = refl
   step made (Uncounting n) answer = refl
   step made (Leaving t) (Word_read word) = left_leads IsUnchanged leads_unchanged m.task m.remembered.fill t word
@@ -177,7 +184,7 @@ some_then : {X Goal : Type 0} (o : Option X) → is_some o ≡ true → ((x : X)
 some_then None e f = absurd (cc e)
 some_then (Some x) e f = f x refl
 
--- one that changed the map only counts
+-- one that changed the map only counts, and writes a hint
 counting : (m : Chain) → has_changed m ≡ true → IsCounting (ask_of m.call)
 counting m e = some_then (change_in m.call.state) e (λ change is. counts_after m.call change is)
 
@@ -197,9 +204,10 @@ last_map f [] = refl
 last_map f (x ∷ []) = refl
 last_map f (x ∷ (y ∷ ys)) = last_map f (y ∷ ys)
 
--- something else is asked for than an exchange of a slot or a count
+-- something else is asked for than an exchange of a slot, a count or a hint to write
 abbrev pub IsIdle : Ask → Type 0
 IsIdle (Exchange (Slot t x) old new) = ⊥
+IsIdle (WriteHint t x hint) = ⊥
 IsIdle (AddToShard by) = ⊥
 IsIdle (Done reply) = ⊥
 IsIdle _ = Unit {0}
@@ -211,6 +219,8 @@ idle_made (Exchange (Next t) old new) i answer = refl
 idle_made (Exchange (Aborted t) old new) i answer = refl
 idle_made (Exchange (Done_word t) old new) i answer = refl
 idle_made (Exchange (Slot t x) old new) i answer = absurd i
+idle_made (LoadHint t x) i answer = refl
+idle_made (WriteHint t x hint) i answer = absurd i
 idle_made (SameKey n) i answer = refl
 idle_made ShowNone i answer = refl
 idle_made (ShowPair n) i answer = refl
@@ -223,6 +233,7 @@ idle_made (Done reply) i answer = absurd i
 
 idle_busy : (ask : Ask) → IsIdle ask → IsCounting ask → ⊥
 idle_busy (AddToShard by) i counts = i
+idle_busy (WriteHint t x hint) i counts = i
 idle_busy (Done reply) i counts = i
 idle_busy (Load at) i counts = counts
 idle_busy (Exchange Root old new) i counts = counts
@@ -230,6 +241,7 @@ idle_busy (Exchange (Next t) old new) i counts = counts
 idle_busy (Exchange (Aborted t) old new) i counts = counts
 idle_busy (Exchange (Done_word t) old new) i counts = counts
 idle_busy (Exchange (Slot t x) old new) i counts = counts
+idle_busy (LoadHint t x) i counts = counts
 idle_busy (SameKey n) i counts = counts
 idle_busy ShowNone i counts = counts
 idle_busy (ShowPair n) i counts = counts
@@ -245,6 +257,8 @@ unanswered (Exchange (Next t) old new) = refl
 unanswered (Exchange (Aborted t) old new) = refl
 unanswered (Exchange (Done_word t) old new) = refl
 unanswered (Load at) = refl
+unanswered (LoadHint t x) = refl
+unanswered (WriteHint t x hint) = refl
 unanswered (SameKey n) = refl
 unanswered ShowNone = refl
 unanswered (ShowPair n) = refl
@@ -266,6 +280,7 @@ module _ {K V S H : Type 0} {d : keyed.Ghosts S K H} where
   -- where the window is left alone
   pub left_alone : (ask : Ask) → IsCounting ask → (asked : Ask) → ask ≡ asked → (answer : Option Answer) (w : Window K V S H d) → Answers asked answer w w
   left_alone (AddToShard by) counts asked e answer w = subst (λ (a : Ask). Answers a answer w w) e (record { does = idles w w refl; still = λ counts. refl })
+  left_alone (WriteHint t x hint) counts asked e answer w = subst (λ (a : Ask). Answers a answer w w) e (record { does = idles w w refl; still = λ counts. refl })
   left_alone (Done reply) counts asked e answer w = subst (λ (a : Ask). Answers a answer w w) e (record { does = idles w w refl; still = λ counts. refl })
   left_alone _ counts asked e answer w = absurd counts
 
@@ -328,6 +343,7 @@ replied_in made hash Making reply e = absurd (cc e)
 replied_in made hash (Opening t) reply e = absurd (cc e)
 replied_in made hash (Searching (Sizing t)) reply e = absurd (cc e)
 replied_in made hash (Searching (Looking at)) reply e = absurd (cc e)
+replied_in made hash (Searching (Reading at)) reply e = absurd (cc e)
 replied_in made hash (Searching (Comparing at word)) reply e = absurd (cc e)
 replied_in Nothing hash (Writing write) reply e = absurd (cc e)
 replied_in Key hash (Writing write) reply e = absurd (cc e)
@@ -340,6 +356,7 @@ replied_in (Pair n) hash (Pairing purpose) reply e = absurd (cc e)
 replied_in made hash (Putting put) reply e = absurd (cc e)
 replied_in made hash (Burying removal) reply e = absurd (cc e)
 replied_in made hash (Counting n) reply e = absurd (cc e)
+replied_in made hash (Noting n) reply e = absurd (cc e)
 replied_in made hash (Uncounting n) reply e = absurd (cc e)
 replied_in made hash (Leaving t) reply e = absurd (cc e)
 replied_in made hash (Growing t) reply e = absurd (cc e)

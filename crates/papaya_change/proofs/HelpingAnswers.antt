@@ -10,7 +10,7 @@ use Rattle.papaya_words.specs.declared.probe.Refused.TheVariants.{Capacity, Memo
 use Rattle.papaya_ask.specs.declared.ask.At.{At}
 use Rattle.papaya_ask.specs.declared.ask.At.TheVariants.{Next, Slot}
 use Rattle.papaya_ask.specs.declared.ask.Answer.{Answer as Call_answer}
-use Rattle.papaya_ask.specs.declared.ask.Answer.TheVariants.{Exchanged, Found as Found_instead, Made as Made_number, Refused as Was_refused, Size, Word as Word_read, Yes}
+use Rattle.papaya_ask.specs.declared.ask.Answer.TheVariants.{Exchanged, Found as Found_instead, Made as Made_number, Ok as Ok_done, Refused as Was_refused, Size, Word as Word_read, Yes}
 use Rattle.papaya_ask.specs.declared.ask.StepKind.{StepKind}
 use Rattle.papaya_ask.specs.declared.ask.StepKind.TheVariants as kinds
 use Rattle.papaya_ask.specs.declared.copy_ask.CopyAsk.{CopyAsk}
@@ -26,6 +26,7 @@ use Rattle.papaya_chain_rests.proofs.LinkMade.{IsMadeLink, is_made, link_tried, 
 use Rattle.papaya_chain_rests.proofs.LinkStates.{In}
 use Rattle.papaya_law.specs.Class.{IsOn}
 use Rattle.papaya_law.specs.Exchange.{Exchange, run, start}
+use Rattle.papaya_law.specs.Hints.{IsHint}
 use Rattle.papaya_rests.specs.Told.{or_last}
 use Rattle.papaya_book.specs.declared.rule.entry.Begun.{Begun}
 use Rattle.papaya_book.specs.declared.rule.entry.Event.{Event}
@@ -36,12 +37,14 @@ use Rattle.papaya_book.specs.Plays.{CanExchange}
 use Rattle.papaya_book.specs.declared.rule.entry.Named.{Named}
 use Rattle.papaya_book.specs.declared.rule.entry.Named.TheVariants as names
 use Rattle.papaya_book.specs.Hashes.{hash_of}
+use Rattle.papaya_book.specs.Hinted.{IsSlotHint}
 use Rattle.papaya_book.specs.Limits.{IsFull, tables_of}
-use Rattle.papaya_book.specs.Logs.{Member, Stored, exchanges_of, number_of, pair_named, state_of, steps_of}
+use Rattle.papaya_book.specs.Logs.{Member, Stored, coding_of, exchanges_of, number_of, pair_named, setting_of, state_of, steps_of}
 use Rattle.papaya_book.specs.Rule.{IsLawfulLog, IsPlaced}
 use Rattle.papaya_book.specs.Sheets.{Sheet}
 use Rattle.papaya_book.proofs.Lengths.{table_slots}
 use Rattle.papaya_book.proofs.TableSizes.{sizes}
+use Rattle.papaya_lookup.proofs.Readings.{hint_with}
 use Rattle.papaya_change.specs.declared.driver.Driver.{Driver}
 use Rattle.papaya_change.specs.Changing.{IsBringing, IsDriven, IsForm, IsFresh, hands_with}
 use Rattle.papaya_change.specs.Copier.{marked_or}
@@ -209,6 +212,16 @@ module _ {K V S H : Type 0} (eq : K → K → Bool) (input : K → List (List �
 
   quiet_still : (ask : CopyAsk) → ask_of c.machine ≡ asks.Copy ask → (log : List (Event K V S)) → IsLawfulLog eq hashes b log → IsPrefix v log → (answer : Answer) → IsGivenBy answer c.given.done → Tells log log log ([], append-nil log) ask answer c.last c.kept → ((n : ℕ) → answer ≡ answers.Call (Made_number n) → ⊥) → IsSizeTold log answer → (c' : Driver K V S H) → c' ≡ c → Leaves log c' answer
   quiet_still ask asked log l pre answer by told none size c' same = subst (λ (d : Driver K V S H). Leaves log d answer) (sym same) (quiet ask asked log l pre answer c by told refl refl refl r.last_placed r.kept_placed none size)
+
+  -- a hint was loaded
+  pub hinted : (t x : ℕ) → ask_of c.machine ≡ asks.Copy (copies.LoadHint t x) → (log : List (Event K V S)) → IsPrefix v log → (hint : ℕ) → IsSlotHint eq hashes b t x hint log → (c' : Driver K V S H) → c' ≡ c → Leaves log c' (answers.Call (Word_read hint))
+  hinted t x asked log pre hint is c' same =
+      let there : IsHint (Gs log) Cs (state_of log) t x hint = hint_with (setting_of eq (hashes b.hasher) b.mode log) (coding_of (hashes b.hasher)) matches fed ((state_of log).slot t x) hint is.is in
+      quiet_still (copies.LoadHint t x) asked log is.lawful pre (answers.Call (Word_read hint)) tt ((hint, there, refl), (refl, refl)) (λ n e. cc e) (λ slots limit e. absurd (cc e)) c' same
+
+  -- and one was written
+  pub noted : (t x n : ℕ) → ask_of c.machine ≡ asks.Copy (copies.WriteHint t x n) → (log : List (Event K V S)) → IsLawfulLog eq hashes b log → IsPrefix v log → (c' : Driver K V S H) → c' ≡ c → Leaves log c' (answers.Call Ok_done)
+  noted t x n asked log l pre c' same = quiet_still (copies.WriteHint t x n) asked log l pre (answers.Call Ok_done) tt (refl, (refl, refl)) (λ i e. cc e) (λ slots limit e. absurd (cc e)) c' same
 
   -- the size of a table
   pub sized : (t : ℕ) → ask_of c.machine ≡ asks.Copy (copies.SizeOf t) → (log : List (Event K V S)) → IsLawfulLog eq hashes b log → IsPrefix v log → (sheet : Sheet) → IsTable log t sheet → (slots limit : ℕ) → slots ≡ length sheet.slots → limit ≡ sheet.limit → (c' : Driver K V S H) → c' ≡ c → Leaves log c' (answers.Call (Size slots limit))

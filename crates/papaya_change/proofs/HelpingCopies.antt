@@ -32,9 +32,9 @@ use Rattle.papaya_change.specs.declared.driver.Driver.{Driver}
 use Rattle.papaya_change.specs.Changing.{IsDriven, IsForm, IsFresh}
 use Rattle.papaya_change.specs.Copier.{AnswersExchange, AnswersTo, CanAnswerTo, CanExchangeFor, HasMade, IsHandLeft, IsReached, copier_of, marked_or, with_copier}
 use Rattle.papaya_change.specs.Helping.{HasCopied, IsTriedFor}
-use Rattle.papaya_change.proofs.HelpingAnswers.{beaten, compared, counted, exchanged, follows_came, hand_kept, hand_tried, hashed, linking, loaded, may_try, size_came, sized, tabled, try_came, unmade}
+use Rattle.papaya_change.proofs.HelpingAnswers.{beaten, compared, counted, exchanged, follows_came, hand_kept, hand_tried, hashed, hinted, linking, loaded, may_try, noted, size_came, sized, tabled, try_came, unmade}
 use Rattle.papaya_change.proofs.HelpingExchanges.{C, G, can_link}
-use Rattle.papaya_change.proofs.HelpingPlaces.{all_there, chain_came}
+use Rattle.papaya_change.proofs.HelpingPlaces.{all_there, chain_came, may_note}
 
 module _ {K V S H : Type 0} (eq : K → K → Bool) (input : K → List (List ℕ)) (build : S → H) (write : H → List ℕ → H) (finish : H → ℕ) (classes : IsEquivalence eq) (respects : (x y : K) → eq x y ≡ true → input x ≡ input y)
     (b : Begun K V S) (name : Book) (matches : K → Bool) (fed : ℕ) (form : IsForm eq (hash_of input build write finish) b matches fed) (k : Option K) (begun : List (Event K V S)) (made : List (Stored K V)) (v : List (Event K V S)) (c : Driver K V S H)
@@ -77,6 +77,8 @@ module _ {K V S H : Type 0} (eq : K → K → Bool) (input : K → List (List �
   pub can_answer : (ask : CopyAsk) → ask_of c.machine ≡ asks.Copy ask → IsFitCopyAsk ask → Can ask
   can_answer (copies.Load at) asked fit = reached at (there (copies.Load at) asked)
   can_answer (copies.Exchange at old new) asked fit = can_exchange at old new asked
+  can_answer (copies.LoadHint t x) asked fit = reached (Slot t x) (there (copies.LoadHint t x) asked)
+  can_answer (copies.WriteHint t x n) asked fit = (reached (Slot t x) (there (copies.WriteHint t x n) asked), may_note eq input build write finish classes respects b name matches fed form k begun v c.machine c.table c.last c.kept made c.taken c.put c.fresh r t x n asked)
   can_answer (copies.SizeOf t) asked fit = size_came eq input build write finish classes respects b name matches fed form k begun made v c r t asked
   can_answer (copies.HashOf n) asked fit = let p = there (copies.HashOf n) asked in record { some = (p.0, p.1); placed = r.last_placed }
   can_answer (copies.SamePair m n) asked fit = let p = there (copies.SamePair m n) asked in (record { some = (p.0, p.2); placed = r.kept_placed }, record { some = (p.1, p.3); placed = r.last_placed })
@@ -121,6 +123,8 @@ module _ {K V S H : Type 0} (eq : K → K → Bool) (input : K → List (List �
     pub copied : (ask : CopyAsk) → ask_of c.machine ≡ asks.Copy ask → (answer : Answer) → AnswersTo eq hash b name ask (kind_of_ask c.machine) (follows_of c.machine) v (copier_of c) log h answer → Leaves log answer
     copied (copies.Load at) asked answer a = subst (Leaves log) (sym a.is) (loaded eq input build write finish classes respects b name matches fed form k begun made v c r standing at asked log pre a.word c' (ap (with_copier c) a.rest) a.loaded)
     copied (copies.Exchange at old new) asked answer a = tried_on at old new asked answer a
+    copied (copies.LoadHint t x) asked answer a = subst (Leaves log) (sym a.is) (hinted eq input build write finish classes respects b name matches fed form k begun made v c r standing t x asked log pre a.hint a.hinted c' (ap (with_copier c) a.rest))
+    copied (copies.WriteHint t x n) asked answer a = subst (Leaves log) (sym a.is) (noted eq input build write finish classes respects b name matches fed form k begun made v c r standing t x n asked log a.lawful pre c' (ap (with_copier c) a.rest))
     copied (copies.SizeOf t) asked answer a = subst (Leaves log) (sym a.is) (sized eq input build write finish classes respects b name matches fed form k begun made v c r standing t asked log a.size_of.lawful pre a.size_of.sheet a.size_of.table a.size.0 a.size.1 a.size_of.len a.size_of.limit c' (ap (with_copier c) a.rest))
     copied (copies.HashOf n) asked answer a = subst (Leaves log) (sym a.is) (subst (λ (l : List (Event K V S)). Leaves l (answers.Hash a.word)) (sym a.still) (hashed eq input build write finish classes respects b name matches fed form k begun made v c r standing n asked a.word a.carries.hash_is c' (ap (with_copier c) a.rest) a.carries.kept))
     copied (copies.SamePair i n) asked answer a = subst (Leaves log) (sym a.is) (subst (λ (l : List (Event K V S)). Leaves l (answers.Call (Yes a.same))) (sym a.still) (compared eq input build write finish classes respects b name matches fed form k begun made v c r standing i n asked a.same a.same_is c' (ap (with_copier c) a.rest)))

@@ -185,7 +185,7 @@ module _ {K V S H : Type 0} (eq : K → K → Bool) (input : K → List (List �
 
   -- the word that stands at a place, in the setting of any log
   pub word_there : (log log' : List (Event K V S)) (at : At) → word_of (G log') C (state_of log) at ≡ word_in eq hash b log at
-  word_there log log' at = key_word (plain log') matches fed p (state_of log) at ∙ word_same (plain log) (plain log') p (λ z. refl) (state_of log) at
+  word_there log log' at = key_word (plain log') matches fed p (state_of log) at ∙ word_same (plain log) (plain log') p (state_of log) at
 
   module _ (at : At) (old new : ℕ) (asked : ask_of m ≡ asks.Copy (Ask_exchange at old new)) where
     -- an exchange of the copy that may be made after a longer log

@@ -9,22 +9,26 @@ use Rattle.logbook.specs.declared.tokens.Pen.{Pen}
 use Rattle.papaya_ask.specs.declared.ask.At.{At}
 use Rattle.papaya_ask.specs.declared.ask.At.TheVariants.{Root, Next, Aborted, Done, Slot}
 use Rattle.papaya_ask.specs.declared.copy_ask.CopyAsk.{CopyAsk}
+use Rattle.papaya_ask.specs.declared.copy_ask.CopyAsk.TheVariants as copies
 use Rattle.papaya_chain.specs.declared.ask.Ask.TheVariants as asks
 use Rattle.papaya_chain.specs.declared.machine.Machine.{Machine}
 use Rattle.papaya_chain.specs.Machine.{ask_of}
-use Rattle.papaya_chain_rests.proofs.Names.{copies_there}
+use Rattle.papaya_chain_rests.proofs.Names.{copies_may_hint, copies_there}
 use Rattle.papaya_law.specs.Class.{IsOn}
 use Rattle.papaya_law.specs.Exchange.{Exchange, run, start}
+use Rattle.papaya_law.specs.Hints.{IsHint}
 use Rattle.papaya_rests.specs.Copier.{AreThere, IsThere}
 use Rattle.papaya_book.specs.declared.rule.entry.Begun.{Begun}
 use Rattle.papaya_book.specs.declared.rule.entry.Event.{Event}
 use Rattle.papaya_book.specs.Calls.{HasCome, IsTable}
 use Rattle.papaya_book.specs.Hashes.{hash_of}
-use Rattle.papaya_book.specs.Logs.{Stored, exchanges_of, state_of, steps_of}
+use Rattle.papaya_book.specs.Hinted.{IsSlotHint}
+use Rattle.papaya_book.specs.Logs.{Stored, coding_of, exchanges_of, setting_of, state_of, steps_of}
 use Rattle.papaya_book.specs.Sheets.{Sheet}
 use Rattle.papaya_book.proofs.Found.{on_came}
 use Rattle.papaya_book.proofs.Loaded.{table_since}
 use Rattle.papaya_book.proofs.TableSizes.{sizes}
+use Rattle.papaya_lookup.proofs.Readings.{hint_without}
 use Rattle.papaya_change.specs.Changing.{IsCalling, IsForm, hands_with}
 use Rattle.papaya_change.proofs.Resting.{ChainResting, coded, hashed_in, resting_may, wide}
 
@@ -56,6 +60,15 @@ module _ {K V S H : Type 0} (eq : K → K → Bool) (input : K → List (List �
       subst (λ (z : List (Exchange (Stored K V))). AreThere g c (run z start) last kept ask) r.is
       (copies_there g c (hashed_in eq input build write finish classes respects b matches fed form k (exchanges_of begun) log r.lawful) (exchanges_of begun) r.since
       (resting_may eq input build write finish classes respects b matches fed form k (exchanges_of begun) log r.lawful m (hands_with last kept made) resting) k m (hands_with last kept made) r.rests ask e)
+
+  -- and a hint that it writes may be there
+  pub may_note : (t x n : ℕ) → ask_of m ≡ asks.Copy (copies.WriteHint t x n) → IsSlotHint eq (hash_of input build write finish) b t x n log
+  may_note t x n e =
+      let hash = hash_of input build write finish b.hasher in
+      let wide_hint = copies_may_hint g c (hashed_in eq input build write finish classes respects b matches fed form k (exchanges_of begun) log r.lawful) (exchanges_of begun) r.since
+      (resting_may eq input build write finish classes respects b matches fed form k (exchanges_of begun) log r.lawful m (hands_with last kept made) resting) k m (hands_with last kept made) r.rests t x n e in
+      let here : IsHint g c (state_of log) t x n = subst (λ (z : List (Exchange (Stored K V))). IsHint g c (run z start) t x n) r.is wide_hint in
+      record { lawful = r.lawful; is = hint_without (setting_of eq hash b.mode log) (coding_of hash) matches fed ((state_of log).slot t x) n here }
 
   -- where a word is named, its table has come
   abbrev pub HasComeFor : At → Type 0

@@ -47,7 +47,7 @@ use Rattle.papaya_change.proofs.Changing.{Coded, Wide, call_hands}
 use Rattle.papaya_change.proofs.OwnSteps.{own_kind, own_order}
 use Rattle.papaya_lookup.proofs.Driving.{is_made, one_made}
 use Rattle.papaya_change.proofs.OnePair.{pairs_once, unpaired_then}
-use Rattle.papaya_lookup.proofs.Readings.{IsQuery, hashed_with}
+use Rattle.papaya_lookup.proofs.Readings.{IsQuery}
 use Rattle.papaya_change.proofs.Refusals.{refused_for, shows_none, unsaid_cause, unsaid_room}
 use Rattle.papaya_change.proofs.Written.{own_query}
 use Rattle.papaya_change.proofs.WritingSteps.{begins as begins_writing}
@@ -178,7 +178,7 @@ module _ {K V S H : Type 0} (eq : K → K → Bool) (input : K → List (List �
     put_pair =
         let s = r.writing.calling in
         let query : IsQuery eq input (eq key) (input key) = own_query eq input build write finish classes respects b name key in
-        let h = asked_pair (Wide eq input build write finish classes respects b (eq key) (input key) query (Some key) name begun log) (Coded eq input build write finish classes respects b (eq key) (input key) query (Some key) name begun) (hashed_with eq input build write finish classes respects b (eq key) (input key) query log s.lawful)
+        let h = asked_pair (Wide eq input build write finish classes respects b (eq key) (input key) query (Some key) name begun log) (Coded eq input build write finish classes respects b (eq key) (input key) query (Some key) name begun)
         (exchanges_of begun) s.since (Some key) (call_hands eq input build write finish classes respects b (eq key) (input key) query (Some key) name begun x.writer.call.last (made_list x.made)) m'.call s.rests.call (Slot t i) old new own.1 own_put in
         (h.0, one_made x.made h.0 h.1, h.2)
 

@@ -4,7 +4,7 @@ use Rattle.papaya_ask.specs.declared.ask.Answer.{Answer}
 use Rattle.papaya_ask.specs.declared.ask.Answer.TheVariants.{Word as Word_read, Exchanged, Found as Found_instead, Yes, Op, Size, Made as Made_number, Ok as Ok_done, Refused as Was_refused}
 use Rattle.papaya_ask.specs.declared.ask.Ask.TheVariants.{MakePair}
 use Rattle.papaya_ask.specs.declared.call.Task.TheVariants.{Insert}
-use Rattle.papaya_ask.specs.declared.search.Search.TheVariants.{Sizing, Looking, Comparing}
+use Rattle.papaya_ask.specs.declared.search.Search.TheVariants.{Sizing, Looking, Reading, Comparing}
 use Rattle.papaya_call.specs.declared.write.Made.{Made}
 use Rattle.papaya_call.specs.declared.write.Made.TheVariants.{Nothing, Key, Pair}
 use Rattle.papaya_call.specs.declared.machine.Machine.{Machine}
@@ -13,7 +13,7 @@ use Rattle.papaya_chain.specs.declared.machine.Machine.{Machine as Chain}
 use Rattle.papaya_chain.specs.declared.machine.Phase.TheVariants.{Calling}
 use Rattle.papaya_chain.specs.Machine as chains
 use Rattle.papaya_call.specs.declared.machine.State.{State as Stage}
-use Rattle.papaya_call.specs.declared.machine.State.TheVariants.{AtRoot, Making, Opening, Searching, Writing, Offering, Showing, Pairing, Putting, Burying, Counting, Uncounting, Leaving, Growing, Ended}
+use Rattle.papaya_call.specs.declared.machine.State.TheVariants.{AtRoot, Making, Opening, Searching, Writing, Offering, Showing, Pairing, Putting, Burying, Counting, Noting, Uncounting, Leaving, Growing, Ended}
 use Rattle.papaya_law.specs.Code.{Coding}
 use Rattle.papaya_law.specs.Exchange.{Exchange, Setting}
 use Rattle.papaya_call.specs.Machine.{after, asks, made_in}
@@ -37,6 +37,7 @@ unpaired_in (Pair m) n (Pairing purpose) u = u
 unpaired_in (Pair m) n (Putting put) u = u
 unpaired_in (Pair m) n (Burying removal) u = u
 unpaired_in (Pair m) n (Counting i) u = u
+unpaired_in (Pair m) n (Noting i) u = u
 unpaired_in (Pair m) n (Uncounting i) u = u
 unpaired_in (Pair m) n (Leaving t) u = u
 unpaired_in (Pair m) n (Growing t) u = u
@@ -67,6 +68,7 @@ module _ {K P : Type 0} (g : Setting K P) (c : Coding K P) (begun since : List (
   pairs_once made (Opening t) r e = absurd cc
   pairs_once made (Searching (Sizing t)) r e = absurd cc
   pairs_once made (Searching (Looking at)) r e = absurd cc
+  pairs_once made (Searching (Reading at)) r e = absurd cc
   pairs_once made (Searching (Comparing at word)) r e = absurd cc
   pairs_once Nothing (Writing write) r e = absurd cc
   pairs_once Key (Writing write) r e = (tt, λ n. refl)
@@ -77,6 +79,7 @@ module _ {K P : Type 0} (g : Setting K P) (c : Coding K P) (begun since : List (
   pairs_once made (Putting put) r e = absurd cc
   pairs_once made (Burying removal) r e = absurd cc
   pairs_once made (Counting i) r e = absurd cc
+  pairs_once made (Noting i) r e = absurd cc
   pairs_once made (Uncounting i) r e = absurd cc
   pairs_once made (Leaving t) r e = absurd cc
   pairs_once made (Growing t) r e = absurd cc

@@ -17,7 +17,7 @@ use Rattle.papaya_ask.specs.declared.call.Task.TheVariants.{Get, Insert, RemoveI
 use Rattle.papaya_ask.specs.declared.search.Search.TheVariants.{Sizing}
 use Rattle.papaya_call.specs.declared.machine.Machine.{Machine as Call_machine}
 use Rattle.papaya_call.specs.declared.machine.State.{State}
-use Rattle.papaya_call.specs.declared.machine.State.TheVariants.{AtRoot, Making, Opening, Searching, Writing, Offering, Showing, Pairing, Putting, Burying, Counting, Uncounting, Leaving, Growing, Ended}
+use Rattle.papaya_call.specs.declared.machine.State.TheVariants.{AtRoot, Making, Opening, Searching, Writing, Offering, Showing, Pairing, Putting, Burying, Counting, Noting, Uncounting, Leaving, Growing, Ended}
 use Rattle.papaya_call.specs.declared.need.Need.{Need}
 use Rattle.papaya_call.specs.declared.write.Made.{Made}
 use Rattle.papaya_call.specs.declared.write.Made.TheVariants.{Nothing, Key, Pair}
@@ -86,6 +86,7 @@ kind_asked_is made (Pairing purpose) = tt
 kind_asked_is made (Putting put) = cond_both (put.write.old == 0) kinds.Claim kinds.Replace (λ z. IsCallKind (Some z)) (λ _. tt) (λ _. tt)
 kind_asked_is made (Burying removal) = tt
 kind_asked_is made (Counting n) = tt
+kind_asked_is made (Noting n) = tt
 kind_asked_is made (Uncounting n) = tt
 kind_asked_is made (Leaving t) = tt
 kind_asked_is made (Growing need) = tt

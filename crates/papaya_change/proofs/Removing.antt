@@ -10,7 +10,7 @@ use Rattle.papaya_words.specs.declared.probe.Refused.TheVariants.{Capacity}
 use Rattle.papaya_ask.specs.declared.ask.At.{At}
 use Rattle.papaya_ask.specs.declared.ask.At.TheVariants.{Slot}
 use Rattle.papaya_ask.specs.declared.ask.Ask.{Ask}
-use Rattle.papaya_ask.specs.declared.ask.Ask.TheVariants.{Load, Exchange as Ask_exchange, SizeOf, SameKey, ShowPair, AddToShard, Done}
+use Rattle.papaya_ask.specs.declared.ask.Ask.TheVariants.{Load, Exchange as Ask_exchange, LoadHint, SizeOf, SameKey, ShowPair, AddToShard, Done}
 use Rattle.papaya_ask.specs.declared.ask.StepKind.{StepKind}
 use Rattle.papaya_ask.specs.declared.ask.StepKind.TheVariants as kinds
 use Rattle.papaya_ask.specs.declared.ask.Answer.{Answer}
@@ -47,6 +47,7 @@ use Rattle.papaya_book.specs.Calls.{IsSlotTried, IsTable}
 use Rattle.papaya_change.specs.Changing.{IsDriven}
 use Rattle.papaya_change.specs.Driver.{IsHeldAt, IsLoaded}
 use Rattle.papaya_book.specs.Hashes.{hash_of}
+use Rattle.papaya_book.specs.Hinted.{IsSlotHint}
 use Rattle.papaya_lookup.specs.History.{history_of, key_of}
 use Rattle.papaya_book.specs.declared.rule.entry.Named.TheVariants as names
 use Rattle.papaya_book.specs.Plays.{CanExchange}
@@ -54,7 +55,7 @@ use Rattle.papaya_book.specs.Logs.{Stored, exchanges_of, pair_named}
 use Rattle.papaya_change.specs.Removing.{IsRemoving, IsRemovingOn}
 use Rattle.papaya_book.specs.Rule.{IsPlaced}
 use Rattle.papaya_change.specs.Showings.{WasHeld}
-use Rattle.papaya_change.proofs.Changing.{Coded, Wide, barren, call_hands, call_rests, counted, compared, load_table, loaded_lawful, loads, quiet, size_table, sized, slot_table}
+use Rattle.papaya_change.proofs.Changing.{Coded, Wide, barren, call_hands, call_rests, counted, compared, hint_table, hinted, load_table, loaded_lawful, loads, quiet, size_table, sized, slot_table}
 use Rattle.papaya_change.proofs.OwnSays.{own_said, own_shows, own_stood}
 use Rattle.papaya_change.proofs.OwnSteps.{own_kind, own_order}
 use Rattle.papaya_change.proofs.Refusals.{refused_for, shows_none}
@@ -145,6 +146,16 @@ module _ {K V S H F : Type 0} (eq : K → K → Bool) (input : K → List (List 
       sized_on t lent has slots limit slots_is limit_is size asks =
           goes_on log ([], append-nil log) x.call (Size slots limit) refl size (λ cause e. cc e) (SizeOf t) asks tt
           (sized eq input build write finish classes respects b matches query lawful None name begun log m x.call.table x.call.last x.call.kept [] x.call.taken x.call.put x.call.fresh r.calling t lent has slots limit slots_is limit_is asks)
+
+      -- a slot whose hint is loaded is one of the table that is held
+      pub hint_held : (t i : ℕ) → ask_of m ≡ Call (LoadHint t i) → IsHeldAt (Slot t i) log x.call.table
+      hint_held t i asks = hint_table eq input build write finish classes respects b matches query lawful None name begun log m x.call.table x.call.last x.call.kept [] x.call.taken x.call.put x.call.fresh r.calling t i (inl asks)
+
+      -- its hint was loaded
+      pub hinted_on : (log' : List (Event K V S)) → IsPrefix log log' → (t i n : ℕ) → ask_of m ≡ Call (LoadHint t i) → IsSlotHint eq hash b t i n log' → RemovingOn log' x f (Some (Word_read n))
+      hinted_on log' pre t i n asks is =
+          goes_on log' pre x.call (Word_read n) refl tt (λ cause e. cc e) (LoadHint t i) asks tt
+          (hinted eq input build write finish classes respects b matches query lawful None name begun log log' pre is.lawful m x.call.table x.call.last x.call.kept [] x.call.taken x.call.put x.call.fresh r.calling t i n asks is)
 
       -- a pair that was told of last
       abbrev Told : Type 0

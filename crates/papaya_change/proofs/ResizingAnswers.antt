@@ -11,7 +11,7 @@ use Rattle.papaya_ask.specs.declared.ask.At.{At}
 use Rattle.papaya_ask.specs.declared.ask.At.TheVariants as places
 use Rattle.papaya_ask.specs.declared.ask.At.TheVariants.{Root, Next, Aborted, Slot}
 use Rattle.papaya_ask.specs.declared.ask.Answer.{Answer as Call_answer}
-use Rattle.papaya_ask.specs.declared.ask.Answer.TheVariants.{Exchanged, Found as Found_instead, Made as Made_number, Refused as Was_refused, Size, Word as Word_read, Yes}
+use Rattle.papaya_ask.specs.declared.ask.Answer.TheVariants.{Exchanged, Found as Found_instead, Made as Made_number, Ok as Ok_done, Refused as Was_refused, Size, Word as Word_read, Yes}
 use Rattle.papaya_ask.specs.declared.ask.StepKind.{StepKind}
 use Rattle.papaya_ask.specs.declared.ask.StepKind.TheVariants as kinds
 use Rattle.papaya_ask.specs.declared.copy_ask.CopyAsk.{CopyAsk}
@@ -236,6 +236,14 @@ module _ {K V S H : Type 0} (eq : K → K → Bool) (input : K → List (List �
         subst (Leaves log) (sym a.is) (quiet log pre a.loaded.lawful (copies.Load at) asked (answers.Call (Word_read a.word)) tt (ap (λ (n : ℕ). answers.Call (Word_read n)) (sym here), refl, (λ i. hands_with (a.loaded.last_is i) (kept i) []))
         (a.loaded.placed r.last_placed) (placed_as h.kept h'.kept kept r.kept_placed) (hand_kept log pre (answers.Call (Word_read a.word)) (λ n e. cc e) h' (ap (λ (z : Copier K V S H). z.fresh) a.rest)) (λ slots limit e. absurd (cc e)))
     resized (copies.Exchange at old new) asked answer a = tried_on at old new asked answer a
+    resized (copies.LoadHint t x) asked answer a =
+        let last = ap (λ (z : Copier K V S H). z.last) a.rest in let kept = ap (λ (z : Copier K V S H). z.kept) a.rest in
+        subst (Leaves log) (sym a.is) (quiet log pre a.hinted.lawful (copies.LoadHint t x) asked (answers.Call (Word_read a.hint)) tt ((a.hint, a.hinted.is, refl), (refl, (λ i. hands_with (last i) (kept i) [])))
+        (placed_as h.last h'.last last r.last_placed) (placed_as h.kept h'.kept kept r.kept_placed) (hand_kept log pre (answers.Call (Word_read a.hint)) (λ n e. cc e) h' (ap (λ (z : Copier K V S H). z.fresh) a.rest)) (λ slots limit e. absurd (cc e)))
+    resized (copies.WriteHint t x n) asked answer a =
+        let last = ap (λ (z : Copier K V S H). z.last) a.rest in let kept = ap (λ (z : Copier K V S H). z.kept) a.rest in
+        subst (Leaves log) (sym a.is) (quiet log pre a.lawful (copies.WriteHint t x n) asked (answers.Call Ok_done) tt (refl, (refl, (λ i. hands_with (last i) (kept i) [])))
+        (placed_as h.last h'.last last r.last_placed) (placed_as h.kept h'.kept kept r.kept_placed) (hand_kept log pre (answers.Call Ok_done) (λ i e. cc e) h' (ap (λ (z : Copier K V S H). z.fresh) a.rest)) (λ slots limit e. absurd (cc e)))
     resized (copies.SizeOf t) asked answer a =
         let came = a.size_of.table in
         let all = sizes (steps_of log) t came.0 came.1 in

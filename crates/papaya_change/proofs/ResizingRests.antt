@@ -18,7 +18,7 @@ use Rattle.papaya_chain.specs.declared.resizer.State.TheVariants.{Opening, Linki
 use Rattle.papaya_chain.specs.Resizer.{IsStandingResizer, after, after_in, ask_of, follows_of, kind_of_ask}
 use Rattle.papaya_chain_rests.specs.Resizers.{IsStageAsked, IsStageTold, RestsStage}
 use Rattle.papaya_chain_rests.specs.Told.{Hands, IsCopyTold}
-use Rattle.papaya_chain_rests.proofs.ResizerRests.{stage_carries, stage_may, stage_stays, stage_there}
+use Rattle.papaya_chain_rests.proofs.ResizerRests.{stage_carries, stage_may, stage_may_hint, stage_stays, stage_there}
 use Rattle.papaya_law.specs.Allows.{AllAllowed, Allows}
 use Rattle.papaya_law.specs.Class.{IsOn}
 use Rattle.papaya_law.specs.Code.{Coding, IsHashed}
@@ -37,6 +37,7 @@ use Rattle.papaya_book.specs.declared.rule.entry.Named.TheVariants as names
 use Rattle.papaya_book.specs.declared.rule.entry.Step.{Step}
 use Rattle.papaya_book.specs.declared.rule.entry.Step.TheVariants as steps
 use Rattle.papaya_book.specs.Hashes.{hash_of}
+use Rattle.papaya_book.specs.Hinted.{IsSlotHint}
 use Rattle.papaya_book.specs.Logs.{Stored, coding_of, exchange_of, exchanges_of, number_of, setting_of, state_of, steps_of}
 use Rattle.papaya_book.specs.Plays.{CanExchange, IsWished, Numbered}
 use Rattle.papaya_book.specs.Rule.{IsLawfulLog, word_in}
@@ -87,7 +88,7 @@ module _ {K V S H : Type 0} (eq : K → K → Bool) (input : K → List (List �
 
   -- the word that stands at a place, in the setting of any log
   pub word_there : (log log' : List (Event K V S)) (at : At) → word_of (G log') C (state_of log) at ≡ word_in eq hash b log at
-  word_there log log' at = word_same (G log) (G log') C (λ z. refl) (state_of log) at
+  word_there log log' at = word_same (G log) (G log') C (state_of log) at
 
   module _ (v log : List (Event K V S)) (l : IsLawfulLog eq hash b log) (pre : IsPrefix v log) where
     longer : exchanges_of v ++ exchanges_of pre.0 ≡ exchanges_of log
@@ -127,6 +128,13 @@ module _ {K V S H : Type 0} (eq : K → K → Bool) (input : K → List (List �
 
     there : (ask : CopyAsk) → ask_of m ≡ Some ask → AreThere (G v) C (state_of v) h.last h.kept ask
     there ask asked = stage_there (G v) C (hashed v r.lawful) (state_of v) (map_left (G v) (exchanges_of v)) (keeping (G v) (hashed v r.lawful).lawful (exchanges_of v) r.lawful.allowed) hands m.state r.rests.stage ask asked
+
+    -- and a hint that it writes may be there
+    may_note : (t x n : ℕ) → ask_of m ≡ Some (copies.WriteHint t x n) → IsSlotHint eq hash b t x n v
+    may_note t x n asked = record {
+      lawful = r.lawful;
+      is = stage_may_hint (G v) C (hashed v r.lawful) (state_of v) (map_left (G v) (exchanges_of v)) (keeping (G v) (hashed v r.lawful).lawful (exchanges_of v) r.lawful.allowed) hands m.mode r.rests.mode m.state r.rests.stage t x n asked;
+    }
 
     -- where a word is named, its table has come
     reached : (at : At) → IsThere (G v) C (state_of v) h.last h.kept at → IsReached v at
@@ -233,6 +241,8 @@ module _ {K V S H : Type 0} (eq : K → K → Bool) (input : K → List (List �
       pub can_answer : (ask : CopyAsk) → ask_of m ≡ Some ask → IsFitCopyAsk ask → CanAnswerTo eq hash b name ask (kind_of_ask m) (follows_of m) v h
       can_answer (copies.Load at) asked fit = reached at (there (copies.Load at) asked)
       can_answer (copies.Exchange at old new) asked fit = can_exchange at old new asked
+      can_answer (copies.LoadHint t x) asked fit = reached (Slot t x) (there (copies.LoadHint t x) asked)
+      can_answer (copies.WriteHint t x n) asked fit = (reached (Slot t x) (there (copies.WriteHint t x n) asked), may_note t x n asked)
       can_answer (copies.SizeOf t) asked fit = chain_came v t (there (copies.SizeOf t) asked)
       can_answer (copies.HashOf n) asked fit = let p = there (copies.HashOf n) asked in record { some = (p.0, p.1); placed = r.last_placed }
       can_answer (copies.SamePair i n) asked fit = let p = there (copies.SamePair i n) asked in (record { some = (p.0, p.2); placed = r.kept_placed }, record { some = (p.1, p.3); placed = r.last_placed })

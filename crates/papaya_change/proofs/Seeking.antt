@@ -2,14 +2,14 @@
 use Rattle.std.proofs.Common.{◌≡◌, inl, inr, ⊎_elim, ℕ, ◌<◌, ◌≤◌, ◌==◌, nat_lt, Bool, true, false, if◌then◌else◌, MatchOption, is_some, Option, None, Some, List, [], ◌∷◌, ◌++◌, append-nil, length, refl, sym, ap, ◌∙◌, subst, arith}
 use Rattle.std.proofs.lemmas.Bool.{ne_eqb}
 use Rattle.std.specs.Cmp.{IsEquivalence}
+use Rattle.std.specs.Prelude.{pos}
 use mathlib.Core.List.{IsPrefix}
 use denote.Bor.{Bor}
 use Rattle.logbook.specs.Pages.{Book}
 use Rattle.papaya_words.specs.Mode.{IsChunked}
-use Rattle.papaya_words.specs.Word.{byte_of, kind_of, pair_of, top_byte}
+use Rattle.papaya_words.specs.Word.{hint_of, kind_of, live_word, may_hold, pair_of}
 use Rattle.papaya_words.specs.declared.word.Kind.{Kind}
 use Rattle.papaya_words.specs.declared.word.Kind.TheVariants as kinds
-use Rattle.papaya_words.proofs.WordLemmas.{pair_of-filled_word}
 use Rattle.papaya_ask.specs.declared.ask.At.TheVariants.{Root, Slot}
 use Rattle.papaya_ask.specs.declared.ask.Ask.TheVariants.{MakeKey, MakePair}
 use Rattle.papaya_ask.specs.declared.ask.Answer.TheVariants.{Exchanged, Made as Made_number}
@@ -18,17 +18,18 @@ use Rattle.papaya_ask.specs.declared.ask.StepKind.TheVariants as steps
 use Rattle.papaya_ask.specs.declared.call.Task.TheVariants.{Insert}
 use Rattle.papaya_ask.specs.declared.call.Reply.TheVariants.{Replaced}
 use Rattle.papaya_ask.specs.declared.search.Place.{Place}
-use Rattle.papaya_ask.specs.declared.search.Search.TheVariants.{Sizing, Looking, Comparing}
+use Rattle.papaya_ask.specs.declared.search.Search.TheVariants.{Sizing, Looking, Reading, Comparing}
 use Rattle.papaya_ask.specs.declared.search.Seen.{Seen}
 use Rattle.papaya_ask.specs.declared.search.Seen.TheVariants.{On, Over}
-use Rattle.papaya_ask.specs.Search.{at_yes, compare_byte, first_place, go_on, look, look_at, match_at, next_place}
+use Rattle.papaya_ask.specs.Search.{at_yes, first_place, go_on, hinted, look, look_at, match_at, next_place}
 use Rattle.papaya_call.specs.declared.machine.State.{State}
-use Rattle.papaya_call.specs.declared.machine.State.TheVariants.{Making, Searching, Writing, Counting, Ended}
+use Rattle.papaya_call.specs.declared.machine.State.TheVariants.{Making, Searching, Writing, Counting, Noting, Ended}
+use Rattle.papaya_call.specs.declared.write.Claimed.{Claimed}
 use Rattle.papaya_call.specs.declared.write.Made.{Made}
 use Rattle.papaya_call.specs.declared.write.Made.TheVariants.{Nothing, Key, Pair}
 use Rattle.papaya_call.specs.declared.write.Write.{Write}
 use Rattle.papaya_call.specs.Machine.{written}
-use Rattle.papaya_call.specs.Write.{new_word, write_kind}
+use Rattle.papaya_call.specs.Write.{claimed_by, write_kind}
 use Rattle.papaya_chain.specs.declared.ask.Answer.TheVariants as answers
 use Rattle.papaya_chain.specs.declared.machine.Machine.{Machine}
 use Rattle.papaya_chain.specs.Machine.{after, started}
@@ -42,6 +43,7 @@ use Rattle.papaya_book.specs.declared.rule.entry.Named.{Named}
 use Rattle.papaya_book.specs.declared.rule.entry.Named.TheVariants as names
 use Rattle.papaya_book.specs.Calls.{IsRoot, IsSlotTried, IsSlotWord, IsTable}
 use Rattle.papaya_book.specs.Hashes.{hash_of}
+use Rattle.papaya_book.specs.Hinted.{IsSlotHint}
 use Rattle.papaya_book.specs.Logs.{Stored, exchanges_of, pair_named, state_of, steps_of}
 use Rattle.papaya_book.specs.Plays.{CanExchange, IsPutting}
 use Rattle.papaya_book.specs.Rule.{IsLawfulLog, IsPlaced}
@@ -52,11 +54,11 @@ use Rattle.papaya_lookup.specs.History.{Change, changes_of, history_of, key_of}
 use Rattle.papaya_lookup.proofs.Driving.{can_put}
 use Rattle.papaya_lookup.proofs.Histories.{changes-append, history_since}
 use Rattle.papaya_lookup.proofs.Readings.{IsQuery}
-use Rattle.papaya_lookup.proofs.Turning.{compared_look}
+use Rattle.papaya_lookup.proofs.Turning.{compared_look, read_hinted}
 use Rattle.papaya_change.specs.Changes.{IsPut}
 use Rattle.papaya_change.specs.Changing.{HasChanged, IsCalling}
 use Rattle.papaya_change.specs.Seeking.{IsInsertingAt, insertion_at, led_by, left_at, left_to}
-use Rattle.papaya_change.proofs.Changing.{barren, begins, call_hands, call_rests, compared, loads, quiet, sized, slot_table}
+use Rattle.papaya_change.proofs.Changing.{barren, begins, call_hands, call_rests, compared, counted, hint_may, hint_table, hinted as hint_loaded, loads, quiet, sized, slot_table}
 use Rattle.papaya_change.proofs.Exchanging.{exchanged}
 use Rattle.papaya_change.proofs.Written.{own_query}
 
@@ -67,19 +69,19 @@ fewer_on at low = chosen (λ s. left_to s < left_at at) (nat_lt at.probe.len at.
 fewer_none : (at : Place) → at.probe.len ≤ at.limit → 0 < left_at at
 fewer_none at low = omega (arith, low)
 
-fewer_byte : (at : Place) (hash word : ℕ) → at.probe.len ≤ at.limit → left_to (compare_byte at hash word) < left_at at
-fewer_byte at hash word low = chosen (λ s. left_to s < left_at at) (byte_of word == top_byte hash) (On (Comparing at word)) (go_on at) (λ e. fewer_none at low) (λ e. fewer_on at low)
+pub fewer_hinted : (at : Place) (hash hint : ℕ) → at.probe.len ≤ at.limit → left_to (hinted at hash hint) < left_at at
+fewer_hinted at hash hint low = chosen (λ s. left_to s < left_at at) (may_hold hint hash) (On (Reading at)) (go_on at) (λ e. fewer_none at low) (λ e. fewer_on at low)
 
-fewer_at : (kind : Kind) (at : Place) (hash word : ℕ) → at.probe.len ≤ at.limit → left_to (look_at kind at hash word) < left_at at
-fewer_at kinds.Empty at hash word low = fewer_none at low
-fewer_at kinds.Live at hash word low = fewer_byte at hash word low
-fewer_at kinds.Marked at hash word low = fewer_byte at hash word low
-fewer_at kinds.Copied at hash word low = fewer_byte at hash word low
-fewer_at kinds.Buried at hash word low = fewer_on at low
-fewer_at kinds.Closed at hash word low = fewer_on at low
+fewer_at : (kind : Kind) (at : Place) (word : ℕ) → at.probe.len ≤ at.limit → left_to (look_at kind at word) < left_at at
+fewer_at kinds.Empty at word low = fewer_none at low
+fewer_at kinds.Live at word low = fewer_none at low
+fewer_at kinds.Marked at word low = fewer_none at low
+fewer_at kinds.Copied at word low = fewer_none at low
+fewer_at kinds.Buried at word low = fewer_on at low
+fewer_at kinds.Closed at word low = fewer_on at low
 
-pub fewer_look : (at : Place) (hash word : ℕ) → at.probe.len ≤ at.limit → left_to (look at hash word) < left_at at
-fewer_look at hash word low = fewer_at (kind_of word) at hash word low
+pub fewer_look : (at : Place) (word : ℕ) → at.probe.len ≤ at.limit → left_to (look at word) < left_at at
+fewer_look at word low = fewer_at (kind_of word) at word low
 
 fewer_match : (kind : Kind) (at : Place) (word : ℕ) → at.probe.len ≤ at.limit → left_to (match_at kind at word) < left_at at
 fewer_match kinds.Empty at word low = fewer_none at low
@@ -103,12 +105,9 @@ putting_as true = inl refl
 putting_as false = inr refl
 
 -- where it is written the map is changed
-written_as : (z : Bool) (old n : ℕ) → (change : Option ℕ × Option ℕ) × (change_in (if z then Counting n else Ended (Replaced old n)) ≡ Some change) × (change.1 ≡ Some n)
-written_as true old n = ((None, Some n), refl, refl)
-written_as false old n = ((Some old, Some n), refl, refl)
-
-pub word_pair : (hash n : ℕ) → top_byte hash < 128 → pair_of (new_word hash n) ≡ n
-word_pair hash n low = pair_of-filled_word 1 (top_byte hash) n (omega arith) low
+written_as : (z : Bool) (claimed : Claimed) (old : ℕ) → (change : Option ℕ × Option ℕ) × (change_in (if z then Counting claimed else Ended (Replaced old claimed.pair)) ≡ Some change) × (change.1 ≡ Some claimed.pair)
+written_as true claimed old = ((None, Some claimed.pair), refl, refl)
+written_as false claimed old = ((Some old, Some claimed.pair), refl, refl)
 
 module _ {K V S H : Type 0} (eq : K → K → Bool) (input : K → List (List ℕ)) (build : S → H) (write : H → List ℕ → H) (finish : H → ℕ) (classes : IsEquivalence eq) (respects : (x y : K) → eq x y ≡ true → input x ≡ input y)
     (b : Begun K V S) (name : Book) (key : K) (begun : List (Event K V S)) where
@@ -137,29 +136,44 @@ module _ {K V S H : Type 0} (eq : K → K → Bool) (input : K → List (List �
       let sizing : Under log Nothing (Searching (Sizing word)) (Some lent) None [] = subst (λ (z : Bool). Under log Nothing (if z then Making else Searching (Sizing word)) (Some lent) None []) (ne_eqb word 0 (λ z. omega (arith, by, z))) loaded in
       (lent, refl, None, sized eq input build write finish classes respects b (eq key) (input key) query (Some key) name begun log (insertion_at h b.mode 1 Nothing (Searching (Sizing word))) (Some lent) None None [] None None None sizing word lent refl slots limit slots_is limit_is refl)
 
-  -- the table has the place
-  pub place_there : (log : List (Event K V S)) (at : Place) (table : Sheet) → At log (Searching (Looking at)) table → IsTable log at.table table × (at.probe.i < length table.slots)
+  -- the table has a place whose hint is loaded
+  pub hint_there : (log : List (Event K V S)) (at : Place) (table : Sheet) → At log (Searching (Looking at)) table → IsTable log at.table table × (at.probe.i < length table.slots)
+  hint_there log at table (lent, is, last, r) =
+      subst (λ (z : Sheet). IsTable log at.table z × (at.probe.i < length z.slots)) is
+      (hint_table eq input build write finish classes respects b (eq key) (input key) query (Some key) name begun log (insertion_at h b.mode 1 Nothing (Searching (Looking at))) (Some lent) last None [] None None None r at.table at.probe.i (inl refl))
+
+  -- its hint was loaded
+  pub hint_seen : (log log' : List (Event K V S)) → IsPrefix log log' → (at : Place) (table : Sheet) → At log (Searching (Looking at)) table → (hint : ℕ) → IsSlotHint eq hash b at.table at.probe.i hint log' → At log' (led_by b.mode (hinted at h hint)) table
+  hint_seen log log' pre at table r hint told =
+      (r.0, r.1, r.2, hint_loaded eq input build write finish classes respects b (eq key) (input key) query (Some key) name begun log log' pre told.lawful (insertion_at h b.mode 1 Nothing (Searching (Looking at))) (Some r.0) r.2 None [] None None None r.3 at.table at.probe.i hint refl told)
+
+  -- its word is loaded next, where the hint says nothing or is the key's
+  pub word_next : (log log' : List (Event K V S)) → IsPrefix log log' → (at : Place) (table : Sheet) → At log (Searching (Looking at)) table → (hint : ℕ) → IsSlotHint eq hash b at.table at.probe.i hint log' → (a : Place) → hinted at h hint ≡ On (Reading a) → At log' (Searching (Reading at)) table
+  word_next log log' pre at table r hint told a e = subst (λ (s : Seen). At log' (led_by b.mode s) table) (read_hinted at h hint a e) (hint_seen log log' pre at table r hint told)
+
+  -- the table has a place whose word is loaded
+  pub place_there : (log : List (Event K V S)) (at : Place) (table : Sheet) → At log (Searching (Reading at)) table → IsTable log at.table table × (at.probe.i < length table.slots)
   place_there log at table (lent, is, last, r) =
       subst (λ (z : Sheet). IsTable log at.table z × (at.probe.i < length z.slots)) is
-      (slot_table eq input build write finish classes respects b (eq key) (input key) query (Some key) name begun log (insertion_at h b.mode 1 Nothing (Searching (Looking at))) (Some lent) last None [] None None None r at.table at.probe.i (inl refl))
+      (slot_table eq input build write finish classes respects b (eq key) (input key) query (Some key) name begun log (insertion_at h b.mode 1 Nothing (Searching (Reading at))) (Some lent) last None [] None None None r at.table at.probe.i (inl refl))
 
   -- its word was loaded
-  module _ (log log' : List (Event K V S)) (pre : IsPrefix log log') (at : Place) (table : Sheet) (r : At log (Searching (Looking at)) table) (word : ℕ) (state : Option (Named K V)) (told : IsSlotWord eq hash b name at.table at.probe.i word log' state) where
+  module _ (log log' : List (Event K V S)) (pre : IsPrefix log log') (at : Place) (table : Sheet) (r : At log (Searching (Reading at)) table) (word : ℕ) (state : Option (Named K V)) (told : IsSlotWord eq hash b name at.table at.probe.i word log' state) where
     abbrev there : Option (Stored K V)
     there = named ((state_of log').slot at.table at.probe.i)
 
-    loaded : Under log' Nothing (led_by b.mode (look at h word)) (Some r.0) (or_last there r.2) []
+    loaded : Under log' Nothing (led_by b.mode (look at word)) (Some r.0) (or_last there r.2) []
     loaded =
-        loads eq input build write finish classes respects b (eq key) (input key) query (Some key) name begun log log' pre told.read.lawful (insertion_at h b.mode 1 Nothing (Searching (Looking at))) (Some r.0) r.2 None [] None None None r.3 (Slot at.table at.probe.i) word (Some r.0) (or_last there r.2) refl
+        loads eq input build write finish classes respects b (eq key) (input key) query (Some key) name begun log log' pre told.read.lawful (insertion_at h b.mode 1 Nothing (Searching (Reading at))) (Some r.0) r.2 None [] None None None r.3 (Slot at.table at.probe.i) word (Some r.0) (or_last there r.2) refl
         (there, record { lawful = told.read.lawful; is = told.read.is; names = refl; placed = told.placed }, refl, refl)
 
-    pub looked : At log' (led_by b.mode (look at h word)) table
+    pub looked : At log' (led_by b.mode (look at word)) table
     looked = (r.0, r.1, or_last there r.2, loaded)
 
-    -- the pair of the word has the hash byte
-    module _ (a : Place) (w : ℕ) (e : look at h word ≡ On (Comparing a w)) where
+    -- a key is compared
+    module _ (a : Place) (w : ℕ) (e : look at word ≡ On (Comparing a w)) where
       pub pair_there : (p : Stored K V) × (state ≡ Some (names.Pair p)) × (pair_of word ≡ p.index)
-      pair_there = let c = compared_look (kind_of word) at h word a w e in told.some c.some c.shut
+      pair_there = let c = compared_look (kind_of word) at word a w e in told.some c.some c.shut
 
       module _ (p : Stored K V) (is : state ≡ Some (names.Pair p)) where
         stands : there ≡ Some p
@@ -168,10 +182,10 @@ module _ {K V S H : Type 0} (eq : K → K → Bool) (input : K → List (List �
         pub pair_in_log : IsPlaced b (Some name) (names.Pair p)
         pair_in_log = subst (λ (o : Option (Stored K V)). IsPlaced b (Some name) (pair_named o)) stands told.placed
 
-        -- and its key was compared
+        -- and it is that pair's
         pub matched : (same : Bool) → same ≡ eq key (key_of p) → At log' (led_by b.mode (at_yes (Comparing at word) same)) table
         matched same same_is =
-            let to = (compared_look (kind_of word) at h word a w e).is in
+            let to = (compared_look (kind_of word) at word a w e).is in
             let last : or_last there r.2 ≡ Some p = ap (λ (o : Option (Stored K V)). or_last o r.2) stands in
             let comparing : Under log' Nothing (Searching (Comparing at word)) (Some r.0) (Some p) [] = subst (λ (z : Seen × Option (Stored K V)). Under log' Nothing (led_by b.mode z.0) (Some r.0) z.1 []) (λ i. (to i, last i)) loaded in (
               r.0,
@@ -214,7 +228,7 @@ module _ {K V S H : Type 0} (eq : K → K → Bool) (input : K → List (List �
     kind = Some (write_kind target)
 
     abbrev new : ℕ
-    new = new_word h q.index
+    new = live_word q.index
 
     -- the slot is one of the table
     pub slot_there : IsTable log target.place.table table × (target.place.probe.i < length table.slots)
@@ -248,10 +262,19 @@ module _ {K V S H : Type 0} (eq : K → K → Bool) (input : K → List (List �
       put_changed = ended.changed
 
       abbrev change : (change : Option ℕ × Option ℕ) × (change_in ending.call.state ≡ Some change) × (change.1 ≡ Some q.index)
-      change = written_as (target.old == 0) (pair_of target.old) q.index
+      change = written_as (target.old == 0) (claimed_by target q.index) (pair_of target.old)
 
       pub has_changed_now : is_some (change_in ending.call.state) ≡ true
       has_changed_now = ap is_some change.1
+
+      -- where the slot was empty its hint may be the key's
+      pub put_hint : (target.old == 0) ≡ true → IsSlotHint eq hash b target.place.table target.place.probe.i (hint_of h) log'
+      put_hint empty =
+          let claimed : Claimed = claimed_by target q.index in
+          let to : ending ≡ insertion_at h b.mode 1 (Pair q.index) (Counting claimed) = ap (λ (z : Bool). insertion_at h b.mode 1 (Pair q.index) (if z then Counting claimed else Ended (Replaced (pair_of target.old) q.index))) empty in
+          let counting = subst (λ (m : Machine). IsCalling eq hash b name (eq key) h (Some key) begun log' m (Some lent) r.2 None (q ∷ []) before (Some q) None) to ended in
+          let noting = counted eq input build write finish classes respects b (eq key) (input key) query (Some key) name begun log' (insertion_at h b.mode 1 (Pair q.index) (Counting claimed)) (Some lent) r.2 None (q ∷ []) before (Some q) None counting (pos 1) refl in
+          hint_may eq input build write finish classes respects b (eq key) (input key) query (Some key) name begun log' (insertion_at h b.mode 1 (Pair q.index) (Noting claimed)) (Some lent) r.2 None (q ∷ []) before (Some q) None noting target.place.table target.place.probe.i (hint_of h) refl
 
       -- so the history ends with it
       pub put_done : (answer : Option (Bor V)) → MatchOption answer (before ≡ None) (λ v. (p : Stored K V) × (before ≡ Some p) × (v.now ≡ p.value.value)) → IsPut eq key value (history_of begun) (history_of log') answer

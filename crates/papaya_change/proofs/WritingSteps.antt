@@ -1,5 +1,5 @@
 -- A call that inserts after its loads, its exchanges and its count.
-use Rattle.std.proofs.Common.{◌≡◌, inr, ⊎_elim, ℕ, ◌==◌, Bool, true, false, MatchBool, MatchOption, Option, None, Some, List, [], length, refl, sym, ap, ◌∙◌, subst}
+use Rattle.std.proofs.Common.{◌≡◌, ◌⊎◌, inl, inr, ⊎_elim, ℕ, ◌==◌, Bool, true, false, MatchBool, MatchOption, Option, None, Some, List, [], length, refl, sym, ap, ◌∙◌, subst}
 use Rattle.std.proofs.lemmas.Bool.{cases_Bool}
 use Rattle.std.specs.Cmp.{IsEquivalence}
 use mathlib.Core.List.{IsPrefix}
@@ -11,7 +11,7 @@ use Rattle.papaya_words.specs.Word.{pair_of}
 use Rattle.papaya_ask.specs.declared.ask.At.{At}
 use Rattle.papaya_ask.specs.declared.ask.At.TheVariants.{Root, Slot}
 use Rattle.papaya_ask.specs.declared.ask.Ask.{Ask}
-use Rattle.papaya_ask.specs.declared.ask.Ask.TheVariants.{Load, Exchange as Ask_exchange, SizeOf, AddToShard}
+use Rattle.papaya_ask.specs.declared.ask.Ask.TheVariants.{Load, Exchange as Ask_exchange, LoadHint, WriteHint, SizeOf, AddToShard}
 use Rattle.papaya_ask.specs.declared.ask.Answer.{Answer}
 use Rattle.papaya_ask.specs.declared.ask.Answer.TheVariants.{Word as Word_read, Exchanged, Found as Found_instead, Size, Ok as Ok_done}
 use Rattle.papaya_ask.specs.declared.ask.StepKind.{StepKind}
@@ -40,12 +40,13 @@ use Rattle.papaya_words.specs.Mode.{IsChunked}
 use Rattle.papaya_change.specs.Changing.{IsBringing, IsFresh}
 use Rattle.papaya_change.specs.Driver.{IsHeldAt, IsLoaded}
 use Rattle.papaya_book.specs.Hashes.{hash_of}
+use Rattle.papaya_book.specs.Hinted.{IsSlotHint}
 use Rattle.papaya_book.specs.Logs.{Stored, exchanges_of, number_of, pair_named}
 use Rattle.papaya_book.specs.Makers.{IsMade}
 use Rattle.papaya_book.specs.Plays.{CanExchange, IsPutting}
 use Rattle.papaya_book.specs.Rule.{IsLawfulLog, IsPlaced}
 use Rattle.papaya_change.specs.Writing.{IsWriting}
-use Rattle.papaya_change.proofs.Changing.{begins as begins_calling, call_hands, call_rests, counted, load_table, loaded_lawful, loads, size_table, sized, slot_table}
+use Rattle.papaya_change.proofs.Changing.{begins as begins_calling, call_hands, call_rests, counted, hint_may, hint_table, hinted, load_table, loaded_lawful, loads, noted, size_table, sized, slot_table}
 use Rattle.papaya_change.proofs.OwnSteps.{own_kind}
 use Rattle.papaya_lookup.proofs.Driving.{IsResting, can_bury, can_put}
 use Rattle.papaya_change.proofs.Exchanging.{exchanged, lost}
@@ -135,6 +136,28 @@ module _ {K V S H : Type 0} (eq : K → K → Bool) (input : K → List (List �
         let calling = loads eq input build write finish classes respects b (eq key) (input key) query (Some key) name begun log log' pre (loaded_lawful eq hash b name log' at word w.call.table c.table w.call.last c.last is) m w.call.table w.call.last w.call.kept made w.call.taken w.call.put w.call.fresh r.calling at word c.table c.last asks is in
         subst (λ (z : Driver K V S H). On log' (record w { call = z }) (Word_read word)) (sym rest)
         (goes_on eq input build write finish classes respects b name key made begun log w r made log' (record w { call = record w.call { table = c.table; last = c.last } }) (Word_read word) r.keyed tt calling r.put_placed)
+
+    -- a slot whose hint is loaded or written is one of the table that is held
+    pub hint_held : (t i : ℕ) → (ask_of m ≡ Call (LoadHint t i)) ⊎ ((hint : ℕ) × (ask_of m ≡ Call (WriteHint t i hint))) → IsHeldAt (Slot t i) log w.call.table
+    hint_held t i asks = hint_table eq input build write finish classes respects b (eq key) (input key) query (Some key) name begun log m w.call.table w.call.last w.call.kept made w.call.taken w.call.put w.call.fresh r.calling t i asks
+
+    -- a hint that is written may be the slot's
+    pub hint_can : (t i n : ℕ) → ask_of m ≡ Call (WriteHint t i n) → IsSlotHint eq hash b t i n log
+    hint_can t i n asks = hint_may eq input build write finish classes respects b (eq key) (input key) query (Some key) name begun log m w.call.table w.call.last w.call.kept made w.call.taken w.call.put w.call.fresh r.calling t i n asks
+
+    -- a hint was loaded
+    pub hinted_on : (log' : List (Event K V S)) → IsPrefix log log' → (t i n : ℕ) → ask_of m ≡ Call (LoadHint t i) → IsSlotHint eq hash b t i n log' → On log' w (Word_read n)
+    hinted_on log' pre t i n asks is =
+        goes_on eq input build write finish classes respects b name key made begun log w r made log' w (Word_read n) r.keyed tt
+        (hinted eq input build write finish classes respects b (eq key) (input key) query (Some key) name begun log log' pre is.lawful m w.call.table w.call.last w.call.kept made w.call.taken w.call.put w.call.fresh r.calling t i n asks is)
+        r.put_placed
+
+    -- and one was written
+    pub noted_on : (t i n : ℕ) → ask_of m ≡ Call (WriteHint t i n) → On log w Ok_done
+    noted_on t i n asks =
+        goes_on eq input build write finish classes respects b name key made begun log w r made log w Ok_done r.keyed tt
+        (noted eq input build write finish classes respects b (eq key) (input key) query (Some key) name begun log m w.call.table w.call.last w.call.kept made w.call.taken w.call.put w.call.fresh r.calling t i n asks)
+        r.put_placed
 
     -- a table whose size is asked for is held
     pub size_held : (t : ℕ) → ask_of m ≡ Call (SizeOf t) → w.call.table ≡ None → ⊥

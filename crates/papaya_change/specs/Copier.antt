@@ -7,11 +7,11 @@ use Rattle.papaya_words.specs.declared.probe.Refused.TheVariants.{Capacity, Memo
 use Rattle.papaya_ask.specs.Search.{IsSize}
 use Rattle.papaya_ask.specs.declared.ask.At.{At}
 use Rattle.papaya_ask.specs.declared.ask.At.TheVariants.{Root, Next, Aborted, Done, Slot}
-use Rattle.papaya_ask.specs.declared.ask.Answer.TheVariants.{Exchanged, Found, Made, Refused as Was_refused, Size, Word, Yes}
+use Rattle.papaya_ask.specs.declared.ask.Answer.TheVariants.{Exchanged, Found, Made, Ok, Refused as Was_refused, Size, Word, Yes}
 use Rattle.papaya_ask.specs.declared.ask.StepKind.{StepKind}
 use Rattle.papaya_ask.specs.declared.ask.StepKind.TheVariants as kinds
 use Rattle.papaya_ask.specs.declared.copy_ask.CopyAsk.{CopyAsk}
-use Rattle.papaya_ask.specs.declared.copy_ask.CopyAsk.TheVariants.{Count, Exchange, HashOf, Load, MakeTable, SamePair, SizeOf}
+use Rattle.papaya_ask.specs.declared.copy_ask.CopyAsk.TheVariants.{Count, Exchange, HashOf, Load, LoadHint, MakeTable, SamePair, SizeOf, WriteHint}
 use Rattle.papaya_chain.specs.declared.ask.Answer.{Answer}
 use Rattle.papaya_chain.specs.declared.ask.Answer.TheVariants as answers
 use Rattle.papaya_rests.specs.Told.{or_last}
@@ -20,6 +20,7 @@ use Rattle.papaya_book.specs.declared.rule.entry.Event.{Event}
 use Rattle.papaya_book.specs.declared.rule.entry.Named.TheVariants as names
 use Rattle.papaya_book.specs.declared.rule.own.Given.TheVariants.{Sum}
 use Rattle.papaya_book.specs.Calls.{HasCome, IsTable}
+use Rattle.papaya_book.specs.Hinted.{IsSlotHint}
 use Rattle.papaya_book.specs.Limits.{IsFull}
 use Rattle.papaya_book.specs.Logs.{Stored, number_of, pair_named, steps_of, table_in}
 use Rattle.papaya_book.specs.Plays.{CanExchange}
@@ -124,6 +125,9 @@ module _ {K V S H : Type 0} (eq : K → K → Bool) (hash : S → K → ℕ) (b 
       → Copier K V S H → Type 0
   CanAnswerTo (Load at) kind follows log h = IsReached log at
   CanAnswerTo (Exchange at old new) kind follows log h = CanExchangeFor at kind old new log h
+  CanAnswerTo (LoadHint t x) kind follows log h = IsReached log (Slot t x)
+  CanAnswerTo (WriteHint t x hint) kind follows log h = IsReached log (Slot t x)
+      × IsSlotHint eq hash b t x hint log
   CanAnswerTo (SizeOf t) kind follows log h = HasCome log t
   CanAnswerTo (HashOf n) kind follows log h = IsHeld b name h.last
   CanAnswerTo (SamePair m n) kind follows log h = IsHeld b name h.kept × IsHeld b name h.last
@@ -151,6 +155,21 @@ module _ {K V S H : Type 0} (eq : K → K → Bool) (hash : S → K → ℕ) (b 
     pub tried : HasTried eq hash b name at kind (old, new) h.kept log h.last found log' h'.last
     pub hand : IsHandLeft at h.fresh h'.fresh
     pub rest : h' ≡ record h { last = h'.last; fresh = h'.fresh }
+
+  -- the hint of a slot
+  pub record AnswersHint (t x : ℕ) (h : Copier K V S H) (log' : List (Event K V S))
+      (h' : Copier K V S H) (answer : Answer) : Type 0 where
+    pub hint : ℕ
+    pub is : answer ≡ answers.Call (Word hint)
+    pub hinted : IsSlotHint eq hash b t x hint log'
+    pub rest : h' ≡ h
+
+  -- that a hint was written
+  pub record AnswersNote (h : Copier K V S H) (log' : List (Event K V S)) (h' : Copier K V S H)
+      (answer : Answer) : Type 0 where
+    pub is : answer ≡ answers.Call Ok
+    pub lawful : IsLawfulLog eq hash b log'
+    pub rest : h' ≡ h
 
   -- the size of a table
   pub record AnswersSize (t : ℕ) (h : Copier K V S H) (log' : List (Event K V S))
@@ -209,6 +228,8 @@ module _ {K V S H : Type 0} (eq : K → K → Bool) (hash : S → K → ℕ) (b 
   AnswersTo (Load at) kind follows log h log' h' answer = AnswersLoad at log h log' h' answer
   AnswersTo (Exchange at old new) kind follows log h log' h' answer =
       AnswersExchange at kind old new log h log' h' answer
+  AnswersTo (LoadHint t x) kind follows log h log' h' answer = AnswersHint t x h log' h' answer
+  AnswersTo (WriteHint t x hint) kind follows log h log' h' answer = AnswersNote h log' h' answer
   AnswersTo (SizeOf t) kind follows log h log' h' answer = AnswersSize t h log' h' answer
   AnswersTo (HashOf n) kind follows log h log' h' answer = AnswersHash log h log' h' answer
   AnswersTo (SamePair m n) kind follows log h log' h' answer = AnswersSame log h log' h' answer

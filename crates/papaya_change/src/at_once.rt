@@ -3,7 +3,7 @@
 ghost use Rattle.std.specs.Prelude.{◌≡◌, ◌<◌, is_ok, Err, IfErr, IfOk, Some};
 ghost use Rattle.std.specs.Int.{IsPowerOfTwo};
 ghost use Rattle.papaya_ask.specs.Search.{IsSeen, IsWithin};
-ghost use Rattle.papaya_ask.specs.declared.search.Search.TheVariants.{Looking};
+ghost use Rattle.papaya_ask.specs.declared.search.Search.TheVariants.{Looking, Reading};
 ghost use Rattle.papaya_call.specs.declared.machine.State.TheVariants.{Searching, Writing};
 ghost use Rattle.papaya_book.specs.Limits.{HasNoRoom, tables_of};
 ghost use Rattle.papaya_book.specs.Windows.{IsLawful, Sees};
@@ -28,13 +28,45 @@ use papaya_call::write::Write;
 use papaya_lookup::lookup::hash;
 use papaya_words::limits::MAX_LOG_LEN;
 use papaya_words::probe::Refused;
-use papaya_words::word::{Kind, Word, h2};
+use papaya_words::word::{Kind, Word, hint};
 use std::alloc::Global;
 use std::hash::{BuildHasher, Hash};
 use std::sync::Wait;
 
-/// Looks at one place of a table: loads its word, and compares the key of the pair that it names
-/// where the hash byte agrees.
+/// Loads the word at one place of a table, and compares the key of the pair that it names, if it names
+/// one.
+#[inline(always)]
+fn read_at<K: Hash + Eq, V, S: BuildHasher>(
+    window: &mut Window<'_, K, V, S>,
+    key: &K,
+    table: &Table<K, V, S>,
+    at: Place,
+) -> Seen
+    requires within { IsWithin at }
+    requires stands { StandsAt window.old key.now (Searching (Reading at)) table.now }
+    ensures sees { Sees window.old window.new }
+    ensures own { window.new.own ≡ window.old.own }
+    ensures leads { Leads window.old window.new key.now table.now (Searching (Reading at))
+        (led_by window.old.book.now.parts.mode result) }
+    ensures seen { IsSeen result }
+    ensures fewer { left_to result < left_at at }
+{
+    let (word, trade) = window.slot_word(table, at.table, at.probe.i);
+    let seen = at.look(word);
+    match seen {
+        Seen::On(Search::Comparing(..)) => {
+            let book = window.book;
+            let stored = named_pair(word, trade);
+            let pair = book.pair(&stored);
+            let same = *key == *book.key(pair);
+            Search::Comparing(at, word).at_yes(same)
+        }
+        _ => seen,
+    }
+}
+
+/// Looks at one place of a table: loads its hint, and its word where the hint says nothing or is the
+/// key's.
 #[inline(always)]
 fn look_at<K: Hash + Eq, V, S: BuildHasher>(
     window: &mut Window<'_, K, V, S>,
@@ -53,16 +85,10 @@ fn look_at<K: Hash + Eq, V, S: BuildHasher>(
     ensures seen { IsSeen result }
     ensures fewer { left_to result < left_at at }
 {
-    let (word, trade) = window.slot_word(table, at.table, at.probe.i);
-    let seen = at.look(hash, word);
+    let hint = window.hint(table, at.table, at.probe.i);
+    let seen = at.hinted(hash, hint);
     match seen {
-        Seen::On(Search::Comparing(..)) => {
-            let book = window.book;
-            let stored = named_pair(word, trade);
-            let pair = book.pair(&stored);
-            let same = *key == *book.key(pair);
-            Search::Comparing(at, word).at_yes(same)
-        }
+        Seen::On(Search::Reading(..)) => read_at(window, key, table, at),
         _ => seen,
     }
 }
@@ -163,7 +189,7 @@ fn write_at<'a, R: Wait, K: Hash + Eq + Drop, V: Drop, S: BuildHasher>(
         return Err(Refused::Capacity);
     }
     let Spot { table, write } = spot;
-    let words = (write.old, Word::live(h2(hash), pair.index() as u64).0);
+    let words = (write.old, Word::live(pair.index() as u64).0);
     let Write { place, old } = write;
     let kind = Some(write.kind());
     let (found, before) = window.put_slot(table, place.table, place.probe.i, kind, &pair, words);
@@ -172,6 +198,7 @@ fn write_at<'a, R: Wait, K: Hash + Eq + Drop, V: Drop, S: BuildHasher>(
     }
     if old == 0 {
         means.shard.add(1);
+        window.write_hint(table, place.table, place.probe.i, hint(hash));
     }
     match before {
         Some(taken) => Ok(Some(book.pair(&taken).value())),

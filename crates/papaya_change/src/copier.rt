@@ -2,12 +2,12 @@
 //! or one that resizes the map, this is the one place where tables are copied.
 ghost use Rattle.std.specs.Prelude.{◌≡◌, ◌≢◌, ◌⊎◌, ◌<◌, ◌+◌, ℕ, [], ◌∷◌, IfErr, IfOk, None, Some};
 ghost use Rattle.papaya_ask.specs.Search.{IsSize};
-ghost use Rattle.papaya_ask.specs.declared.ask.At.TheVariants.{Next};
+ghost use Rattle.papaya_ask.specs.declared.ask.At.TheVariants.{Next, Slot};
 ghost use Rattle.papaya_chain.specs.Machine.{IsFit};
 ghost use Rattle.papaya_rests.specs.Told.{or_last};
 ghost use Rattle.papaya_book.specs.Limits.{IsFull};
 ghost use Rattle.papaya_book.specs.Logs.{pair_named};
-ghost use Rattle.papaya_book.specs.Windows.{HasCome, IsIn, IsLawful, Sees};
+ghost use Rattle.papaya_book.specs.Windows.{HasCome, IsHint, IsIn, IsLawful, MayHint, Sees};
 ghost use Rattle.papaya_change.specs.Copier.{tried_answer};
 ghost use Rattle.papaya_book.specs.declared.rule.own.Given.TheVariants.{Sum};
 ghost use Rattle.papaya_change.specs.Copiers.{CanAnswer, CanExchange, CanJoin, CanReach, CanTryFor, Answers, Carries};
@@ -101,6 +101,13 @@ impl<K: Hash + Eq, V, S: BuildHasher> Copier<K, V, S> {
                     *making = None;
                 }
                 answer
+            }
+            CopyAsk::LoadHint(number, place) => {
+                Answer::Call(CallAnswer::Word(load_hint(number, place, window)))
+            }
+            CopyAsk::WriteHint(number, place, hint) => {
+                write_hint(number, place, hint, window);
+                Answer::Call(CallAnswer::Ok)
             }
             CopyAsk::SizeOf(number) => {
                 let (len, limit) = size(number, window);
@@ -337,6 +344,39 @@ impl<K: Hash + Eq, V, S: BuildHasher> Copier<K, V, S> {
         self.fresh = Some((table, seal));
         Ok(number)
     }
+}
+
+/// Loads the hint of a slot of a table that has come.
+fn load_hint<'a, K: Hash + Eq, V, S: BuildHasher>(
+    number: u64,
+    place: usize,
+    window: &mut Window<'a, K, V, S>,
+) -> u64
+    requires reach { CanReach window.old (Slot number place) }
+    ensures sees { Sees window.old window.new }
+    ensures own { window.new.own ≡ window.old.own }
+    ensures hint { IsHint window.old window.new number place result }
+{
+    let table = window.table(number);
+    window.hint(table, number, place)
+}
+
+/// Writes the hint of a slot of a table that has come, where it has none.
+fn write_hint<'a, K: Hash + Eq, V, S: BuildHasher>(
+    number: u64,
+    place: usize,
+    hint: u8,
+    window: &mut Window<'a, K, V, S>,
+)
+    requires reach { CanReach window.old (Slot number place) }
+    requires hint { MayHint window.old number place hint }
+    ensures sees { Sees window.old window.new }
+    ensures own { window.new.own ≡ window.old.own }
+    ensures lawful { IsLawful window.new }
+{
+    let table = window.table(number);
+    window.learn();
+    window.write_hint(table, number, place, hint);
 }
 
 /// The size of a table that has come: how many slots it has, and at how many places but for the

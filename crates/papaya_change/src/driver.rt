@@ -7,7 +7,7 @@ ghost use Rattle.papaya_ask.specs.declared.ask.At.TheVariants.{Slot};
 ghost use Rattle.papaya_chain.specs.Machine.{IsStanding, after, kind_of_ask, started};
 ghost use Rattle.papaya_chain.specs.declared.ask.Answer.TheVariants.{Call};
 ghost use Rattle.papaya_rests.specs.Told.{or_last};
-ghost use Rattle.papaya_book.specs.Windows.{CanTrySlot, Does, Sees};
+ghost use Rattle.papaya_book.specs.Windows.{CanTrySlot, Does, IsHint, MayHint, Sees};
 ghost use Rattle.papaya_change.specs.Doing.{was_made};
 ghost use Rattle.papaya_change.specs.Drivers.{Holds, Loads};
 ghost use Rattle.papaya_change.specs.Steps.{Buries, HasTried, IsSizeOf};
@@ -106,6 +106,32 @@ impl<'a, K: Hash + Eq, V, S: BuildHasher> Driver<'a, K, V, S> {
             }
             _ => unreachable!(),
         }
+    }
+
+    /// One atomic load of a slot's hint.
+    #[inline(always)]
+    pub fn hint(&self, number: u64, place: usize, window: &mut Window<'a, K, V, S>) -> u64
+        requires { Holds (Slot number place) window.old self.now }
+        ensures sees { Sees window.old window.new }
+        ensures own { window.new.own ≡ window.old.own }
+        ensures hint { IsHint window.old window.new number place result }
+    {
+        let Some(table) = self.table else {
+            unreachable!()
+        };
+        window.hint(table, number, place)
+    }
+
+    /// Writes a slot's hint, where it has none. Nothing further is seen.
+    #[inline(always)]
+    pub fn note(&self, number: u64, place: usize, hint: u8, window: &Window<'a, K, V, S>)
+        requires held { Holds (Slot number place) window.now self.now }
+        requires hint { MayHint window.now number place hint }
+    {
+        let Some(table) = self.table else {
+            unreachable!()
+        };
+        window.write_hint(table, number, place, hint);
     }
 
     /// The size of the table that is held.

@@ -107,6 +107,10 @@ impl<'a, K: Hash + Eq + Drop, V: Drop, S: BuildHasher> Insertion<'a, K, V, S> {
         };
         match ask {
             CallAsk::Load(at) => Some(self.writer.load(at, window)),
+            CallAsk::LoadHint(number, place) => Some(self.writer.hint(number, place, window)),
+            CallAsk::WriteHint(number, place, hint) => {
+                Some(self.writer.note(number, place, hint, window))
+            }
             CallAsk::SizeOf(_) => Some(self.writer.size(window)),
             CallAsk::SameKey(_) => Some(self.writer.same(window)),
             CallAsk::MakeKey => Some(self.writer.make_key()),

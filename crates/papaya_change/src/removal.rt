@@ -119,6 +119,9 @@ impl<'a, K: Hash + Eq, V, S: BuildHasher> Removal<'a, K, V, S> {
         };
         match ask {
             CallAsk::Load(at) => Some(Answer::Word(self.call.load(at, window))),
+            CallAsk::LoadHint(number, place) => {
+                Some(Answer::Word(self.call.hint(number, place, window)))
+            }
             CallAsk::SizeOf(_) => Some(self.call.size()),
             CallAsk::SameKey(_) => Some(self.same(key, window)),
             CallAsk::ShowPair(_) => Some(self.show(agrees, window)),
@@ -130,8 +133,9 @@ impl<'a, K: Hash + Eq, V, S: BuildHasher> Removal<'a, K, V, S> {
                 Some(Answer::Ok)
             }
             CallAsk::Done(_) => None,
-            // A removal shows only a pair, makes no key and no pair and opens no table.
+            // A removal shows only a pair, makes no key and no pair, fills no slot and opens no table.
             CallAsk::ShowNone
+            | CallAsk::WriteHint(_, _, _)
             | CallAsk::Exchange(_, _, _)
             | CallAsk::MakeKey
             | CallAsk::MakePair

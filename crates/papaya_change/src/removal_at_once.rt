@@ -62,7 +62,7 @@ pub fn remove_at_once<
         stored,
     } = met;
     let (slot, kind) = (place.probe.i, Some(StepKind::Bury));
-    let grave = Word::buried(Word(word).hash_byte(), Word(word).pair());
+    let grave = Word::buried(Word(word).pair());
     let (found, before) = window.exchange_slot(table, place.table, slot, kind, (word, grave.0));
     if found != word {
         return None;

@@ -5,7 +5,7 @@ ghost use Rattle.std.specs.Prelude.{◌≡◌, ◌⊎◌, ℕ, ◌<◌, ◌^◌,
 ghost use Rattle.papaya_chain.specs.Machine.{IsStanding, ask_of, kind_of_ask};
 ghost use Rattle.papaya_chain.specs.declared.ask.Ask.TheVariants.{Call};
 ghost use Rattle.papaya_ask.specs.Search.{IsSize};
-ghost use Rattle.papaya_ask.specs.declared.ask.Ask.TheVariants.{Exchange, Load, MakeKey, MakePair, MakeTable, SameKey, SizeOf};
+ghost use Rattle.papaya_ask.specs.declared.ask.Ask.TheVariants.{Exchange, Load, LoadHint, MakeKey, MakePair, MakeTable, SameKey, SizeOf, WriteHint};
 ghost use Rattle.papaya_ask.specs.declared.ask.At.TheVariants.{Root, Slot};
 ghost use Rattle.papaya_ask.specs.declared.ask.StepKind.TheVariants.{Bury};
 ghost use Rattle.papaya_words.specs.Word.{pair_of};
@@ -77,6 +77,29 @@ impl<'a, K: Hash + Eq + Drop, V: Drop, S: BuildHasher> Writer<'a, K, V, S> {
         ensures writes { Writes window.old self.old window.new self.new result }
     {
         Answer::Word(self.call.load(at, window))
+    }
+
+    /// Loads the hint of a slot.
+    pub fn hint(&self, number: u64, place: usize, window: &mut Window<'a, K, V, S>) -> Answer
+        requires can { CanWrite window.old self.now }
+        requires asks { ask_of self.now.call.machine ≡ Call (LoadHint number place) }
+        ensures sees { Sees window.old window.new }
+        ensures own { window.new.own ≡ window.old.own }
+        ensures unsaid { IsUnsaid self.now.call.given.done result }
+        ensures writes { Writes window.old self.now window.new self.now result }
+    {
+        Answer::Word(self.call.hint(number, place, window))
+    }
+
+    /// Writes the hint of a slot, where it has none.
+    pub fn note(&self, number: u64, place: usize, hint: u8, window: &Window<'a, K, V, S>) -> Answer
+        requires can { CanWrite window.now self.now }
+        requires asks { ask_of self.now.call.machine ≡ Call (WriteHint number place hint) }
+        ensures unsaid { IsUnsaid self.now.call.given.done result }
+        ensures writes { Writes window.now self.now window.now self.now result }
+    {
+        self.call.note(number, place, hint, window);
+        Answer::Ok
     }
 
     /// The size of the table.

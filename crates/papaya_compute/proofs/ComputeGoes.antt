@@ -7,7 +7,7 @@ use Rattle.papaya_words.specs.declared.probe.Refused.{Refused as Cause}
 use Rattle.papaya_words.specs.declared.probe.Refused.TheVariants.{Capacity}
 use Rattle.papaya_call.specs.declared.answers.Operation.{Operation}
 use Rattle.papaya_ask.specs.declared.ask.Ask.{Ask}
-use Rattle.papaya_ask.specs.declared.ask.Ask.TheVariants.{Load, Exchange, SameKey, ShowNone, ShowPair, SizeOf, MakeKey, MakePair, MakeTable, AddToShard, Done}
+use Rattle.papaya_ask.specs.declared.ask.Ask.TheVariants.{Load, Exchange, LoadHint, WriteHint, SameKey, ShowNone, ShowPair, SizeOf, MakeKey, MakePair, MakeTable, AddToShard, Done}
 use Rattle.papaya_ask.specs.declared.ask.Answer.{Answer}
 use Rattle.papaya_ask.specs.declared.ask.At.TheVariants.{Root, Next, Aborted as Aborted_word, Done as Done_word, Slot}
 use Rattle.papaya_ask.specs.declared.call.Reply.{Reply}
@@ -51,6 +51,8 @@ writers_silent (Exchange (Next t) old new) h = absurd h
 writers_silent (Exchange (Aborted_word t) old new) h = absurd h
 writers_silent (Exchange (Done_word t) old new) h = absurd h
 writers_silent (Exchange (Slot t x) old new) h = absurd h
+writers_silent (LoadHint t x) h = tt
+writers_silent (WriteHint t x hint) h = absurd h
 writers_silent (SameKey n) h = tt
 writers_silent ShowNone h = absurd h
 writers_silent (ShowPair n) h = absurd h

@@ -9,7 +9,7 @@ use Rattle.papaya_call.specs.declared.answers.Operation.TheVariants as operation
 use Rattle.papaya_ask.specs.declared.ask.Answer.{Answer}
 use Rattle.papaya_ask.specs.declared.ask.Answer.TheVariants.{Op}
 use Rattle.papaya_ask.specs.declared.ask.Ask.{Ask}
-use Rattle.papaya_ask.specs.declared.ask.Ask.TheVariants.{Done, Exchange, Load, MakeKey, MakeTable, SameKey, SizeOf}
+use Rattle.papaya_ask.specs.declared.ask.Ask.TheVariants.{Done, Exchange, Load, LoadHint, MakeKey, MakeTable, SameKey, SizeOf}
 use Rattle.papaya_ask.specs.declared.ask.At.TheVariants.{Root}
 use Rattle.papaya_ask.specs.declared.ask.StepKind.{StepKind}
 use Rattle.papaya_ask.specs.declared.ask.StepKind.TheVariants.{Claim}
@@ -95,6 +95,7 @@ IsToShow x shown = (ask_of x.writer.call.machine ≡ Call (show (number_of shown
 -- what any call asks that inserts, but for its pair and the slots that it exchanges
 abbrev pub IsWriters : Ask → Type 0
 IsWriters (Load at) = Unit {0}
+IsWriters (LoadHint t x) = Unit {0}
 IsWriters (SizeOf t) = Unit {0}
 IsWriters (SameKey n) = Unit {0}
 IsWriters MakeKey = Unit {0}

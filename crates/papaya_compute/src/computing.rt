@@ -280,6 +280,7 @@ impl<'a, K: Hash + Eq + Drop, V: Drop, S: BuildHasher, T: Drop> Computing<'a, K,
     {
         match ask {
             CallAsk::Load(at) => self.writer.load(at, window),
+            CallAsk::LoadHint(number, place) => self.writer.hint(number, place, window),
             CallAsk::SizeOf(_) => self.writer.size(window),
             CallAsk::SameKey(_) => self.writer.same(window),
             CallAsk::MakeKey => self.writer.make_key(),
@@ -315,6 +316,9 @@ impl<'a, K: Hash + Eq + Drop, V: Drop, S: BuildHasher, T: Drop> Computing<'a, K,
             CallAsk::MakePair => Turn::Answered(self.make_pair(rt, window)),
             CallAsk::Exchange(At::Slot(number, place), old, new) => {
                 Turn::Answered(self.exchange(number, place, (old, new), window))
+            }
+            CallAsk::WriteHint(number, place, hint) => {
+                Turn::Answered(self.writer.note(number, place, hint, window))
             }
             CallAsk::AddToShard(by) => {
                 shard.add(by);

@@ -10,13 +10,14 @@ use Rattle.papaya_words.specs.declared.probe.ResizeMode.TheVariants.{Incremental
 use Rattle.papaya_ask.specs.declared.ask.Answer.{Answer}
 use Rattle.papaya_ask.specs.declared.ask.Answer.TheVariants.{Word}
 use Rattle.papaya_ask.specs.declared.ask.Ask.{Ask}
-use Rattle.papaya_ask.specs.declared.ask.Ask.TheVariants.{Load}
+use Rattle.papaya_ask.specs.declared.ask.Ask.TheVariants.{Load, LoadHint}
 use Rattle.papaya_ask.specs.declared.ask.At.{At}
 use Rattle.papaya_ask.specs.declared.ask.At.TheVariants.{Root, Next, Slot}
 use Rattle.papaya_ask.specs.declared.call.Task.{Task}
 use Rattle.papaya_ask.specs.declared.call.Task.TheVariants.{Get}
 use Rattle.papaya_call.specs.declared.machine.Machine.{Machine}
 use Rattle.papaya_law.specs.Exchange.{Exchange}
+use Rattle.papaya_law.specs.Hints.{IsHint}
 use Rattle.papaya_law.specs.Invariant.{named}
 use Rattle.papaya_call.specs.Machine.{IsStanding, IsStandingState, after, ask_of, kind_of_ask, started}
 use Rattle.papaya_rests.specs.Rests.{IsModeOf}
@@ -29,13 +30,14 @@ use Rattle.papaya_book.specs.declared.rule.entry.Event.{Event}
 use Rattle.papaya_book.specs.declared.rule.entry.Named.TheVariants as names
 use Rattle.papaya_book.specs.Calls.{IsNext, IsRoot, IsTable}
 use Rattle.papaya_book.specs.Hashes.{hash_of}
+use Rattle.papaya_book.specs.Hinted.{IsSlotHint}
 use Rattle.papaya_book.specs.Logs.{Stored, coding_of, exchanges_of, is_blocking, setting_of, state_of, steps_of}
 use Rattle.papaya_lookup.specs.Lookups.{HoldsPair, HoldsTable, IsReading, left_of, table_of}
 use Rattle.papaya_book.specs.Rule.{IsLawfulLog, word_in}
 use Rattle.papaya_book.proofs.Loaded.{table_since}
 use Rattle.papaya_book.proofs.Logs.{came_entered, table_came}
-use Rattle.papaya_lookup.proofs.Lookups.{IsStepIn, IsStepTo, lookup, next_step, root_step, slot_step}
-use Rattle.papaya_lookup.proofs.Readings.{IsQuery, RestsOn, coding, fed, learned, later, setting}
+use Rattle.papaya_lookup.proofs.Lookups.{IsStepIn, IsStepTo, hint_step, lookup, next_step, root_step, slot_step}
+use Rattle.papaya_lookup.proofs.Readings.{IsQuery, RestsOn, coding, fed, hint_with, learned, later, setting}
 use Rattle.papaya_book.proofs.Settings.{is_hashed}
 
 -- a machine of a lookup
@@ -64,22 +66,22 @@ module _ {K V S H : Type 0} (eq : K → K → Bool) (input : K → List (List �
   abbrev hash : S → K → ℕ
   hash = hash_of input build write finish
 
-  abbrev pub Reading : List (Event K V S) → Machine → Option (Bor Sheet) → Option (Stored K V) → Type 0
-  Reading log m table pair = IsReading eq hash b matches (fed eq input build write finish classes respects b matches query lawful) begun log m table pair
+  abbrev pub Rested : List (Event K V S) → Machine → Option (Bor Sheet) → Option (Stored K V) → Type 0
+  Rested log m table pair = IsReading eq hash b matches (fed eq input build write finish classes respects b matches query lawful) begun log m table pair
 
   abbrev On : List (Event K V S) → Machine → Hands (Stored K V) → Type 0
   On log m hands = RestsOn eq input build write finish classes respects b matches query lawful begun log m hands
 
   -- what a reading rests on
-  rests_on : (log : List (Event K V S)) (m : Machine) (table : Option (Bor Sheet)) (pair : Option (Stored K V)) → (r : Reading log m table pair) → On log m r.hands
+  rests_on : (log : List (Event K V S)) (m : Machine) (table : Option (Bor Sheet)) (pair : Option (Stored K V)) → (r : Rested log m table pair) → On log m r.hands
   rests_on log m table pair r = record { since = r.since; is = r.is; rests = r.rests }
 
   -- an answer that follows
   pub record IsGoing (log' : List (Event K V S)) (m : Machine) (answer : Answer) (table : Option (Bor Sheet)) (pair : Option (Stored K V)) : Type 0 where
-    pub reading : Reading log' (after m answer) table pair
+    pub reading : Rested log' (after m answer) table pair
     pub fewer : left_of (after m answer).state < left_of m.state
 
-  module _ (log log' : List (Event K V S)) (pre : IsPrefix log log') (l' : IsLawfulLog eq hash b log') (m : Machine) (table : Option (Bor Sheet)) (pair : Option (Stored K V)) (r : Reading log m table pair) (stands : IsStanding m) where
+  module _ (log log' : List (Event K V S)) (pre : IsPrefix log log') (l' : IsLawfulLog eq hash b log') (m : Machine) (table : Option (Bor Sheet)) (pair : Option (Stored K V)) (r : Rested log m table pair) (stands : IsStanding m) where
     -- the word at a place was loaded
     loaded : (at : At) (word : ℕ) → ask_of m ≡ Load at → word_in eq hash b log' at ≡ word → On log' (after m (Word word)) (told_of (state_of log') at r.hands)
     loaded at word asks is =
@@ -112,6 +114,33 @@ module _ {K V S H : Type 0} (eq : K → K → Bool) (input : K → List (List �
             holds_table = held_on log log' pre t (table_of (after m (Word word)).state) step.table table (subst (λ o. HoldsTable log o table) step.names r.holds_table);
             holds_pair = subst (λ o. HoldsPair b (or_last o r.hands.last) pair') (sym names) (holds r.hands.last r.holds_pair);
             found = λ n e. absurd (all.1 n (sym to ∙ e));
+          };
+          fewer = step.fewer;
+        }
+
+    -- a hint
+    pub hint_read : (t x n : ℕ) → ask_of m ≡ LoadHint t x → IsSlotHint eq hash b t x n log' → IsGoing log' m (Word n) table pair
+    hint_read t x n asks told =
+        let f = fed eq input build write finish classes respects b matches query lawful in
+        let g = setting eq input build write finish classes respects b matches query lawful log' in
+        let c = coding eq input build write finish classes respects b matches query lawful in
+        let hint : IsHint g c (state_of log') t x n = hint_with (setting_of eq (hash b.hasher) b.mode log') (coding_of (hash b.hasher)) matches f ((state_of log').slot t x) n told.is in
+        let on = later eq input build write finish classes respects b matches query lawful begun log r.lawful m r.hands (rests_on log m table pair r) log' l' pre in
+        let all = hint_step m.hash m.initial m.mode m.made m.remembered m.state (stands_get m r.task_is stands) t x n asks in
+        let get = of_get m r.task_is in
+        let to : (after m (Word n)).state ≡ (after (lookup m.hash m.initial m.mode m.made m.remembered m.state) (Word n)).state = ap (λ (z : Machine). (after z (Word n)).state) get in
+        let step : IsStepIn t m.state (after m (Word n)).state = subst (IsStepIn t m.state) (sym to) all.0 in record {
+          reading = record {
+            lawful = l';
+            since = on.since;
+            is = on.is;
+            hands = r.hands;
+            task_is = r.task_is;
+            rests = learned eq input build write finish classes respects b matches query lawful begun log' l' m r.hands on (Word n) r.hands
+                (subst (λ (a : Ask). IsTold g c None (state_of log') (kind_of_ask m) r.hands a (Word n) [] r.hands) (sym asks) ((n, hint, refl), refl, refl));
+            holds_table = held_on log log' pre t (table_of (after m (Word n)).state) step.table table (subst (λ o. HoldsTable log o table) step.names r.holds_table);
+            holds_pair = r.holds_pair;
+            found = λ j e. absurd (all.1 j (sym to ∙ e));
           };
           fewer = step.fewer;
         }

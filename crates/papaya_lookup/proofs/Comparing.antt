@@ -8,14 +8,14 @@ use Rattle.papaya_words.specs.declared.probe.ResizeMode.TheVariants.{Incremental
 use Rattle.papaya_ask.specs.declared.ask.Answer.TheVariants.{Yes, Size}
 use Rattle.papaya_ask.specs.declared.ask.At.TheVariants.{Slot}
 use Rattle.papaya_ask.specs.declared.ask.Ask.{Ask}
-use Rattle.papaya_ask.specs.declared.ask.Ask.TheVariants.{Load, SameKey, SizeOf}
+use Rattle.papaya_ask.specs.declared.ask.Ask.TheVariants.{Load, LoadHint, SameKey, SizeOf}
 use Rattle.papaya_ask.specs.declared.call.Reply.TheVariants.{Found}
 use Rattle.papaya_ask.specs.declared.call.Task.TheVariants.{Get}
 use Rattle.papaya_call.specs.declared.machine.Machine.{Machine}
 use Rattle.papaya_call.specs.declared.machine.State.{State as Stage}
-use Rattle.papaya_call.specs.declared.machine.State.TheVariants.{AtRoot, Making, Opening, Searching, Writing, Offering, Showing, Pairing, Putting, Burying, Counting, Uncounting, Leaving, Growing, Ended}
+use Rattle.papaya_call.specs.declared.machine.State.TheVariants.{AtRoot, Making, Opening, Searching, Writing, Offering, Showing, Pairing, Putting, Burying, Counting, Noting, Uncounting, Leaving, Growing, Ended}
 use Rattle.papaya_call.specs.declared.compute.Remembered.{Remembered}
-use Rattle.papaya_ask.specs.declared.search.Search.TheVariants.{Sizing, Looking, Comparing}
+use Rattle.papaya_ask.specs.declared.search.Search.TheVariants.{Sizing, Looking, Reading, Comparing}
 use Rattle.papaya_ask.specs.declared.search.Seen.{Seen}
 use Rattle.papaya_ask.specs.declared.search.Seen.TheVariants as seen
 use Rattle.papaya_call.specs.declared.write.Made.{Made}
@@ -30,7 +30,7 @@ use Rattle.papaya_rests.specs.Told.{Hands, IsTold}
 use Rattle.papaya_law.specs.Code.{IsHashed}
 use Rattle.papaya_rests.proofs.RestsLearnLook.{compared}
 use Rattle.papaya_rests.proofs.RestsLearnPlaces.{RestsSeen}
-use Rattle.papaya_rests.proofs.RestsNames.{ask_named, slot_named}
+use Rattle.papaya_rests.proofs.RestsNames.{ask_named, hint_named, slot_named}
 use Rattle.papaya_book.specs.Sheets.{Sheet}
 use Rattle.papaya_book.specs.declared.rule.entry.Begun.{Begun}
 use Rattle.papaya_book.specs.declared.rule.entry.Event.{Event}
@@ -39,8 +39,8 @@ use Rattle.papaya_book.specs.Hashes.{hash_of}
 use Rattle.papaya_lookup.specs.History.{key_of}
 use Rattle.papaya_book.specs.Logs.{Stored, state_of, steps_of}
 use Rattle.papaya_lookup.specs.Lookups.{HoldsTable, table_of}
-use Rattle.papaya_lookup.proofs.Answering.{IsGoing, Reading, held_on, of_get, stands_get}
-use Rattle.papaya_lookup.proofs.Lookups.{IsStepIn, lookup, size_step, slot_step, yes_step}
+use Rattle.papaya_lookup.proofs.Answering.{IsGoing, Rested, held_on, of_get, stands_get}
+use Rattle.papaya_lookup.proofs.Lookups.{IsStepIn, hint_step, lookup, size_step, slot_step, yes_step}
 use Rattle.papaya_lookup.proofs.Readings.{IsQuery, RestsOn, allowed_with, coding, hashed_with, learned, setting}
 use Rattle.papaya_book.proofs.TableSizes.{sizes}
 
@@ -72,6 +72,7 @@ module _ {K P : Type 0} (g : Setting K P) (c : Coding K P) (hashed : IsHashed g 
     yes_found (Opening u) stands r n same is e m f = absurd stands
     yes_found (Searching (Sizing u)) stands r n same is e m f = absurd cc
     yes_found (Searching (Looking at)) stands r n same is e m f = absurd cc
+    yes_found (Searching (Reading at)) stands r n same is e m f = absurd cc
     yes_found (Searching (Comparing at word)) stands r n same is e m f = found_last mode remembered (at_yes (Comparing at word) same) (compared g c hashed begun since may k at word r.0 r.2 hands r.1 same (sym (is r.0 r.1))) m f
     yes_found (Writing write) stands r n same is e m f = absurd stands.0
     yes_found (Offering gap) stands r n same is e m f = absurd stands.0
@@ -80,6 +81,7 @@ module _ {K P : Type 0} (g : Setting K P) (c : Coding K P) (hashed : IsHashed g 
     yes_found (Putting put) stands r n same is e m f = absurd stands.0
     yes_found (Burying removal) stands r n same is e m f = absurd stands.0
     yes_found (Counting j) stands r n same is e m f = absurd stands
+    yes_found (Noting j) stands r n same is e m f = absurd stands
     yes_found (Uncounting j) stands r n same is e m f = absurd stands
     yes_found (Leaving u) stands r n same is e m f = absurd cc
     yes_found (Growing u) stands r n same is e m f = absurd stands
@@ -87,7 +89,7 @@ module _ {K P : Type 0} (g : Setting K P) (c : Coding K P) (hashed : IsHashed g 
 
 module _ {K V S H : Type 0} (eq : K → K → Bool) (input : K → List (List ℕ)) (build : S → H) (write : H → List ℕ → H) (finish : H → ℕ) (classes : IsEquivalence eq) (respects : (x y : K) → eq x y ≡ true → input x ≡ input y)
     (b : Begun K V S) (matches : K → Bool) (query : List (List ℕ)) (lawful : IsQuery eq input matches query) (begun : List (Exchange (Stored K V)))
-    (log : List (Event K V S)) (m : Machine) (table : Option (Bor Sheet)) (pair : Option (Stored K V)) (r : Reading eq input build write finish classes respects b matches query lawful begun log m table pair) (stands : IsStanding m) where
+    (log : List (Event K V S)) (m : Machine) (table : Option (Bor Sheet)) (pair : Option (Stored K V)) (r : Rested eq input build write finish classes respects b matches query lawful begun log m table pair) (stands : IsStanding m) where
   abbrev hash : S → K → ℕ
   hash = hash_of input build write finish
 
@@ -118,6 +120,16 @@ module _ {K V S H : Type 0} (eq : K → K → Bool) (input : K → List (List �
       let may = subst (AllAllowed g start) (sym r.is) (allowed_with eq input build write finish classes respects b matches query lawful log r.lawful) in
       let hashed = hashed_with eq input build write finish classes respects b matches query lawful log r.lawful in
       let named = slot_named g c hashed begun r.since may None (ask_of m) (ask_named g c hashed begun r.since may None r.hands m.task m.hash m.made m.state r.rests.stage) t x (inl e) in
+      (came, subst (λ n. x < n) ((sizes (steps_of log) t came.0 came.1).0 ∙ ap (λ (z : Sheet). length z.slots) came.2) named.1)
+
+  -- and so is one whose hint is
+  pub hint_held : (t x : ℕ) (lent : Bor Sheet) → table ≡ Some lent → ask_of m ≡ LoadHint t x → IsTable log t lent.now × (x < length lent.now.slots)
+  hint_held t x lent has e =
+      let step = hint_step m.hash m.initial m.mode m.made m.remembered m.state (stands_get m r.task_is stands) t x 0 e in
+      let came = table_held t step.0.names lent has in
+      let may = subst (AllAllowed g start) (sym r.is) (allowed_with eq input build write finish classes respects b matches query lawful log r.lawful) in
+      let hashed = hashed_with eq input build write finish classes respects b matches query lawful log r.lawful in
+      let named = hint_named g c hashed begun r.since may None (ask_of m) (ask_named g c hashed begun r.since may None r.hands m.task m.hash m.made m.state r.rests.stage) t x (inl e) in
       (came, subst (λ n. x < n) ((sizes (steps_of log) t came.0 came.1).0 ∙ ap (λ (z : Sheet). length z.slots) came.2) named.1)
 
   -- the table has the size that it says

@@ -1,6 +1,6 @@
 -- What a machine rests on makes its exchanges possible, and what the calls of a book tell is what machines are to be told.
 use Rattle.std.proofs.Common.{◌≡◌, inl, inr, ℕ, Bool, true, Option, None, Some, List, ◌++◌, refl, sym, ap, ◌∙◌, subst, append_assoc}
-use Rattle.papaya_words.specs.Word.{pair_of, live_word, marked_word, copied_word, buried_word, top_byte}
+use Rattle.papaya_words.specs.Word.{pair_of}
 use Rattle.std.specs.Cmp.{IsEquivalence}
 use mathlib.Core.List.{IsPrefix}
 use Rattle.papaya_ask.specs.declared.ask.At.{At}
@@ -14,7 +14,7 @@ use Rattle.papaya_call.specs.Machine.{after, ask_of, kind_of_ask}
 use Rattle.papaya_law.specs.Allows.{AllAllowed, Allows}
 use Rattle.papaya_law.specs.Class.{IsOn}
 use Rattle.papaya_law.specs.Exchange.{Exchange, Setting, State, Word, Empty, Closed, Live, Marked, Copied, Buried, after as after_exchange, run, start}
-use Rattle.papaya_law.specs.Code.{Coding, byte_of_pair, code}
+use Rattle.papaya_law.specs.Code.{Coding, code}
 use Rattle.papaya_law.specs.Grows.{Agrees}
 use Rattle.papaya_rests.specs.Rests.{Rests}
 use Rattle.papaya_rests.specs.Told.{Hands, IsAsked, IsOneOf, IsOwnWord, IsTold, IsWritten, word_of}
@@ -86,24 +86,22 @@ module _ {K K' P : Type 0} (c : Coding K P) (c' : Coding K' P) (numbers : (p : P
   asked_by_made (Some kinds.Promote) at new s e a = absurd a
   asked_by_made (Some kinds.Abort) at new s e a = absurd a
 
--- the word that stands at a place is the same in all settings whose pairs have the same keys
-pub word_same : {K P : Type 0} (g g' : Setting K P) (c : Coding K P) → ((p : P) → g'.key p ≡ g.key p) → (s : State P) (at : At) → word_of g' c s at ≡ word_of g c s at
-word_same g g' c same s Root = refl
-word_same g g' c same s (Next t) = refl
-word_same g g' c same s (Aborted t) = refl
-word_same g g' c same s (Done t) = refl
-word_same g g' c same s (Slot t x) = code_same g g' c same (s.slot t x)
-  where
-    byte_same : {K P : Type 0} (g g' : Setting K P) (c : Coding K P) → ((p : P) → g'.key p ≡ g.key p) → (p : P) → byte_of_pair g' c p ≡ byte_of_pair g c p
-    byte_same g g' c same p = ap (λ z. top_byte (c.hash z)) (same p)
+-- a word's number is the same in all settings
+code_same : {K P : Type 0} (g g' : Setting K P) (c : Coding K P) (w : Word P) → code g' c w ≡ code g c w
+code_same g g' c Empty = refl
+code_same g g' c Closed = refl
+code_same g g' c (Live p) = refl
+code_same g g' c (Marked p) = refl
+code_same g g' c (Copied p) = refl
+code_same g g' c (Buried p) = refl
 
-    code_same : {K P : Type 0} (g g' : Setting K P) (c : Coding K P) → ((p : P) → g'.key p ≡ g.key p) → (w : Word P) → code g' c w ≡ code g c w
-    code_same g g' c same Empty = refl
-    code_same g g' c same Closed = refl
-    code_same g g' c same (Live p) = ap (λ z. live_word z (c.number p)) (byte_same g g' c same p)
-    code_same g g' c same (Marked p) = ap (λ z. marked_word z (c.number p)) (byte_same g g' c same p)
-    code_same g g' c same (Copied p) = ap (λ z. copied_word z (c.number p)) (byte_same g g' c same p)
-    code_same g g' c same (Buried p) = ap (λ z. buried_word z (c.number p)) (byte_same g g' c same p)
+-- and so is the word that stands at a place
+pub word_same : {K P : Type 0} (g g' : Setting K P) (c : Coding K P) (s : State P) (at : At) → word_of g' c s at ≡ word_of g c s at
+word_same g g' c s Root = refl
+word_same g g' c s (Next t) = refl
+word_same g g' c s (Aborted t) = refl
+word_same g g' c s (Done t) = refl
+word_same g g' c s (Slot t x) = code_same g g' c (s.slot t x)
 
 module _ {K V S H : Type 0} (eq : K → K → Bool) (input : K → List (List ℕ)) (build : S → H) (write : H → List ℕ → H) (finish : H → ℕ) (classes : IsEquivalence eq) (respects : (x y : K) → eq x y ≡ true → input x ≡ input y)
     (b : Begun K V S) (matches : K → Bool) (query : List (List ℕ)) (lawful : IsQuery eq input matches query) (k : Option K) (begun : List (Exchange (Stored K V))) where
@@ -134,7 +132,7 @@ module _ {K V S H : Type 0} (eq : K → K → Bool) (input : K → List (List �
 
   -- the word that stands at a place, in the wide setting of any log
   pub word_wide : (log log' : List (Event K V S)) (at : At) → word_of (wide log') coded (state_of log) at ≡ word_in eq hash b log at
-  word_wide log log' at = key_word (plain log') matches fed_to c (state_of log) at ∙ word_same (plain log) (plain log') c (λ p. refl) (state_of log) at
+  word_wide log log' at = key_word (plain log') matches fed_to c (state_of log) at ∙ word_same (plain log) (plain log') c (state_of log) at
 
   module _ (log : List (Event K V S)) (l : IsLawfulLog eq hash b log) (m : Machine) (hands : Hands (Stored K V)) (r : IsResting log m hands) (log' : List (Event K V S)) (l' : IsLawfulLog eq hash b log') (pre : IsPrefix log log') where
     -- what has come since

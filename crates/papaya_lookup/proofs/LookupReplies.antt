@@ -9,8 +9,8 @@ use Rattle.papaya_ask.specs.declared.call.Reply.TheVariants.{Absent, Found, Inse
 use Rattle.papaya_ask.specs.declared.call.Task.TheVariants.{Get}
 use Rattle.papaya_call.specs.declared.machine.Machine.{Machine}
 use Rattle.papaya_call.specs.declared.machine.State.{State as Stage}
-use Rattle.papaya_call.specs.declared.machine.State.TheVariants.{AtRoot, Making, Opening, Searching, Writing, Offering, Showing, Pairing, Putting, Burying, Counting, Uncounting, Leaving, Growing, Ended}
-use Rattle.papaya_ask.specs.declared.search.Search.TheVariants.{Sizing, Looking, Comparing}
+use Rattle.papaya_call.specs.declared.machine.State.TheVariants.{AtRoot, Making, Opening, Searching, Writing, Offering, Showing, Pairing, Putting, Burying, Counting, Noting, Uncounting, Leaving, Growing, Ended}
+use Rattle.papaya_ask.specs.declared.search.Search.TheVariants.{Sizing, Looking, Reading, Comparing}
 use Rattle.papaya_call.specs.declared.write.Made.{Made}
 use Rattle.papaya_law.specs.Code.{Coding}
 use Rattle.papaya_law.specs.Exchange.{Exchange, Setting}
@@ -25,7 +25,7 @@ use Rattle.papaya_lookup.specs.History.{Change, history_of, key_of}
 use Rattle.papaya_book.specs.Logs.{Stored, exchanges_of}
 use Rattle.papaya_lookup.specs.declared.lookup.Hit.{Hit}
 use Rattle.papaya_lookup.specs.Answers.{IsAnsweredBetween, IsFoundBetween, IsHitAnsweredBetween, IsPairAnsweredBetween}
-use Rattle.papaya_lookup.proofs.Answering.{Reading, stands_get}
+use Rattle.papaya_lookup.proofs.Answering.{Rested, stands_get}
 use Rattle.papaya_lookup.proofs.Moments.{IsHistory, matched_history}
 use Rattle.papaya_lookup.proofs.Readings.{IsQuery, coding, setting}
 
@@ -36,6 +36,7 @@ done_state made hash Making stands reply e = absurd stands
 done_state made hash (Opening u) stands reply e = absurd stands
 done_state made hash (Searching (Sizing u)) stands reply e = absurd cc
 done_state made hash (Searching (Looking at)) stands reply e = absurd cc
+done_state made hash (Searching (Reading at)) stands reply e = absurd cc
 done_state made hash (Searching (Comparing at word)) stands reply e = absurd cc
 done_state made hash (Writing write) stands reply e = absurd stands.0
 done_state made hash (Offering gap) stands reply e = absurd stands.0
@@ -44,6 +45,7 @@ done_state made hash (Pairing purpose) stands reply e = absurd stands.0
 done_state made hash (Putting put) stands reply e = absurd stands.0
 done_state made hash (Burying removal) stands reply e = absurd stands.0
 done_state made hash (Counting n) stands reply e = absurd stands
+done_state made hash (Noting n) stands reply e = absurd stands
 done_state made hash (Uncounting n) stands reply e = absurd stands
 done_state made hash (Leaving u) stands reply e = absurd cc
 done_state made hash (Growing u) stands reply e = absurd stands
@@ -65,7 +67,7 @@ module _ {K P : Type 0} (g : Setting K P) (c : Coding K P) (begun since : List (
 
 module _ {K V S H : Type 0} (eq : K → K → Bool) (input : K → List (List ℕ)) (build : S → H) (write : H → List ℕ → H) (finish : H → ℕ) (classes : IsEquivalence eq) (respects : (x y : K) → eq x y ≡ true → input x ≡ input y)
     (b : Begun K V S) (matches : K → Bool) (query : List (List ℕ)) (lawful : IsQuery eq input matches query) (old began : List (Event K V S)) (pre : IsPrefix old began)
-    (log : List (Event K V S)) (m : Machine) (table : Option (Bor Sheet)) (pair : Option (Stored K V)) (r : Reading eq input build write finish classes respects b matches query lawful (exchanges_of began) log m table pair) (stands : IsStanding m) where
+    (log : List (Event K V S)) (m : Machine) (table : Option (Bor Sheet)) (pair : Option (Stored K V)) (r : Rested eq input build write finish classes respects b matches query lawful (exchanges_of began) log m table pair) (stands : IsStanding m) where
   abbrev hash : S → K → ℕ
   hash = hash_of input build write finish
 

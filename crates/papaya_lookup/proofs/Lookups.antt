@@ -1,27 +1,27 @@
 -- Where an answer leads a lookup: which table it names then, and that less is left to do.
 use Rattle.std.proofs.Common.{◌≡◌, ℕ, ◌+◌, ◌*◌, ◌-◌, ◌^◌, ◌<◌, ◌≤◌, ◌==◌, nat_lt, Bool, true, false, if◌then◌else◌, Option, Some, refl, sym, ap, ◌∙◌, arith}
 use Rattle.std.proofs.lemmas.Bool.{eqb-false, ltb-true}
-use Rattle.papaya_words.specs.Word.{kind_of, byte_of, pair_of, top_byte}
+use Rattle.papaya_words.specs.Word.{kind_of, may_hold, pair_of}
 use Rattle.papaya_words.specs.declared.word.Kind.{Kind}
 use Rattle.papaya_words.specs.declared.word.Kind.TheVariants as kinds
 use Rattle.papaya_words.specs.declared.probe.ResizeMode.{ResizeMode}
 use Rattle.papaya_words.specs.declared.probe.ResizeMode.TheVariants.{Incremental, Blocking}
 use Rattle.papaya_ask.specs.declared.ask.At.TheVariants.{Root, Next, Slot}
-use Rattle.papaya_ask.specs.declared.ask.Ask.TheVariants.{Load, SameKey, SizeOf}
+use Rattle.papaya_ask.specs.declared.ask.Ask.TheVariants.{Load, LoadHint, SameKey, SizeOf}
 use Rattle.papaya_ask.specs.declared.ask.Answer.TheVariants.{Word, Yes, Size}
 use Rattle.papaya_ask.specs.declared.call.Reply.{Reply}
 use Rattle.papaya_ask.specs.declared.call.Reply.TheVariants.{Absent, Found}
 use Rattle.papaya_ask.specs.declared.call.Task.TheVariants.{Get}
 use Rattle.papaya_call.specs.declared.compute.Remembered.{Remembered}
 use Rattle.papaya_ask.specs.declared.search.Place.{Place}
-use Rattle.papaya_ask.specs.declared.search.Search.TheVariants.{Sizing, Looking, Comparing}
+use Rattle.papaya_ask.specs.declared.search.Search.TheVariants.{Sizing, Looking, Reading, Comparing}
 use Rattle.papaya_ask.specs.declared.search.Seen.{Seen}
 use Rattle.papaya_ask.specs.declared.search.Seen.TheVariants.{On, Over}
 use Rattle.papaya_call.specs.declared.write.Made.{Made}
 use Rattle.papaya_call.specs.declared.machine.State.{State}
-use Rattle.papaya_call.specs.declared.machine.State.TheVariants.{AtRoot, Making, Opening, Searching, Writing, Offering, Showing, Pairing, Putting, Burying, Counting, Uncounting, Leaving, Growing, Ended}
+use Rattle.papaya_call.specs.declared.machine.State.TheVariants.{AtRoot, Making, Opening, Searching, Writing, Offering, Showing, Pairing, Putting, Burying, Counting, Noting, Uncounting, Leaving, Growing, Ended}
 use Rattle.papaya_call.specs.declared.machine.Machine.{Machine}
-use Rattle.papaya_ask.specs.Search.{next_place, go_on, compare_byte, look_at, match_at, at_yes as search_compared}
+use Rattle.papaya_ask.specs.Search.{next_place, go_on, hinted, look_at, match_at, at_yes as search_compared}
 use Rattle.papaya_call.specs.Machine.{IsStandingState, after, asks, passes, goes_as}
 use Rattle.papaya_rests.proofs.LoadsLeft.{chosen}
 use Rattle.papaya_lookup.specs.Lookups.{left_in, left_of, table_of}
@@ -43,29 +43,40 @@ module _ (mode : ResizeMode) (held : Remembered) (at : Place) (within : at.probe
   abbrev Leads : ℕ → Seen → Type 0
   Leads more seen = Follows at.table more (goes_as Get mode held seen)
 
-  leads_on : (more : ℕ) → 2 * (at.limit + 1 - at.probe.len) ≤ more + 1 → Leads more (go_on at)
+  leads_on : (more : ℕ) → 3 * (at.limit + 1 - at.probe.len) ≤ more + 2 → Leads more (go_on at)
   leads_on more le =
       chosen (Leads more) (nat_lt at.probe.len at.limit) (On (Looking (next_place at))) (Over at.table)
       (λ e. let lt = ltb-true at.probe.len at.limit e in record { table = λ v h. cc h; fewer = omega (arith, le, lt) })
       (λ e. follows_passes mode held.fill at.table more (omega (arith, le, within)))
 
-  leads_byte : (hash word : ℕ) → Leads (2 * (at.limit + 1 - at.probe.len)) (compare_byte at hash word)
-  leads_byte hash word =
-      chosen (Leads (2 * (at.limit + 1 - at.probe.len))) (byte_of word == top_byte hash) (On (Comparing at word)) (go_on at)
-      (λ e. record { table = λ v h. cc h; fewer = omega arith })
-      (λ e. leads_on (2 * (at.limit + 1 - at.probe.len)) (omega arith))
+  -- of a hint
+  abbrev hint_read : ℕ
+  hint_read = 3 * (at.limit + 1 - at.probe.len)
 
-  leads_look : (kind : Kind) (hash word : ℕ) → Leads (2 * (at.limit + 1 - at.probe.len)) (look_at kind at hash word)
-  leads_look kinds.Empty hash word = follows_ended at.table (2 * (at.limit + 1 - at.probe.len)) Absent
-  leads_look kinds.Live hash word = leads_byte hash word
-  leads_look kinds.Marked hash word = leads_byte hash word
-  leads_look kinds.Copied hash word = leads_byte hash word
-  leads_look kinds.Buried hash word = leads_on (2 * (at.limit + 1 - at.probe.len)) (omega arith)
-  leads_look kinds.Closed hash word = leads_on (2 * (at.limit + 1 - at.probe.len)) (omega arith)
+  leads_hinted : (hash hint : ℕ) → Leads hint_read (hinted at hash hint)
+  leads_hinted hash hint =
+      chosen (Leads hint_read) (may_hold hint hash) (On (Reading at)) (go_on at)
+      (λ e. record { table = λ v h. cc h; fewer = omega arith })
+      (λ e. leads_on hint_read (omega arith))
+
+  -- of a word
+  abbrev word_read : ℕ
+  word_read = 3 * (at.limit + 1 - at.probe.len) - 1
+
+  leads_compare : (word : ℕ) → Leads word_read (On (Comparing at word))
+  leads_compare word = record { table = λ v h. cc h; fewer = omega arith }
+
+  leads_look : (kind : Kind) (word : ℕ) → Leads word_read (look_at kind at word)
+  leads_look kinds.Empty word = follows_ended at.table word_read Absent
+  leads_look kinds.Live word = leads_compare word
+  leads_look kinds.Marked word = leads_compare word
+  leads_look kinds.Copied word = leads_compare word
+  leads_look kinds.Buried word = leads_on word_read (omega arith)
+  leads_look kinds.Closed word = leads_on word_read (omega arith)
 
   -- of a comparison
   abbrev compared : ℕ
-  compared = 2 * (at.limit + 1 - at.probe.len) - 1
+  compared = 3 * (at.limit + 1 - at.probe.len) - 2
 
   leads_match : (kind : Kind) (word : ℕ) → Leads compared (match_at kind at word)
   leads_match kinds.Empty word = follows_ended at.table compared (Found (pair_of word))
@@ -90,16 +101,16 @@ unfound_passes Blocking fill u = λ n e. cc e
 unfound_on : (mode : ResizeMode) (held : Remembered) (at : Place) → IsUnfound (goes_as Get mode held (go_on at))
 unfound_on mode held at = chosen (λ s. IsUnfound (goes_as Get mode held s)) (nat_lt at.probe.len at.limit) (On (Looking (next_place at))) (Over at.table) (λ e n h. cc h) (λ e. unfound_passes mode held.fill at.table)
 
-unfound_byte : (mode : ResizeMode) (held : Remembered) (at : Place) (hash word : ℕ) → IsUnfound (goes_as Get mode held (compare_byte at hash word))
-unfound_byte mode held at hash word = chosen (λ s. IsUnfound (goes_as Get mode held s)) (byte_of word == top_byte hash) (On (Comparing at word)) (go_on at) (λ e n h. cc h) (λ e. unfound_on mode held at)
+unfound_hinted : (mode : ResizeMode) (held : Remembered) (at : Place) (hash hint : ℕ) → IsUnfound (goes_as Get mode held (hinted at hash hint))
+unfound_hinted mode held at hash hint = chosen (λ s. IsUnfound (goes_as Get mode held s)) (may_hold hint hash) (On (Reading at)) (go_on at) (λ e n h. cc h) (λ e. unfound_on mode held at)
 
-unfound_look : (mode : ResizeMode) (held : Remembered) (at : Place) (kind : Kind) (hash word : ℕ) → IsUnfound (goes_as Get mode held (look_at kind at hash word))
-unfound_look mode held at kinds.Empty hash word = λ n e. cc e
-unfound_look mode held at kinds.Live hash word = unfound_byte mode held at hash word
-unfound_look mode held at kinds.Marked hash word = unfound_byte mode held at hash word
-unfound_look mode held at kinds.Copied hash word = unfound_byte mode held at hash word
-unfound_look mode held at kinds.Buried hash word = unfound_on mode held at
-unfound_look mode held at kinds.Closed hash word = unfound_on mode held at
+unfound_look : (mode : ResizeMode) (held : Remembered) (at : Place) (kind : Kind) (word : ℕ) → IsUnfound (goes_as Get mode held (look_at kind at word))
+unfound_look mode held at kinds.Empty word = λ n e. cc e
+unfound_look mode held at kinds.Live word = λ n e. cc e
+unfound_look mode held at kinds.Marked word = λ n e. cc e
+unfound_look mode held at kinds.Copied word = λ n e. cc e
+unfound_look mode held at kinds.Buried word = unfound_on mode held at
+unfound_look mode held at kinds.Closed word = unfound_on mode held at
 
 -- An answer to a lookup that names table t: it goes on in this table or in none, and less is left.
 pub record IsStepIn (t : ℕ) (s s' : State) : Type 0 where
@@ -124,14 +135,15 @@ module _ (hash initial : ℕ) (mode : ResizeMode) (made : Made) (held : Remember
   slot_step Making stands t x word e = absurd stands
   slot_step (Opening u) stands t x word e = absurd stands
   slot_step (Searching (Sizing u)) stands t x word e = absurd (cc e)
-  slot_step (Searching (Looking at)) stands t x word e =
-      let is : at.table ≡ t = cc e in let f = leads_look mode held at stands.len (kind_of word) hash word in (
+  slot_step (Searching (Looking at)) stands t x word e = absurd (cc e)
+  slot_step (Searching (Reading at)) stands t x word e =
+      let is : at.table ≡ t = cc e in let f = leads_look mode held at stands.len (kind_of word) word in (
         record {
           names = ap Some is;
           table = λ v h. sym is ∙ f.table v h;
-          fewer = let le = f.fewer in omega (arith, le);
+          fewer = let le = f.fewer in let lt = stands.len in omega (arith, le, lt);
         },
-        unfound_look mode held at (kind_of word) hash word,
+        unfound_look mode held at (kind_of word) word,
       )
   slot_step (Searching (Comparing at found)) stands t x word e = absurd (cc e)
   slot_step (Writing write) stands t x word e = absurd stands.0
@@ -141,10 +153,41 @@ module _ (hash initial : ℕ) (mode : ResizeMode) (made : Made) (held : Remember
   slot_step (Putting put) stands t x word e = absurd stands.0
   slot_step (Burying removal) stands t x word e = absurd stands.0
   slot_step (Counting n) stands t x word e = absurd stands
+  slot_step (Noting n) stands t x word e = absurd stands
   slot_step (Uncounting n) stands t x word e = absurd stands
   slot_step (Leaving u) stands t x word e = absurd (cc e)
   slot_step (Growing u) stands t x word e = absurd stands
   slot_step (Ended reply) stands t x word e = absurd (cc e)
+
+  -- the hint of a slot was loaded
+  pub hint_step : (s : State) → IsStandingState Get s → (t x word : ℕ) → asks made hash s ≡ LoadHint t x → IsStepIn t s (after (lookup s) (Word word)).state × IsUnfound (after (lookup s) (Word word)).state
+  hint_step AtRoot stands t x word e = absurd (cc e)
+  hint_step Making stands t x word e = absurd stands
+  hint_step (Opening u) stands t x word e = absurd stands
+  hint_step (Searching (Sizing u)) stands t x word e = absurd (cc e)
+  hint_step (Searching (Looking at)) stands t x word e =
+      let is : at.table ≡ t = cc e in let f = leads_hinted mode held at stands.len hash word in (
+        record {
+          names = ap Some is;
+          table = λ v h. sym is ∙ f.table v h;
+          fewer = let le = f.fewer in omega (arith, le);
+        },
+        unfound_hinted mode held at hash word,
+      )
+  hint_step (Searching (Reading at)) stands t x word e = absurd (cc e)
+  hint_step (Searching (Comparing at found)) stands t x word e = absurd (cc e)
+  hint_step (Writing write) stands t x word e = absurd stands.0
+  hint_step (Offering gap) stands t x word e = absurd stands.0
+  hint_step (Showing removal) stands t x word e = absurd stands.0
+  hint_step (Pairing purpose) stands t x word e = absurd stands.0
+  hint_step (Putting put) stands t x word e = absurd stands.0
+  hint_step (Burying removal) stands t x word e = absurd stands.0
+  hint_step (Counting n) stands t x word e = absurd stands
+  hint_step (Noting n) stands t x word e = absurd stands
+  hint_step (Uncounting n) stands t x word e = absurd stands
+  hint_step (Leaving u) stands t x word e = absurd (cc e)
+  hint_step (Growing u) stands t x word e = absurd stands
+  hint_step (Ended reply) stands t x word e = absurd (cc e)
 
   -- the size of a table was told
   pub size_step : (s : State) → IsStandingState Get s → (t slots limit : ℕ) → limit < 2 ^ 32 → asks made hash s ≡ SizeOf t → IsStepIn t s (after (lookup s) (Size slots limit)).state × IsUnfound (after (lookup s) (Size slots limit)).state
@@ -154,6 +197,7 @@ module _ (hash initial : ℕ) (mode : ResizeMode) (made : Made) (held : Remember
   size_step (Searching (Sizing u)) stands t slots limit few e =
       let is : u ≡ t = cc e in (record { names = ap Some is; table = λ v h. let j : u ≡ v = cc h in sym is ∙ j; fewer = omega (arith, few) }, λ n h. cc h)
   size_step (Searching (Looking at)) stands t slots limit few e = absurd (cc e)
+  size_step (Searching (Reading at)) stands t slots limit few e = absurd (cc e)
   size_step (Searching (Comparing at found)) stands t slots limit few e = absurd (cc e)
   size_step (Writing write) stands t slots limit few e = absurd stands.0
   size_step (Offering gap) stands t slots limit few e = absurd stands.0
@@ -162,6 +206,7 @@ module _ (hash initial : ℕ) (mode : ResizeMode) (made : Made) (held : Remember
   size_step (Putting put) stands t slots limit few e = absurd stands.0
   size_step (Burying removal) stands t slots limit few e = absurd stands.0
   size_step (Counting n) stands t slots limit few e = absurd stands
+  size_step (Noting n) stands t slots limit few e = absurd stands
   size_step (Uncounting n) stands t slots limit few e = absurd stands
   size_step (Leaving u) stands t slots limit few e = absurd (cc e)
   size_step (Growing u) stands t slots limit few e = absurd stands
@@ -174,6 +219,7 @@ module _ (hash initial : ℕ) (mode : ResizeMode) (made : Made) (held : Remember
   yes_step (Opening u) stands n same e = absurd stands
   yes_step (Searching (Sizing u)) stands n same e = absurd (cc e)
   yes_step (Searching (Looking at)) stands n same e = absurd (cc e)
+  yes_step (Searching (Reading at)) stands n same e = absurd (cc e)
   yes_step (Searching (Comparing at word)) stands n same e =
       let f = leads_compared mode held at stands.len word same in (at.table, record { names = refl; table = f.table; fewer = let le = f.fewer in let lt = stands.len in omega (arith, le, lt) })
   yes_step (Writing write) stands n same e = absurd stands.0
@@ -183,13 +229,14 @@ module _ (hash initial : ℕ) (mode : ResizeMode) (made : Made) (held : Remember
   yes_step (Putting put) stands n same e = absurd stands.0
   yes_step (Burying removal) stands n same e = absurd stands.0
   yes_step (Counting m) stands n same e = absurd stands
+  yes_step (Noting m) stands n same e = absurd stands
   yes_step (Uncounting m) stands n same e = absurd stands
   yes_step (Leaving u) stands n same e = absurd (cc e)
   yes_step (Growing u) stands n same e = absurd stands
   yes_step (Ended reply) stands n same e = absurd (cc e)
 
   -- the number of a table was loaded, from a state with more to do
-  numbered : (s : State) (word : ℕ) → 0 < left_of s → ((word ≡ 0 → ⊥) → left_in word (2 ^ 33 + 4) < left_of s) → IsStepTo word s (if word == 0 then Ended Absent else Searching (Sizing word))
+  numbered : (s : State) (word : ℕ) → 0 < left_of s → ((word ≡ 0 → ⊥) → left_in word (3 * 2 ^ 32 + 5) < left_of s) → IsStepTo word s (if word == 0 then Ended Absent else Searching (Sizing word))
   numbered s word some less =
       chosen (IsStepTo word s) (word == 0) (Ended Absent) (Searching (Sizing word))
       (λ e. record { table = λ v h. absurd (cc h); fewer = omega (arith, some); unfound = λ n h. cc h })
@@ -201,6 +248,7 @@ module _ (hash initial : ℕ) (mode : ResizeMode) (made : Made) (held : Remember
   root_step (Opening u) stands word e = absurd stands
   root_step (Searching (Sizing u)) stands word e = absurd (cc e)
   root_step (Searching (Looking at)) stands word e = absurd (cc e)
+  root_step (Searching (Reading at)) stands word e = absurd (cc e)
   root_step (Searching (Comparing at found)) stands word e = absurd (cc e)
   root_step (Writing write) stands word e = absurd stands.0
   root_step (Offering gap) stands word e = absurd stands.0
@@ -209,6 +257,7 @@ module _ (hash initial : ℕ) (mode : ResizeMode) (made : Made) (held : Remember
   root_step (Putting put) stands word e = absurd stands.0
   root_step (Burying removal) stands word e = absurd stands.0
   root_step (Counting n) stands word e = absurd stands
+  root_step (Noting n) stands word e = absurd stands
   root_step (Uncounting n) stands word e = absurd stands
   root_step (Leaving u) stands word e = absurd (cc e)
   root_step (Growing u) stands word e = absurd stands
@@ -221,6 +270,7 @@ module _ (hash initial : ℕ) (mode : ResizeMode) (made : Made) (held : Remember
   next_step (Opening u) stands t word up e = absurd stands
   next_step (Searching (Sizing u)) stands t word up e = absurd (cc e)
   next_step (Searching (Looking at)) stands t word up e = absurd (cc e)
+  next_step (Searching (Reading at)) stands t word up e = absurd (cc e)
   next_step (Searching (Comparing at found)) stands t word up e = absurd (cc e)
   next_step (Writing write) stands t word up e = absurd stands.0
   next_step (Offering gap) stands t word up e = absurd stands.0
@@ -229,6 +279,7 @@ module _ (hash initial : ℕ) (mode : ResizeMode) (made : Made) (held : Remember
   next_step (Putting put) stands t word up e = absurd stands.0
   next_step (Burying removal) stands t word up e = absurd stands.0
   next_step (Counting n) stands t word up e = absurd stands
+  next_step (Noting n) stands t word up e = absurd stands
   next_step (Uncounting n) stands t word up e = absurd stands
   next_step (Leaving u) stands t word up e =
       let is : u ≡ t = cc e in (ap Some is, numbered (Leaving u) word (omega arith) (λ some. let h = up some in let lt = h.0 in let le = h.1 in omega (arith, lt, le, is)))

@@ -1,6 +1,6 @@
 -- Of two pairs with one key and one number the one may be put in instead of the other: that is allowed as well, and writes the same word.
 use Rattle.std.proofs.Common.{◌≡◌, ℕ, ◌==◌, ◌&&◌, Bool, true, false, cond, refl, sym, ◌∙◌, subst}
-use Rattle.papaya_words.specs.Word.{live_word, top_byte}
+use Rattle.papaya_words.specs.Word.{live_word}
 use Rattle.papaya_ask.specs.declared.ask.At.{At}
 use Rattle.papaya_ask.specs.declared.ask.At.TheVariants.{Root, Next, Aborted, Done, Slot}
 use Rattle.papaya_law.specs.Allows.{Allows}
@@ -12,7 +12,7 @@ use Rattle.papaya_rests.specs.Told.{IsWritten, word_of}
 module _ {K P : Type 0} (g : Setting K P) (c : Coding K P) (p q : P) (key : g.key p ≡ g.key q) (number : c.number p ≡ c.number q) where
   -- their words are the same
   same_word : code g c (Live p) ≡ code g c (Live q)
-  same_word = λ i. live_word (top_byte (c.hash (key i))) (number i)
+  same_word = λ i. live_word (number i)
 
   -- whether it was put there or not
   same_cond : (b : Bool) (w : Word P) → code g c (cond b (Live p) w) ≡ code g c (cond b (Live q) w)

@@ -9,8 +9,9 @@ use Rattle.papaya_call.specs.declared.machine.Machine.{Machine}
 use Rattle.papaya_law.specs.Allows.{AllAllowed}
 use Rattle.papaya_law.specs.Code.{Coding}
 use Rattle.papaya_law.specs.Class.{IsOn}
-use Rattle.papaya_law.specs.Exchange.{Exchange, Setting, run, start}
-use Rattle.papaya_law.specs.Further.{IsLawfulKey}
+use Rattle.papaya_law.specs.Exchange.{Exchange, Setting, Word, Empty, Closed, Live, Marked, Copied, Buried, run, start}
+use Rattle.papaya_law.specs.Further.{IsLawfulKey, coding_with, with_key}
+use Rattle.papaya_law.specs.Hints.{IsHintOf}
 use Rattle.papaya_law.specs.Grows.{Agrees}
 use Rattle.papaya_call.specs.Machine.{after, ask_of, kind_of_ask}
 use Rattle.papaya_rests.specs.Rests.{Rests}
@@ -30,6 +31,24 @@ use Rattle.papaya_book.specs.Rule.{IsLawfulLog}
 use Rattle.papaya_book.proofs.Logs.{exchanges_of-append}
 use Rattle.papaya_book.proofs.Settings.{agrees_later, is_hashed}
 use Rattle.papaya_book.proofs.TableSizes.{some_slot}
+
+-- what may be the hint of a slot may be so with the further key
+pub hint_with : {K P : Type 0} (g : Setting K P) (c : Coding K P) (matches : K → Bool) (hash : ℕ) (w : Word P) (n : ℕ) → IsHintOf g c w n → IsHintOf (with_key g matches hash) (coding_with c hash) w n
+hint_with g c matches hash Empty n h = h
+hint_with g c matches hash Closed n h = h
+hint_with g c matches hash (Live p) n h = h
+hint_with g c matches hash (Marked p) n h = h
+hint_with g c matches hash (Copied p) n h = h
+hint_with g c matches hash (Buried p) n h = h
+
+-- and without it
+pub hint_without : {K P : Type 0} (g : Setting K P) (c : Coding K P) (matches : K → Bool) (hash : ℕ) (w : Word P) (n : ℕ) → IsHintOf (with_key g matches hash) (coding_with c hash) w n → IsHintOf g c w n
+hint_without g c matches hash Empty n h = h
+hint_without g c matches hash Closed n h = h
+hint_without g c matches hash (Live p) n h = h
+hint_without g c matches hash (Marked p) n h = h
+hint_without g c matches hash (Copied p) n h = h
+hint_without g c matches hash (Buried p) n h = h
 
 -- What is looked up matches some keys, which it hashes as and which are all that equal one of them.
 pub record IsQuery {K : Type 0} (eq : K → K → Bool) (input : K → List (List ℕ)) (matches : K → Bool) (query : List (List ℕ)) : Type 0 where

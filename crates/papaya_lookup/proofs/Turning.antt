@@ -5,7 +5,7 @@ use Rattle.std.specs.Cmp.{IsEquivalence}
 use mathlib.Core.List.{IsPrefix}
 use denote.Bor.{Bor}
 use Rattle.logbook.specs.Pages.{Book as Name}
-use Rattle.papaya_words.specs.Word.{byte_of, kind_of, pair_of, top_byte}
+use Rattle.papaya_words.specs.Word.{kind_of, may_hold, pair_of}
 use Rattle.papaya_words.specs.declared.word.Kind.{Kind}
 use Rattle.papaya_words.specs.declared.word.Kind.TheVariants as kinds
 use Rattle.papaya_words.specs.declared.probe.ResizeMode.{ResizeMode}
@@ -15,12 +15,12 @@ use Rattle.papaya_ask.specs.declared.call.Task.TheVariants.{Get}
 use Rattle.papaya_call.specs.declared.machine.State.{State as Stage}
 use Rattle.papaya_call.specs.declared.machine.State.TheVariants.{AtRoot, Searching, Leaving, Ended}
 use Rattle.papaya_ask.specs.declared.search.Place.{Place}
-use Rattle.papaya_ask.specs.declared.search.Search.TheVariants.{Sizing, Looking, Comparing}
+use Rattle.papaya_ask.specs.declared.search.Search.TheVariants.{Sizing, Looking, Reading, Comparing}
 use Rattle.papaya_ask.specs.declared.search.Seen.{Seen}
 use Rattle.papaya_ask.specs.declared.search.Seen.TheVariants.{On, Empty, Here, Over}
 use Rattle.papaya_call.specs.Compute.{nothing}
 use Rattle.papaya_call.specs.Machine.{IsStanding, IsStandingState, goes_as, passes, started}
-use Rattle.papaya_ask.specs.Search.{IsSeen, IsSize, IsWithin, at_yes, compare_byte, first_place, go_on, look, look_at, match_at, next_place}
+use Rattle.papaya_ask.specs.Search.{IsSeen, IsSize, IsWithin, at_yes, first_place, go_on, hinted, look, look_at, match_at, next_place}
 use Rattle.papaya_rests.specs.Told.{or_last}
 use Rattle.papaya_rests.proofs.LoadsLeft.{chosen}
 use Rattle.papaya_law.specs.Exchange.{Exchange}
@@ -32,6 +32,7 @@ use Rattle.papaya_book.specs.declared.rule.entry.Named.{Named}
 use Rattle.papaya_book.specs.declared.rule.entry.Named.TheVariants as names
 use Rattle.papaya_book.specs.Calls.{IsNext, IsRoot, IsSlotWord, IsTable}
 use Rattle.papaya_book.specs.Hashes.{hash_of}
+use Rattle.papaya_book.specs.Hinted.{IsSlotHint}
 use Rattle.papaya_book.specs.Logs.{Stored, exchanges_of, pair_named, state_of, steps_of}
 use Rattle.papaya_book.specs.Parts.{begun_of}
 use Rattle.papaya_book.specs.Rule.{IsLawfulLog, IsPlaced}
@@ -45,15 +46,16 @@ use Rattle.papaya_lookup.specs.Lookups.{HasHit, HoldsPair, IsReading, IsReadingA
 use Rattle.papaya_lookup.specs.declared.lookup.Met.{Met}
 use Rattle.papaya_lookup.specs.declared.lookup.Turn.{Turn}
 use Rattle.papaya_lookup.specs.declared.lookup.Turn.TheVariants as turns
-use Rattle.papaya_lookup.proofs.Answering.{Reading, begins, next_read, root_read, slot_read}
-use Rattle.papaya_lookup.proofs.Comparing.{same_read, size_read, slot_held}
+use Rattle.papaya_lookup.proofs.Answering.{Rested, begins, hint_read, next_read, root_read, slot_read}
+use Rattle.papaya_lookup.proofs.Comparing.{hint_held, same_read, size_read, slot_held}
 use Rattle.papaya_lookup.proofs.LookupReplies.{absent_answer, found_answer}
 use Rattle.papaya_lookup.proofs.Readings.{IsQuery, fed}
 
--- the search goes on, and compares no key
+-- the search goes on, and neither loads a word nor compares a key
 abbrev IsOnward : Seen → Type 0
 IsOnward (On (Looking at)) = Unit {0}
 IsOnward (On (Sizing t)) = ⊥
+IsOnward (On (Reading at)) = ⊥
 IsOnward (On (Comparing at word)) = ⊥
 IsOnward (Empty at) = Unit {0}
 IsOnward (Here at word) = ⊥
@@ -62,20 +64,30 @@ IsOnward (Over t) = Unit {0}
 onward_on : (at : Place) → IsOnward (go_on at)
 onward_on at = chosen IsOnward (nat_lt at.probe.len at.limit) (On (Looking (next_place at))) (Over at.table) (λ e. tt) (λ e. tt)
 
--- so it is where no key is to be compared
+-- so it is where no word is to be loaded
+onward_hinted : (at : Place) (hash hint : ℕ) → ((a : Place) → hinted at hash hint ≡ On (Reading a) → ⊥) → IsOnward (hinted at hash hint)
+onward_hinted at hash hint =
+    chosen (λ seen. ((a : Place) → seen ≡ On (Reading a) → ⊥) → IsOnward seen) (may_hold hint hash) (On (Reading at)) (go_on at) (λ e none. absurd (none at refl)) (λ e none. onward_on at)
+
+-- a word that is loaded is that of the place
+read_not : (at a : Place) → go_on at ≡ On (Reading a) → ⊥
+read_not at a = chosen (λ s. s ≡ On (Reading a) → ⊥) (nat_lt at.probe.len at.limit) (On (Looking (next_place at))) (Over at.table) (λ e h. cc h) (λ e h. cc h)
+
+pub read_hinted : (at : Place) (hash hint : ℕ) (a : Place) → hinted at hash hint ≡ On (Reading a) → hinted at hash hint ≡ On (Reading at)
+read_hinted at hash hint a =
+    chosen (λ seen. seen ≡ On (Reading a) → seen ≡ On (Reading at)) (may_hold hint hash) (On (Reading at)) (go_on at) (λ e h. refl) (λ e h. absurd (read_not at a h))
+
+-- and where no key is to be compared
 abbrev IsOnwardElse : Seen → Type 0
 IsOnwardElse seen = ((a : Place) (w : ℕ) → seen ≡ On (Comparing a w) → ⊥) → IsOnward seen
 
-onward_byte : (at : Place) (hash word : ℕ) → IsOnwardElse (compare_byte at hash word)
-onward_byte at hash word = chosen IsOnwardElse (byte_of word == top_byte hash) (On (Comparing at word)) (go_on at) (λ e none. absurd (none at word refl)) (λ e none. onward_on at)
-
-onward_look : (kind : Kind) (at : Place) (hash word : ℕ) → IsOnwardElse (look_at kind at hash word)
-onward_look kinds.Empty at hash word = λ none. tt
-onward_look kinds.Live at hash word = onward_byte at hash word
-onward_look kinds.Marked at hash word = onward_byte at hash word
-onward_look kinds.Copied at hash word = onward_byte at hash word
-onward_look kinds.Buried at hash word = λ none. onward_on at
-onward_look kinds.Closed at hash word = λ none. onward_on at
+onward_look : (kind : Kind) (at : Place) (word : ℕ) → IsOnwardElse (look_at kind at word)
+onward_look kinds.Empty at word = λ none. tt
+onward_look kinds.Live at word = λ none. absurd (none at word refl)
+onward_look kinds.Marked at word = λ none. absurd (none at word refl)
+onward_look kinds.Copied at word = λ none. absurd (none at word refl)
+onward_look kinds.Buried at word = λ none. onward_on at
+onward_look kinds.Closed at word = λ none. onward_on at
 
 -- and where the pair of which the key was compared is not found
 abbrev IsOnwardBut : Seen → Type 0
@@ -102,17 +114,13 @@ pub record IsCompared (kind : Kind) (seen : Seen) (at : Place) (word : ℕ) : Ty
 on_not : (at a : Place) (w : ℕ) → go_on at ≡ On (Comparing a w) → ⊥
 on_not at a w = chosen (λ s. s ≡ On (Comparing a w) → ⊥) (nat_lt at.probe.len at.limit) (On (Looking (next_place at))) (Over at.table) (λ e h. cc h) (λ e h. cc h)
 
-compared_byte : (at : Place) (hash word : ℕ) (a : Place) (w : ℕ) → compare_byte at hash word ≡ On (Comparing a w) → compare_byte at hash word ≡ On (Comparing at word)
-compared_byte at hash word a w =
-    chosen (λ s. s ≡ On (Comparing a w) → s ≡ On (Comparing at word)) (byte_of word == top_byte hash) (On (Comparing at word)) (go_on at) (λ e h. refl) (λ e h. absurd (on_not at a w h))
-
-pub compared_look : (kind : Kind) (at : Place) (hash word : ℕ) (a : Place) (w : ℕ) → look_at kind at hash word ≡ On (Comparing a w) → IsCompared kind (look_at kind at hash word) at word
-compared_look kinds.Empty at hash word a w h = absurd (cc h)
-compared_look kinds.Live at hash word a w h = record { some = λ e. cc e; shut = λ e. cc e; is = compared_byte at hash word a w h }
-compared_look kinds.Marked at hash word a w h = record { some = λ e. cc e; shut = λ e. cc e; is = compared_byte at hash word a w h }
-compared_look kinds.Copied at hash word a w h = record { some = λ e. cc e; shut = λ e. cc e; is = compared_byte at hash word a w h }
-compared_look kinds.Buried at hash word a w h = absurd (on_not at a w h)
-compared_look kinds.Closed at hash word a w h = absurd (on_not at a w h)
+pub compared_look : (kind : Kind) (at : Place) (word : ℕ) (a : Place) (w : ℕ) → look_at kind at word ≡ On (Comparing a w) → IsCompared kind (look_at kind at word) at word
+compared_look kinds.Empty at word a w h = absurd (cc h)
+compared_look kinds.Live at word a w h = record { some = λ e. cc e; shut = λ e. cc e; is = refl }
+compared_look kinds.Marked at word a w h = record { some = λ e. cc e; shut = λ e. cc e; is = refl }
+compared_look kinds.Copied at word a w h = record { some = λ e. cc e; shut = λ e. cc e; is = refl }
+compared_look kinds.Buried at word a w h = absurd (on_not at a w h)
+compared_look kinds.Closed at word a w h = absurd (on_not at a w h)
 
 here_not : (at a : Place) (w : ℕ) → go_on at ≡ Here a w → ⊥
 here_not at a w = chosen (λ s. s ≡ Here a w → ⊥) (nat_lt at.probe.len at.limit) (On (Looking (next_place at))) (Over at.table) (λ e h. cc h) (λ e h. cc h)
@@ -127,6 +135,7 @@ module _ (M E : Type 0) where
   led_on : (mode : ResizeMode) (n : ℕ) (seen : Seen) → IsOnward seen → goes_as Get mode nothing seen ≡ led_to {M = M} {E = E} mode n (turn_of seen)
   led_on mode n (On (Looking at)) o = refl
   led_on mode n (On (Sizing t)) o = absurd o
+  led_on mode n (On (Reading at)) o = absurd o
   led_on mode n (On (Comparing at word)) o = absurd o
   led_on mode n (Empty at) o = refl
   led_on mode n (Here at word) o = absurd o
@@ -135,6 +144,7 @@ module _ (M E : Type 0) where
   within_on : (seen : Seen) → IsSeen seen → (at : Place) → turn_of {M = M} {E = E} seen ≡ turns.Next at → IsWithin at
   within_on (On (Looking p)) w at e = let is : p ≡ at = cc e in subst IsWithin is w
   within_on (On (Sizing t)) w at e = absurd (cc e)
+  within_on (On (Reading p)) w at e = absurd (cc e)
   within_on (On (Comparing p word)) w at e = absurd (cc e)
   within_on (Empty p) w at e = absurd (cc e)
   within_on (Here p word) w at e = absurd (cc e)
@@ -143,6 +153,7 @@ module _ (M E : Type 0) where
   unfound_on : (seen : Seen) (met : M) (entry : E) → turn_of seen ≡ turns.Found met entry → ⊥
   unfound_on (On (Looking p)) met entry e = cc e
   unfound_on (On (Sizing t)) met entry e = cc e
+  unfound_on (On (Reading p)) met entry e = cc e
   unfound_on (On (Comparing p word)) met entry e = cc e
   unfound_on (Empty p) met entry e = cc e
   unfound_on (Here p word) met entry e = cc e
@@ -184,16 +195,16 @@ module _ {K V S H : Type 0} (eq : K → K → Bool) (input : K → List (List �
   fed_to = fed eq input build write finish classes respects b matches query lawful
 
   abbrev Reads : List (Event K V S) → Stage → Bor Sheet → Option (Stored K V) → Type 0
-  Reads log stage lent pair = Reading eq input build write finish classes respects b matches query lawful begun log (lookup_at h b.mode stage) (Some lent) pair
+  Reads log stage lent pair = Rested eq input build write finish classes respects b matches query lawful begun log (lookup_at h b.mode stage) (Some lent) pair
 
   -- a turn led the machine on, and less is left
-  abbrev pub Goes : List (Event K V S) → Place → Sheet → Turn (Met K V) (Bor K × Bor V) → Type 0
-  Goes log at table turn = IsTurned eq hash b name matches fed_to begun h log table turn × (left_of (led_to b.mode 0 turn) < left_of (Searching (Looking at)))
+  abbrev pub Goes : List (Event K V S) → Stage → Sheet → Turn (Met K V) (Bor K × Bor V) → Type 0
+  Goes log stage table turn = IsTurned eq hash b name matches fed_to begun h log table turn × (left_of (led_to b.mode 0 turn) < left_of stage)
 
   -- a search that goes on
-  goes_on : (log : List (Event K V S)) (at : Place) (table : Sheet) (lent : Bor Sheet) → lent.now ≡ table → (pair : Option (Stored K V)) (seen : Seen) → IsSeen seen → IsOnward seen → Reads log (goes_as Get b.mode nothing seen) lent pair
-      → left_of (goes_as Get b.mode nothing seen) < left_of (Searching (Looking at)) → Goes log at table (turn_of seen)
-  goes_on log at table lent is pair seen within onward r fewer = (
+  goes_on : (log : List (Event K V S)) (stage : Stage) (table : Sheet) (lent : Bor Sheet) → lent.now ≡ table → (pair : Option (Stored K V)) (seen : Seen) → IsSeen seen → IsOnward seen → Reads log (goes_as Get b.mode nothing seen) lent pair
+      → left_of (goes_as Get b.mode nothing seen) < left_of stage → Goes log stage table (turn_of seen)
+  goes_on log stage table lent is pair seen within onward r fewer = (
     record {
       lent = lent;
       lent_is = is;
@@ -203,30 +214,53 @@ module _ {K V S H : Type 0} (eq : K → K → Bool) (input : K → List (List �
       within = within_on (Met K V) (Bor K × Bor V) seen within;
       found = λ met entry e. absurd (unfound_on (Met K V) (Bor K × Bor V) seen met entry e);
     },
-    subst (λ (s : Stage). left_of s < left_of (Searching (Looking at))) (led_on (Met K V) (Bor K × Bor V) b.mode 0 seen onward) fewer,
+    subst (λ (s : Stage). left_of s < left_of stage) (led_on (Met K V) (Bor K × Bor V) b.mode 0 seen onward) fewer,
   )
 
   module _ (log : List (Event K V S)) (at : Place) (within : IsWithin at) (table : Sheet) (r : IsReadingAt eq hash b matches fed_to begun h log (Searching (Looking at)) table) where
     -- the table has the place
+    pub hint_there : IsTable log at.table table × (at.probe.i < length table.slots)
+    hint_there =
+        subst (λ (z : Sheet). IsTable log at.table z × (at.probe.i < length z.slots)) r.1
+        (hint_held eq input build write finish classes respects b matches query lawful begun log (lookup_at h b.mode (Searching (Looking at))) (Some r.0) r.2 r.3 (standing h b.mode (Searching (Looking at)) within) at.table at.probe.i r.0 refl refl)
+
+    -- its hint was loaded
+    module _ (log' : List (Event K V S)) (pre : IsPrefix log log') (hint : ℕ) (told : IsSlotHint eq hash b at.table at.probe.i hint log') where
+      -- so the machine was answered
+      hint_answered : Reads log' (goes_as Get b.mode nothing (hinted at h hint)) r.0 r.2 × (left_of (goes_as Get b.mode nothing (hinted at h hint)) < left_of (Searching (Looking at)))
+      hint_answered =
+          let all = hint_read eq input build write finish classes respects b matches query lawful begun log log' pre told.lawful (lookup_at h b.mode (Searching (Looking at))) (Some r.0) r.2 r.3 (standing h b.mode (Searching (Looking at)) within) at.table at.probe.i hint refl told in
+          (all.reading, all.fewer)
+
+      -- the word is not loaded
+      pub hint_passed : IsSeen (hinted at h hint) → ((a : Place) → hinted at h hint ≡ On (Reading a) → ⊥) → Goes log' (Searching (Looking at)) table (turn_of (hinted at h hint))
+      hint_passed seen none = goes_on log' (Searching (Looking at)) table r.0 r.1 r.2 (hinted at h hint) seen (onward_hinted at h hint none) hint_answered.0 hint_answered.1
+
+      -- the word is to be loaded
+      pub word_next : (a : Place) → hinted at h hint ≡ On (Reading a) → IsReadingAt eq hash b matches fed_to begun h log' (Searching (Reading at)) table
+      word_next a e = (r.0, r.1, r.2, subst (λ (s : Seen). Reads log' (goes_as Get b.mode nothing s) r.0 r.2) (read_hinted at h hint a e) hint_answered.0)
+
+  module _ (log : List (Event K V S)) (at : Place) (within : IsWithin at) (table : Sheet) (r : IsReadingAt eq hash b matches fed_to begun h log (Searching (Reading at)) table) where
+    -- the table has the place
     pub place_there : IsTable log at.table table × (at.probe.i < length table.slots)
     place_there =
         subst (λ (z : Sheet). IsTable log at.table z × (at.probe.i < length z.slots)) r.1
-        (slot_held eq input build write finish classes respects b matches query lawful begun log (lookup_at h b.mode (Searching (Looking at))) (Some r.0) r.2 r.3 (standing h b.mode (Searching (Looking at)) within) at.table at.probe.i r.0 refl refl)
+        (slot_held eq input build write finish classes respects b matches query lawful begun log (lookup_at h b.mode (Searching (Reading at))) (Some r.0) r.2 r.3 (standing h b.mode (Searching (Reading at)) within) at.table at.probe.i r.0 refl refl)
 
     -- its word was loaded
     module _ (log' : List (Event K V S)) (pre : IsPrefix log log') (word : ℕ) (state : Option (Named K V)) (told : IsSlotWord eq hash b name at.table at.probe.i word log' state) where
       -- no key is compared
-      pub passed : IsSeen (look at h word) → ((a : Place) (w : ℕ) → look at h word ≡ On (Comparing a w) → ⊥) → Goes log' at table (turn_of (look at h word))
+      pub passed : IsSeen (look at word) → ((a : Place) (w : ℕ) → look at word ≡ On (Comparing a w) → ⊥) → Goes log' (Searching (Reading at)) table (turn_of (look at word))
       passed seen none =
           let o = named ((state_of log').slot at.table at.probe.i) in
-          let looked = slot_read eq input build write finish classes respects b matches query lawful begun log log' pre told.read.lawful (lookup_at h b.mode (Searching (Looking at))) (Some r.0) r.2 r.3 (standing h b.mode (Searching (Looking at)) within)
+          let looked = slot_read eq input build write finish classes respects b matches query lawful begun log log' pre told.read.lawful (lookup_at h b.mode (Searching (Reading at))) (Some r.0) r.2 r.3 (standing h b.mode (Searching (Reading at)) within)
           at.table at.probe.i word o (or_last o r.2) refl told.read.is refl (λ last held. holds_or b name last r.2 o told.placed held) in
-          goes_on log' at table r.0 r.1 (or_last o r.2) (look at h word) seen (onward_look (kind_of word) at h word none) looked.reading looked.fewer
+          goes_on log' (Searching (Reading at)) table r.0 r.1 (or_last o r.2) (look at word) seen (onward_look (kind_of word) at word none) looked.reading looked.fewer
 
-      -- the pair of the word has the hash byte
-      module _ (a : Place) (w : ℕ) (e : look at h word ≡ On (Comparing a w)) where
+      -- a key is compared
+      module _ (a : Place) (w : ℕ) (e : look at word ≡ On (Comparing a w)) where
         pub pair_told : (p : Stored K V) × (state ≡ Some (names.Pair p)) × (pair_of word ≡ p.index)
-        pair_told = let c = compared_look (kind_of word) at h word a w e in told.some c.some c.shut
+        pair_told = let c = compared_look (kind_of word) at word a w e in told.some c.some c.shut
 
         module _ (p : Stored K V) (is : state ≡ Some (names.Pair p)) where
           stands : named ((state_of log').slot at.table at.probe.i) ≡ Some p
@@ -236,12 +270,12 @@ module _ {K V S H : Type 0} (eq : K → K → Bool) (input : K → List (List �
           pair_placed = subst (λ (o : Option (Stored K V)). IsPlaced b (Some name) (pair_named o)) stands told.placed
 
           -- its key is to be compared
-          comparing : Reads log' (Searching (Comparing at word)) r.0 (Some p) × (left_of (Searching (Comparing at word)) < left_of (Searching (Looking at)))
+          comparing : Reads log' (Searching (Comparing at word)) r.0 (Some p) × (left_of (Searching (Comparing at word)) < left_of (Searching (Reading at)))
           comparing =
-              let looked = slot_read eq input build write finish classes respects b matches query lawful begun log log' pre told.read.lawful (lookup_at h b.mode (Searching (Looking at))) (Some r.0) r.2 r.3 (standing h b.mode (Searching (Looking at)) within)
+              let looked = slot_read eq input build write finish classes respects b matches query lawful begun log log' pre told.read.lawful (lookup_at h b.mode (Searching (Reading at))) (Some r.0) r.2 r.3 (standing h b.mode (Searching (Reading at)) within)
               at.table at.probe.i word (Some p) (Some p) refl told.read.is stands (λ last held. (refl, pair_placed)) in
-              let seen = (compared_look (kind_of word) at h word a w e).is in
-              (subst (λ (s : Seen). Reads log' (goes_as Get b.mode nothing s) r.0 (Some p)) seen looked.reading, subst (λ (s : Seen). left_of (goes_as Get b.mode nothing s) < left_of (Searching (Looking at))) seen looked.fewer)
+              let seen = (compared_look (kind_of word) at word a w e).is in
+              (subst (λ (s : Seen). Reads log' (goes_as Get b.mode nothing s) r.0 (Some p)) seen looked.reading, subst (λ (s : Seen). left_of (goes_as Get b.mode nothing s) < left_of (Searching (Reading at))) seen looked.fewer)
 
           -- the word that was loaded named it
           word_met : HasMet (setting_for eq hash b matches fed_to log') (coding_for hash b.hasher fed_to) begun comparing.0.since None at word p
@@ -252,15 +286,15 @@ module _ {K V S H : Type 0} (eq : K → K → Bool) (input : K → List (List �
 
           -- its key was compared
           module _ (same : Bool) (same_is : same ≡ matches (key_of p)) where
-            compared : Reads log' (goes_as Get b.mode nothing (at_yes (Comparing at word) same)) r.0 (Some p) × (left_of (goes_as Get b.mode nothing (at_yes (Comparing at word) same)) < left_of (Searching (Looking at)))
+            compared : Reads log' (goes_as Get b.mode nothing (at_yes (Comparing at word) same)) r.0 (Some p) × (left_of (goes_as Get b.mode nothing (at_yes (Comparing at word) same)) < left_of (Searching (Reading at)))
             compared =
                 let all = same_read eq input build write finish classes respects b matches query lawful begun log' (lookup_at h b.mode (Searching (Comparing at word))) (Some r.0) (Some p) comparing.0 (standing h b.mode (Searching (Comparing at word)) within) (pair_of word) p same refl same_is refl in
-                let before : left_of (Searching (Comparing at word)) < left_of (Searching (Looking at)) = comparing.1 in
+                let before : left_of (Searching (Comparing at word)) < left_of (Searching (Reading at)) = comparing.1 in
                 let less : left_of (goes_as Get b.mode nothing (at_yes (Comparing at word) same)) < left_of (Searching (Comparing at word)) = all.fewer in
                 (all.reading, omega (arith, before, less))
 
-            pub other_pair : IsSeen (at_yes (Comparing at word) same) → ((a' : Place) (w' : ℕ) → at_yes (Comparing at word) same ≡ Here a' w' → ⊥) → Goes log' at table (turn_of (at_yes (Comparing at word) same))
-            other_pair seen none = goes_on log' at table r.0 r.1 (Some p) (at_yes (Comparing at word) same) seen (onward_yes at word same none) compared.0 compared.1
+            pub other_pair : IsSeen (at_yes (Comparing at word) same) → ((a' : Place) (w' : ℕ) → at_yes (Comparing at word) same ≡ Here a' w' → ⊥) → Goes log' (Searching (Reading at)) table (turn_of (at_yes (Comparing at word) same))
+            other_pair seen none = goes_on log' (Searching (Reading at)) table r.0 r.1 (Some p) (at_yes (Comparing at word) same) seen (onward_yes at word same none) compared.0 compared.1
 
             abbrev met : Met K V
             met = record { place = at; word = word; stored = p }
@@ -302,7 +336,7 @@ module _ {K V S H : Type 0} (eq : K → K → Bool) (input : K → List (List �
   b = begun_of book.parts
 
   abbrev Reads_with : List (Event K V S) → Stage → Option (Bor Sheet) → Option (Stored K V) → Type 0
-  Reads_with log stage held pair = Reading eq input build write finish classes respects b matches query lawful (exchanges_of began) log (lookup_at h b.mode stage) held pair
+  Reads_with log stage held pair = Rested eq input build write finish classes respects b matches query lawful (exchanges_of began) log (lookup_at h b.mode stage) held pair
 
   abbrev pub Turned : List (Event K V S) → Sheet → Turn (Met K V) (Bor K × Bor V) → Type 0
   Turned log table turn = IsTurned eq hash_in b book.begun.book matches (fed eq input build write finish classes respects b matches query lawful) (exchanges_of began) h log table turn

@@ -8,7 +8,7 @@ use Rattle.papaya_call.specs.declared.machine.Machine.{Machine}
 use Rattle.papaya_call.specs.declared.machine.State.{State as Stage}
 use Rattle.papaya_call.specs.declared.machine.State.TheVariants.{AtRoot, Searching, Leaving, Ended}
 use Rattle.papaya_ask.specs.declared.search.Place.{Place}
-use Rattle.papaya_ask.specs.declared.search.Search.TheVariants.{Sizing, Looking, Comparing}
+use Rattle.papaya_ask.specs.declared.search.Search.TheVariants.{Sizing, Looking, Reading, Comparing}
 use Rattle.papaya_ask.specs.declared.search.Seen.{Seen}
 use Rattle.papaya_ask.specs.declared.search.Seen.TheVariants.{On, Over}
 use Rattle.papaya_ask.specs.Search.{IsWithin}
@@ -35,6 +35,7 @@ use Rattle.papaya_lookup.specs.declared.lookup.Turn.TheVariants as turns
 abbrev pub table_of : Stage → Option ℕ
 table_of (Searching (Sizing t)) = Some t
 table_of (Searching (Looking at)) = Some at.table
+table_of (Searching (Reading at)) = Some at.table
 table_of (Searching (Comparing at word)) = Some at.table
 table_of (Leaving t) = Some t
 table_of _ = None
@@ -46,10 +47,12 @@ left_in t more = (2 ^ 32 + 1 - t) * 2 ^ 34 + more
 -- What a lookup has left to do. It goes down with each answer: a search looks at each place once,
 -- and the next table has a greater number.
 abbrev pub left_of : Stage → ℕ
-left_of AtRoot = left_in 0 (2 ^ 33 + 5)
-left_of (Searching (Sizing t)) = left_in t (2 ^ 33 + 4)
-left_of (Searching (Looking at)) = left_in at.table (2 * (at.limit + 1 - at.probe.len) + 1)
-left_of (Searching (Comparing at word)) = left_in at.table (2 * (at.limit + 1 - at.probe.len))
+left_of AtRoot = left_in 0 (3 * 2 ^ 32 + 6)
+left_of (Searching (Sizing t)) = left_in t (3 * 2 ^ 32 + 5)
+left_of (Searching (Looking at)) = left_in at.table (3 * (at.limit + 1 - at.probe.len) + 1)
+left_of (Searching (Reading at)) = left_in at.table (3 * (at.limit + 1 - at.probe.len))
+left_of (Searching (Comparing at word)) = left_in at.table
+    (3 * (at.limit + 1 - at.probe.len) - 1)
 left_of (Leaving t) = left_in t 1
 left_of _ = 0
 

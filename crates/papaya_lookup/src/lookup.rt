@@ -3,7 +3,7 @@
 ghost use Rattle.std.specs.Prelude.{◌≡◌, ◌<◌, ◌≤◌, Some};
 ghost use Rattle.papaya_ask.specs.Search.{IsWithin};
 ghost use Rattle.papaya_call.specs.declared.machine.State.TheVariants.{Searching};
-ghost use Rattle.papaya_ask.specs.declared.search.Search.TheVariants.{Looking};
+ghost use Rattle.papaya_ask.specs.declared.search.Search.TheVariants.{Looking, Reading};
 ghost use Rattle.papaya_book.specs.Windows.{IsLawful, Sees};
 ghost use Rattle.papaya_lookup.specs.Answers.{IsAnsweredBetween, IsHitAnsweredBetween};
 ghost use Rattle.papaya_lookup.specs.Answers.{IsPairAnsweredBetween};
@@ -65,10 +65,10 @@ fn without<M, E>(seen: Seen) -> Turn<M, E>
     }
 }
 
-/// Looks at one place of a table: loads its word, and compares the key of the pair that it names
-/// where the hash byte agrees.
+/// Loads the word at one place of a table, and compares the key of the pair that it names, if it names
+/// one.
 #[inline(always)]
-fn look_at<'a, K: Hash + Eq, V, S: BuildHasher, Q: Equivalent<K>>(
+fn read_at<'a, K: Hash + Eq, V, S: BuildHasher, Q: Equivalent<K>>(
     window: &mut Window<'a, K, V, S>,
     key: &Q,
     hash: u64,
@@ -78,16 +78,17 @@ fn look_at<'a, K: Hash + Eq, V, S: BuildHasher, Q: Equivalent<K>>(
 ) -> Turn<Met<K, V>, (&'a K, &'a V)>
     requires within { IsWithin at }
     requires reading { IsReadingAt (⟦<S as Asked<K, Q>>⟧.query key.now) began.now.log window.old
-        hash (Searching (Looking at)) table.now }
+        hash (Searching (Reading at)) table.now }
     ensures sees { Sees window.old window.new }
     ensures own { window.new.own ≡ window.old.own }
     ensures turned { IsTurned (⟦<S as Asked<K, Q>>⟧.query key.now) began.now.log window.new hash
         table.now result }
-    ensures fewer { left_after window.old result < left_of (Searching (Looking at)) }
+    ensures fewer { left_after window.old result < left_of (Searching (Reading at)) }
 {
     let _ = began;
+    let _ = hash;
     let (word, trade) = window.slot_word(table, at.table, at.probe.i);
-    let seen = at.look(hash, word);
+    let seen = at.look(word);
     match seen {
         Seen::On(Search::Comparing(..)) => {
             let book = window.book;
@@ -109,6 +110,34 @@ fn look_at<'a, K: Hash + Eq, V, S: BuildHasher, Q: Equivalent<K>>(
                 _ => without(compared),
             }
         }
+        _ => without(seen),
+    }
+}
+
+/// Looks at one place of a table: loads its hint, and its word where the hint says nothing or is the
+/// key's.
+#[inline(always)]
+fn look_at<'a, K: Hash + Eq, V, S: BuildHasher, Q: Equivalent<K>>(
+    window: &mut Window<'a, K, V, S>,
+    key: &Q,
+    hash: u64,
+    began: &Sight<K, V, S>,
+    table: &Table<K, V, S>,
+    at: Place,
+) -> Turn<Met<K, V>, (&'a K, &'a V)>
+    requires within { IsWithin at }
+    requires reading { IsReadingAt (⟦<S as Asked<K, Q>>⟧.query key.now) began.now.log window.old
+        hash (Searching (Looking at)) table.now }
+    ensures sees { Sees window.old window.new }
+    ensures own { window.new.own ≡ window.old.own }
+    ensures turned { IsTurned (⟦<S as Asked<K, Q>>⟧.query key.now) began.now.log window.new hash
+        table.now result }
+    ensures fewer { left_after window.old result < left_of (Searching (Looking at)) }
+{
+    let hint = window.hint(table, at.table, at.probe.i);
+    let seen = at.hinted(hash, hint);
+    match seen {
+        Seen::On(Search::Reading(..)) => read_at(window, key, hash, began, table, at),
         _ => without(seen),
     }
 }

@@ -4,7 +4,7 @@ use Rattle.std.proofs.lemmas.Bool.{cases_Bool, cases_lt}
 use Rattle.std.specs.Cmp.{IsEquivalence}
 use mathlib.Core.List.{IsPrefix}
 use Rattle.logbook.specs.Pages.{Book}
-use Rattle.papaya_words.specs.Word.{buried_word, byte_of, kind_of, pair_of}
+use Rattle.papaya_words.specs.Word.{buried_word, kind_of, pair_of}
 use Rattle.papaya_words.specs.declared.word.Kind.{Kind}
 use Rattle.papaya_words.specs.declared.word.Kind.TheVariants as kinds
 use Rattle.papaya_ask.specs.declared.ask.At.{At}
@@ -81,8 +81,7 @@ slot_written g c s t x w = record { here = ap (code g c) (put_there s t x w t x 
 -- a buried pair's word is the code of its Buried word
 grave_code : {K P : Type 0} → (g : Setting K P) (c : Coding K P) → IsHashed g c → (p : P) (word : ℕ) → code g c (Live p) ≡ word → code g c (Buried p) ≡ grave_word word
 grave_code g c hashed p word e =
-    let parts = code_pair g c hashed.coding (Live p) p refl in
-    ap (λ b. buried_word b (c.number p)) (sym parts.1) ∙ ap (buried_word (byte_of (code g c (Live p)))) (sym parts.0) ∙ ap grave_word e
+    ap buried_word (sym (code_pair g c hashed.coding (Live p) p refl)) ∙ ap grave_word e
 
 -- a word of such a kind names a pair
 pair_there : {P : Type 0} (kind : Kind) (w : Word P) → IsOfKind kind w → has_pair kind ≡ true → (p : P) × ((w ≡ Live p) ⊎ (w ≡ Marked p) ⊎ (w ≡ Copied p))

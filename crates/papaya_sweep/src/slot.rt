@@ -60,7 +60,7 @@ pub fn bury<'a, K: Hash + Eq, V, S: BuildHasher>(
     ensures met { IsMet began.now.log window.new result.0 result.1 }
 {
     let _ = began;
-    let buried = Word::buried(Word(word).hash_byte(), Word(word).pair());
+    let buried = Word::buried(Word(word).pair());
     let words = (word, buried.0);
     let (found, other) = window.exchange_slot(table, number, place, Some(StepKind::Bury), words);
     if found == word {

@@ -22,9 +22,10 @@ use crate::rule::steps::Laying;
 use crate::rule::token::token;
 use crate::rule::trade;
 use crate::rule::trade::{Sight, Trade};
-use crate::table::{Cell, Table};
+use crate::slot::Slot;
+use crate::table::Table;
 use boxcar::Pushed;
-use logbook::Pen;
+use logbook::{Pen, Word};
 use papaya_ask::ask::{At, StepKind};
 use papaya_words::limits::MAX_TABLES;
 use papaya_words::probe::{Refused, limit};
@@ -41,7 +42,7 @@ impl<K: Hash + Eq, V, S: BuildHasher> Book<K, V, S> {
         len: usize,
         seal: &Pen,
         sight: &mut Sight<K, V, S>,
-    ) -> Result<Vec<Cell<K, V, S>>, AllocError>
+    ) -> Result<Vec<Slot<K, V, S>>, AllocError>
         requires book { sight.old.book ≡ self.now.begun.book }
         ensures book { sight.new.book ≡ sight.old.book }
         ensures seen { IsPrefix sight.old.log sight.new.log }
@@ -52,7 +53,8 @@ impl<K: Hash + Eq, V, S: BuildHasher> Book<K, V, S> {
     {
         let mut slots = Vec::with_capacity(alloc, len)?;
         for _ in 0..len {
-            slots.push(self.word(seal, sight))?;
+            let word = self.word(seal, sight);
+            slots.push(Slot::new(word, Word::hint(sight)))?;
         }
         Ok(slots)
     }

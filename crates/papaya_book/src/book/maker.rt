@@ -23,7 +23,7 @@ use crate::rule::steps::{Add, Bring, Call, Come, Laying, Seal};
 use crate::rule::token::tell;
 use crate::rule::trade;
 use crate::rule::trade::{Sight, Trade};
-use crate::table::Cell;
+use crate::slot::Cell;
 use logbook::{Pen, Seen, Word};
 use std::hash::{BuildHasher, Hash};
 

@@ -4,9 +4,8 @@ use logbook::{Gain, Rule};
 use std::hash::{BuildHasher, Hash};
 use std::marker::PhantomData;
 
-/// The rule: the log's exchanges are allowed, the words are those that they leave, and the book
-/// keeps
-/// the tokens of all pairs and tables that came.
+/// The rule: the log's exchanges are allowed, the words are those that they leave, each hint was one
+/// of its slot, and the book keeps the tokens of all pairs and tables that came.
 pub struct Law<K, V, S> {
     of: PhantomData<(K, V, S)>,
 }
@@ -14,6 +13,7 @@ pub struct Law<K, V, S> {
 impl<K: Hash + Eq, V, S: BuildHasher> Rule<Event<K, V, S>, Named<K, V>> for Law<K, V, S> {
     ghost use Rattle.std.specs.Prelude.{[]};
     ghost use Rattle.papaya_book.specs.Hashes.{hash_of};
+    ghost use Rattle.papaya_book.specs.Hinted.{IsHinted};
     ghost use Rattle.papaya_book.specs.Rule.{IsKept};
     ghost use Rattle.papaya_log.specs.Tokens.{stands as pair_stands};
     ghost use Rattle.papaya_book.specs.Tokens.{stands};
@@ -26,7 +26,8 @@ impl<K: Hash + Eq, V, S: BuildHasher> Rule<Event<K, V, S>, Named<K, V>> for Law<
 
     ghost first = { [] };
 
-    ghost hinted = { λ n log. Unit {0} };
+    ghost hinted = { IsHinted K.eq (hash_of K.hash_input S.build_hasher S.Hasher.write
+        S.Hasher.finish) };
 
     ghost shows = { λ log. log };
 

@@ -1,19 +1,20 @@
 use Rattle.std.proofs.Common.{◌≡◌, ℕ, ◌<◌, ◌==◌, Bool, true, Result, Ok, Err, IfOk, None, Some, sym, ap, ◌∙◌, rules, subst}
-use Rattle.papaya_words.specs.Word.{live_word, top_byte}
+use Rattle.papaya_words.specs.Word.{live_word}
 use Rattle.papaya_ask.specs.declared.ask.StepKind.{StepKind}
-use Rattle.papaya_call.specs.Write.{new_word}
 use Rattle.papaya_book.specs.declared.rule.entry.Named.TheVariants as names
 use Rattle.papaya_book.specs.Calls.{IsSlotTried}
 use Rattle.papaya_book.specs.Hashes.{hash_of}
 use Rattle.papaya_book.specs.Parts.{begun_of}
 use Rattle.papaya_book.specs.Windows.{Does}
+use Rattle.papaya_rests.proofs.NewWords.{pair_of-live_word}
+use Rattle.papaya_book.proofs.Loaded.{table_since}
 use Rattle.papaya_book.proofs.Logs.{prefix_trans}
 use Rattle.papaya_lookup.specs.Drivers.{own, past}
 use Rattle.papaya_lookup.specs.History.{Makes, key_of}
 use Rattle.papaya_change.specs.Changes.{IsPut}
 use Rattle.papaya_change.proofs.Doing.{makes}
 use Rattle.papaya_change.proofs.InsertingReplies.{put_since}
-use Rattle.papaya_change.proofs.Seeking.{ending, has_changed_now, put_can, put_changed, put_done, slot_there, word_pair}
+use Rattle.papaya_change.proofs.Seeking.{ending, has_changed_now, put_can, put_changed, put_done, put_hint, slot_there}
 use Rattle.papaya_change.proofs.at_once.write_at.Goals as goal
 
 if_ok : {A E : Type 0} (P Q : A → Type 0) (r : Result A E) → IfOk r P → ((a : A) → P a → Q a) → IfOk r Q
@@ -31,10 +32,28 @@ put_slot-found-requires-clause-can g c =
     let w = c.args.window.now.book.now in let b = begun_of w.parts in let log = c.args.window.now.sight.log in let key = c.args.key in let write = c.args.spot.write in let q = c.in-Ok.pair in
     let key_is : key_of q ≡ key = ap (λ z. z.key.value) c.in-Ok.ensures.ok ∙ ap (λ z. z.value) c.new.ensures.key in
     let hash = hash_of g.K.Hash.hash_input g.S.BuildHasher.build_hasher g.S.Hasher.Hasher.write g.S.Hasher.Hasher.finish in
-    let byte : c.h2.result ≡ top_byte (hash b.hasher key) = c.h2.ensures.value ∙ ap top_byte c.requires.hashed in
-    let word : c.live.result.0 ≡ new_word (hash b.hasher key) q.index = c.live.ensures ∙ (λ i. live_word (byte i) (c.index-2.ensures i)) in
-    let low = subst (λ n. n < 128) byte c.h2.ensures.byte in
-    rw (c.kind.ensures, word) (put_can g.K.PartialEq.eq g.K.Hash.hash_input g.S.BuildHasher.build_hasher g.S.Hasher.Hasher.write g.S.Hasher.Hasher.finish g.met.K.Eq.laws g.met.K.Hash.respects_eq b w.begun.book key c.requires.stands.0 log write c.args.spot.table.now c.requires.stands.1 q key_is c.in-Ok.ensures.placed (word_pair (hash b.hasher key) q.index low))
+    let word : c.live.result.0 ≡ live_word q.index = c.live.ensures ∙ ap live_word c.index-2.ensures in
+    rw (c.kind.ensures, word) (put_can g.K.PartialEq.eq g.K.Hash.hash_input g.S.BuildHasher.build_hasher g.S.Hasher.Hasher.write g.S.Hasher.Hasher.finish g.met.K.Eq.laws g.met.K.Hash.respects_eq b w.begun.book key c.requires.stands.0 log write c.args.spot.table.now c.requires.stands.1 q key_is c.in-Ok.ensures.placed (pair_of-live_word q.index))
+
+pub write_hint-requires : goal.write_hint-requires
+write_hint-requires g c =
+    let w = c.args.window.now.book.now in let b = begun_of w.parts in let log = c.args.window.now.sight.log in let key = c.args.key in let write = c.args.spot.write in let q = c.in-Ok.pair in
+    let key_is : key_of q ≡ key = ap (λ z. z.key.value) c.in-Ok.ensures.ok ∙ ap (λ z. z.value) c.new.ensures.key in
+    let hash = hash_of g.K.Hash.hash_input g.S.BuildHasher.build_hasher g.S.Hasher.Hasher.write g.S.Hasher.Hasher.finish in
+    let word : c.live.result.0 ≡ live_word q.index = c.live.ensures ∙ ap live_word c.index-2.ensures in
+    let value_is : q.value.value ≡ c.args.value = ap (λ z. z.value) c.in-Ok.ensures.ok ∙ c.new.ensures.value in
+    let put = c.put_slot-found in let mid = put.new.self.sight.log in
+    let tried = subst (λ (z : StepKind × ℕ). IsSlotTried g.K.PartialEq.eq hash b w.begun.book write.place.table write.place.probe.i (Some z.0) write.old z.1 (Some q) (names.Pair q) log put.result.0 mid put.result.1) (λ i. (c.kind.ensures i, word i)) put.ensures.tried in
+    let is : (put.result.0 == write.old) ≡ true = search rules in
+    let empty : (write.old == 0) ≡ true = search rules in
+    let begun = c.requires.stands.0 in let r = c.requires.stands.1 in
+    let there = slot_there g.K.PartialEq.eq g.K.Hash.hash_input g.S.BuildHasher.build_hasher g.S.Hasher.Hasher.write g.S.Hasher.Hasher.finish g.met.K.Eq.laws g.met.K.Hash.respects_eq b w.begun.book key begun log write c.args.spot.table.now r q key_is c.in-Ok.ensures.placed in
+    let hint = put_hint g.K.PartialEq.eq g.K.Hash.hash_input g.S.BuildHasher.build_hasher g.S.Hasher.Hasher.write g.S.Hasher.Hasher.finish g.met.K.Eq.laws g.met.K.Hash.respects_eq b w.begun.book key begun log write c.args.spot.table.now r q key_is c.in-Ok.ensures.placed c.args.value value_is mid put.result.0 put.result.1 tried is empty in
+    record {
+      table = table_since log mid write.place.table c.args.spot.table.now put.ensures.sees.log there.0;
+      place = there.1;
+      hint = rw (put.ensures.sees.book, c.hint.ensures, c.requires.hashed) hint;
+    }
 
 pub returns-then-found-old-clause-put : goal.returns-then-found-old-clause-put
 returns-then-found-old-clause-put g c =
@@ -51,8 +70,7 @@ returns-in-Some-clause-put g c = λ begun r.
     let w = c.args.window.now.book.now in let b = begun_of w.parts in let log = c.args.window.now.sight.log in let key = c.args.key in let write = c.args.spot.write in let q = c.in-Ok.pair in
     let key_is : key_of q ≡ key = ap (λ z. z.key.value) c.in-Ok.ensures.ok ∙ ap (λ z. z.value) c.new.ensures.key in
     let hash = hash_of g.K.Hash.hash_input g.S.BuildHasher.build_hasher g.S.Hasher.Hasher.write g.S.Hasher.Hasher.finish in
-    let byte : c.h2.result ≡ top_byte (hash b.hasher key) = c.h2.ensures.value ∙ ap top_byte c.requires.hashed in
-    let word : c.live.result.0 ≡ new_word (hash b.hasher key) q.index = c.live.ensures ∙ (λ i. live_word (byte i) (c.index-2.ensures i)) in
+    let word : c.live.result.0 ≡ live_word q.index = c.live.ensures ∙ ap live_word c.index-2.ensures in
     let value_is : q.value.value ≡ c.args.value = ap (λ z. z.value) c.in-Ok.ensures.ok ∙ c.new.ensures.value in
     let put = c.put_slot-found in
     let tried = subst (λ (z : StepKind × ℕ). IsSlotTried g.K.PartialEq.eq hash b w.begun.book write.place.table write.place.probe.i (Some z.0) write.old z.1 (Some q) (names.Pair q) log put.result.0 put.new.self.sight.log put.result.1) (λ i. (c.kind.ensures i, word i)) put.ensures.tried in
@@ -64,8 +82,7 @@ returns-clause-put g c = λ begun r.
     let w = c.args.window.now.book.now in let b = begun_of w.parts in let log = c.args.window.now.sight.log in let key = c.args.key in let write = c.args.spot.write in let q = c.in-Ok.pair in
     let key_is : key_of q ≡ key = ap (λ z. z.key.value) c.in-Ok.ensures.ok ∙ ap (λ z. z.value) c.new.ensures.key in
     let hash = hash_of g.K.Hash.hash_input g.S.BuildHasher.build_hasher g.S.Hasher.Hasher.write g.S.Hasher.Hasher.finish in
-    let byte : c.h2.result ≡ top_byte (hash b.hasher key) = c.h2.ensures.value ∙ ap top_byte c.requires.hashed in
-    let word : c.live.result.0 ≡ new_word (hash b.hasher key) q.index = c.live.ensures ∙ (λ i. live_word (byte i) (c.index-2.ensures i)) in
+    let word : c.live.result.0 ≡ live_word q.index = c.live.ensures ∙ ap live_word c.index-2.ensures in
     let value_is : q.value.value ≡ c.args.value = ap (λ z. z.value) c.in-Ok.ensures.ok ∙ c.new.ensures.value in
     let put = c.put_slot-found in
     let tried = subst (λ (z : StepKind × ℕ). IsSlotTried g.K.PartialEq.eq hash b w.begun.book write.place.table write.place.probe.i (Some z.0) write.old z.1 (Some q) (names.Pair q) log put.result.0 put.new.self.sight.log put.result.1) (λ i. (c.kind.ensures i, word i)) put.ensures.tried in
@@ -77,8 +94,7 @@ returns-in-Some-clause-made g c =
     let w = c.args.window.now.book.now in let b = begun_of w.parts in let log = c.args.window.now.sight.log in let key = c.args.key in let write = c.args.spot.write in let q = c.in-Ok.pair in
     let key_is : key_of q ≡ key = ap (λ z. z.key.value) c.in-Ok.ensures.ok ∙ ap (λ z. z.value) c.new.ensures.key in
     let hash = hash_of g.K.Hash.hash_input g.S.BuildHasher.build_hasher g.S.Hasher.Hasher.write g.S.Hasher.Hasher.finish in
-    let byte : c.h2.result ≡ top_byte (hash b.hasher key) = c.h2.ensures.value ∙ ap top_byte c.requires.hashed in
-    let word : c.live.result.0 ≡ new_word (hash b.hasher key) q.index = c.live.ensures ∙ (λ i. live_word (byte i) (c.index-2.ensures i)) in
+    let word : c.live.result.0 ≡ live_word q.index = c.live.ensures ∙ ap live_word c.index-2.ensures in
     let value_is : q.value.value ≡ c.args.value = ap (λ z. z.value) c.in-Ok.ensures.ok ∙ c.new.ensures.value in
     let put = c.put_slot-found in
     let tried = subst (λ (z : StepKind × ℕ). IsSlotTried g.K.PartialEq.eq hash b w.begun.book write.place.table write.place.probe.i (Some z.0) write.old z.1 (Some q) (names.Pair q) log put.result.0 put.new.self.sight.log put.result.1) (λ i. (c.kind.ensures i, word i)) put.ensures.tried in
@@ -94,8 +110,7 @@ returns-clause-made g c =
     let w = c.args.window.now.book.now in let b = begun_of w.parts in let log = c.args.window.now.sight.log in let key = c.args.key in let write = c.args.spot.write in let q = c.in-Ok.pair in
     let key_is : key_of q ≡ key = ap (λ z. z.key.value) c.in-Ok.ensures.ok ∙ ap (λ z. z.value) c.new.ensures.key in
     let hash = hash_of g.K.Hash.hash_input g.S.BuildHasher.build_hasher g.S.Hasher.Hasher.write g.S.Hasher.Hasher.finish in
-    let byte : c.h2.result ≡ top_byte (hash b.hasher key) = c.h2.ensures.value ∙ ap top_byte c.requires.hashed in
-    let word : c.live.result.0 ≡ new_word (hash b.hasher key) q.index = c.live.ensures ∙ (λ i. live_word (byte i) (c.index-2.ensures i)) in
+    let word : c.live.result.0 ≡ live_word q.index = c.live.ensures ∙ ap live_word c.index-2.ensures in
     let value_is : q.value.value ≡ c.args.value = ap (λ z. z.value) c.in-Ok.ensures.ok ∙ c.new.ensures.value in
     let put = c.put_slot-found in
     let tried = subst (λ (z : StepKind × ℕ). IsSlotTried g.K.PartialEq.eq hash b w.begun.book write.place.table write.place.probe.i (Some z.0) write.old z.1 (Some q) (names.Pair q) log put.result.0 put.new.self.sight.log put.result.1) (λ i. (c.kind.ensures i, word i)) put.ensures.tried in

@@ -1,4 +1,4 @@
-use Rattle.std.proofs.Common.{◌≡◌, ℕ, ◌==◌, Bool, true, false, Some, None, [], append-nil, refl, sym, ◌∙◌, rules, subst}
+use Rattle.std.proofs.Common.{◌≡◌, ℕ, ◌==◌, Bool, true, false, Some, None, [], append-nil, refl, sym, ap, ◌∙◌, rules, subst}
 use Rattle.papaya_words.specs.Word.{buried_word, kind_of}
 use Rattle.papaya_words.specs.declared.word.Kind.TheVariants.{Live}
 use Rattle.papaya_ask.specs.declared.ask.StepKind.TheVariants as steps
@@ -48,7 +48,7 @@ exchange_slot-found-requires-clause-can g c =
     let live : kind_of met.word ≡ Live = search rules in
     let said : c.agrees.result ≡ true = search rules in
     let judged : Judges g.F.FnMut c.args.agrees.now met.stored true c.agrees.new.self = subst (λ (z : Bool). Judges g.F.FnMut c.args.agrees.now met.stored z c.agrees.new.self) said (hit.key, hit.value, (h.2.1, h.2.2), c.agrees.ensures) in
-    let word : c.buried-grave.result.0 ≡ grave_word met.word = c.buried-grave.ensures ∙ (λ i. buried_word (c.hash_byte.ensures i) (c.pair.ensures i)) in
+    let word : c.buried-grave.result.0 ≡ grave_word met.word = c.buried-grave.ensures ∙ ap buried_word c.pair.ensures in
     rw word (hit_can g.K.PartialEq.eq g.K.Hash.hash_input g.S.BuildHasher.build_hasher g.S.Hasher.Hasher.write g.S.Hasher.Hasher.finish g.met.K.Eq.laws g.met.K.Hash.respects_eq b w.begun.book (g.Q.Equivalent.matches c.args.key.now) (g.Q.Hash.hash_input c.args.key.now) lawful (Judges g.F.FnMut) c.args.agrees.now h.0 log h.2.0 w.chunked hit.table met h.2.3 live c.agrees.new.self judged)
 
 pub returns-then-found-word-clause-removed : goal.returns-then-found-word-clause-removed
@@ -71,7 +71,7 @@ returns-clause-made g c =
     let live : kind_of met.word ≡ Live = search rules in
     let said : c.agrees.result ≡ true = search rules in
     let judged : Judges g.F.FnMut c.args.agrees.now met.stored true c.agrees.new.self = subst (λ (z : Bool). Judges g.F.FnMut c.args.agrees.now met.stored z c.agrees.new.self) said (hit.key, hit.value, (h.2.1, h.2.2), c.agrees.ensures) in
-    let word : c.buried-grave.result.0 ≡ grave_word met.word = c.buried-grave.ensures ∙ (λ i. buried_word (c.hash_byte.ensures i) (c.pair.ensures i)) in
+    let word : c.buried-grave.result.0 ≡ grave_word met.word = c.buried-grave.ensures ∙ ap buried_word c.pair.ensures in
     let put = c.exchange_slot-found in let log' = put.new.self.sight.log in
     let hash = hash_of g.K.Hash.hash_input g.S.BuildHasher.build_hasher g.S.Hasher.Hasher.write g.S.Hasher.Hasher.finish in
     let tried = subst (λ (n : ℕ). IsSlotTried g.K.PartialEq.eq hash b w.begun.book met.place.table met.place.probe.i (Some steps.Bury) met.word n None names.Nothing log put.result.0 log' put.result.1) word put.ensures.tried in
@@ -87,7 +87,7 @@ returns-clause-removed g c =
     let live : kind_of met.word ≡ Live = search rules in
     let said : c.agrees.result ≡ true = search rules in
     let judged : Judges g.F.FnMut c.args.agrees.now met.stored true c.agrees.new.self = subst (λ (z : Bool). Judges g.F.FnMut c.args.agrees.now met.stored z c.agrees.new.self) said (hit.key, hit.value, (h.2.1, h.2.2), c.agrees.ensures) in
-    let word : c.buried-grave.result.0 ≡ grave_word met.word = c.buried-grave.ensures ∙ (λ i. buried_word (c.hash_byte.ensures i) (c.pair.ensures i)) in
+    let word : c.buried-grave.result.0 ≡ grave_word met.word = c.buried-grave.ensures ∙ ap buried_word c.pair.ensures in
     let put = c.exchange_slot-found in let log' = put.new.self.sight.log in
     let hash = hash_of g.K.Hash.hash_input g.S.BuildHasher.build_hasher g.S.Hasher.Hasher.write g.S.Hasher.Hasher.finish in
     let tried = subst (λ (n : ℕ). IsSlotTried g.K.PartialEq.eq hash b w.begun.book met.place.table met.place.probe.i (Some steps.Bury) met.word n None names.Nothing log put.result.0 log' put.result.1) word put.ensures.tried in

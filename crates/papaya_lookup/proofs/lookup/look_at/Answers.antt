@@ -1,64 +1,48 @@
-use Rattle.std.proofs.Common.{◌≡◌, ℕ, ap, ◌∙◌, rules, subst}
+use Rattle.std.proofs.Common.{◌≡◌, ℕ, ◌<◌, ◌∙◌, rules, arith, subst}
 use Rattle.papaya_ask.specs.declared.search.Place.{Place}
-use Rattle.papaya_ask.specs.declared.search.Search.TheVariants.{Comparing}
-use Rattle.papaya_ask.specs.declared.search.Seen.TheVariants.{Here, On}
-use Rattle.papaya_ask.specs.Search.{IsSeen, at_yes, look}
+use Rattle.papaya_ask.specs.declared.search.Search.TheVariants.{Reading}
+use Rattle.papaya_ask.specs.declared.search.Seen.TheVariants.{On}
+use Rattle.papaya_ask.specs.Search.{IsSeen, hinted}
+use Rattle.papaya_call.specs.declared.machine.State.TheVariants.{Searching}
 use Rattle.papaya_book.specs.Logs.{exchanges_of}
 use Rattle.papaya_book.specs.Parts.{begun_of}
+use Rattle.papaya_book.proofs.Windows.{sees_trans}
+use Rattle.papaya_lookup.specs.Lookups.{led_to, left_of}
 use Rattle.papaya_lookup.proofs.Readings.{IsQuery}
-use Rattle.papaya_lookup.proofs.Turning.{other_pair, pair_found, pair_told, passed, place_there}
+use Rattle.papaya_lookup.proofs.Turning.{hint_passed, hint_there, word_next}
 use Rattle.papaya_lookup.proofs.lookup.look_at.Goals.{in_default-via-in-On+in_default, in_default-via-in_default}
 use Rattle.papaya_lookup.proofs.lookup.look_at.Goals as goal
 
-pub slot_word-word-requires-clause-place : goal.slot_word-word-requires-clause-place
-slot_word-word-requires-clause-place g c =
+pub hint-hint-requires-clause-place : goal.hint-hint-requires-clause-place
+hint-hint-requires-clause-place g c =
     let lawful : IsQuery g.K.PartialEq.eq g.K.Hash.hash_input (g.Q.Equivalent.matches c.args.key.now) (g.Q.Hash.hash_input c.args.key.now) =
     record { feeds = g.met.Q.Equivalent.hashes_as_key c.args.key.now; class = λ k l. g.met.Q.Equivalent.matches_equal_keys c.args.key.now k l } in
     let w = c.args.window.now.book.now in
-    (place_there g.K.PartialEq.eq g.K.Hash.hash_input g.S.BuildHasher.build_hasher g.S.Hasher.Hasher.write g.S.Hasher.Hasher.finish g.met.K.Eq.laws g.met.K.Hash.respects_eq (begun_of w.parts) (g.Q.Equivalent.matches c.args.key.now) (g.Q.Hash.hash_input c.args.key.now) lawful (exchanges_of c.args.began.now.log) c.args.hash w.begun.book c.args.window.now.sight.log c.args.at c.requires.within c.args.table.now c.requires.reading).1
+    (hint_there g.K.PartialEq.eq g.K.Hash.hash_input g.S.BuildHasher.build_hasher g.S.Hasher.Hasher.write g.S.Hasher.Hasher.finish g.met.K.Eq.laws g.met.K.Hash.respects_eq (begun_of w.parts) (g.Q.Equivalent.matches c.args.key.now) (g.Q.Hash.hash_input c.args.key.now) lawful (exchanges_of c.args.began.now.log) c.args.hash w.begun.book c.args.window.now.sight.log c.args.at c.requires.within c.args.table.now c.requires.reading).1
 
-pub named_pair-stored-requires : goal.named_pair-stored-requires
-named_pair-stored-requires g c =
+pub read_at-requires-clause-reading : goal.read_at-requires-clause-reading
+read_at-requires-clause-reading g c =
     let lawful : IsQuery g.K.PartialEq.eq g.K.Hash.hash_input (g.Q.Equivalent.matches c.args.key.now) (g.Q.Hash.hash_input c.args.key.now) =
     record { feeds = g.met.Q.Equivalent.hashes_as_key c.args.key.now; class = λ k l. g.met.Q.Equivalent.matches_equal_keys c.args.key.now k l } in
-    let w = c.args.window.now.book.now in let s = c.slot_word-word in
-    let looks : look c.args.at c.args.hash s.result.0 ≡ On (Comparing c.in-On-Comparing.field-0-0 c.in-On-Comparing.field-0-1) = search rules in
-    pair_told g.K.PartialEq.eq g.K.Hash.hash_input g.S.BuildHasher.build_hasher g.S.Hasher.Hasher.write g.S.Hasher.Hasher.finish g.met.K.Eq.laws g.met.K.Hash.respects_eq (begun_of w.parts) (g.Q.Equivalent.matches c.args.key.now) (g.Q.Hash.hash_input c.args.key.now) lawful (exchanges_of c.args.began.now.log) c.args.hash w.begun.book c.args.window.now.sight.log c.args.at c.requires.within c.args.table.now c.requires.reading
-    s.new.self.sight.log s.ensures.sees.log s.result.0 s.result.1.state s.ensures.slot c.in-On-Comparing.field-0-0 c.in-On-Comparing.field-0-1 looks
+    let w = c.args.window.now.book.now in let h = c.hint-hint in
+    let reads : hinted c.args.at c.args.hash h.result ≡ On (Reading c.in-On-Reading.field-0-0) = search rules in
+    rw h.ensures.sees.book
+    (word_next g.K.PartialEq.eq g.K.Hash.hash_input g.S.BuildHasher.build_hasher g.S.Hasher.Hasher.write g.S.Hasher.Hasher.finish g.met.K.Eq.laws g.met.K.Hash.respects_eq (begun_of w.parts) (g.Q.Equivalent.matches c.args.key.now) (g.Q.Hash.hash_input c.args.key.now) lawful (exchanges_of c.args.began.now.log) c.args.hash w.begun.book c.args.window.now.sight.log c.args.at c.requires.within c.args.table.now c.requires.reading
+    h.new.self.sight.log h.ensures.sees.log h.result h.ensures.hint c.in-On-Reading.field-0-0 reads)
 
-pub returns-in-Here-clause-turned : goal.returns-in-Here-clause-turned
-returns-in-Here-clause-turned g c =
-    let lawful : IsQuery g.K.PartialEq.eq g.K.Hash.hash_input (g.Q.Equivalent.matches c.args.key.now) (g.Q.Hash.hash_input c.args.key.now) =
-    record { feeds = g.met.Q.Equivalent.hashes_as_key c.args.key.now; class = λ k l. g.met.Q.Equivalent.matches_equal_keys c.args.key.now k l } in
-    let w = c.args.window.now.book.now in let s = c.slot_word-word in
-    let looks : look c.args.at c.args.hash s.result.0 ≡ On (Comparing c.in-On-Comparing.field-0-0 c.in-On-Comparing.field-0-1) = search rules in
-    let same = c.equivalent-same.ensures ∙ ap (g.Q.Equivalent.matches c.args.key.now) (c.key-stored_key.ensures ∙ ap (λ z. z.key.value) c.pair-pair.ensures) in
-    let here : at_yes (Comparing c.args.at s.result.0) c.equivalent-same.result ≡ Here c.in-Here.field-0 c.in-Here.field-1 = search rules in
-    let key = c.key-stored_key.ensures ∙ ap (λ z. z.key.value) c.pair-pair.ensures in
-    let value = c.value.ensures ∙ ap (λ z. z.value) c.pair-pair.ensures in
-    rw s.ensures.sees.book (pair_found g.K.PartialEq.eq g.K.Hash.hash_input g.S.BuildHasher.build_hasher g.S.Hasher.Hasher.write g.S.Hasher.Hasher.finish g.met.K.Eq.laws g.met.K.Hash.respects_eq (begun_of w.parts) (g.Q.Equivalent.matches c.args.key.now) (g.Q.Hash.hash_input c.args.key.now) lawful (exchanges_of c.args.began.now.log) c.args.hash w.begun.book c.args.window.now.sight.log c.args.at c.requires.within c.args.table.now c.requires.reading
-    s.new.self.sight.log s.ensures.sees.log s.result.0 s.result.1.state s.ensures.slot c.in-On-Comparing.field-0-0 c.in-On-Comparing.field-0-1 looks c.named_pair-stored.result c.named_pair-stored.ensures c.equivalent-same.result same c.in-Here.field-0 c.in-Here.field-1 here _ key value)
-
-pub returns-in-On-Comparing : goal.returns-in-On-Comparing
-returns-in-On-Comparing g c =
-    let lawful : IsQuery g.K.PartialEq.eq g.K.Hash.hash_input (g.Q.Equivalent.matches c.args.key.now) (g.Q.Hash.hash_input c.args.key.now) =
-    record { feeds = g.met.Q.Equivalent.hashes_as_key c.args.key.now; class = λ k l. g.met.Q.Equivalent.matches_equal_keys c.args.key.now k l } in
-    let w = c.args.window.now.book.now in let s = c.slot_word-word in
-    let looks : look c.args.at c.args.hash s.result.0 ≡ On (Comparing c.in-On-Comparing.field-0-0 c.in-On-Comparing.field-0-1) = search rules in
-    let same = c.equivalent-same.ensures ∙ ap (g.Q.Equivalent.matches c.args.key.now) (c.key-stored_key.ensures ∙ ap (λ z. z.key.value) c.pair-pair.ensures) in
-    let none : (a : Place) (n : ℕ) → at_yes (Comparing c.args.at s.result.0) c.equivalent-same.result ≡ Here a n → ⊥ = λ a n e. c.in_default-compared.not-Here a n (c.at_yes-compared.ensures.value ∙ e) in
-    let seen : IsSeen (at_yes (Comparing c.args.at s.result.0) c.equivalent-same.result) = subst IsSeen c.at_yes-compared.ensures.value c.at_yes-compared.ensures.seen in
-    let all = other_pair g.K.PartialEq.eq g.K.Hash.hash_input g.S.BuildHasher.build_hasher g.S.Hasher.Hasher.write g.S.Hasher.Hasher.finish g.met.K.Eq.laws g.met.K.Hash.respects_eq (begun_of w.parts) (g.Q.Equivalent.matches c.args.key.now) (g.Q.Hash.hash_input c.args.key.now) lawful (exchanges_of c.args.began.now.log) c.args.hash w.begun.book c.args.window.now.sight.log c.args.at c.requires.within c.args.table.now c.requires.reading
-    s.new.self.sight.log s.ensures.sees.log s.result.0 s.result.1.state s.ensures.slot c.in-On-Comparing.field-0-0 c.in-On-Comparing.field-0-1 looks c.named_pair-stored.result c.named_pair-stored.ensures c.equivalent-same.result same seen none in
-    record { sees = s.ensures.sees; own = s.ensures.own; turned = rw (s.ensures.sees.book, c.without.ensures, c.at_yes-compared.ensures.value) all.0; fewer = rw (c.without.ensures, c.at_yes-compared.ensures.value) all.1 }
+pub returns-in-On-Reading : goal.returns-in-On-Reading
+returns-in-On-Reading g c =
+    let h = c.hint-hint in let r = c.read_at in
+    let less = subst (λ (z : _). left_of (led_to z.now.parts.mode 0 r.result) < left_of (Searching (Reading c.args.at))) h.ensures.sees.book r.ensures.fewer in
+    record { sees = sees_trans _ _ _ h.ensures.sees r.ensures.sees; own = r.ensures.own ∙ h.ensures.own; turned = r.ensures.turned; fewer = omega (arith, less) }
 
 pub returns-clause-turned : goal.returns-clause-turned
 returns-clause-turned g c =
     let lawful : IsQuery g.K.PartialEq.eq g.K.Hash.hash_input (g.Q.Equivalent.matches c.args.key.now) (g.Q.Hash.hash_input c.args.key.now) =
     record { feeds = g.met.Q.Equivalent.hashes_as_key c.args.key.now; class = λ k l. g.met.Q.Equivalent.matches_equal_keys c.args.key.now k l } in
-    let w = c.args.window.now.book.now in let s = c.slot_word-word in
-    let none : (a : Place) (n : ℕ) → look c.args.at c.args.hash s.result.0 ≡ On (Comparing a n) → ⊥ = λ a n e. elim c.in_default.branch [ in_default-via-in-On+in_default x ↦ search rules | in_default-via-in_default x ↦ search rules ] in
-    let seen : IsSeen (look c.args.at c.args.hash s.result.0) = subst IsSeen c.look-seen.ensures.value c.look-seen.ensures.seen in
-    let all = passed g.K.PartialEq.eq g.K.Hash.hash_input g.S.BuildHasher.build_hasher g.S.Hasher.Hasher.write g.S.Hasher.Hasher.finish g.met.K.Eq.laws g.met.K.Hash.respects_eq (begun_of w.parts) (g.Q.Equivalent.matches c.args.key.now) (g.Q.Hash.hash_input c.args.key.now) lawful (exchanges_of c.args.began.now.log) c.args.hash w.begun.book c.args.window.now.sight.log c.args.at c.requires.within c.args.table.now c.requires.reading
-    s.new.self.sight.log s.ensures.sees.log s.result.0 s.result.1.state s.ensures.slot seen none in
-    rw (s.ensures.sees.book, c.without-in_default.ensures, c.look-seen.ensures.value) all.0
+    let w = c.args.window.now.book.now in let h = c.hint-hint in
+    let none : (a : Place) → hinted c.args.at c.args.hash h.result ≡ On (Reading a) → ⊥ = λ a e. elim c.in_default.branch [ in_default-via-in-On+in_default x ↦ search rules | in_default-via-in_default x ↦ search rules ] in
+    let seen : IsSeen (hinted c.args.at c.args.hash h.result) = subst IsSeen c.hinted-seen.ensures.value c.hinted-seen.ensures.seen in
+    rw (h.ensures.sees.book, c.without.ensures, c.hinted-seen.ensures.value)
+    (hint_passed g.K.PartialEq.eq g.K.Hash.hash_input g.S.BuildHasher.build_hasher g.S.Hasher.Hasher.write g.S.Hasher.Hasher.finish g.met.K.Eq.laws g.met.K.Hash.respects_eq (begun_of w.parts) (g.Q.Equivalent.matches c.args.key.now) (g.Q.Hash.hash_input c.args.key.now) lawful (exchanges_of c.args.began.now.log) c.args.hash w.begun.book c.args.window.now.sight.log c.args.at c.requires.within c.args.table.now c.requires.reading
+    h.new.self.sight.log h.ensures.sees.log h.result h.ensures.hint seen none).0

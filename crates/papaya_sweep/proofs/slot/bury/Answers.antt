@@ -9,7 +9,7 @@ use Rattle.papaya_sweep.proofs.slot.bury.Goals as goal
 
 pub exchange_slot-found-requires-clause-can : goal.exchange_slot-found-requires-clause-can
 exchange_slot-found-requires-clause-can g c =
-    rw (c.buried-buried.ensures, c.hash_byte.ensures, c.pair.ensures)
+    rw (c.buried-buried.ensures, c.pair.ensures)
     (can_bury g.K.PartialEq.eq g.K.Hash.hash_input g.S.BuildHasher.build_hasher g.S.Hasher.Hasher.write g.S.Hasher.Hasher.finish g.met.K.Eq.laws g.met.K.Hash.respects_eq (begun_of c.args.window.now.book.now.parts) c.args.began.now.log c.args.window.now.sight.log c.args.number c.requires.taken c.args.place c.args.word c.requires.live)
 
 pub returns-clause-buried : goal.returns-clause-buried

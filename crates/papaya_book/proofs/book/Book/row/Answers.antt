@@ -9,9 +9,9 @@ use Rattle.papaya_book.proofs.book.Book.row.Goals as goal
 
 pub loop-preserved : goal.loop-preserved
 loop-preserved g c =
-    let i = c.loop.invariant in let w = c.word.ensures in let b = c.args.self.now.begun.book in
-    let v = c.loop.sight.log in let log = c.word.new.sight.log in let old = c.loop.slots.items in let word = c.word.result in
-    let items : c.push.new.self.items ≡ old ++ word ∷ [] = c.in_ok-push.ensures.items in
+    let i = c.loop.invariant in let w = c.word-word.ensures in let b = c.args.self.now.begun.book in
+    let v = c.loop.sight.log in let log = c.word-word.new.sight.log in let old = c.loop.slots.items in let word = c.word-word.result in
+    let items : c.push.new.self.items ≡ old ++ word ∷ [] = c.in_ok-push.ensures.items ∙ ap (λ (x : Named). old ++ x ∷ []) c.new.ensures in
     let keys : map (λ (w : Named). w.key) c.push.new.self.items ≡ map (λ (w : Named). w.key) old ++ word.key ∷ [] = ap (map (λ (w : Named). w.key)) items ∙ map-append (λ (w : Named). w.key) old (word ∷ []) in record {
       count = ap (λ (l : List Named). length l) items ∙ (length-append old (word ∷ []) ∙ ap (λ (n : ℕ). n + 1) i.count);
       book = w.book ∙ i.book;

@@ -1,6 +1,6 @@
 use Rattle.std.proofs.Common.{◌≡◌, ℕ, Some, refl, sym, ◌∙◌, rules}
 use Rattle.papaya_ask.specs.declared.ask.Answer.TheVariants.{Ok}
-use Rattle.papaya_ask.specs.declared.ask.Ask.TheVariants.{AddToShard, Exchange, Load, MakeKey, MakePair, MakeTable, SameKey, SizeOf}
+use Rattle.papaya_ask.specs.declared.ask.Ask.TheVariants.{AddToShard, Exchange, Load, LoadHint, MakeKey, MakePair, MakeTable, SameKey, SizeOf, WriteHint}
 use Rattle.papaya_ask.specs.declared.ask.At.TheVariants.{Root}
 use Rattle.papaya_chain.specs.Machine.{ask_of}
 use Rattle.papaya_chain.specs.declared.ask.Ask.TheVariants.{Call}
@@ -14,6 +14,12 @@ use Rattle.papaya_change.proofs.insertion.Insertion.answer.Goals as goal
 
 pub returns-in-Load-clause-inserts : goal.returns-in-Load-clause-inserts
 returns-in-Load-clause-inserts g c = λ key value begun r. let asks : ask_of c.args.self.now.writer.call.machine ≡ Call (Load c.in-Load.at) = search rules in let on = c.load.ensures in goes_on g.K.PartialEq.eq g.K.Hash.hash_input g.S.BuildHasher.build_hasher g.S.Hasher.Hasher.write g.S.Hasher.Hasher.finish g.met.K.Eq.laws g.met.K.Hash.respects_eq (begun_of c.args.window.now.book.now.parts) c.args.window.now.book.now.begun.book key value begun c.args.window.now.sight.log c.args.self.now r c.load.new.window.sight.log c.load.new.self c.load.result on.machine on.value on.put c.requires.standing c.requires.calling (λ reply h. let f = sym asks ∙ h in cc f) on.unsaid (on.writes key (made_list c.args.self.now.made) begun r.writing)
+
+pub returns-in-LoadHint-clause-inserts : goal.returns-in-LoadHint-clause-inserts
+returns-in-LoadHint-clause-inserts g c = λ key value begun r. let asks : ask_of c.args.self.now.writer.call.machine ≡ Call (LoadHint c.in-LoadHint.number c.in-LoadHint.place) = search rules in goes_on g.K.PartialEq.eq g.K.Hash.hash_input g.S.BuildHasher.build_hasher g.S.Hasher.Hasher.write g.S.Hasher.Hasher.finish g.met.K.Eq.laws g.met.K.Hash.respects_eq (begun_of c.args.window.now.book.now.parts) c.args.window.now.book.now.begun.book key value begun c.args.window.now.sight.log c.args.self.now r c.hint.new.window.sight.log c.args.self.now.writer c.hint.result refl refl refl c.requires.standing c.requires.calling (λ reply h. let f = sym asks ∙ h in cc f) c.hint.ensures.unsaid (c.hint.ensures.writes key (made_list c.args.self.now.made) begun r.writing)
+
+pub returns-in-WriteHint-clause-inserts : goal.returns-in-WriteHint-clause-inserts
+returns-in-WriteHint-clause-inserts g c = λ key value begun r. let asks : ask_of c.args.self.now.writer.call.machine ≡ Call (WriteHint c.in-WriteHint.number c.in-WriteHint.place c.in-WriteHint.hint) = search rules in goes_on g.K.PartialEq.eq g.K.Hash.hash_input g.S.BuildHasher.build_hasher g.S.Hasher.Hasher.write g.S.Hasher.Hasher.finish g.met.K.Eq.laws g.met.K.Hash.respects_eq (begun_of c.args.window.now.book.now.parts) c.args.window.now.book.now.begun.book key value begun c.args.window.now.sight.log c.args.self.now r c.args.window.now.sight.log c.args.self.now.writer c.note.result refl refl refl c.requires.standing c.requires.calling (λ reply h. let f = sym asks ∙ h in cc f) c.note.ensures.unsaid (c.note.ensures.writes key (made_list c.args.self.now.made) begun r.writing)
 
 pub returns-in-SizeOf-clause-inserts : goal.returns-in-SizeOf-clause-inserts
 returns-in-SizeOf-clause-inserts g c = λ key value begun r. let some : (n : ℕ) × (ask_of c.args.self.now.writer.call.machine ≡ Call (SizeOf n)) = search rules in let asks = some.1 in goes_on g.K.PartialEq.eq g.K.Hash.hash_input g.S.BuildHasher.build_hasher g.S.Hasher.Hasher.write g.S.Hasher.Hasher.finish g.met.K.Eq.laws g.met.K.Hash.respects_eq (begun_of c.args.window.now.book.now.parts) c.args.window.now.book.now.begun.book key value begun c.args.window.now.sight.log c.args.self.now r c.args.window.now.sight.log c.args.self.now.writer c.size.result refl refl refl c.requires.standing c.requires.calling (λ reply h. let f = sym asks ∙ h in cc f) c.size.ensures.unsaid (c.size.ensures.writes key (made_list c.args.self.now.made) begun r.writing)
@@ -35,6 +41,12 @@ returns-in-AddToShard-clause-inserts g c = λ key value begun r. let asks : ask_
 
 pub returns-in-Load-clause-answers : goal.returns-in-Load-clause-answers
 returns-in-Load-clause-answers g c = let asks : ask_of c.args.self.now.writer.call.machine ≡ Call (Load c.in-Load.at) = search rules in idle (Load c.in-Load.at) _ (sym (call_asks c.args.self.now.writer.call.machine _ asks).1) tt (Some c.load.result) c.args.window.now c.load.new.window c.load.ensures.own
+
+pub returns-in-LoadHint-clause-answers : goal.returns-in-LoadHint-clause-answers
+returns-in-LoadHint-clause-answers g c = let asks : ask_of c.args.self.now.writer.call.machine ≡ Call (LoadHint c.in-LoadHint.number c.in-LoadHint.place) = search rules in idle (LoadHint c.in-LoadHint.number c.in-LoadHint.place) _ (sym (call_asks c.args.self.now.writer.call.machine _ asks).1) tt (Some c.hint.result) c.args.window.now c.hint.new.window c.hint.ensures.own
+
+pub returns-in-WriteHint-clause-answers : goal.returns-in-WriteHint-clause-answers
+returns-in-WriteHint-clause-answers g c = let asks : ask_of c.args.self.now.writer.call.machine ≡ Call (WriteHint c.in-WriteHint.number c.in-WriteHint.place c.in-WriteHint.hint) = search rules in left_alone (WriteHint c.in-WriteHint.number c.in-WriteHint.place c.in-WriteHint.hint) tt _ (sym (call_asks c.args.self.now.writer.call.machine _ asks).1) (Some c.note.result) c.args.window.now
 
 pub returns-in-SizeOf-clause-answers : goal.returns-in-SizeOf-clause-answers
 returns-in-SizeOf-clause-answers g c = let some : (n : ℕ) × (ask_of c.args.self.now.writer.call.machine ≡ Call (SizeOf n)) = search rules in let asks = some.1 in idle (SizeOf some.0) _ (sym (call_asks c.args.self.now.writer.call.machine _ asks).1) tt (Some c.size.result) c.args.window.now c.args.window.now refl

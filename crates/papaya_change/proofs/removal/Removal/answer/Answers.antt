@@ -4,7 +4,7 @@ use Rattle.papaya_chain.specs.declared.ask.Ask.TheVariants.{Call}
 use Rattle.papaya_chain_rests.proofs.Names.{call_asks}
 use Rattle.papaya_ask.specs.declared.ask.Answer.{Answer}
 use Rattle.papaya_ask.specs.declared.ask.Answer.TheVariants.{Ok, Word}
-use Rattle.papaya_ask.specs.declared.ask.Ask.TheVariants.{AddToShard, Exchange, Load, SameKey, ShowPair, SizeOf}
+use Rattle.papaya_ask.specs.declared.ask.Ask.TheVariants.{AddToShard, Exchange, Load, LoadHint, SameKey, ShowPair, SizeOf}
 use Rattle.papaya_ask.specs.declared.ask.At.TheVariants.{Slot}
 use Rattle.papaya_book.specs.Hashes.{hash_of}
 use Rattle.papaya_book.specs.Logs.{Stored}
@@ -15,7 +15,7 @@ use Rattle.papaya_change.specs.Showings.{Judges}
 use Rattle.papaya_lookup.specs.History.{key_of}
 use Rattle.papaya_lookup.proofs.Readings.{IsQuery}
 use Rattle.papaya_change.proofs.Doing.{idle, left_alone}
-use Rattle.papaya_change.proofs.Removing.{bury_can, bury_held, bury_on, compared_last, compared_on, counted_on, load_held, loaded_as, shown_last, shown_on, size_held, sized_on}
+use Rattle.papaya_change.proofs.Removing.{bury_can, bury_held, bury_on, compared_last, compared_on, counted_on, hint_held, hinted_on, load_held, loaded_as, shown_last, shown_on, size_held, sized_on}
 use Rattle.papaya_change.proofs.removal.Removal.answer.Goals as goal
 
 pub load-requires : goal.load-requires
@@ -23,6 +23,12 @@ load-requires g c =
     let lawful : IsQuery g.K.PartialEq.eq g.K.Hash.hash_input (g.Q.Equivalent.matches c.args.key.now) (g.Q.Hash.hash_input c.args.key.now) = record { feeds = g.met.Q.Equivalent.hashes_as_key c.args.key.now; class = λ k l. g.met.Q.Equivalent.matches_equal_keys c.args.key.now k l } in
     let asks : ask_of c.args.self.now.call.machine ≡ Call (Load c.in-Load.at) = search rules in
     record { held = load_held g.K.PartialEq.eq g.K.Hash.hash_input g.S.BuildHasher.build_hasher g.S.Hasher.Hasher.write g.S.Hasher.Hasher.finish g.met.K.Eq.laws g.met.K.Hash.respects_eq (begun_of c.args.window.now.book.now.parts) c.args.window.now.book.now.begun.book (g.Q.Equivalent.matches c.args.key.now) (g.Q.Hash.hash_input c.args.key.now) lawful (Judges g.F.FnMut) c.requires.can.0 c.requires.can.1 c.args.window.now.sight.log c.args.self.now c.args.agrees.now c.requires.can.2 c.requires.standing c.in-Load.at asks }
+
+pub hint-requires : goal.hint-requires
+hint-requires g c =
+    let lawful : IsQuery g.K.PartialEq.eq g.K.Hash.hash_input (g.Q.Equivalent.matches c.args.key.now) (g.Q.Hash.hash_input c.args.key.now) = record { feeds = g.met.Q.Equivalent.hashes_as_key c.args.key.now; class = λ k l. g.met.Q.Equivalent.matches_equal_keys c.args.key.now k l } in
+    let asks : ask_of c.args.self.now.call.machine ≡ Call (LoadHint c.in-LoadHint.number c.in-LoadHint.place) = search rules in
+    hint_held g.K.PartialEq.eq g.K.Hash.hash_input g.S.BuildHasher.build_hasher g.S.Hasher.Hasher.write g.S.Hasher.Hasher.finish g.met.K.Eq.laws g.met.K.Hash.respects_eq (begun_of c.args.window.now.book.now.parts) c.args.window.now.book.now.begun.book (g.Q.Equivalent.matches c.args.key.now) (g.Q.Hash.hash_input c.args.key.now) lawful (Judges g.F.FnMut) c.requires.can.0 c.requires.can.1 c.args.window.now.sight.log c.args.self.now c.args.agrees.now c.requires.can.2 c.requires.standing c.in-LoadHint.number c.in-LoadHint.place asks
 
 pub size-requires : goal.size-requires
 size-requires g c =
@@ -59,6 +65,12 @@ returns-in-Load-clause-removes g c = λ first begun r.
     let lawful : IsQuery g.K.PartialEq.eq g.K.Hash.hash_input (g.Q.Equivalent.matches c.args.key.now) (g.Q.Hash.hash_input c.args.key.now) = record { feeds = g.met.Q.Equivalent.hashes_as_key c.args.key.now; class = λ k l. g.met.Q.Equivalent.matches_equal_keys c.args.key.now k l } in
     let asks : ask_of c.args.self.now.call.machine ≡ Call (Load c.in-Load.at) = search rules in
     loaded_as g.K.PartialEq.eq g.K.Hash.hash_input g.S.BuildHasher.build_hasher g.S.Hasher.Hasher.write g.S.Hasher.Hasher.finish g.met.K.Eq.laws g.met.K.Hash.respects_eq (begun_of c.args.window.now.book.now.parts) c.args.window.now.book.now.begun.book (g.Q.Equivalent.matches c.args.key.now) (g.Q.Hash.hash_input c.args.key.now) lawful (Judges g.F.FnMut) first begun c.args.window.now.sight.log c.args.self.now c.args.agrees.now r c.requires.standing c.load.new.window.sight.log c.load.ensures.sees.log c.in-Load.at c.load.result c.load.new.self c.load.ensures.rest asks c.load.ensures.loaded
+
+pub returns-in-LoadHint-clause-removes : goal.returns-in-LoadHint-clause-removes
+returns-in-LoadHint-clause-removes g c = λ first begun r.
+    let lawful : IsQuery g.K.PartialEq.eq g.K.Hash.hash_input (g.Q.Equivalent.matches c.args.key.now) (g.Q.Hash.hash_input c.args.key.now) = record { feeds = g.met.Q.Equivalent.hashes_as_key c.args.key.now; class = λ k l. g.met.Q.Equivalent.matches_equal_keys c.args.key.now k l } in
+    let asks : ask_of c.args.self.now.call.machine ≡ Call (LoadHint c.in-LoadHint.number c.in-LoadHint.place) = search rules in
+    hinted_on g.K.PartialEq.eq g.K.Hash.hash_input g.S.BuildHasher.build_hasher g.S.Hasher.Hasher.write g.S.Hasher.Hasher.finish g.met.K.Eq.laws g.met.K.Hash.respects_eq (begun_of c.args.window.now.book.now.parts) c.args.window.now.book.now.begun.book (g.Q.Equivalent.matches c.args.key.now) (g.Q.Hash.hash_input c.args.key.now) lawful (Judges g.F.FnMut) first begun c.args.window.now.sight.log c.args.self.now c.args.agrees.now r c.requires.standing c.hint.new.window.sight.log c.hint.ensures.sees.log c.in-LoadHint.number c.in-LoadHint.place c.hint.result asks c.hint.ensures.hint
 
 pub returns-in-SizeOf-clause-removes : goal.returns-in-SizeOf-clause-removes
 returns-in-SizeOf-clause-removes g c = λ first begun r.
@@ -99,6 +111,9 @@ returns-in-AddToShard-clause-removes g c = λ first begun r.
 
 pub returns-in-Load-clause-answers : goal.returns-in-Load-clause-answers
 returns-in-Load-clause-answers g c = let asks : ask_of c.args.self.now.call.machine ≡ Call (Load c.in-Load.at) = search rules in idle (Load c.in-Load.at) _ (sym (call_asks c.args.self.now.call.machine _ asks).1) tt (Some (Word c.load.result)) c.args.window.now c.load.new.window c.load.ensures.own
+
+pub returns-in-LoadHint-clause-answers : goal.returns-in-LoadHint-clause-answers
+returns-in-LoadHint-clause-answers g c = let asks : ask_of c.args.self.now.call.machine ≡ Call (LoadHint c.in-LoadHint.number c.in-LoadHint.place) = search rules in idle (LoadHint c.in-LoadHint.number c.in-LoadHint.place) _ (sym (call_asks c.args.self.now.call.machine _ asks).1) tt (Some (Word c.hint.result)) c.args.window.now c.hint.new.window c.hint.ensures.own
 
 pub returns-in-SizeOf-clause-answers : goal.returns-in-SizeOf-clause-answers
 returns-in-SizeOf-clause-answers g c = let some : (n : ℕ) × (ask_of c.args.self.now.call.machine ≡ Call (SizeOf n)) = search rules in let asks = some.1 in idle (SizeOf some.0) _ (sym (call_asks c.args.self.now.call.machine _ asks).1) tt (Some c.size.result) c.args.window.now c.args.window.now refl

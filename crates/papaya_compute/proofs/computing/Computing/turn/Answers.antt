@@ -1,5 +1,5 @@
 use Rattle.std.proofs.Common.{◌≡◌, Some, [], append-nil, refl, sym, rules}
-use Rattle.papaya_ask.specs.declared.ask.Ask.TheVariants.{AddToShard}
+use Rattle.papaya_ask.specs.declared.ask.Ask.TheVariants.{AddToShard, WriteHint}
 use Rattle.papaya_ask.specs.declared.ask.Answer.TheVariants.{Ok}
 use Rattle.papaya_chain.specs.Machine.{ask_of}
 use Rattle.papaya_chain.specs.declared.ask.Ask.TheVariants.{Call}
@@ -17,4 +17,12 @@ returns-in-AddToShard-clause-turns g c =
           let on = counted_on g.K.PartialEq.eq g.K.Hash.hash_input g.S.BuildHasher.build_hasher g.S.Hasher.Hasher.write g.S.Hasher.Hasher.finish g.met.K.Eq.laws g.met.K.Hash.respects_eq (begun_of c.args.window.now.book.now.parts) c.args.window.now.book.now.begun.book key r.made begun c.args.window.now.sight.log c.args.self.now.writer r.writing c.in-AddToShard.by asks in
           goes_on g.K.PartialEq.eq g.K.Hash.hash_input g.S.BuildHasher.build_hasher g.S.Hasher.Hasher.write g.S.Hasher.Hasher.finish g.met.K.Eq.laws g.met.K.Hash.respects_eq (begun_of c.args.window.now.book.now.parts) c.args.window.now.book.now.begun.book key begun c.args.window.now.sight.log c.args.self.now heard r c.requires.standing (AddToShard c.in-AddToShard.by) asks tt Ok c.args.window.now.sight.log ([], append-nil c.args.window.now.sight.log) c.args.self.now.writer refl refl (λ cause e. absurd (cc e)) on,
       left_alone (AddToShard c.in-AddToShard.by) tt _ (sym (call_asks c.args.self.now.writer.call.machine _ asks).1) (Some Ok) c.args.window.now,
+    )
+
+pub returns-in-WriteHint-clause-turns : goal.returns-in-WriteHint-clause-turns
+returns-in-WriteHint-clause-turns g c =
+    let asks : ask_of c.args.self.now.writer.call.machine ≡ Call (WriteHint c.in-WriteHint.number c.in-WriteHint.place c.in-WriteHint.hint) = search rules in let e = c.note.ensures in (
+      λ key begun heard r.
+          goes_on g.K.PartialEq.eq g.K.Hash.hash_input g.S.BuildHasher.build_hasher g.S.Hasher.Hasher.write g.S.Hasher.Hasher.finish g.met.K.Eq.laws g.met.K.Hash.respects_eq (begun_of c.args.window.now.book.now.parts) c.args.window.now.book.now.begun.book key begun c.args.window.now.sight.log c.args.self.now heard r c.requires.standing (WriteHint c.in-WriteHint.number c.in-WriteHint.place c.in-WriteHint.hint) asks tt c.note.result c.args.window.now.sight.log ([], append-nil c.args.window.now.sight.log) c.args.self.now.writer refl refl e.unsaid (e.writes key r.made begun r.writing),
+      left_alone (WriteHint c.in-WriteHint.number c.in-WriteHint.place c.in-WriteHint.hint) tt _ (sym (call_asks c.args.self.now.writer.call.machine _ asks).1) (Some c.note.result) c.args.window.now,
     )

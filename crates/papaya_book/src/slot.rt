@@ -1,0 +1,60 @@
+//! A slot of a table: its word, and its hint beside it.
+ghost use Rattle.std.specs.Prelude.{◌≡◌, false};
+
+use crate::rule::entry::{Event, Named};
+use crate::rule::law::Law;
+use logbook::Word;
+use std::hash::{BuildHasher, Hash};
+use std::marker::Model;
+
+/// An atomic word of the map.
+pub type Cell<K, V, S> = Word<Event<K, V, S>, Named<K, V>, Law<K, V, S>>;
+
+/// A slot of a table. Its hint lies beside its word, and so on the word's cache line. Contracts see
+/// the word.
+#[derive(Drop)]
+pub struct Slot<K: Hash + Eq, V, S: BuildHasher> {
+    word: Cell<K, V, S>,
+    hint: Cell<K, V, S>,
+}
+
+impl<K: Hash + Eq, V, S: BuildHasher> Model for Slot<K, V, S> {
+    ghost use Rattle.std.specs.Prelude.{◌≡◌, false};
+    ghost use Rattle.logbook.specs.Pages.{Named as Value_of_word, named_coded};
+
+    ghost Value = { Value_of_word };
+
+    ghost coded = { named_coded };
+
+    ghost view = { λ s. s.word };
+
+    ghost invariant = { λ s. (s.hint.tracked ≡ false) × (s.hint.book ≡ s.word.book) };
+}
+
+impl<K: Hash + Eq, V, S: BuildHasher> Slot<K, V, S> {
+    /// The slot of this word and this hint.
+    pub fn new(word: Cell<K, V, S>, hint: Cell<K, V, S>) -> Slot<K, V, S>
+        requires hint { hint.tracked ≡ false }
+        requires book { hint.book ≡ word.book }
+        ensures { result ≡ word }
+    {
+        Slot { word, hint }
+    }
+
+    /// The word.
+    #[inline(always)]
+    pub fn word(&self) -> &Cell<K, V, S>
+        ensures { result.now ≡ self.now }
+    {
+        &self.word
+    }
+
+    /// The hint.
+    #[inline(always)]
+    pub fn hint(&self) -> &Cell<K, V, S>
+        ensures kind { result.now.tracked ≡ false }
+        ensures book { result.now.book ≡ self.now.book }
+    {
+        &self.hint
+    }
+}
