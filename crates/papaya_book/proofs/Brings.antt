@@ -6,12 +6,12 @@ use prog.Atomic.{either}
 use Rattle.boxcar.specs.Table.{Where}
 use Rattle.logbook.specs.Pages.{Book, Cell, cell, gives, keeps, may_write, nib, step, Goes, Moves}
 use Rattle.papaya_ask.specs.declared.ask.At.{At}
-use Rattle.papaya_ask.specs.declared.ask.At.TheVariants.{Root, Done}
+use Rattle.papaya_ask.specs.declared.ask.At.TheVariants.{Root, Aborted}
 use Rattle.papaya_law.specs.Allows.{Allows, AllAllowed}
 use Rattle.papaya_law.specs.Code.{Coding}
 use Rattle.papaya_law.specs.Exchange.{Setting, State, after, start}
-use Rattle.papaya_law.specs.Grows.{AllSized, Entry, IsLawfulPlan, Plan, exchanges, places_in, setting_in, size_in}
-use Rattle.papaya_law.specs.Hashing.{hashed}
+use Rattle.papaya_law.specs.Grows.{AllSized, Entry, IsLawfulPlan, Plan, chunks_in, exchanges, places_in, setting_in, size_in}
+use Rattle.papaya_words.specs.declared.probe.ResizeMode.{ResizeMode}
 use Rattle.papaya_rests.specs.Told.{IsWritten, word_of}
 use Rattle.papaya_law.proofs.Logs.{log_grows, lawful_in}
 use Rattle.papaya_book.specs.declared.rule.entry.Begun.{Begun}
@@ -21,15 +21,16 @@ use Rattle.papaya_book.specs.declared.rule.entry.Step.{Step}
 use Rattle.papaya_book.specs.declared.rule.entry.Event.{Event}
 use Rattle.papaya_book.specs.declared.rule.entry.Event.TheVariants.{Begin, Home, Stepped}
 use Rattle.papaya_book.specs.Sheets.{Sheet}
-use Rattle.papaya_book.specs.Logs.{Stored, Member, brought, coding_of, comes, entries_of, entry_of, exchange_of, exchanges_of, is_blocking, key_at, kind_of, made_of, name_in, number_of, or_else, owner, place_of, places_of, seals_of, setting_of, slots_of, state_of, steps_of, table_in, word_names}
+use Rattle.papaya_book.specs.Logs.{Stored, Member, brought, coding_of, comes, entries_of, entry_of, exchange_of, exchanges_of, key_at, kind_of, made_of, name_in, number_of, or_else, owner, place_of, places_of, plan_of, seals_of, setting_of, setting_with, slots_of, state_of, steps_of, table_in, word_names}
 use Rattle.papaya_book.specs.Makers.{Brings, CanBring, IsMade, key_of, table_of}
 use Rattle.papaya_book.specs.Rule.{IsBlank, IsKept, IsLawfulLog, IsPlaced, flag, seal_at, word_in}
 use Rattle.papaya_book.specs.Trade.{Answered, Moved}
 use Rattle.papaya_book.specs.Sheets.{Sheet}
 use Rattle.papaya_book.proofs.Cells.{cell_other, cell_same, home_still, same_or_not}
-use Rattle.papaya_book.proofs.Comes.{IsNew, allows_any, blank_zero, get_within, no_seal, no_shared, old_or_new, root_or_not, seal_later, table_then, table_there, word_sizes}
+use Rattle.papaya_book.proofs.Comes.{IsNew, blank_zero, get_within, no_seal, no_shared, old_or_new, root_or_not, seal_later, table_then, table_there, word_sizes}
 use Rattle.papaya_book.proofs.Exchanges.{begun_is, found_old}
 use Rattle.papaya_book.proofs.Grown.{blank_stays, keyless, sized_more}
+use Rattle.papaya_book.proofs.Joining.{brings_more}
 use Rattle.papaya_book.proofs.Loads.{key_since, same_cells, shows}
 use Rattle.papaya_book.proofs.Logs.{answered_left, entered_last, entries-append, key_later, member_last_not, member_left, name-append, name_since, or_nothing, owner_later, prefix_trans, seals-append, state_more, steps-append}
 use Rattle.papaya_book.proofs.Makers.{sealed_or_root}
@@ -52,9 +53,9 @@ made_since sheet v log pre m =
       apart = m.apart;
     })
 
-module _ {K V S : Type 0} (eq : K → K → Bool) (hash : S → K → ℕ) (plans : (blocking : Bool) (s : S) → IsLawfulPlan (hashed {P = Stored K V} blocking (λ p. p.value.key.value) eq (hash s)))
+module _ {K V S : Type 0} (eq : K → K → Bool) (hash : S → K → ℕ) (plans : (mode : ResizeMode) (s : S) → IsLawfulPlan (plan_of {V = V} eq (hash s) mode))
     (cs : List Cell) (log : List (Event K V S)) (h : IsKept eq hash cs log) (e : Step K V) (w : Where Sheet) (with_it : comes e ≡ names.Table w) (at : At) (k new : ℕ) (key : key_at (steps_of log) at ≡ Some k) (some : new ≢ 0)
-    (may : Allows (setting_of eq (hash h.begun.hasher) h.begun.mode log) (state_of log) (exchange_of e))
+    (may : Allows (setting_with eq (hash h.begun.hasher) h.begun.mode (names.Table w) log) (state_of log) (exchange_of e))
     (written : IsWritten (setting_of eq (hash h.begun.hasher) h.begun.mode log) (coding_of (hash h.begun.hasher)) (state_of log) at new (after (state_of log) (exchange_of e)))
     (placed : IsPlaced h.begun (name_in log) (comes e)) (none : table_in (steps_of log) (number_of w) ≡ None) (made : IsMade w.value log) (within : w.value.seal < length cs) (away : (cell cs w.value.seal).1 ≡ false) where
   abbrev b : Begun K V S
@@ -76,7 +77,7 @@ module _ {K V S : Type 0} (eq : K → K → Bool) (hash : S → K → ℕ) (plan
   c = coding_of (hash b.hasher)
 
   abbrev plan : Plan K (Stored K V)
-  plan = hashed (is_blocking b.mode) (λ p. p.value.key.value) eq (hash b.hasher)
+  plan = plan_of eq (hash b.hasher) b.mode
 
   abbrev cs' : List Cell
   cs' = slice_set (slice_set cs k (new, true)) w.value.seal (0, true)
@@ -93,7 +94,7 @@ module _ {K V S : Type 0} (eq : K → K → Bool) (hash : S → K → ℕ) (plan
   word' : (a : At) → word_in eq hash b log' a ≡ word_of g c s' a
   word' a =
       ap (λ (s : State (Stored K V)). word_of (setting_of eq (hash b.hasher) b.mode log') c s a) (state_more log e)
-      ∙ word_sizes plan (size_in (entries_of log')) (size_in (entries_of log)) (places_in (entries_of log')) (places_in (entries_of log)) c s' a
+      ∙ word_sizes plan (size_in (entries_of log')) (size_in (entries_of log)) (places_in (entries_of log')) (places_in (entries_of log)) (chunks_in (entries_of log')) (chunks_in (entries_of log)) c s' a
 
   cases : (a : At) (j : ℕ) → key_at (steps_of log') a ≡ Some j → (key_at es a ≡ Some j) ⊎ IsNew es e w with_it a j
   cases a j x = old_or_new es e w with_it a j (ap (λ (l : List (Step K V)). key_at l a) (sym steps') ∙ x)
@@ -113,8 +114,8 @@ module _ {K V S : Type 0} (eq : K → K → Bool) (hash : S → K → ℕ) (plan
 
   allowed' : AllAllowed (setting_of eq (hash b.hasher) b.mode log') start (exchanges_of log')
   allowed' =
-      let law = lawful_in plan (plans (is_blocking b.mode) b.hasher) (entries_of log) h.lawful.sized in
-      let grown = log_grows plan (entries_of log) (entry_of e) law h.lawful.allowed (allows_any g (setting_in plan (entries_of log ++ entry_of e ∷ [])) (state_of log) e w with_it may) in
+      let law = lawful_in plan (plans b.mode b.hasher) (entries_of log) h.lawful.sized in
+      let grown = log_grows plan (entries_of log) (entry_of e) law h.lawful.allowed (brings_more eq hash b log law w h.lawful none e with_it may) in
       subst (λ (l : List (Entry (Stored K V))). AllAllowed (setting_in plan l) start (exchanges l)) (sym (entries-append log (Stepped e ∷ []))) grown
 
   -- a table of a number that did not come then had not come before
@@ -232,13 +233,13 @@ module _ {K V S : Type 0} (eq : K → K → Bool) (hash : S → K → ℕ) (plan
         homes = λ j m. let z = h.homes j (member_last_not (Home j) log (Stepped e) m (λ i. cc i)) in (let y = z.0 in omega arith, home_still (slice_set cs k (new, true)) w.value.seal j 0 past_seal (home_still cs k j new at_k z.1));
         fresh = λ j two home out.
             let not_k : j ≢ k = λ i. out at (old_there at j (key ∙ ap (λ (m : ℕ). Some m) (sym i))) in
-            let seal_there : key_at (steps_of log') (Done (number_of w)) ≡ Some w.value.seal = ap (λ (l : List (Step K V)). key_at l (Done (number_of w))) steps' ∙ ap (Rattle.papaya_book.specs.Logs.in_table (λ s. Some s.seal)) (table_there es e w with_it none) in
-            let not_the_seal : j ≢ w.value.seal = λ i. out (Done (number_of w)) (seal_there ∙ ap (λ (m : ℕ). Some m) (sym i)) in
+            let seal_there : key_at (steps_of log') (Aborted (number_of w)) ≡ Some w.value.seal = ap (λ (l : List (Step K V)). key_at l (Aborted (number_of w))) steps' ∙ ap (Rattle.papaya_book.specs.Logs.in_table (λ s. Some s.seal)) (table_there es e w with_it none) in
+            let not_the_seal : j ≢ w.value.seal = λ i. out (Aborted (number_of w)) (seal_there ∙ ap (λ (m : ℕ). Some m) (sym i)) in
             let same : cell cs' j ≡ cell cs j = cell_other (slice_set cs k (new, true)) w.value.seal j (0, true) not_the_seal ∙ cell_other cs k j (new, true) not_k in
             ap (λ (z : Cell). z.0) same ∙ h.fresh j two (sym (ap (λ (z : Cell). z.1) same) ∙ home) (λ a x. out a (old_there a j x));
       }
 
-module _ {K V S : Type 0} (eq : K → K → Bool) (hash : S → K → ℕ) (plans : (blocking : Bool) (s : S) → IsLawfulPlan (hashed {P = Stored K V} blocking (λ p. p.value.key.value) eq (hash s)))
+module _ {K V S : Type 0} (eq : K → K → Bool) (hash : S → K → ℕ) (plans : (mode : ResizeMode) (s : S) → IsLawfulPlan (plan_of {V = V} eq (hash s) mode))
     (b : Begun K V S) (v : List (Event K V S)) (ask : Event K V S) (w : Where Sheet) (k old new : ℕ) (key : key_at (steps_of v) (place_of ask) ≡ Some k) (began : IsPrefix (Begin b ∷ []) v)
     (with_it : brought ask ≡ names.Table w) (some : new ≢ 0) (name : Book) (named : name_in v ≡ Some name) (placed : IsPlaced b (Some name) (names.Table w)) (made : IsMade w.value v)
     (can : CanBring eq hash b (place_of ask) (kind_of ask) old new (made_of ask) w v) where

@@ -5,7 +5,6 @@ use Rattle.boxcar.specs.Table.{Where}
 use Rattle.logbook.specs.Pages.{Cell, cell}
 use Rattle.papaya_ask.specs.declared.ask.At.{At}
 use Rattle.papaya_ask.specs.declared.ask.At.TheVariants.{Root, Next, Aborted, Done, Slot}
-use Rattle.papaya_law.specs.Allows.{Allows}
 use Rattle.papaya_law.specs.Code.{Coding, code}
 use Rattle.papaya_law.specs.Exchange.{Empty, Setting, State}
 use Rattle.papaya_law.specs.Grows.{Plan, planned}
@@ -14,9 +13,8 @@ use Rattle.papaya_book.specs.Sheets.{Sheet}
 use Rattle.papaya_book.specs.declared.rule.entry.Named.{Named}
 use Rattle.papaya_book.specs.declared.rule.entry.Named.TheVariants as names
 use Rattle.papaya_book.specs.declared.rule.entry.Step.{Step}
-use Rattle.papaya_book.specs.declared.rule.entry.Step.TheVariants as steps
 use Rattle.papaya_book.specs.declared.rule.entry.Event.{Event}
-use Rattle.papaya_book.specs.Logs.{Stored, comes, exchange_of, in_table, key_at, number_of, or_else, owner, steps_of, table_if, table_in}
+use Rattle.papaya_book.specs.Logs.{comes, in_table, key_at, number_of, or_else, owner, steps_of, table_if, table_in}
 use Rattle.papaya_book.specs.Makers.{key_of, table_of}
 use Rattle.papaya_book.specs.Rule.{IsBlank, IsKept, seal_at}
 use Rattle.papaya_book.proofs.Logs.{get_left, owner_later, table_append, table_later}
@@ -32,7 +30,7 @@ pub root_or_not : (at : At) → (at ≡ Root) ⊎ (at ≡ Root → ⊥)
 root_or_not Root = inl refl
 root_or_not (Next t) = inr (λ e. cc e)
 root_or_not (Aborted t) = inr (λ e. cc e)
-root_or_not (Done t) = inr (λ e. cc e)
+root_or_not (Done t c) = inr (λ e. cc e)
 root_or_not (Slot t x) = inr (λ e. cc e)
 
 either_in : {X : Type 0} (f : Sheet → Option X) (o n : Option (Where Sheet)) (j : X) → in_table f (or_else o n) ≡ Some j → (in_table f o ≡ Some j) ⊎ ((o ≡ None) × (in_table f n ≡ Some j))
@@ -44,7 +42,7 @@ pub no_seal : {K V : Type 0} (es : List (Step K V)) (at : At) → table_in es (t
 no_seal es Root n = refl
 no_seal es (Next t) n = ap (in_table (λ s. Some s.seal)) n
 no_seal es (Aborted t) n = ap (in_table (λ s. Some s.seal)) n
-no_seal es (Done t) n = ap (in_table (λ s. Some s.seal)) n
+no_seal es (Done t c) n = ap (in_table (λ s. Some s.seal)) n
 no_seal es (Slot t x) n = ap (in_table (λ s. Some s.seal)) n
 
 -- the words of a blank table are 0
@@ -52,39 +50,24 @@ pub blank_zero : {K P : Type 0} (g : Setting K P) (c : Coding K P) (s : State P)
 blank_zero g c s Root n b = absurd (n refl)
 blank_zero g c s (Next t) n b = b.next
 blank_zero g c s (Aborted t) n b = ap (λ (z : Bool). cond z 1 0) b.aborted
-blank_zero g c s (Done t) n b = b.done
+blank_zero g c s (Done t d) n b = ap (λ (z : Bool). cond z 1 0) (b.done d)
 blank_zero g c s (Slot t x) n b = ap (code g c) (b.slots x)
 
 -- a word's number does not depend on the tables' sizes
-pub word_sizes : {K P : Type 0} (h : Plan K P) (size size' places places' : ℕ → ℕ) (c : Coding K P) (s : State P) (at : At) → word_of (planned h size places) c s at ≡ word_of (planned h size' places') c s at
-word_sizes h size size' places places' c s Root = refl
-word_sizes h size size' places places' c s (Next t) = refl
-word_sizes h size size' places places' c s (Aborted t) = refl
-word_sizes h size size' places places' c s (Done t) = refl
-word_sizes h size size' places places' c s (Slot t x) = named_word (s.slot t x)
+pub word_sizes : {K P : Type 0} (h : Plan K P) (size size' places places' : ℕ → ℕ) (chunks chunks' : ℕ → ℕ) (c : Coding K P) (s : State P) (at : At) → word_of (planned h size places chunks) c s at ≡ word_of (planned h size' places' chunks') c s at
+word_sizes h size size' places places' chunks chunks' c s Root = refl
+word_sizes h size size' places places' chunks chunks' c s (Next t) = refl
+word_sizes h size size' places places' chunks chunks' c s (Aborted t) = refl
+word_sizes h size size' places places' chunks chunks' c s (Done t d) = refl
+word_sizes h size size' places places' chunks chunks' c s (Slot t x) = named_word (s.slot t x)
   where
-    named_word : (w : Rattle.papaya_law.specs.Exchange.Word _) → code (planned h size places) c w ≡ code (planned h size' places') c w
+    named_word : (w : Rattle.papaya_law.specs.Exchange.Word _) → code (planned h size places chunks) c w ≡ code (planned h size' places' chunks') c w
     named_word Rattle.papaya_law.specs.Exchange.Empty = refl
     named_word Rattle.papaya_law.specs.Exchange.Closed = refl
     named_word (Rattle.papaya_law.specs.Exchange.Live p) = refl
     named_word (Rattle.papaya_law.specs.Exchange.Marked p) = refl
     named_word (Rattle.papaya_law.specs.Exchange.Copied p) = refl
     named_word (Rattle.papaya_law.specs.Exchange.Buried p) = refl
-
--- whether a table may be opened or linked does not depend on the tables' sizes
-pub allows_any : {K V : Type 0} (g g' : Setting K (Stored K V)) (s : State (Stored K V)) (e : Step K V) (w : Where Sheet) → comes e ≡ names.Table w → Allows g s (exchange_of e) → Allows g' s (exchange_of e)
-allows_any g g' s (steps.Open v) w c a = a
-allows_any g g' s (steps.Claim t x p) w c a = absurd (cc c)
-allows_any g g' s (steps.Replace t x p q) w c a = absurd (cc c)
-allows_any g g' s (steps.Bury t x p) w c a = absurd (cc c)
-allows_any g g' s (steps.Link t v) w c a = a
-allows_any g g' s (steps.Mark t x p) w c a = absurd (cc c)
-allows_any g g' s (steps.Close t x) w c a = absurd (cc c)
-allows_any g g' s (steps.Place t x p) w c a = absurd (cc c)
-allows_any g g' s (steps.Finish t x p) w c a = absurd (cc c)
-allows_any g g' s (steps.Advance t x y) w c a = absurd (cc c)
-allows_any g g' s (steps.Promote t n) w c a = absurd (cc c)
-allows_any g g' s (steps.Abort t) w c a = absurd (cc c)
 
 module _ {K V : Type 0} (es : List (Step K V)) (e : Step K V) (w : Where Sheet) (with_it : comes e ≡ names.Table w) where
   -- the table of a number after the table came
@@ -126,8 +109,8 @@ module _ {K V : Type 0} (es : List (Step K V)) (e : Step K V) (w : Where Sheet) 
   pub old_or_new : (at : At) (j : ℕ) → key_at (es ++ e ∷ []) at ≡ Some j → (key_at es at ≡ Some j) ⊎ IsNew at j
   old_or_new Root j x = inl x
   old_or_new (Next t) j x = ⊎_elim (λ h. inl h) (λ h. inr (record { is_table = h.0; none = h.1; key = h.2; seal = ap (in_table (λ s. Some s.seal)) h.3; not_root = λ r. cc r })) (in_new (λ s. Some s.next) t j x)
-  old_or_new (Aborted t) j x = ⊎_elim (λ h. inl h) (λ h. inr (record { is_table = h.0; none = h.1; key = h.2; seal = ap (in_table (λ s. Some s.seal)) h.3; not_root = λ r. cc r })) (in_new (λ s. Some s.aborted) t j x)
-  old_or_new (Done t) j x = ⊎_elim (λ h. inl h) (λ h. inr (record { is_table = h.0; none = h.1; key = h.2; seal = ap (in_table (λ s. Some s.seal)) h.3; not_root = λ r. cc r })) (in_new (λ s. Some s.seal) t j x)
+  old_or_new (Aborted t) j x = ⊎_elim (λ h. inl h) (λ h. inr (record { is_table = h.0; none = h.1; key = h.2; seal = ap (in_table (λ s. Some s.seal)) h.3; not_root = λ r. cc r })) (in_new (λ s. Some s.seal) t j x)
+  old_or_new (Done t d) j x = ⊎_elim (λ h. inl h) (λ h. inr (record { is_table = h.0; none = h.1; key = h.2; seal = ap (in_table (λ s. Some s.seal)) h.3; not_root = λ r. cc r })) (in_new (λ s. slice_get s.done d) t j x)
   old_or_new (Slot t i) j x = ⊎_elim (λ h. inl h) (λ h. inr (record { is_table = h.0; none = h.1; key = h.2; seal = ap (in_table (λ s. Some s.seal)) h.3; not_root = λ r. cc r })) (in_new (λ s. slice_get s.slots i) t j x)
 
   -- seals stay
@@ -136,17 +119,17 @@ module _ {K V : Type 0} (es : List (Step K V)) (e : Step K V) (w : Where Sheet) 
   seal_later (Next t) seal x = same_seal_in t seal x
     where
       same_seal_in : (t seal : ℕ) → in_table (λ s. Some s.seal) (table_in es t) ≡ Some seal → in_table (λ s. Some s.seal) (table_in (es ++ e ∷ []) t) ≡ Some seal
-      same_seal_in t seal x = Rattle.papaya_book.proofs.Logs.key_later es (e ∷ []) (Done t) seal x
-  seal_later (Aborted t) seal x = Rattle.papaya_book.proofs.Logs.key_later es (e ∷ []) (Done t) seal x
-  seal_later (Done t) seal x = Rattle.papaya_book.proofs.Logs.key_later es (e ∷ []) (Done t) seal x
-  seal_later (Slot t i) seal x = Rattle.papaya_book.proofs.Logs.key_later es (e ∷ []) (Done t) seal x
+      same_seal_in t seal x = Rattle.papaya_book.proofs.Logs.key_later es (e ∷ []) (Aborted t) seal x
+  seal_later (Aborted t) seal x = Rattle.papaya_book.proofs.Logs.key_later es (e ∷ []) (Aborted t) seal x
+  seal_later (Done t d) seal x = Rattle.papaya_book.proofs.Logs.key_later es (e ∷ []) (Aborted t) seal x
+  seal_later (Slot t i) seal x = Rattle.papaya_book.proofs.Logs.key_later es (e ∷ []) (Aborted t) seal x
 
--- the word `done` of a table has the table's seal for its key
-seal_key : {K V : Type 0} (es : List (Step K V)) (at : At) (seal : ℕ) → seal_at es at ≡ Some seal → key_at es (Done (table_of at)) ≡ Some seal
+-- the word `aborted` of a table has the table's seal for its key
+seal_key : {K V : Type 0} (es : List (Step K V)) (at : At) (seal : ℕ) → seal_at es at ≡ Some seal → key_at es (Aborted (table_of at)) ≡ Some seal
 seal_key es Root seal x = absurd (cc x)
 seal_key es (Next t) seal x = x
 seal_key es (Aborted t) seal x = x
-seal_key es (Done t) seal x = x
+seal_key es (Done t d) seal x = x
 seal_key es (Slot t i) seal x = x
 
 -- No word of a table that has come is one that was made for a table whose seal is away.
@@ -158,8 +141,8 @@ no_shared eq hash cs log h seal away at j key past own =
     (λ i. ⊎_elim
     is_root
     (λ s. let same : s.0 ≡ seal = cc (own, i, s.1) in
-    let there : key_at (steps_of log) (Done (table_of at)) ≡ Some s.0 = seal_key (steps_of log) at s.0 s.1 in
-    let home : (cell cs s.0).1 ≡ true = ap (λ (c : Cell). c.1) (h.coded (Done (table_of at)) s.0 there) in
+    let there : key_at (steps_of log) (Aborted (table_of at)) ≡ Some s.0 = seal_key (steps_of log) at s.0 s.1 in
+    let home : (cell cs s.0).1 ≡ true = ap (λ (c : Cell). c.1) (h.coded (Aborted (table_of at)) s.0 there) in
     let home' : (cell cs seal).1 ≡ true = subst (λ (n : ℕ). (cell cs n).1 ≡ true) same home in cc (home', away))
     (sealed_or_root (steps_of log) at j key))
     (h.owned at j key)

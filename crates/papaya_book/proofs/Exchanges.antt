@@ -7,21 +7,21 @@ use prog.Atomic.{either}
 use Rattle.logbook.specs.Pages.{Cell, Book, cell, keeps, no_nib, step, Goes, Moves}
 use Rattle.papaya_ask.specs.declared.ask.At.{At}
 use Rattle.papaya_law.specs.Allows.{Allows}
-use Rattle.papaya_law.specs.Exchange.{after}
+use Rattle.papaya_law.specs.Exchange.{Setting, after}
 use Rattle.papaya_law.specs.Grows.{IsLawfulPlan}
-use Rattle.papaya_law.specs.Hashing.{hashed}
+use Rattle.papaya_words.specs.declared.probe.ResizeMode.{ResizeMode}
 use Rattle.papaya_rests.specs.Told.{IsWritten, word_of}
 use Rattle.papaya_book.specs.declared.rule.entry.Begun.{Begun}
 use Rattle.papaya_book.specs.declared.rule.entry.Named.{Named}
 use Rattle.papaya_book.specs.declared.rule.entry.Step.{Step}
 use Rattle.papaya_book.specs.declared.rule.entry.Event.{Event}
 use Rattle.papaya_book.specs.declared.rule.entry.Event.TheVariants.{Begin, Home, Stepped}
-use Rattle.papaya_book.specs.Logs.{Stored, brought, coding_of, comes, exchange_of, key_at, kind_of, made_of, name_in, place_of, setting_of, state_of, steps_of, word_names}
+use Rattle.papaya_book.specs.Logs.{Stored, brought, coding_of, comes, exchange_of, key_at, kind_of, made_of, name_in, place_of, plan_of, setting_of, state_of, steps_of, word_names}
 use Rattle.papaya_book.specs.Rule.{IsKept, IsLawfulLog, IsPlaced, flag, seal_at, word_in}
 use Rattle.papaya_book.specs.Trade.{Answered, Moved}
 use Rattle.papaya_book.specs.Plays.{CanExchange, MayStep, Tries}
 use Rattle.papaya_book.proofs.Cells.{cell_other, cell_same, home_still, same_or_not}
-use Rattle.papaya_book.proofs.Logs.{IsQuiet, member_last_not, name_later, answered_left, same_seal, steps-append}
+use Rattle.papaya_book.proofs.Logs.{IsQuiet, member_last_not, name_later, answered_left, same_seal, steps-append, with_quiet}
 use Rattle.papaya_book.proofs.Grown.{lawful_more, same_keys, same_name, same_seals, word_more}
 use Rattle.papaya_book.proofs.Loads.{key_since, same_cells, shows}
 use Rattle.papaya_book.proofs.Names.{word_answer}
@@ -29,7 +29,7 @@ use Rattle.papaya_book.proofs.Names.{word_answer}
 pub found_old : (n old : ℕ) → (n == old) ≡ true → n ≡ old
 found_old n old e = grind (arith, nat_tests)
 
-module _ {K V S : Type 0} (eq : K → K → Bool) (hash : S → K → ℕ) (plans : (blocking : Bool) (s : S) → IsLawfulPlan (hashed {P = Stored K V} blocking (λ p. p.value.key.value) eq (hash s))) where
+module _ {K V S : Type 0} (eq : K → K → Bool) (hash : S → K → ℕ) (plans : (mode : ResizeMode) (s : S) → IsLawfulPlan (plan_of {V = V} eq (hash s) mode)) where
   module _ (cs : List Cell) (log : List (Event K V S)) (h : IsKept eq hash cs log) (e : Step K V) (quiet : IsQuiet (comes e)) (at : At) (k new : ℕ) (key : key_at (steps_of log) at ≡ Some k)
       (may : Allows (setting_of eq (hash h.begun.hasher) h.begun.mode log) (state_of log) (exchange_of e))
       (written : IsWritten (setting_of eq (hash h.begun.hasher) h.begun.mode log) (coding_of (hash h.begun.hasher)) (state_of log) at new (after (state_of log) (exchange_of e)))
@@ -104,11 +104,12 @@ module _ {K V S : Type 0} (eq : K → K → Bool) (hash : S → K → ℕ) (plan
         let can' : CanExchange eq hash h.begun at (kind_of ask) old new (made_of ask) (brought ask) v = subst (λ (d : Begun K V S). CanExchange eq hash d at (kind_of ask) old new (made_of ask) (brought ask) v) (sym same) can in
         let m : MayStep eq hash h.begun at (kind_of ask) new (made_of ask) (brought ask) log = can' log pre h.lawful (stands ∙ found_old (cell cs k).0 old is) in
         let e : Step K V = m.step in
+        let may : Allows (setting_of eq (hash h.begun.hasher) h.begun.mode log) (state_of log) (exchange_of e) = subst (λ (g : Setting K (Stored K V)). Allows g (state_of log) (exchange_of e)) (with_quiet eq (hash h.begun.hasher) h.begun.mode log (brought ask) quiet) m.allowed in
         let quiet' : IsQuiet (comes e) = subst (λ (n : Named K V). IsQuiet n) (sym m.meant.with_it) quiet in
         let named' : name_in log ≡ Some name = ap name_in (sym pre.1) ∙ name_later v pre.0 name named in
         let placed' : IsPlaced h.begun (name_in log) (comes e) = subst (λ (z : Begun K V S × Option Book × Named K V). IsPlaced z.0 z.1 z.2) (λ i. (sym same i, sym named' i, sym m.meant.with_it i)) placed in
         let told : Answered log names = word_answer (setting_of eq (hash h.begun.hasher) h.begun.mode log) log h.lawful.allowed at in
-        let more : IsKept eq hash (slice_set cs k (new, true)) (log ++ Stepped e ∷ []) = kept_more cs log h e quiet' at k new key' m.allowed m.written placed' in (
+        let more : IsKept eq hash (slice_set cs k (new, true)) (log ++ Stepped e ∷ []) = kept_more cs log h e quiet' at k new key' may m.written placed' in (
           keeps,
           Stepped e ∷ [],
           Some names,
@@ -120,7 +121,7 @@ module _ {K V S : Type 0} (eq : K → K → Bool) (hash : S → K → ℕ) (plan
             since = pre;
             begun = h.begun;
             lawful = h.lawful;
-            now = lawful_more eq hash plans h.begun log h.lawful e quiet' at k new key' m.allowed m.written placed';
+            now = lawful_more eq hash plans h.begun log h.lawful e quiet' at k new key' may m.written placed';
             is = stands;
             state_is = refl;
             after = rw is (e, m.meant, refl);

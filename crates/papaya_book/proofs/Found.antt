@@ -35,7 +35,7 @@ none_before P t some (inr (u, e)) = omega arith
 
 module _ {K V : Type 0} where
   -- an exchange that brings a table brings the table that comes with it
-  brings_table : (e : Step K V) (t : ℕ) → brings (exchange_of e) t ≡ true → (w : Where Sheet) × (table_if (comes e) t ≡ Some w)
+  pub brings_table : (e : Step K V) (t : ℕ) → brings (exchange_of e) t ≡ true → (w : Where Sheet) × (table_if (comes e) t ≡ Some w)
   brings_table (steps.Open w) t h = (w, cond-true (number_of w == t) (Some w) None h)
   brings_table (steps.Claim u x p) t h = absurd cc
   brings_table (steps.Replace u x p q) t h = absurd cc
@@ -45,7 +45,7 @@ module _ {K V : Type 0} where
   brings_table (steps.Close u x) t h = absurd cc
   brings_table (steps.Place u x p) t h = absurd cc
   brings_table (steps.Finish u x p) t h = absurd cc
-  brings_table (steps.Advance u a b) t h = absurd cc
+  brings_table (steps.Advance u c) t h = absurd cc
   brings_table (steps.Promote u n) t h = absurd cc
   brings_table (steps.Abort u) t h = absurd cc
 

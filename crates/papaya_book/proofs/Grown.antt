@@ -8,7 +8,7 @@ use Rattle.papaya_law.specs.Allows.{Allows, AllAllowed}
 use Rattle.papaya_law.specs.Code.{Coding, code}
 use Rattle.papaya_law.specs.Exchange.{Setting, State, after, start}
 use Rattle.papaya_law.specs.Grows.{AllSized, Entry, IsLawfulPlan, Plan, brings, exchanges, setting_in}
-use Rattle.papaya_law.specs.Hashing.{hashed}
+use Rattle.papaya_words.specs.declared.probe.ResizeMode.{ResizeMode}
 use Rattle.papaya_rests.specs.Told.{IsWritten, word_of}
 use Rattle.papaya_law.proofs.Codes.{code_empty}
 use Rattle.papaya_law.proofs.Logs.{log_grows, lawful_in}
@@ -17,7 +17,7 @@ use Rattle.papaya_book.specs.declared.rule.entry.Step.{Step}
 use Rattle.papaya_book.specs.declared.rule.entry.Step.TheVariants as steps
 use Rattle.papaya_book.specs.declared.rule.entry.Event.{Event}
 use Rattle.papaya_book.specs.declared.rule.entry.Event.TheVariants.{Stepped}
-use Rattle.papaya_book.specs.Logs.{Stored, coding_of, comes, entries_of, entry_of, exchange_of, exchanges_of, in_table, is_blocking, key_at, name_in, seals_of, setting_of, state_of, steps_of, table_in}
+use Rattle.papaya_book.specs.Logs.{Stored, coding_of, comes, entries_of, entry_of, exchange_of, exchanges_of, in_table, key_at, name_in, plan_of, seals_of, setting_of, state_of, steps_of, table_in}
 use Rattle.papaya_book.specs.Rule.{IsBlank, IsLawfulLog, IsPlaced, word_in}
 use Rattle.papaya_book.proofs.Logs.{IsQuiet, brings_none, entered_last, entries-append, name-append, or_nothing, same_key, same_table, seals-append, setting_same, state_more, steps-append}
 
@@ -37,7 +37,7 @@ root_stays g s (steps.Mark t x p) a q h = h
 root_stays g s (steps.Close t x) a q h = h
 root_stays g s (steps.Place t x p) a q h = h
 root_stays g s (steps.Finish t x p) a q h = h
-root_stays g s (steps.Advance t b c) a q h = h
+root_stays g s (steps.Advance t c) a q h = h
 root_stays g s (steps.Promote t n) a q h = let m = a.target.made in absurd (omega arith)
 root_stays g s (steps.Abort t) a q h = h
 
@@ -49,22 +49,22 @@ flag_zero true e = absurd (omega arith)
 flag_zero false e = refl
 
 -- a table stays blank where no word of it changes
-pub blank_stays : {K P : Type 0} (g : Setting K P) (c : Coding K P) (s s' : State P) (t : ℕ) → ((at : At) → (at ≡ Next t) ⊎ (at ≡ Aborted t) ⊎ (at ≡ Done t) ⊎ ((x : ℕ) × (at ≡ Slot t x)) → word_of g c s' at ≡ word_of g c s at) → IsBlank s t → IsBlank s' t
+pub blank_stays : {K P : Type 0} (g : Setting K P) (c : Coding K P) (s s' : State P) (t : ℕ) → ((at : At) → (at ≡ Next t) ⊎ (at ≡ Aborted t) ⊎ ((d : ℕ) × (at ≡ Done t d)) ⊎ ((x : ℕ) × (at ≡ Slot t x)) → word_of g c s' at ≡ word_of g c s at) → IsBlank s t → IsBlank s' t
 blank_stays g c s s' t same b = record {
   next = same (Next t) (inl refl) ∙ b.next;
   aborted = flag_zero (s'.aborted t) (same (Aborted t) (inr (inl refl)) ∙ ap flag_of b.aborted);
-  done = same (Done t) (inr (inr (inl refl))) ∙ b.done;
+  done = λ d. flag_zero (s'.done t d) (same (Done t d) (inr (inr (inl (d, refl)))) ∙ ap flag_of (b.done d));
   slots = λ x. code_empty g c (s'.slot t x) (same (Slot t x) (inr (inr (inr (x, refl)))) ∙ ap (code g c) (b.slots x));
 }
 
 -- a word of a table that has not come has no key
-pub keyless : {K V : Type 0} (es : List (Step K V)) (t : ℕ) (at : At) → (at ≡ Next t) ⊎ (at ≡ Aborted t) ⊎ (at ≡ Done t) ⊎ ((x : ℕ) × (at ≡ Slot t x)) → table_in es t ≡ None → key_at es at ≡ None
+pub keyless : {K V : Type 0} (es : List (Step K V)) (t : ℕ) (at : At) → (at ≡ Next t) ⊎ (at ≡ Aborted t) ⊎ ((d : ℕ) × (at ≡ Done t d)) ⊎ ((x : ℕ) × (at ≡ Slot t x)) → table_in es t ≡ None → key_at es at ≡ None
 keyless es t at (inl e) n = ap (key_at es) e ∙ ap (in_table (λ s. Some s.next)) n
-keyless es t at (inr (inl e)) n = ap (key_at es) e ∙ ap (in_table (λ s. Some s.aborted)) n
-keyless es t at (inr (inr (inl e))) n = ap (key_at es) e ∙ ap (in_table (λ s. Some s.seal)) n
+keyless es t at (inr (inl e)) n = ap (key_at es) e ∙ ap (in_table (λ s. Some s.seal)) n
+keyless es t at (inr (inr (inl (d, e)))) n = ap (key_at es) e ∙ ap (in_table (λ s. slice_get s.done d)) n
 keyless es t at (inr (inr (inr (x, e)))) n = ap (key_at es) e ∙ ap (in_table (λ s. slice_get s.slots x)) n
 
-module _ {K V S : Type 0} (eq : K → K → Bool) (hash : S → K → ℕ) (plans : (blocking : Bool) (s : S) → IsLawfulPlan (hashed {P = Stored K V} blocking (λ p. p.value.key.value) eq (hash s)))
+module _ {K V S : Type 0} (eq : K → K → Bool) (hash : S → K → ℕ) (plans : (mode : ResizeMode) (s : S) → IsLawfulPlan (plan_of {V = V} eq (hash s) mode))
     (b : Begun K V S) (log : List (Event K V S)) (l : IsLawfulLog eq hash b log) (e : Step K V) (quiet : IsQuiet (comes e)) (at : At) (k new : ℕ) (key : key_at (steps_of log) at ≡ Some k)
     (may : Allows (setting_of eq (hash b.hasher) b.mode log) (state_of log) (exchange_of e))
     (written : IsWritten (setting_of eq (hash b.hasher) b.mode log) (coding_of (hash b.hasher)) (state_of log) at new (after (state_of log) (exchange_of e)))
@@ -79,7 +79,7 @@ module _ {K V S : Type 0} (eq : K → K → Bool) (hash : S → K → ℕ) (plan
   c = coding_of (hash b.hasher)
 
   abbrev plan : Plan K (Stored K V)
-  plan = hashed (is_blocking b.mode) (λ p. p.value.key.value) eq (hash b.hasher)
+  plan = plan_of eq (hash b.hasher) b.mode
 
   pub same_setting : setting_of eq (hash b.hasher) b.mode log' ≡ g
   same_setting = setting_same eq (hash b.hasher) b.mode log e quiet
@@ -100,7 +100,7 @@ module _ {K V S : Type 0} (eq : K → K → Bool) (hash : S → K → ℕ) (plan
   allowed_more =
       let entries : entries_of log' ≡ entries_of log ++ entry_of e ∷ [] = entries-append log (Stepped e ∷ []) in
       let setting : setting_in plan (entries_of log ++ entry_of e ∷ []) ≡ g = ap (setting_in plan) (sym entries) ∙ same_setting in
-      let law = lawful_in plan (plans (is_blocking b.mode) b.hasher) (entries_of log) l.sized in
+      let law = lawful_in plan (plans b.mode b.hasher) (entries_of log) l.sized in
       let grown = log_grows plan (entries_of log) (entry_of e) law l.allowed (subst (λ (h : Setting K (Stored K V)). Allows h (state_of log) (exchange_of e)) (sym setting) may) in
       subst (λ (es : List (Entry (Stored K V))). AllAllowed (setting_in plan es) start (exchanges es)) (sym entries) grown
 

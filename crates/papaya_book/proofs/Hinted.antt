@@ -14,8 +14,9 @@ use Rattle.papaya_book.specs.declared.rule.entry.Begun.{Begun}
 use Rattle.papaya_book.specs.declared.rule.entry.Event.{Event}
 use Rattle.papaya_book.specs.declared.rule.entry.Event.TheVariants.{Begin}
 use Rattle.papaya_book.specs.Hashes.{hash_of}
-use Rattle.papaya_book.specs.Hinted.{IsHinted, IsSlotHint, Says, WasHint}
+use Rattle.papaya_book.specs.Hinted.{IsHinted, IsSlotHint, WasHint}
 use Rattle.papaya_book.specs.Logs.{Stored, coding_of, exchanges_of, first_in, setting_of, state_of}
+use Rattle.papaya_book.specs.declared.hint.TheConstants.{UNHINTED_TABLES}
 use Rattle.papaya_book.specs.Numbers.{hint_in, hint_word}
 use Rattle.papaya_book.specs.Rule.{IsLawfulLog}
 use Rattle.papaya_book.proofs.Logs.{exchanges_of-append, prefix_trans}
@@ -35,19 +36,21 @@ module _ {K V S : Type 0} (eq : K → K → Bool) (hash : S → K → ℕ) where
     place = s.place;
     hint = s.hint;
     number_is = s.number_is;
+    early = s.early;
     near = s.near;
     low = s.low;
     was = was_later s.table s.place s.hint xs ys pre s.was;
   })
 
   -- a hint of the slot may be written
-  pub may_say : (b : Begun K V S) (t x n : ℕ) (seen log : List (Event K V S)) → IsSlotHint eq hash b t x n seen → IsPrefix seen log → x < 2 ^ 32 → n < 256 → (number : ℕ) → (number ≡ 0) ⊎ (number ≡ hint_word t x n) → IsHinted eq hash number log
+  pub may_say : (b : Begun K V S) (t x n : ℕ) (seen log : List (Event K V S)) → IsSlotHint eq hash b t x n seen → IsPrefix seen log → x < 2 ^ 32 → n < 256 → (number : ℕ) → (number ≡ 0) ⊎ ((t < UNHINTED_TABLES) × (number ≡ hint_word t x n)) → IsHinted eq hash number log
   may_say b t x n seen log is since near low number (inl e) = inl e
   may_say b t x n seen log is since near low number (inr e) = inr (record {
     table = t;
     place = x;
     hint = n;
-    number_is = e;
+    number_is = e.1;
+    early = e.0;
     near = near;
     low = low;
     was = record { begun = b; before = seen; since = since; is = is };
@@ -96,4 +99,4 @@ module _ {K V S H : Type 0} (eq : K → K → Bool) (input : K → List (List �
         (λ e. nothing t x (hint_in (hint_word s.table s.place s.hint) t x) e)
         (λ e. subst (λ z. IsSlotHint eq hash b t x z log) (sym e.2)
         (subst (λ (z : ℕ × ℕ). IsSlotHint eq hash b z.0 z.1 s.hint log) (λ i. (e.0 i, e.1 i)) (is_by_now s.table s.place s.hint s.was)))
-        (said_in s.table s.place s.hint t x s.low s.near near))
+        (said_in s.table s.place s.hint t x s.early s.low s.near near))

@@ -13,6 +13,7 @@ pub mod Grown
 pub mod Exchanges
 pub mod Makers
 pub mod Comes
+pub mod Joining
 pub mod Brings
 pub mod Opening
 pub mod Making

@@ -1,5 +1,6 @@
 -- A table that is linked has come under no number yet: all that have come are on the chain, whose last one has a smaller number.
-use Rattle.std.proofs.Common.{◌≡◌, inl, inr, ⊎_elim, ℕ, zero, suc, ◌<◌, ◌≤◌, ◌==◌, Bool, Option, None, Some, List, [], ◌∷◌, map, refl, ap, ◌∙◌, subst, arith}
+use Rattle.std.proofs.Common.{◌≡◌, inl, inr, ⊎_elim, ℕ, zero, suc, ◌<◌, ◌≤◌, ◌==◌, Bool, true, Option, None, Some, List, [], ◌∷◌, ◌++◌, length, map, refl, ap, ◌∙◌, subst, arith}
+use Rattle.std.specs.Cmp.{IsEquivalence}
 use Rattle.std.proofs.lemmas.Bool.{cases_Bool, cond-true, cond-false, eqb-true}
 use Rattle.boxcar.specs.Table.{Where}
 use Rattle.papaya_ask.specs.declared.ask.At.TheVariants.{Next}
@@ -7,13 +8,14 @@ use Rattle.papaya_ask.specs.declared.ask.StepKind.TheVariants as kinds
 use Rattle.papaya_law.specs.Allows.{AllAllowed, Allows}
 use Rattle.papaya_law.specs.Class.{IsOn}
 use Rattle.papaya_law.specs.Exchange.{Exchange, Open, Claim, Replace, Bury, Link, Mark, Close, Place, Finish, Advance, Promote, Abort, Setting, State, after, run, start}
-use Rattle.papaya_law.specs.Grows.{Comes, exchanges}
+use Rattle.papaya_law.specs.Code.{IsHashed}
+use Rattle.papaya_law.specs.Grows.{Agrees, Comes, exchanges}
 use Rattle.papaya_law.specs.Invariant.{IsKeeping, IsSound}
 use Rattle.papaya_law.specs.Meaning.{IsLawful, map_after}
 use Rattle.papaya_law.proofs.Chain.{has_next, next_on}
 use Rattle.papaya_law.proofs.OneMap.{keeping_sound, sound, start_keeps, step_keeps}
 use Rattle.papaya_book.specs.Calls.{HasCome, IsTable}
-use Rattle.papaya_book.specs.Logs.{Stored, comes, entry_of, exchange_of, number_of, setting_of, state_of, steps_of, table_if, table_in}
+use Rattle.papaya_book.specs.Logs.{Stored, coding_of, comes, entry_of, exchange_of, exchanges_of, number_of, setting_of, setting_with, state_of, steps_of, table_if, table_in}
 use Rattle.papaya_book.specs.Makers.{CanBring}
 use Rattle.papaya_book.specs.Plays.{CanExchange}
 use Rattle.papaya_book.specs.Rule.{IsLawfulLog}
@@ -23,8 +25,13 @@ use Rattle.papaya_book.specs.declared.rule.entry.Event.{Event}
 use Rattle.papaya_book.specs.declared.rule.entry.Named.TheVariants as names
 use Rattle.papaya_book.specs.declared.rule.entry.Step.{Step}
 use Rattle.papaya_book.specs.declared.rule.entry.Step.TheVariants as steps
+use Rattle.papaya_book.specs.declared.rule.entry.Event.TheVariants.{Stepped}
+use Rattle.papaya_book.specs.Hashes.{hash_of}
+use Rattle.papaya_book.proofs.Comes.{table_there}
+use Rattle.papaya_book.proofs.Joining as joining
 use Rattle.papaya_book.proofs.Loaded.{table_since}
-use Rattle.papaya_book.proofs.Logs.{either_table}
+use Rattle.papaya_book.proofs.Logs.{either_table, steps-append}
+use Rattle.papaya_book.proofs.Settings.{is_hashed}
 use Rattle.papaya_book.proofs.Opened.{same_number}
 use Rattle.papaya_book.proofs.Wishes.{copy_wished}
 
@@ -42,14 +49,14 @@ comes_stays g s (Bury u x p) sound may t some c = c
 comes_stays g s (Link u n) sound may t some (inl f) = inl f
 comes_stays g s (Link u n) sound may t some (inr (v, e)) =
     ⊎_elim
-    (λ h. let none : s.next v ≡ 0 = ap s.next (eqb-true v u h) ∙ may.0 in absurd (omega arith))
+    (λ h. let none : s.next v ≡ 0 = ap s.next (eqb-true v u h) ∙ may.last in absurd (omega arith))
     (λ h. inr (v, cond-false (v == u) n (s.next v) h ∙ e))
     (cases_Bool (v == u))
 comes_stays g s (Mark u x p) sound may t some c = c
 comes_stays g s (Close u x) sound may t some c = c
 comes_stays g s (Place u x p) sound may t some c = c
 comes_stays g s (Finish u x p) sound may t some c = c
-comes_stays g s (Advance u a b) sound may t some c = c
+comes_stays g s (Advance u d) sound may t some c = c
 comes_stays g s (Promote u n) sound may t some c = c
 comes_stays g s (Abort u) sound may t some c = c
 
@@ -76,7 +83,7 @@ module _ {K V : Type 0} (g : Setting K (Stored K V)) (law : IsLawful g) where
   came_now s (steps.Close u x) t w h = absurd (cc h)
   came_now s (steps.Place u x p) t w h = absurd (cc h)
   came_now s (steps.Finish u x p) t w h = absurd (cc h)
-  came_now s (steps.Advance u a b) t w h = absurd (cc h)
+  came_now s (steps.Advance u c) t w h = absurd (cc h)
   came_now s (steps.Promote u n) t w h = absurd (cc h)
   came_now s (steps.Abort u) t w h = absurd (cc h)
 
@@ -128,7 +135,7 @@ module _ {K V S : Type 0} (eq : K → K → Bool) (hash : S → K → ℕ) (b : 
         (comes_in t some h.0 h.1)
 
     -- so where a table that has come has no next one, no table with a greater number has come
-    last_came : (o : Option (Where Sheet)) (t n : ℕ) → table_in (steps_of log) n ≡ o → 0 < t → HasCome log t → s.next t ≡ 0 → t < n → o ≡ None
+    pub last_came : (o : Option (Where Sheet)) (t n : ℕ) → table_in (steps_of log) n ≡ o → 0 < t → HasCome log t → s.next t ≡ 0 → t < n → o ≡ None
     last_came None t n h some come last less = refl
     last_came (Some w) t n h some come last less =
         let a = came_on t t (omega arith) some come in
@@ -142,6 +149,34 @@ module _ {K V S : Type 0} (eq : K → K → Bool) (hash : S → K → ℕ) (b : 
   can_link laws t sheet w v came can log pre l is =
       let m = can log pre l is in
       let e : exchange_of m.step ≡ Link t (number_of w) = copy_wished (Next t) (number_of w) (state_of log) None (exchange_of m.step) (Some kinds.Link) tt m.meant.asked in
-      let may : Allows (setting_of eq (hash b.hasher) b.mode log) (state_of log) (Link t (number_of w)) = subst (Allows (setting_of eq (hash b.hasher) b.mode log) (state_of log)) e m.allowed in
+      let with_it = setting_with eq (hash b.hasher) b.mode (names.Table w) log in
+      let may : Allows with_it (state_of log) (Link t (number_of w)) = subst (Allows with_it (state_of log)) e m.allowed in
       let here = table_since v log t sheet pre came in
-      (m, last_came log (laws log l) l (table_in (steps_of log) (number_of w)) t (number_of w) refl may.1 (here.0, here.1) may.0 may.2)
+      (m, last_came log (laws log l) l (table_in (steps_of log) (number_of w)) t (number_of w) refl may.on.0 (here.0, here.1) may.last may.rises)
+
+-- a table that was linked is there
+pub link_words : {K V S : Type 0} (before log : List (Event K V S)) (t : ℕ) (w : Where Sheet) → log ≡ before ++ Stepped (steps.Link t w) ∷ [] → table_in (steps_of before) (number_of w) ≡ None → table_in (steps_of log) (number_of w) ≡ Some w
+link_words before log t w is none =
+    ap (λ (l : List (Event _ _ _)). table_in (steps_of l) (number_of w)) is
+    ∙ (ap (λ (es : List (Step _ _)). table_in es (number_of w)) (steps-append before (Stepped (steps.Link t w) ∷ [])) ∙ table_there (steps_of before) (steps.Link t w) w refl none)
+
+-- the setting in which a table comes next, for the keys of a map
+module _ {K V S H : Type 0} (eq : K → K → Bool) (input : K → List (List ℕ)) (build : S → H) (write : H → List ℕ → H) (finish : H → ℕ) (classes : IsEquivalence eq) (respects : (x y : K) → eq x y ≡ true → input x ≡ input y) (b : Begun K V S) where
+  abbrev hash : S → K → ℕ
+  hash = hash_of input build write finish
+
+  module _ (log : List (Event K V S)) (l : IsLawfulLog eq hash b log) (w : Where Sheet) where
+    hashed : IsHashed (setting_of eq (hash b.hasher) b.mode log) (coding_of (hash b.hasher))
+    hashed = is_hashed eq input build write finish classes respects b log l
+
+    pub with_hashed : IsHashed (setting_with eq (hash b.hasher) b.mode (names.Table w) log) (coding_of (hash b.hasher))
+    with_hashed = joining.with_hashed eq hash b log hashed.lawful w hashed
+
+    pub with_agrees : table_in (steps_of log) (number_of w) ≡ None → Agrees (IsOn (state_of log).first (state_of log).next) (setting_of eq (hash b.hasher) b.mode log) (setting_with eq (hash b.hasher) b.mode (names.Table w) log)
+    with_agrees none = joining.with_agrees eq hash b log hashed.lawful w l none
+
+    pub with_allowed : table_in (steps_of log) (number_of w) ≡ None → AllAllowed (setting_with eq (hash b.hasher) b.mode (names.Table w) log) start (exchanges_of log)
+    with_allowed none = joining.with_allowed eq hash b log hashed.lawful w l none
+
+    pub with_chunks : (setting_with eq (hash b.hasher) b.mode (names.Table w) log).chunks (number_of w) ≡ length w.value.done
+    with_chunks = joining.with_chunks eq hash b log hashed.lawful w

@@ -10,8 +10,7 @@ use Rattle.papaya_words.specs.declared.probe.ResizeMode.{ResizeMode}
 use Rattle.papaya_ask.specs.declared.ask.At.{At}
 use Rattle.papaya_ask.specs.declared.ask.At.TheVariants.{Root, Next, Aborted, Done, Slot}
 use Rattle.papaya_law.specs.Exchange.{Exchange, State, run, start, after}
-use Rattle.papaya_law.specs.Grows.{Entry, brings, exchanges, size_in, places_in, setting_in}
-use Rattle.papaya_law.specs.Hashing.{hashed}
+use Rattle.papaya_law.specs.Grows.{Entry, brings, exchanges, size_in, places_in, chunks_in, setting_in}
 use Rattle.papaya_book.specs.Sheets.{Sheet}
 use Rattle.papaya_book.specs.declared.rule.entry.Named.{Named}
 use Rattle.papaya_book.specs.declared.rule.entry.Named.TheVariants as names
@@ -19,7 +18,7 @@ use Rattle.papaya_book.specs.declared.rule.entry.Step.{Step}
 use Rattle.papaya_book.specs.declared.rule.entry.Step.TheVariants as steps
 use Rattle.papaya_book.specs.declared.rule.entry.Event.{Event}
 use Rattle.papaya_book.specs.declared.rule.entry.Event.TheVariants.{Wish, Begin, Called, Born, Home, Stepped}
-use Rattle.papaya_book.specs.Logs.{Stored, Entered, Member, brought, comes, entries_of, entry_of, exchange_of, exchanges_of, in_table, is_blocking, key_at, name_in, name_of, number_of, or_else, owner, seal_of, seals_of, setting_of, state_of, step_of, steps_of, table_if, table_in}
+use Rattle.papaya_book.specs.Logs.{Stored, Entered, Member, brought, comes, entries_of, entry_of, exchange_of, exchanges_of, in_table, key_at, name_in, name_of, number_of, or_else, owner, plan_of, seal_of, seals_of, setting_of, setting_with, state_of, step_of, steps_of, table_if, table_in}
 use Rattle.papaya_book.specs.Rule.{seal_at}
 use Rattle.papaya_book.specs.Trade.{Answered}
 
@@ -108,8 +107,8 @@ module _ {K V : Type 0} where
   pub key_later : (es fs : List (Step K V)) (at : At) (k : ℕ) → key_at es at ≡ Some k → key_at (es ++ fs) at ≡ Some k
   key_later es fs Root k e = e
   key_later es fs (Next t) k e = key_in_later (λ s. Some s.next) (table_in es t) (table_in (es ++ fs) t) (table_later es fs t) k e
-  key_later es fs (Aborted t) k e = key_in_later (λ s. Some s.aborted) (table_in es t) (table_in (es ++ fs) t) (table_later es fs t) k e
-  key_later es fs (Done t) k e = key_in_later (λ s. Some s.seal) (table_in es t) (table_in (es ++ fs) t) (table_later es fs t) k e
+  key_later es fs (Aborted t) k e = key_in_later (λ s. Some s.seal) (table_in es t) (table_in (es ++ fs) t) (table_later es fs t) k e
+  key_later es fs (Done t c) k e = key_in_later (λ s. slice_get s.done c) (table_in es t) (table_in (es ++ fs) t) (table_later es fs t) k e
   key_later es fs (Slot t x) k e = key_in_later (λ s. slice_get s.slots x) (table_in es t) (table_in (es ++ fs) t) (table_later es fs t) k e
 
   no_table : (n : Named K V) (t : ℕ) → IsQuiet n → table_if n t ≡ None
@@ -124,15 +123,15 @@ module _ {K V : Type 0} where
   pub same_key : (es : List (Step K V)) (e : Step K V) (at : At) → IsQuiet (comes e) → key_at (es ++ e ∷ []) at ≡ key_at es at
   same_key es e Root q = refl
   same_key es e (Next t) q = ap (in_table (λ s. Some s.next)) (same_table es e t q)
-  same_key es e (Aborted t) q = ap (in_table (λ s. Some s.aborted)) (same_table es e t q)
-  same_key es e (Done t) q = ap (in_table (λ s. Some s.seal)) (same_table es e t q)
+  same_key es e (Aborted t) q = ap (in_table (λ s. Some s.seal)) (same_table es e t q)
+  same_key es e (Done t c) q = ap (in_table (λ s. slice_get s.done c)) (same_table es e t q)
   same_key es e (Slot t x) q = ap (in_table (λ s. slice_get s.slots x)) (same_table es e t q)
 
   pub same_seal : (es : List (Step K V)) (e : Step K V) (at : At) → IsQuiet (comes e) → seal_at (es ++ e ∷ []) at ≡ seal_at es at
   same_seal es e Root q = refl
   same_seal es e (Next t) q = ap (in_table (λ s. Some s.seal)) (same_table es e t q)
   same_seal es e (Aborted t) q = ap (in_table (λ s. Some s.seal)) (same_table es e t q)
-  same_seal es e (Done t) q = ap (in_table (λ s. Some s.seal)) (same_table es e t q)
+  same_seal es e (Done t c) q = ap (in_table (λ s. Some s.seal)) (same_table es e t q)
   same_seal es e (Slot t x) q = ap (in_table (λ s. Some s.seal)) (same_table es e t q)
 
   -- it brings none
@@ -146,7 +145,7 @@ module _ {K V : Type 0} where
   brings_none (steps.Close u x) t q = refl
   brings_none (steps.Place u x p) t q = refl
   brings_none (steps.Finish u x p) t q = refl
-  brings_none (steps.Advance u a b) t q = refl
+  brings_none (steps.Advance u c) t q = refl
   brings_none (steps.Promote u n) t q = refl
   brings_none (steps.Abort u) t q = refl
 
@@ -157,6 +156,10 @@ module _ {K V : Type 0} where
   places_same : (es : List (Entry (Stored K V))) (e : Entry (Stored K V)) (t : ℕ) → brings e.by t ≡ false → places_in (es ++ e ∷ []) t ≡ places_in es t
   places_same [] e t h = cond-false (brings e.by t) e.places 1 h
   places_same (f ∷ es) e t h = ap (cond (brings f.by t) f.places) (places_same es e t h)
+
+  chunks_same : (es : List (Entry (Stored K V))) (e : Entry (Stored K V)) (t : ℕ) → brings e.by t ≡ false → chunks_in (es ++ e ∷ []) t ≡ chunks_in es t
+  chunks_same [] e t h = cond-false (brings e.by t) e.chunks 0 h
+  chunks_same (f ∷ es) e t h = ap (cond (brings f.by t) f.chunks) (chunks_same es e t h)
 
   -- a table that is there came with some exchange, and has the number that was looked for
   table_came_with : (n : Named K V) (t : ℕ) (w : Where Sheet) → table_if n t ≡ Some w → (n ≡ names.Table w) × (number_of w ≡ t)
@@ -238,10 +241,17 @@ module _ {K V S : Type 0} where
   -- an exchange with which no table comes leaves the setting
   pub setting_same : (eq : K → K → Bool) (hash : K → ℕ) (mode : ResizeMode) (log : List (Event K V S)) (e : Step K V) → IsQuiet (comes e) → setting_of eq hash mode (log ++ Stepped e ∷ []) ≡ setting_of eq hash mode log
   setting_same eq hash mode log e q =
-      ap (setting_in (hashed (is_blocking mode) (λ p. p.value.key.value) eq hash)) (entries-append log (Stepped e ∷ []))
+      ap (setting_in (plan_of eq hash mode)) (entries-append log (Stepped e ∷ []))
       ∙ (let sizes : size_in (entries_of log ++ entry_of e ∷ []) ≡ size_in (entries_of log) = fun_ext (λ t. size_same (entries_of log) (entry_of e) t (brings_none e t q)) in
       let places : places_in (entries_of log ++ entry_of e ∷ []) ≡ places_in (entries_of log) = fun_ext (λ t. places_same (entries_of log) (entry_of e) t (brings_none e t q)) in
-      λ i. Rattle.papaya_law.specs.Grows.planned (hashed (is_blocking mode) (λ p. p.value.key.value) eq hash) (sizes i) (places i))
+      let chunks : chunks_in (entries_of log ++ entry_of e ∷ []) ≡ chunks_in (entries_of log) = fun_ext (λ t. chunks_same (entries_of log) (entry_of e) t (brings_none e t q)) in
+      λ i. Rattle.papaya_law.specs.Grows.planned (plan_of eq hash mode) (sizes i) (places i) (chunks i))
+
+  -- where what comes is no table, it is the setting of the log
+  pub with_quiet : (eq : K → K → Bool) (hash : K → ℕ) (mode : ResizeMode) (log : List (Event K V S)) (n : Named K V) → IsQuiet n → setting_with eq hash mode n log ≡ setting_of eq hash mode log
+  with_quiet eq hash mode log names.Nothing q = refl
+  with_quiet eq hash mode log (names.Pair p) q = refl
+  with_quiet eq hash mode log (names.Table w) q = absurd q
 
 run-append : {P : Type 0} (xs ys : List (Exchange P)) (s : State P) → run (xs ++ ys) s ≡ run ys (run xs s)
 run-append [] ys s = refl

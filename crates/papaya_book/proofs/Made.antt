@@ -1,5 +1,5 @@
 -- A token of a vector is made of what it shows and its bytes. Assumes `Logic`.
-use Rattle.std.proofs.Common.{◌≡◌, ℕ, ◌+◌, ◌^◌, ◌<◌, List, [], ◌∷◌, refl, ap, subst, w64, arith}
+use Rattle.std.proofs.Common.{◌≡◌, ℕ, ◌^◌, ◌<◌, List, [], ◌∷◌, refl, ap, subst, w64}
 use Rattle.boxcar.proofs.Spans.{one_bucket, one_slot}
 use seplogic.Ra.Ura.{Ura}
 use mir.Val.{Val, vint, vstruct, of_list, vcons, vnil}

@@ -9,7 +9,6 @@ use Rattle.papaya_ask.specs.declared.ask.At.TheVariants.{Root, Next, Aborted, Do
 use Rattle.papaya_law.specs.Allows.{AllAllowed}
 use Rattle.papaya_law.specs.Exchange.{start}
 use Rattle.papaya_law.specs.Grows.{AllSized, exchanges, setting_in}
-use Rattle.papaya_law.specs.Hashing.{hashed}
 use Rattle.papaya_book.specs.Sheets.{Sheet}
 use Rattle.boxcar.specs.Table.{Where}
 use Rattle.papaya_book.specs.declared.rule.entry.Begun.{Begun}
@@ -18,7 +17,7 @@ use Rattle.papaya_book.specs.declared.rule.entry.Named.TheVariants as names
 use Rattle.papaya_book.specs.declared.rule.entry.Step.{Step}
 use Rattle.papaya_book.specs.declared.rule.entry.Event.{Event}
 use Rattle.papaya_book.specs.declared.rule.entry.Event.TheVariants.{Born, Called, Home}
-use Rattle.papaya_book.specs.Logs.{Stored, Entered, Member, brought, entry_of, in_table, is_blocking, key_at, name_in, name_of, or_else, owner, seal_of, seals_of, state_of, step_of, steps_of, table_in}
+use Rattle.papaya_book.specs.Logs.{Stored, Entered, Member, brought, entry_of, in_table, key_at, name_in, name_of, or_else, owner, plan_of, seal_of, seals_of, state_of, step_of, steps_of, table_in}
 use Rattle.papaya_book.specs.Makers.{Adds, Calls, Homes, IsAdded, Seals}
 use Rattle.papaya_book.specs.Rule.{IsBlank, IsKept, IsLawfulLog, IsPlaced, flag, seal_at, word_in}
 use Rattle.papaya_book.specs.Trade.{Moved}
@@ -35,8 +34,8 @@ with_seal f (Some w) k e = (w.value.seal, refl)
 pub sealed_or_root : {K V : Type 0} (es : List (Step K V)) (at : At) (k : ℕ) → key_at es at ≡ Some k → (at ≡ Root) ⊎ ((seal : ℕ) × (seal_at es at ≡ Some seal))
 sealed_or_root es Root k e = inl refl
 sealed_or_root es (Next t) k e = inr (with_seal (λ s. Some s.next) (table_in es t) k e)
-sealed_or_root es (Aborted t) k e = inr (with_seal (λ s. Some s.aborted) (table_in es t) k e)
-sealed_or_root es (Done t) k e = inr (with_seal (λ s. Some s.seal) (table_in es t) k e)
+sealed_or_root es (Aborted t) k e = inr (with_seal (λ s. Some s.seal) (table_in es t) k e)
+sealed_or_root es (Done t c) k e = inr (with_seal (λ s. slice_get s.done c) (table_in es t) k e)
 sealed_or_root es (Slot t x) k e = inr (with_seal (λ s. slice_get s.slots x) (table_in es t) k e)
 
 -- what is placed stays so where the book's name stays
@@ -62,7 +61,7 @@ module _ {K V S : Type 0} (eq : K → K → Bool) (hash : S → K → ℕ) where
   -- an entry that is no exchange and brings nothing keeps the log lawful
   pub lawful_still : (b : Begun K V S) (log : List (Event K V S)) (e : Event K V S) → step_of e ≡ [] → brought e ≡ names.Nothing → IsLawfulLog eq hash b log → IsLawfulLog eq hash b (log ++ e ∷ [])
   lawful_still b log e no_step nothing l =
-      let plan = hashed {P = Stored K V} (is_blocking b.mode) (λ p. p.value.key.value) eq (hash b.hasher) in
+      let plan = plan_of {V = V} eq (hash b.hasher) b.mode in
       let same : steps_of log ≡ steps_of (log ++ e ∷ []) = sym (steps_same log e no_step) in record {
         rest = l.rest ++ e ∷ [];
         is = ap (λ (z : List (Event K V S)). z ++ e ∷ []) l.is;
@@ -90,7 +89,7 @@ module _ {K V S : Type 0} (eq : K → K → Bool) (hash : S → K → ℕ) where
 
     same_word : (at : At) → word_in eq hash h.begun log' at ≡ word_in eq hash h.begun log at
     same_word at =
-        let plan = hashed {P = Stored K V} (is_blocking h.begun.mode) (λ p. p.value.key.value) eq (hash h.begun.hasher) in
+        let plan = plan_of {V = V} eq (hash h.begun.hasher) h.begun.mode in
         ap (λ (es : List (Step K V)). Rattle.papaya_rests.specs.Told.word_of (setting_in plan (map entry_of es)) (Rattle.papaya_book.specs.Logs.coding_of (hash h.begun.hasher)) (Rattle.papaya_law.specs.Exchange.run (exchanges (map entry_of es)) start) at) same_steps
 
     owned_still : (at : At) (k : ℕ) → key_at (steps_of log) at ≡ Some k → (at ≡ Root) ⊎ (owner k log' ≡ seal_at (steps_of log') at)

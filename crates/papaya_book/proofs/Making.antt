@@ -17,14 +17,19 @@ use Rattle.papaya_book.specs.declared.rule.entry.Step.TheVariants as steps
 use Rattle.papaya_book.specs.Logs.{Member, Stored, coding_of, number_of, owner, seals_of, setting_of, state_of}
 use Rattle.papaya_book.specs.Makers.{AreMade, CanBring, IsMade, key_of, table_of}
 use Rattle.papaya_book.proofs.Comes.{get_within}
-use Rattle.papaya_book.proofs.Logs.{member_left, owner_later, seals-append}
+use Rattle.papaya_book.proofs.Logs.{get_left, member_left, owner_later, seals-append}
+
+-- what comes after the end of a list
+get_right : {X : Type 0} (xs ys : List X) (i : ℕ) → slice_get (xs ++ ys) (length xs + i) ≡ slice_get ys i
+get_right [] ys i = let e : 0 + i ≡ i = omega arith in ap (slice_get ys) e
+get_right (x ∷ xs) ys i = let e : length (x ∷ xs) + i ≡ suc (length xs + i) = omega arith in ap (slice_get (x ∷ (xs ++ ys))) e ∙ get_right xs ys i
 
 -- an opening changes the root alone
 others_stay : {K P : Type 0} (g : Setting K P) (c : Coding K P) (s : State P) (t : ℕ) (at : At) → (at ≡ Root → ⊥) → word_of g c (after s (Open t)) at ≡ word_of g c s at
 others_stay g c s t Root n = absurd (n refl)
 others_stay g c s t (Next u) n = refl
 others_stay g c s t (Aborted u) n = refl
-others_stay g c s t (Done u) n = refl
+others_stay g c s t (Done u d) n = refl
 others_stay g c s t (Slot u x) n = refl
 
 -- where there is no root, a table may be opened
@@ -78,43 +83,75 @@ module _ {K V S : Type 0} where
   one_place log (j ∷ ks) least seal (suc x) zero k m e f = let i : j ≡ k = cc f in let r = made_at log ks j seal x k m.3 e in let l = r.0 in absurd (omega arith)
   one_place log (j ∷ ks) least seal (suc x) (suc y) k m e f = ap suc (one_place log ks j seal x y k m.3 e f)
 
-  module _ (sheet : Sheet) (log : List (Event K V S)) (some : 0 < length sheet.slots) (past : 2 ≤ sheet.seal) (own : owner sheet.seal log ≡ Some sheet.seal) (made : AreMade (sheet.next ∷ sheet.aborted ∷ sheet.slots) sheet.seal sheet.seal log) where
-    slots_made : AreMade sheet.slots sheet.aborted sheet.seal log
-    slots_made = made.3.3
+  -- words that were made after those of a log follow on them
+  pub made_append : (v log : List (Event K V S)) → IsPrefix v log → (ks js : List ℕ) (least seal : ℕ) → least < 2 + length (seals_of v) → AreMade ks least seal v → ((m : ℕ) → m < 2 + length (seals_of v) → AreMade js m seal log) → AreMade (ks ++ js) least seal log
+  made_append v log pre [] js least seal low m more = more least low
+  made_append v log pre (k ∷ ks) js least seal low m more = (m.0, owner_since v log k seal pre m.1, home_since v log k pre m.2, made_append v log pre ks js k seal (below v k seal m.1) m.3 more)
 
-    slot_at : (x k : ℕ) → slice_get sheet.slots x ≡ Some k → (sheet.aborted < k) × (owner k log ≡ Some sheet.seal) × Member (Home k) log
-    slot_at x k e = made_at log sheet.slots sheet.aborted sheet.seal x k slots_made e
+  module _ (sheet : Sheet) (log : List (Event K V S)) (some : 0 < length sheet.slots) (past : 2 ≤ sheet.seal) (own : owner sheet.seal log ≡ Some sheet.seal) (made : AreMade (sheet.next ∷ (sheet.done ++ sheet.slots)) sheet.seal sheet.seal log) where
+    abbrev row : List ℕ
+    row = sheet.done ++ sheet.slots
+
+    row_made : AreMade row sheet.next sheet.seal log
+    row_made = made.3
+
+    done_in : (c k : ℕ) → slice_get sheet.done c ≡ Some k → slice_get row c ≡ Some k
+    done_in c k e = get_left sheet.done sheet.slots c k e
+
+    slot_in : (x k : ℕ) → slice_get sheet.slots x ≡ Some k → slice_get row (length sheet.done + x) ≡ Some k
+    slot_in x k e = get_right sheet.done sheet.slots x ∙ e
+
+    row_at : (i k : ℕ) → slice_get row i ≡ Some k → (sheet.next < k) × (owner k log ≡ Some sheet.seal) × Member (Home k) log
+    row_at i k e = made_at log row sheet.next sheet.seal i k row_made e
+
+    one_index : (i j k : ℕ) → slice_get row i ≡ Some k → slice_get row j ≡ Some k → i ≡ j
+    one_index i j k e f = one_place log row sheet.next sheet.seal i j k row_made e f
 
     each : (at : At) (k : ℕ) → key_of sheet at ≡ Some k → (sheet.seal ≤ k) × (owner k log ≡ Some sheet.seal) × ((k ≡ sheet.seal) ⊎ Member (Home k) log)
     each Root k e = absurd (cc e)
     each (Next t) k e = let i : sheet.next ≡ k = cc e in subst (λ (n : ℕ). (sheet.seal ≤ n) × (owner n log ≡ Some sheet.seal) × ((n ≡ sheet.seal) ⊎ Member (Home n) log)) i (let l = made.0 in omega arith, made.1, inr made.2)
-    each (Aborted t) k e = let i : sheet.aborted ≡ k = cc e in subst (λ (n : ℕ). (sheet.seal ≤ n) × (owner n log ≡ Some sheet.seal) × ((n ≡ sheet.seal) ⊎ Member (Home n) log)) i (let l = made.0 in let m = made.3.0 in omega arith, made.3.1, inr made.3.2)
-    each (Done t) k e = let i : sheet.seal ≡ k = cc e in subst (λ (n : ℕ). (sheet.seal ≤ n) × (owner n log ≡ Some sheet.seal) × ((n ≡ sheet.seal) ⊎ Member (Home n) log)) i (omega arith, own, inl refl)
-    each (Slot t x) k e = let r = slot_at x k e in (let l = made.0 in let m = made.3.0 in let a = r.0 in omega arith, r.1, inr r.2)
+    each (Aborted t) k e = let i : sheet.seal ≡ k = cc e in subst (λ (n : ℕ). (sheet.seal ≤ n) × (owner n log ≡ Some sheet.seal) × ((n ≡ sheet.seal) ⊎ Member (Home n) log)) i (omega arith, own, inl refl)
+    each (Done t c) k e = let r = row_at c k (done_in c k e) in (let l = made.0 in let a = r.0 in omega arith, r.1, inr r.2)
+    each (Slot t x) k e = let r = row_at (length sheet.done + x) k (slot_in x k e) in (let l = made.0 in let a = r.0 in omega arith, r.1, inr r.2)
+
+    -- a word of the row is not one of those before it
+    not_next : (i k : ℕ) → sheet.next ≡ k → slice_get row i ≡ Some k → ⊥
+    not_next i k is e = let r = row_at i k e in let a = r.0 in omega arith
+
+    not_seal : (i k : ℕ) → sheet.seal ≡ k → slice_get row i ≡ Some k → ⊥
+    not_seal i k is e = let r = row_at i k e in let a = r.0 in let l = made.0 in omega arith
+
+    not_both : (c x k : ℕ) → slice_get sheet.done c ≡ Some k → slice_get sheet.slots x ≡ Some k → ⊥
+    not_both c x k e f =
+        let i : c ≡ length sheet.done + x = one_index c (length sheet.done + x) k (done_in c k e) (slot_in x k f) in
+        let l = get_within sheet.done c k e in omega arith
 
     -- which word of a table it is, by the order in which they were made
     other : (at at' : At) (k : ℕ) → table_of at ≡ table_of at' → key_of sheet at ≡ Some k → key_of sheet at' ≡ Some k → at ≡ at'
     other Root at' k t e f = absurd (cc e)
     other (Next t) Root k u e f = absurd (cc f)
     other (Next t) (Next t') k u e f = ap Next u
-    other (Next t) (Aborted t') k u e f = let i : sheet.next ≡ k = cc e in let j : sheet.aborted ≡ k = cc f in let m = made.3.0 in absurd (omega arith)
-    other (Next t) (Done t') k u e f = let i : sheet.next ≡ k = cc e in let j : sheet.seal ≡ k = cc f in let m = made.0 in absurd (omega arith)
-    other (Next t) (Slot t' x) k u e f = let i : sheet.next ≡ k = cc e in let r = slot_at x k f in let a = r.0 in let m = made.3.0 in absurd (omega arith)
+    other (Next t) (Aborted t') k u e f = let i : sheet.next ≡ k = cc e in let j : sheet.seal ≡ k = cc f in let m = made.0 in absurd (omega arith)
+    other (Next t) (Done t' c) k u e f = absurd (not_next c k (cc e) (done_in c k f))
+    other (Next t) (Slot t' x) k u e f = absurd (not_next (length sheet.done + x) k (cc e) (slot_in x k f))
     other (Aborted t) Root k u e f = absurd (cc f)
-    other (Aborted t) (Next t') k u e f = let i : sheet.aborted ≡ k = cc e in let j : sheet.next ≡ k = cc f in let m = made.3.0 in absurd (omega arith)
+    other (Aborted t) (Next t') k u e f = let i : sheet.seal ≡ k = cc e in let j : sheet.next ≡ k = cc f in let m = made.0 in absurd (omega arith)
     other (Aborted t) (Aborted t') k u e f = ap Aborted u
-    other (Aborted t) (Done t') k u e f = let i : sheet.aborted ≡ k = cc e in let j : sheet.seal ≡ k = cc f in let m = made.3.0 in let n = made.0 in absurd (omega arith)
-    other (Aborted t) (Slot t' x) k u e f = let i : sheet.aborted ≡ k = cc e in let r = slot_at x k f in let a = r.0 in absurd (omega arith)
-    other (Done t) Root k u e f = absurd (cc f)
-    other (Done t) (Next t') k u e f = let i : sheet.seal ≡ k = cc e in let j : sheet.next ≡ k = cc f in let m = made.0 in absurd (omega arith)
-    other (Done t) (Aborted t') k u e f = let i : sheet.seal ≡ k = cc e in let j : sheet.aborted ≡ k = cc f in let m = made.3.0 in let n = made.0 in absurd (omega arith)
-    other (Done t) (Done t') k u e f = ap Done u
-    other (Done t) (Slot t' x) k u e f = let i : sheet.seal ≡ k = cc e in let r = slot_at x k f in let a = r.0 in let m = made.3.0 in let n = made.0 in absurd (omega arith)
+    other (Aborted t) (Done t' c) k u e f = absurd (not_seal c k (cc e) (done_in c k f))
+    other (Aborted t) (Slot t' x) k u e f = absurd (not_seal (length sheet.done + x) k (cc e) (slot_in x k f))
+    other (Done t c) Root k u e f = absurd (cc f)
+    other (Done t c) (Next t') k u e f = absurd (not_next c k (cc f) (done_in c k e))
+    other (Done t c) (Aborted t') k u e f = absurd (not_seal c k (cc f) (done_in c k e))
+    other (Done t c) (Done t' d) k u e f = let i : c ≡ d = one_index c d k (done_in c k e) (done_in d k f) in λ z. Done (u z) (i z)
+    other (Done t c) (Slot t' x) k u e f = absurd (not_both c x k e f)
     other (Slot t x) Root k u e f = absurd (cc f)
-    other (Slot t x) (Next t') k u e f = let i : sheet.next ≡ k = cc f in let r = slot_at x k e in let a = r.0 in let m = made.3.0 in absurd (omega arith)
-    other (Slot t x) (Aborted t') k u e f = let i : sheet.aborted ≡ k = cc f in let r = slot_at x k e in let a = r.0 in absurd (omega arith)
-    other (Slot t x) (Done t') k u e f = let i : sheet.seal ≡ k = cc f in let r = slot_at x k e in let a = r.0 in let m = made.3.0 in let n = made.0 in absurd (omega arith)
-    other (Slot t x) (Slot t' y) k u e f = let i : x ≡ y = one_place log sheet.slots sheet.aborted sheet.seal x y k slots_made e f in λ z. Slot (u z) (i z)
+    other (Slot t x) (Next t') k u e f = absurd (not_next (length sheet.done + x) k (cc f) (slot_in x k e))
+    other (Slot t x) (Aborted t') k u e f = absurd (not_seal (length sheet.done + x) k (cc f) (slot_in x k e))
+    other (Slot t x) (Done t' c) k u e f = absurd (not_both c x k f e)
+    other (Slot t x) (Slot t' y) k u e f =
+        let j : length sheet.done + x ≡ length sheet.done + y = one_index (length sheet.done + x) (length sheet.done + y) k (slot_in x k e) (slot_in y k f) in
+        let i : x ≡ y = omega arith in
+        λ z. Slot (u z) (i z)
 
     pub table_made : IsMade sheet log
     table_made = record {

@@ -41,7 +41,7 @@ module _ {K V : Type 0} (g : Setting K (Stored K V)) where
   stands_after s (steps.Close t x) a p h = inl (put_same s t x t x Closed p (ap named a.empty) h)
   stands_after s (steps.Place t x q) a p h = inl (put_same s t x a.source.from a.source.slot (Live q) p (⊎_elim (λ i. ap named i) (λ i. ap named i) a.source.stood) h)
   stands_after s (steps.Finish t x q) a p h = inl (put_same s t x t x (Copied q) p (ap named a.marked) h)
-  stands_after s (steps.Advance t b c) a p h = inl h
+  stands_after s (steps.Advance t c) a p h = inl h
   stands_after s (steps.Promote t n) a p h = inl h
   stands_after s (steps.Abort t) a p h = inl h
 
@@ -77,7 +77,7 @@ module _ {K V S : Type 0} (g : Setting K (Stored K V)) (log : List (Event K V S)
   word_answer Root = table_answer (table_in (steps_of log) (state_of log).root) (table_entered (state_of log).root)
   word_answer (Next t) = table_answer (table_in (steps_of log) ((state_of log).next t)) (table_entered ((state_of log).next t))
   word_answer (Aborted t) = tt
-  word_answer (Done t) = tt
+  word_answer (Done t c) = tt
   word_answer (Slot t x) = pair_answer (named ((state_of log).slot t x)) (λ p e. came_entered (names.Pair p) log (pair_came g (steps_of log) allowed p t x e))
 
   -- so is a table that has come

@@ -17,7 +17,7 @@ only_root : (K V : Type 0) (at : At) (k : ℕ) → key_at {K = K} {V = V} [] at 
 only_root K V Root k e = (refl, let z : 0 ≡ k = cc e in sym z)
 only_root K V (Next t) k e = absurd (cc e)
 only_root K V (Aborted t) k e = absurd (cc e)
-only_root K V (Done t) k e = absurd (cc e)
+only_root K V (Done t c) k e = absurd (cc e)
 only_root K V (Slot t x) k e = absurd (cc e)
 
 abbrev first_cells : List Cell
@@ -36,7 +36,7 @@ module _ {K V S : Type 0} (eq : K → K → Bool) (hash : S → K → ℕ) (b : 
     allowed = tt;
     sized = tt;
     placed = λ n h. ⊎_elim (λ i. subst (IsPlaced b None) i tt) (λ i. absurd i) h;
-    blank = λ t e. record { next = refl; aborted = refl; done = refl; slots = λ x. refl };
+    blank = λ t e. record { next = refl; aborted = refl; done = λ c. refl; slots = λ x. refl };
     unopened = λ r t. refl;
     apart = λ at at' k x y. (only_root K V at k x).0 ∙ sym (only_root K V at' k y).0;
   }

@@ -3,13 +3,13 @@ use Rattle.std.proofs.Common.{◌≡◌, ◌⊎◌, inl, inr, ⊎_elim, ℕ, ◌
 use Rattle.std.proofs.lemmas.Bool.{cases_Bool, cond-true, cond-false}
 use Rattle.boxcar.specs.Table.{Where}
 use Rattle.papaya_ask.specs.Search.{IsSize}
-use Rattle.papaya_law.specs.Grows.{AllSized, Entry, brings, places_in, size_in}
+use Rattle.papaya_law.specs.Grows.{AllSized, Entry, brings, chunks_in, places_in, size_in}
 use Rattle.papaya_book.specs.Sheets.{Sheet}
 use Rattle.papaya_book.specs.declared.rule.entry.Named.{Named}
 use Rattle.papaya_book.specs.declared.rule.entry.Named.TheVariants as names
 use Rattle.papaya_book.specs.declared.rule.entry.Step.{Step}
 use Rattle.papaya_book.specs.declared.rule.entry.Step.TheVariants as steps
-use Rattle.papaya_book.specs.Logs.{comes, entry_of, exchange_of, number_of, or_else, places_of, slots_of, table_if, table_in}
+use Rattle.papaya_book.specs.Logs.{chunks_of, comes, entry_of, exchange_of, number_of, or_else, places_of, slots_of, table_if, table_in}
 
 -- each table has a slot at least
 pub some_slot : {P : Type 0} (es : List (Entry P)) → AllSized es → (t : ℕ) → 0 < size_in es t
@@ -63,7 +63,7 @@ module _ {K V : Type 0} where
   brings_if (steps.Close u x) t = refl
   brings_if (steps.Place u x p) t = refl
   brings_if (steps.Finish u x p) t = refl
-  brings_if (steps.Advance u a b) t = refl
+  brings_if (steps.Advance u c) t = refl
   brings_if (steps.Promote u n) t = refl
   brings_if (steps.Abort u) t = refl
 
@@ -82,6 +82,30 @@ module _ {K V : Type 0} where
       let o : table_in es t ≡ Some w = sym (ap (λ (z : Option (Where Sheet)). or_else z (table_in es t)) h) ∙ e in
       let rest = sizes es t w o in
       (cond-false (brings (exchange_of s) t) (slots_of (comes s)) (size_in (map entry_of es) t) b ∙ rest.0, cond-false (brings (exchange_of s) t) (places_of (comes s)) (places_in (map entry_of es) t) b ∙ rest.1))
+      (there (table_if (comes s) t))
+
+  -- so is its number of words for chunks
+  words_named : (n : Named K V) (t : ℕ) (w : Where Sheet) → table_if n t ≡ Some w → chunks_of n ≡ length w.value.done
+  words_named names.Nothing t w e = absurd (cc e)
+  words_named (names.Pair p) t w e = absurd (cc e)
+  words_named (names.Table v) t w e =
+      ⊎_elim
+      (λ h. let c = cond-true (number_of v == t) (Some v) None h in let is : v ≡ w = cc (c, e) in ap (λ (z : Where Sheet). length z.value.done) is)
+      (λ h. let c = cond-false (number_of v == t) (Some v) None h in absurd (cc (c, e)))
+      (cases_Bool (number_of v == t))
+
+  pub words_of : (es : List (Step K V)) (t : ℕ) (w : Where Sheet) → table_in es t ≡ Some w → chunks_in (map entry_of es) t ≡ length w.value.done
+  words_of [] t w e = absurd (cc e)
+  words_of (s ∷ es) t w e =
+      ⊎_elim
+      (λ h.
+      let is : h.0 ≡ w = let o = ap (λ (z : Option (Where Sheet)). or_else z (table_in es t)) h.1 in cc (o, e) in
+      let b : brings (exchange_of s) t ≡ true = brings_if s t ∙ ap some h.1 in
+      cond-true (brings (exchange_of s) t) (chunks_of (comes s)) (chunks_in (map entry_of es) t) b ∙ words_named (comes s) t w (h.1 ∙ ap (λ z. Some z) is))
+      (λ h.
+      let b : brings (exchange_of s) t ≡ false = brings_if s t ∙ ap some h in
+      let o : table_in es t ≡ Some w = sym (ap (λ (z : Option (Where Sheet)). or_else z (table_in es t)) h) ∙ e in
+      cond-false (brings (exchange_of s) t) (chunks_of (comes s)) (chunks_in (map entry_of es) t) b ∙ words_of es t w o)
       (there (table_if (comes s) t))
 
 -- the least table's size, and the next one's

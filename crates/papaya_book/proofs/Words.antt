@@ -40,11 +40,11 @@ module _ {K V S : Type 0} (eq : K → K → Bool) (hash : S → K → ℕ) (b : 
   pub next_there : (w : Word) → w ≡ word_named sheet.book sheet.next → key_at (steps_of v) (Next t) ≡ Some w.key
   next_there w at = next_key v t sheet came ∙ key_there w sheet.next at
 
-  pub aborted_there : (w : Word) → w ≡ word_named sheet.book sheet.aborted → key_at (steps_of v) (Aborted t) ≡ Some w.key
-  aborted_there w at = ap (in_table (λ s. Some s.aborted)) came.1 ∙ (ap (λ (s : Sheet). Some s.aborted) came.2 ∙ key_there w sheet.aborted at)
+  pub aborted_there : (w : Word) → w ≡ word_named sheet.book sheet.seal → key_at (steps_of v) (Aborted t) ≡ Some w.key
+  aborted_there w at = ap (in_table (λ s. Some s.seal)) came.1 ∙ (ap (λ (s : Sheet). Some s.seal) came.2 ∙ key_there w sheet.seal at)
 
-  pub done_there : (w : Word) → w ≡ word_named sheet.book sheet.seal → key_at (steps_of v) (Done t) ≡ Some w.key
-  done_there w at = ap (in_table (λ s. Some s.seal)) came.1 ∙ (ap (λ (s : Sheet). Some s.seal) came.2 ∙ key_there w sheet.seal at)
+  pub done_there : (w : Word) (c k : ℕ) → slice_get sheet.done c ≡ Some k → w ≡ word_named sheet.book k → key_at (steps_of v) (Done t c) ≡ Some w.key
+  done_there w c k get at = ap (in_table (λ s. slice_get s.done c)) came.1 ∙ (ap (λ (s : Sheet). slice_get s.done c) came.2 ∙ (get ∙ key_there w k at))
 
   pub slot_there : (w : Word) (x k : ℕ) → slice_get sheet.slots x ≡ Some k → w ≡ word_named sheet.book k → key_at (steps_of v) (Slot t x) ≡ Some w.key
   slot_there w x k get at = slot_key v t x k sheet came get ∙ key_there w k at

@@ -6,6 +6,7 @@ use Rattle.papaya_law.specs.Hints.{IsHint}
 use Rattle.papaya_book.specs.declared.rule.entry.Begun.{Begun}
 use Rattle.papaya_book.specs.declared.rule.entry.Event.{Event}
 use Rattle.papaya_book.specs.Logs.{coding_of, setting_of, state_of}
+use Rattle.papaya_book.specs.declared.hint.TheConstants.{UNHINTED_TABLES}
 use Rattle.papaya_book.specs.Numbers.{hint_word}
 use Rattle.papaya_book.specs.Rule.{IsLawfulLog}
 
@@ -29,6 +30,7 @@ module _ {K V S : Type 0} (eq : K → K → Bool) (hash : S → K → ℕ) where
     pub place : ℕ
     pub hint : ℕ
     pub number_is : number ≡ hint_word table place hint
+    pub early : table < UNHINTED_TABLES
     pub near : place < 2 ^ 32
     pub low : hint < 256
     pub was : WasHint table place hint log

@@ -3,14 +3,15 @@
 use Rattle.std.specs.Prelude.{◌≡◌, ◌⊎◌, ℕ, ◌+◌, ◌-◌, ◌==◌, Bool, true, false, cond, Option, None, Some, List, [], ◌∷◌, ◌++◌, length, map, slice_get}
 use Rattle.boxcar.specs.Table.{Where}
 use Rattle.logbook.specs.Pages.{Book}
+use Rattle.papaya_words.specs.Chunks.{chunk_len, chunk_of}
 use Rattle.papaya_words.specs.declared.probe.ResizeMode.{ResizeMode}
 use Rattle.papaya_words.specs.declared.probe.ResizeMode.TheVariants.{Incremental, Blocking}
 use Rattle.papaya_ask.specs.declared.ask.At.{At}
 use Rattle.papaya_ask.specs.declared.ask.At.TheVariants.{Root, Next, Aborted, Done, Slot}
 use Rattle.papaya_ask.specs.declared.ask.StepKind.{StepKind}
 use Rattle.papaya_law.specs.Exchange as law
-use Rattle.papaya_law.specs.Exchange.{Setting, Exchange, State, run, start}
-use Rattle.papaya_law.specs.Grows.{Entry, exchanges, setting_in}
+use Rattle.papaya_law.specs.Exchange.{Setting, Exchange, State, at_put, run, start}
+use Rattle.papaya_law.specs.Grows.{Entry, Plan, exchanges, setting_in}
 use Rattle.papaya_law.specs.Hashing.{hashed}
 use Rattle.papaya_law.specs.Code.{Coding}
 use Rattle.papaya_law.specs.Invariant.{named}
@@ -35,6 +36,11 @@ number_of w = w.index + 1
 abbrev pub is_blocking : ResizeMode → Bool
 is_blocking (Incremental chunk) = false
 is_blocking Blocking = true
+
+-- how the keys' places and the chunks of slots are found
+abbrev pub plan_of : {K V : Type 0} → (K → K → Bool) → (K → ℕ) → ResizeMode → Plan K (Stored K V)
+plan_of eq hash mode = hashed (is_blocking mode) (chunk_of (chunk_len mode))
+    (λ p. p.value.key.value) eq hash
 
 -- the first of two that is there
 abbrev pub or_else : {X : Type 0} → Option X → Option X → Option X
@@ -65,7 +71,7 @@ module _ {K V : Type 0} where
   exchange_of (steps.Close t x) = law.Close t x
   exchange_of (steps.Place t x p) = law.Place t x p
   exchange_of (steps.Finish t x p) = law.Finish t x p
-  exchange_of (steps.Advance t a b) = law.Advance t a b
+  exchange_of (steps.Advance t c) = law.Advance t c
   exchange_of (steps.Promote t n) = law.Promote t n
   exchange_of (steps.Abort t) = law.Abort t
 
@@ -89,11 +95,18 @@ module _ {K V : Type 0} where
   places_of (names.Pair p) = 1
   places_of (names.Table w) = w.value.limit + 1
 
+  -- how many words it has for chunks of the table before it; 0 where none comes
+  abbrev pub chunks_of : Named K V → ℕ
+  chunks_of names.Nothing = 0
+  chunks_of (names.Pair p) = 0
+  chunks_of (names.Table w) = length w.value.done
+
   abbrev pub entry_of : Step K V → Entry (Stored K V)
   entry_of e = record {
     by = exchange_of e;
     size = slots_of (comes e);
     places = places_of (comes e);
+    chunks = chunks_of (comes e);
   }
 
   -- the table that comes, if it has this number
@@ -111,8 +124,8 @@ module _ {K V : Type 0} where
   abbrev pub key_at : List (Step K V) → At → Option ℕ
   key_at es Root = Some 0
   key_at es (Next t) = in_table (λ s. Some s.next) (table_in es t)
-  key_at es (Aborted t) = in_table (λ s. Some s.aborted) (table_in es t)
-  key_at es (Done t) = in_table (λ s. Some s.seal) (table_in es t)
+  key_at es (Aborted t) = in_table (λ s. Some s.seal) (table_in es t)
+  key_at es (Done t c) = in_table (λ s. slice_get s.done c) (table_in es t)
   key_at es (Slot t x) = in_table (λ s. slice_get s.slots x) (table_in es t)
 
 -- what a word names: a pair, or a table that has come
@@ -128,7 +141,7 @@ abbrev pub word_names : {K V : Type 0} → List (Step K V) → State (Stored K V
 word_names es s Root = table_named (table_in es s.root)
 word_names es s (Next t) = table_named (table_in es (s.next t))
 word_names es s (Aborted t) = names.Nothing
-word_names es s (Done t) = names.Nothing
+word_names es s (Done t c) = names.Nothing
 word_names es s (Slot t x) = pair_named (named (s.slot t x))
 
 module _ {K V S : Type 0} where
@@ -180,8 +193,17 @@ module _ {K V S : Type 0} where
   -- the setting that a log makes
   abbrev pub setting_of : (K → K → Bool) → (K → ℕ) → ResizeMode → List (Event K V S)
       → Setting K (Stored K V)
-  setting_of eq hash mode log = setting_in (hashed (is_blocking mode) (λ p. p.value.key.value) eq
-      hash) (entries_of log)
+  setting_of eq hash mode log = setting_in (plan_of eq hash mode) (entries_of log)
+
+  -- The setting in which an exchange is asked for with which this comes. Of a table that comes it says
+  -- besides how many words for chunks it has, which no entry of the log says yet.
+  abbrev pub setting_with : (K → K → Bool) → (K → ℕ) → ResizeMode → Named K V → List (Event K V S)
+      → Setting K (Stored K V)
+  setting_with eq hash mode names.Nothing log = setting_of eq hash mode log
+  setting_with eq hash mode (names.Pair p) log = setting_of eq hash mode log
+  setting_with eq hash mode (names.Table w) log = record (setting_of eq hash mode log) {
+    chunks = at_put (setting_of eq hash mode log).chunks (number_of w) (length w.value.done);
+  }
 
   -- the name that the book was told first
   abbrev pub name_of : Event K V S → Option Book

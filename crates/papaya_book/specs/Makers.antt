@@ -51,8 +51,8 @@ module _ {K V S : Type 0} where
 abbrev pub key_of : Sheet → At → Option ℕ
 key_of s Root = None
 key_of s (Next t) = Some s.next
-key_of s (Aborted t) = Some s.aborted
-key_of s (Done t) = Some s.seal
+key_of s (Aborted t) = Some s.seal
+key_of s (Done t c) = slice_get s.done c
 key_of s (Slot t x) = slice_get s.slots x
 
 -- the table of a place
@@ -60,7 +60,7 @@ abbrev pub table_of : At → ℕ
 table_of Root = 0
 table_of (Next t) = t
 table_of (Aborted t) = t
-table_of (Done t) = t
+table_of (Done t c) = t
 table_of (Slot t x) = t
 
 -- A table whose words were made for it and have come home, all but the seal; each is another word.

@@ -15,7 +15,7 @@ use Rattle.papaya_book.specs.declared.rule.entry.Begun.{Begun}
 use Rattle.papaya_book.specs.declared.rule.entry.Step.{Step}
 use Rattle.papaya_book.specs.declared.rule.entry.Event.{Event}
 use Rattle.papaya_book.specs.declared.rule.entry.Event.TheVariants.{Stepped}
-use Rattle.papaya_book.specs.Logs.{Stored, brought, coding_of, comes, exchange_of, kind_of, made_of, place_of, setting_of, state_of, steps_of, word_names}
+use Rattle.papaya_book.specs.Logs.{Stored, brought, coding_of, comes, exchange_of, kind_of, made_of, place_of, setting_of, setting_with, state_of, steps_of, word_names}
 use Rattle.papaya_book.specs.Rule.{IsLawfulLog, word_in}
 
 -- the pair that a call made, where it made one
@@ -63,12 +63,12 @@ module _ {K V S : Type 0} (eq : K → K → Bool) (hash : S → K → ℕ) where
     pub with_it : comes e ≡ brings
 
   -- An exchange that may be made at any time when its old word stands there: there is one of the
-  -- law, allowed, which writes just this word.
+  -- law, allowed where what it brings comes next, which writes just this word.
   pub record MayStep (b : Begun K V S) (at : At) (kind : Option StepKind) (new : ℕ)
       (made : Option (Stored K V)) (brings : Named K V) (log : List (Event K V S)) : Type 0 where
     pub step : Step K V
     pub meant : IsMeant at kind new made brings log step
-    pub allowed : Allows (setting_of eq (hash b.hasher) b.mode log) (state_of log)
+    pub allowed : Allows (setting_with eq (hash b.hasher) b.mode brings log) (state_of log)
         (exchange_of step)
     pub written : IsWritten (setting_of eq (hash b.hasher) b.mode log) (coding_of (hash b.hasher))
         (state_of log) at new (after (state_of log) (exchange_of step))

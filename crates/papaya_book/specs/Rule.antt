@@ -21,7 +21,7 @@ use Rattle.papaya_book.specs.Logs.{Entered, Member, coding_of, entries_of, excha
 pub record IsBlank {P : Type 0} (s : State P) (t : ℕ) : Type 0 where
   pub next : s.next t ≡ 0
   pub aborted : s.aborted t ≡ false
-  pub done : s.done t ≡ 0
+  pub done : (c : ℕ) → s.done t c ≡ false
   pub slots : (x : ℕ) → s.slot t x ≡ Empty
 
 -- the seal of the table of a place
@@ -29,7 +29,7 @@ abbrev pub seal_at : {K V : Type 0} → List (Step K V) → At → Option ℕ
 seal_at es Root = None
 seal_at es (Next t) = in_table (λ s. Some s.seal) (table_in es t)
 seal_at es (Aborted t) = in_table (λ s. Some s.seal) (table_in es t)
-seal_at es (Done t) = in_table (λ s. Some s.seal) (table_in es t)
+seal_at es (Done t c) = in_table (λ s. Some s.seal) (table_in es t)
 seal_at es (Slot t x) = in_table (λ s. Some s.seal) (table_in es t)
 
 -- what the word that only makers use holds: 1 once the book has its name

@@ -3,26 +3,26 @@ use Rattle.std.specs.Prelude.{◌≡◌, ℕ, true, List, [], ◌∷◌}
 use base.Stored.{Coded, coded×, coded_ℕ, coded_list, coded_via}
 use Rattle.logbook.specs.Pages.{Book, book_coded, Named}
 
--- The book that its words are of, its limit, and the keys of its words. The key of its word `done`
--- is the table's seal.
+-- The book that its words are of, its limit, and the keys of its words. The key of its word
+-- `aborted` is the table's seal.
 pub record Sheet : Type 0 where
   pub book : Book
   pub limit : ℕ
   pub next : ℕ
-  pub aborted : ℕ
   pub seal : ℕ
+  pub done : List ℕ
   pub slots : List ℕ
 
 abbrev pub sheet_coded : Coded Sheet
 sheet_coded = coded_via (coded× book_coded (coded× coded_ℕ
-    (coded× coded_ℕ (coded× coded_ℕ (coded× coded_ℕ (coded_list coded_ℕ))))))
-    (λ (s : Sheet). (s.book, (s.limit, (s.next, (s.aborted, (s.seal, s.slots))))))
+    (coded× coded_ℕ (coded× coded_ℕ (coded× (coded_list coded_ℕ) (coded_list coded_ℕ))))))
+    (λ (s : Sheet). (s.book, (s.limit, (s.next, (s.seal, (s.done, s.slots))))))
     (λ x y e i. record {
       book = (e i).0;
       limit = (e i).1.0;
       next = (e i).1.1.0;
-      aborted = (e i).1.1.1.0;
-      seal = (e i).1.1.1.1.0;
+      seal = (e i).1.1.1.0;
+      done = (e i).1.1.1.1.0;
       slots = (e i).1.1.1.1.1;
     })
 

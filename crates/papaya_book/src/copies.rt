@@ -42,14 +42,15 @@ impl<'a, K: Hash + Eq, V, S: BuildHasher> Window<'a, K, V, S> {
         self.book.aborted(table, number, &mut self.sight)
     }
 
-    /// One atomic load of the count of slots that were copied to a table.
-    pub fn done(&mut self, table: &Table<K, V, S>, number: u64) -> u64
+    /// One atomic load of the word that says whether a chunk was copied to a table.
+    pub fn done(&mut self, table: &Table<K, V, S>, number: u64, chunk: usize) -> u64
         requires table { IsTable self.old number table.now }
+        requires chunk { chunk < length table.now.done }
         ensures sees { Sees self.old self.new }
         ensures own { self.new.own ≡ self.old.own }
-        ensures word { IsWord self.old self.new (Done number) result }
+        ensures word { IsWord self.old self.new (Done number chunk) result }
     {
-        self.book.done(table, number, &mut self.sight)
+        self.book.done(table, number, chunk, &mut self.sight)
     }
 
     /// One atomic exchange of a slot for a copy: the word found there, and the token of the pair
@@ -110,24 +111,27 @@ impl<'a, K: Hash + Eq, V, S: BuildHasher> Window<'a, K, V, S> {
             .copy_aborted(table, number, kind, kept, words, &mut self.sight)
     }
 
-    /// One atomic exchange of the count of slots that were copied to a table: the count found
-    /// there.
+    /// One atomic exchange of the word that says whether a chunk was copied to a table: the word
+    /// found there.
     pub fn copy_done(
         &mut self,
         table: &Table<K, V, S>,
         number: u64,
+        chunk: usize,
         kind: Option<StepKind>,
         kept: &Option<Stored<K, V>>,
         words: (u64, u64),
     ) -> u64
         requires table { IsTable self.old number table.now }
-        requires can { CanCopy self.old (Done number) kind kept.now words }
+        requires chunk { chunk < length table.now.done }
+        requires can { CanCopy self.old (Done number chunk) kind kept.now words }
         ensures sees { Sees self.old self.new }
         ensures own { self.new.own ≡ self.old.own }
-        ensures tried { CopiesWord self.old self.new (Done number) kind kept.now words result }
+        ensures tried { CopiesWord self.old self.new (Done number chunk) kind kept.now words
+            result }
     {
         self.book
-            .copy_done(table, number, kind, kept, words, &mut self.sight)
+            .copy_done(table, number, chunk, kind, kept, words, &mut self.sight)
     }
 
     /// A table as [`Window::make_table`] makes it, with a number past that of the table which it is
@@ -138,6 +142,7 @@ impl<'a, K: Hash + Eq, V, S: BuildHasher> Window<'a, K, V, S> {
         alloc: Global,
         follows: u64,
         size: (usize, usize),
+        chunks: usize,
         given: &mut Own<Given>,
     ) -> Result<(Pushed<Table<K, V, S>>, Pen), Refused>
         requires size { IsSize size.0 size.1 }
@@ -147,12 +152,13 @@ impl<'a, K: Hash + Eq, V, S: BuildHasher> Window<'a, K, V, S> {
             ⊎ ((e ≡ Refused.Capacity) × IsFull given.new.done)) }
         ensures ok { IfOk result (λ r. given.new.done ≡ given.old.done) }
         ensures past { IfOk result (λ r. follows < r.0.index + 1) }
+        ensures chunks { IfOk result (λ r. length r.0.value.done ≡ chunks) }
         ensures made { IfOk result (λ r. IsMade self.new r.0.value) }
         ensures placed { IfOk result (λ r. IsIn self.old (TableNamed r.0)) }
         ensures pen { IfOk result (λ r. Seals self.old.book.now r.1 r.0.value) }
     {
         for _ in rt.forever() {
-            let (table, seal) = self.make_table(rt, alloc, size.0, size.1, given)?;
+            let (table, seal) = self.make_table(rt, alloc, size.0, size.1, chunks, given)?;
             if table.index() as u64 + 1 > follows {
                 return Ok((table, seal));
             }

@@ -1,4 +1,5 @@
-//! The count of a map's pairs, in shards, so that callers seldom meet at one word.
+//! The count of a map's pairs, in shards, so that callers seldom meet at one word; and where the next
+//! copy by a shard's callers begins, so that they seldom meet at one chunk.
 ghost use Rattle.std.specs.Prelude.{◌≡◌, ◌<◌, ◌≤◌, [], ◌∷◌, Err, IfErr, IfOk, IfSome, length};
 ghost use Rattle.std.specs.Int.{IsNextPowerOfTwo};
 ghost use Rattle.papaya_book.specs.declared.rule.own.Given.TheVariants as numbers;
@@ -9,7 +10,15 @@ use papaya_words::limits::MAX_SHARDS;
 use papaya_words::probe::Refused;
 use std::alloc::Global;
 use std::marker::Model;
-use std::sync::atomic::{AtomicI64, Ordering};
+use std::sync::atomic::{AtomicI64, AtomicU64, Ordering};
+
+/// What the callers of one shard added, and the number that says at which chunk their next copy
+/// begins.
+#[derive(Drop)]
+struct Part {
+    sum: AtomicI64,
+    start: AtomicU64,
+}
 
 /// A signed number in shards. Contracts see how many shards there are. Its additions are steps apart
 /// from the changes that they count, so a sum may lag behind them, and no contract says what it is.
@@ -18,7 +27,7 @@ use std::sync::atomic::{AtomicI64, Ordering};
 /// machine's processors.
 #[derive(Drop)]
 pub struct Count {
-    shards: Vec<CachePadded<AtomicI64>>,
+    shards: Vec<CachePadded<Part>>,
 }
 
 impl Model for Count {
@@ -72,7 +81,7 @@ impl Count {
     pub fn sum(&self) -> usize {
         let mut sum: i64 = 0;
         for shard in &self.shards {
-            sum = sum.wrapping_add(shard.load(Ordering::SeqCst));
+            sum = sum.wrapping_add(shard.sum.load(Ordering::SeqCst));
         }
         if sum < 0 { 0 } else { sum as usize }
     }
@@ -87,13 +96,37 @@ impl Count {
     }
 }
 
-/// So many shards of 0, or none where there is no memory.
-fn row(alloc: Global, len: usize) -> Option<Vec<CachePadded<AtomicI64>>>
+/// Where the first copy by a shard's callers begins. The number of shards is a power of two. In a table
+/// of as many chunks, or of twice, four times or more times as many, the shards' starts lie evenly
+/// apart, and so do those of the first two, four and more of them.
+fn first_start(index: u64, shards: u64) -> u64 {
+    // Its binary digits the other way round.
+    let mut digits: u64 = 0;
+    let mut rest = index;
+    for _ in 0..shards.trailing_zeros() {
+        digits = digits.wrapping_mul(2).wrapping_add(rest % 2);
+        rest /= 2;
+    }
+    // These again and again, since a table of 2^k chunks takes the last k digits.
+    let mut start: u64 = 0;
+    for _ in 0..u64::BITS {
+        start = start.wrapping_mul(shards).wrapping_add(digits);
+    }
+    start
+}
+
+/// So many shards of 0, or none where there is no memory. Copies of neighbours begin far apart.
+fn row(alloc: Global, len: usize) -> Option<Vec<CachePadded<Part>>>
     ensures { IfSome result (λ shards. length shards.items ≡ len) }
 {
     let mut shards = Vec::with_capacity(alloc, len).ok()?;
-    for _ in 0..len {
-        shards.push(CachePadded::new(AtomicI64::new(0))).ok()?;
+    for index in 0..len {
+        let start = first_start(index as u64, len as u64);
+        let part = Part {
+            sum: AtomicI64::new(0),
+            start: AtomicU64::new(start),
+        };
+        shards.push(CachePadded::new(part)).ok()?;
     }
     Some(shards)
 }
@@ -117,7 +150,18 @@ impl Shard<'_> {
     pub fn add(&self, by: i64) {
         let count: &Count = self.count;
         if let Some(shard) = count.shards.get(self.place as usize) {
-            shard.fetch_add(by, Ordering::SeqCst);
+            shard.sum.fetch_add(by, Ordering::SeqCst);
+        }
+    }
+
+    /// The number that says at which chunk the next copy by the shard's callers begins: one more each
+    /// time, so that a copy goes on where the one before it ended. It is an advice: any number will do.
+    #[inline(always)]
+    pub fn start(&self) -> u64 {
+        let count: &Count = self.count;
+        match count.shards.get(self.place as usize) {
+            Some(shard) => shard.start.fetch_add(1, Ordering::SeqCst),
+            None => 0,
         }
     }
 }

@@ -8,15 +8,15 @@ use std::hash::{BuildHasher, Hash};
 use std::marker::Model;
 use std::sync::{Mutex, MutexGuard, Wait};
 
-/// A table: its slots, how far a search of it goes, and how far its resize has come. Contracts see
-/// it as the keys of its words. Who makes its next table holds `making`, so that not each thread
-/// that needs one pays for it.
+/// A table: its slots, how far a search of it goes, and which chunks of the table before were copied
+/// to it. Contracts see it as the keys of its words. Who makes its next table holds `making`, so that
+/// not each thread that needs one pays for it.
 #[derive(Drop)]
 pub struct Table<K: Hash + Eq, V, S: BuildHasher> {
     pub limit: usize,
     pub next: Cell<K, V, S>,
     pub aborted: Cell<K, V, S>,
-    pub done: Cell<K, V, S>,
+    pub done: Vec<Cell<K, V, S>>,
     pub slots: Vec<Slot<K, V, S>>,
     pub making: Mutex<()>,
 }
@@ -27,17 +27,17 @@ impl<K: Hash + Eq, V, S: BuildHasher> Model for Table<K, V, S> {
     ghost coded = { sheet_coded };
 
     ghost view = { λ t. record {
-      book = t.done.book;
+      book = t.aborted.book;
       limit = t.limit;
       next = t.next.key;
-      aborted = t.aborted.key;
-      seal = t.done.key;
+      seal = t.aborted.key;
+      done = map (λ w. w.key) t.done.items;
       slots = map (λ w. w.key) t.slots.items;
     } };
 
-    ghost invariant = { λ t. (t.next ≡ word_named t.done.book t.next.key)
-        × (t.aborted ≡ word_named t.done.book t.aborted.key)
-        × (t.done ≡ word_named t.done.book t.done.key) × AllOf t.done.book t.slots.items
+    ghost invariant = { λ t. (t.next ≡ word_named t.aborted.book t.next.key)
+        × (t.aborted ≡ word_named t.aborted.book t.aborted.key)
+        × AllOf t.aborted.book t.done.items × AllOf t.aborted.book t.slots.items
         × IsSize (length t.slots.items) t.limit };
 }
 
@@ -100,15 +100,17 @@ impl<K: Hash + Eq, V, S: BuildHasher> Table<K, V, S> {
 
     /// The word that says whether the table was given up.
     pub fn aborted(&self) -> &Cell<K, V, S>
-        ensures { result.now ≡ word_named self.now.book self.now.aborted }
+        ensures { result.now ≡ word_named self.now.book self.now.seal }
     {
         &self.aborted
     }
 
-    /// The word with the count of slots that were copied to this table.
-    pub fn done(&self) -> &Cell<K, V, S>
-        ensures { result.now ≡ word_named self.now.book self.now.seal }
+    /// The word that says whether a chunk was copied to this table.
+    pub fn done(&self, chunk: usize) -> &Cell<K, V, S>
+        requires { chunk < length self.now.done }
+        ensures { (k : ℕ) × (slice_get self.now.done chunk ≡ Some k)
+            × (result.now ≡ word_named self.now.book k) }
     {
-        &self.done
+        &self.done[chunk]
     }
 }

@@ -215,13 +215,15 @@ impl<'a, K: Hash + Eq, V, S: BuildHasher> Window<'a, K, V, S> {
         }
     }
 
-    /// A table of so many slots, all Empty, in the log of tables, with the pen of its seal.
+    /// A table of so many slots, all Empty, to which a table of so many chunks is copied, in the log
+    /// of tables, with the pen of its seal.
     pub fn make_table<R: Wait>(
         &mut self,
         rt: &R,
         alloc: Global,
         len: usize,
         limit: usize,
+        chunks: usize,
         given: &mut Own<Given>,
     ) -> Result<(Pushed<Table<K, V, S>>, Pen), Refused>
         requires size { IsSize len limit }
@@ -229,13 +231,14 @@ impl<'a, K: Hash + Eq, V, S: BuildHasher> Window<'a, K, V, S> {
         ensures err { IfErr result (λ e. (e ≡ Refused.Memory)
             ⊎ ((e ≡ Refused.Capacity) × IsFull given.new.done)) }
         ensures ok { IfOk result (λ r. given.new.done ≡ given.old.done) }
+        ensures chunks { IfOk result (λ r. length r.0.value.done ≡ chunks) }
         ensures made { IfOk result (λ r. IsMade self.new r.0.value) }
         ensures placed { IfOk result (λ r. IsIn self.old (TableNamed r.0)) }
         ensures pen { IfOk result (λ r. Seals self.old.book.now r.1 r.0.value) }
         ensures own { self.new.own ≡ self.old.own }
     {
         self.book
-            .make_table(rt, alloc, len, limit, &mut self.sight, given)
+            .make_table(rt, alloc, len, limit, chunks, &mut self.sight, given)
     }
 
     /// One atomic exchange: the table becomes the root, if there is none. The number found, and the

@@ -1,9 +1,9 @@
 //! What a call that visits a whole table rests on. The functions do nothing: their contracts are
 //! the laws.
 ghost use Rattle.std.specs.Prelude.{◌≡◌, ◌++◌, ℕ, List, [], Option, Some};
-ghost use Rattle.papaya_words.specs.Mode.{IsChunked};
 ghost use Rattle.papaya_words.specs.declared.probe.ResizeMode.{ResizeMode};
 ghost use Rattle.papaya_words.specs.declared.probe.Refused.{Refused};
+ghost use Rattle.papaya_ask.specs.declared.ask.Answer.TheVariants.{Exchanged};
 ghost use Rattle.papaya_ask.specs.declared.ask.StepKind.TheVariants.{Bury};
 ghost use Rattle.papaya_ask.specs.declared.call.Reply.TheVariants.{Done, Refused as Reply_refused};
 ghost use Rattle.papaya_ask.specs.declared.copy_ask.CopyAsk.TheVariants.{Exchange as Ask_exchange, WriteHint};
@@ -14,14 +14,15 @@ ghost use Rattle.papaya_law.specs.Exchange.{Setting, State, Exchange, after as s
 ghost use Rattle.papaya_law.specs.Grows.{Agrees};
 ghost use Rattle.papaya_law.specs.Hints.{IsHint};
 ghost use Rattle.papaya_law.specs.Invariant.{IsKeeping};
-ghost use Rattle.papaya_rests.specs.Rests.{IsModeOf};
+ghost use Rattle.papaya_rests.specs.Copier.{HasWords};
+ghost use Rattle.papaya_rests.specs.Rests.{IsCutAs, IsModeOf};
 ghost use Rattle.papaya_rests.specs.Told.{IsWritten, word_of};
 ghost use Rattle.papaya_chain.specs.Visitor.{after, ask_of, begun, kind_of_ask, reply_of};
 ghost use Rattle.papaya_chain.specs.declared.visit_ask.VisitAsk.TheVariants.{Copy as Copy_ask};
 ghost use Rattle.papaya_chain_rests.specs.VisitOutcomes.{HasDone, IsVisitCause, StandsAtRoot};
 ghost use Rattle.papaya_chain_rests.specs.VisitTold.{Hands, IsVisitTold, no_hands};
 ghost use Rattle.papaya_chain_rests.specs.Visits.{HasCleared, HasRetained, HasWalked};
-ghost use Rattle.papaya_chain_rests.specs.Visits.{IsNamed, IsVisitAsked, RestsVisitor};
+ghost use Rattle.papaya_chain_rests.specs.Visits.{IsNamed, IsVisitAsked, RestsVisitor, link_in_visit};
 
 use papaya_ask::ask::At;
 use papaya_chain::ask::Answer;
@@ -32,9 +33,9 @@ use papaya_chain::visitor::{Visit, Visitor};
 /// others exchange and whichever tables are made.
 pub fn visitors_rest<K, P>()
     ensures begins { (g : Setting K P) (c : Coding K P) (s : State P) (m : K → Option P)
-        (visit : Visit) (mode : ResizeMode) (initial : ℕ) → IsChunked mode
-        → IsModeOf mode g.blocking
-        → RestsVisitor g c s m [] (begun visit mode initial) no_hands }
+        (visit : Visit) (mode : ResizeMode) (initial number : ℕ) → IsModeOf mode g.blocking
+        → IsCutAs mode g.chunk_of
+        → RestsVisitor g c s m [] (begun visit mode initial number) no_hands }
     ensures exchanges { (g : Setting K P) (c : Coding K P) → IsHashed g c
         → (s : State P) (m : K → Option P) → IsKeeping g s m → (since es : List (Exchange P))
         → AllAllowed g s (since ++ es) → (visitor : Visitor) (hands : Hands P)
@@ -49,7 +50,8 @@ pub fn visitors_rest<K, P>()
 
 /// A visitor names only what is there. An exchange of it whose old word stands there is allowed and
 /// writes just its word: it is one of the copy, or buries the pair that stands in its slot. A hint
-/// that it writes may be there.
+/// that it writes may be there. A table that is linked has to have as many words for chunks as were
+/// asked for.
 pub fn visitors_ask<K, P>()
     ensures names { (g : Setting K P) (c : Coding K P) → IsHashed g c
         → (s : State P) (m : K → Option P) → IsKeeping g s m → (since : List (Exchange P))
@@ -59,7 +61,8 @@ pub fn visitors_ask<K, P>()
     ensures may { (g : Setting K P) (c : Coding K P) → IsHashed g c
         → (s : State P) (m : K → Option P) → IsKeeping g s m → (since : List (Exchange P))
         → AllAllowed g s since → (visitor : Visitor) (hands : Hands P)
-        → RestsVisitor g c s m since visitor hands → (at : At) (old new : ℕ)
+        → RestsVisitor g c s m since visitor hands → HasWords g (link_in_visit visitor.state)
+        → (at : At) (old new : ℕ)
         → ask_of visitor ≡ Some (Copy_ask (Ask_exchange at old new))
         → word_of g c (run since s) at ≡ old → (e : Exchange P)
         × IsVisitAsked g c s m since visitor.visit visitor.state at new hands e
@@ -73,13 +76,14 @@ pub fn visitors_ask<K, P>()
 {}
 
 /// After an answer that is true of the words a visitor rests again, and what was exchanged was
-/// allowed.
+/// allowed. Where a table was linked, it has to have as many words for chunks as were asked for.
 pub fn visitors_learn<K, P>()
     ensures { (g : Setting K P) (c : Coding K P) → IsHashed g c
         → (s : State P) (m : K → Option P) → IsKeeping g s m → (since : List (Exchange P))
         → AllAllowed g s since → (visitor : Visitor) (hands : Hands P)
-        → RestsVisitor g c s m since visitor hands
-        → (answer : Answer) (es : List (Exchange P)) (hands' : Hands P)
+        → RestsVisitor g c s m since visitor hands → (answer : Answer)
+        → (answer ≡ Answer.Call Exchanged → HasWords g (link_in_visit visitor.state))
+        → (es : List (Exchange P)) (hands' : Hands P)
         → IsVisitTold g c (run since s) since visitor.state hands answer es hands'
         → AllAllowed g s (since ++ es)
         × RestsVisitor g c s m (since ++ es) (after visitor answer) hands' }
@@ -107,8 +111,8 @@ pub fn visitors_do<K, P>()
 /// While the root has no next table, and nobody else makes one, a visit copies nothing, so no table
 /// is made for it and it is not refused.
 pub fn visitors_undisturbed<K, P>()
-    ensures begins { (s : State P) (visit : Visit) (mode : ResizeMode) (initial : ℕ)
-        → StandsAtRoot s (begun visit mode initial).state }
+    ensures begins { (s : State P) (visit : Visit) (mode : ResizeMode) (initial number : ℕ)
+        → StandsAtRoot s (begun visit mode initial number).state }
     ensures stays { (g : Setting K P) (c : Coding K P) (s : State P) (m : K → Option P)
         (since : List (Exchange P)) (visitor : Visitor) (hands : Hands P)
         → RestsVisitor g c s m since visitor hands

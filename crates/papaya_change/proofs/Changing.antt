@@ -23,12 +23,15 @@ use Rattle.papaya_call.specs.Machine as calls
 use Rattle.papaya_chain.specs.declared.ask.Answer.TheVariants as answers
 use Rattle.papaya_chain.specs.declared.ask.Ask.TheVariants.{Call}
 use Rattle.papaya_chain.specs.declared.machine.Machine.{Machine}
+use Rattle.papaya_chain.specs.declared.machine.Phase.{Phase}
 use Rattle.papaya_chain.specs.declared.machine.Phase.TheVariants as phases
 use Rattle.papaya_chain.specs.Machine.{after, ask_of, kind_of_ask, started}
+use Rattle.papaya_chain_rests.specs.Goes.{link_in}
 use Rattle.papaya_chain_rests.specs.Told.{Hands}
 use Rattle.papaya_chain_rests.proofs.Names.{call_asks}
 use Rattle.papaya_words.specs.declared.probe.ResizeMode.{ResizeMode}
 use Rattle.papaya_words.specs.declared.probe.ResizeMode.TheVariants.{Incremental, Blocking}
+use Rattle.papaya_rests.specs.Copier.{HasWords}
 use Rattle.papaya_rests.specs.Rests.{IsModeOf, change_after, change_in}
 use Rattle.papaya_rests.specs.Told.{IsOneOf, IsTold, or_last, told_of, word_of}
 use Rattle.papaya_rests.specs.Told as told_calls
@@ -39,16 +42,16 @@ use Rattle.papaya_book.specs.Sheets.{Sheet}
 use Rattle.papaya_book.specs.declared.rule.entry.Begun.{Begun}
 use Rattle.papaya_book.specs.declared.rule.entry.Event.{Event}
 use Rattle.papaya_book.specs.Calls.{IsTable}
-use Rattle.papaya_words.specs.Mode.{IsChunked}
 use Rattle.papaya_change.specs.Changing.{HasChanged, IsBringing, IsCalling, IsForm, IsFresh, hands_with}
 use Rattle.papaya_change.specs.Driver.{IsHeldAt, IsLoaded}
 use Rattle.papaya_book.specs.Hashes.{hash_of}
 use Rattle.papaya_book.specs.Hinted.{IsSlotHint}
+use Rattle.papaya_book.specs.Limits.{tables_of}
 use Rattle.papaya_book.specs.Logs.{Stored, coding_of, exchanges_of, is_blocking, pair_named, setting_of, state_of, steps_of}
 use Rattle.papaya_lookup.specs.Lookups.{coding_for}
 use Rattle.papaya_book.specs.Rule.{IsLawfulLog, IsPlaced}
 use Rattle.papaya_lookup.proofs.Driving.{IsResting, word_wide}
-use Rattle.papaya_change.proofs.OwnSteps.{IsBarren, own_at, own_barren, own_changes, own_counts, own_told}
+use Rattle.papaya_change.proofs.OwnSteps.{IsBarren, own_at, own_barren, own_changes, own_counts, own_links, own_told}
 use Rattle.papaya_change.proofs.Resting.{ChainResting, resting_later, resting_told}
 use Rattle.papaya_book.proofs.Loaded.{table_since}
 use Rattle.papaya_book.proofs.Logs.{prefix_trans, table_came}
@@ -93,17 +96,17 @@ module _ {K V S : Type 0} (eq : K → K → Bool) (hash : S → K → ℕ) (b : 
   loaded_lawful log (Next t) word table table' last last' is = is.1.lawful
   loaded_lawful log (Slot t i) word table table' last last' is = is.1.lawful
   loaded_lawful log (Aborted t) word table table' last last' is = absurd is
-  loaded_lawful log (Done t) word table table' last last' is = absurd is
+  loaded_lawful log (Done t c) word table table' last last' is = absurd is
 
   -- a call that begins
-  pub begins : (matches : K → Bool) (by : ℕ) (k : Option K) → by ≡ (coding_for {V = V} hash b.hasher by).hash k → (log : List (Event K V S)) → IsLawfulLog eq hash b log → IsChunked b.mode → (task : Task) (initial : ℕ) → IsCalling eq hash b name matches by k log log (started task by b.mode initial) None None None [] None None None
-  begins matches by k hash_is log l chunked task initial = record {
+  pub begins : (matches : K → Bool) (by : ℕ) (k : Option K) → by ≡ (coding_for {V = V} hash b.hasher by).hash k → (log : List (Event K V S)) → IsLawfulLog eq hash b log → (task : Task) (initial : ℕ) → IsCalling eq hash b name matches by k log log (started task by b.mode initial 0) None None None [] None None None
+  begins matches by k hash_is log l task initial = record {
     lawful = l;
     seen = ([], append-nil log);
     since = [];
     is = append-nil (exchanges_of log);
     rests = record {
-      chunked = chunked;
+      cut = λ x. refl;
       call = record { hash = hash_is; mode = mode_is b.mode; made = record { keys = λ q none. absurd none; made_is = tt; fill_is = tt; choice_is = tt }; stage = tt };
       phase = tt;
     };
@@ -116,7 +119,8 @@ module _ {K V S : Type 0} (eq : K → K → Bool) (hash : S → K → ℕ) (b : 
     taken_placed = tt;
     changed = λ change e. absurd (cc e);
     brings = λ n e. absurd e;
-    counts = λ behind len unfit e. absurd (cc e);
+    words = λ behind n chunks e. absurd (cc e);
+    counts = tt;
   }
 
 module _ {K V S H : Type 0} (eq : K → K → Bool) (input : K → List (List ℕ)) (build : S → H) (write : H → List ℕ → H) (finish : H → ℕ) (classes : IsEquivalence eq) (respects : (x y : K) → eq x y ≡ true → input x ≡ input y)
@@ -221,7 +225,7 @@ module _ {K V S H : Type 0} (eq : K → K → Bool) (input : K → List (List �
     load_table (Next t) e asks = next_table t e
     load_table (Slot t x) e asks = slot_table t x (inl e)
     load_table (Aborted t) e asks = asks
-    load_table (Done t) e asks = asks
+    load_table (Done t c) e asks = asks
 
   -- A call was told of the words after this log, with which the log grew to the other.
   module _ (v before log : List (Event K V S)) (lb : IsLawfulLog eq hash b before) (l : IsLawfulLog eq hash b log) (pre : IsPrefix v before) (more : IsPrefix before log) (m : Machine) (table : Option (Bor Sheet)) (last kept : Option (Stored K V)) (made : List (Stored K V)) (taken put : Option (Stored K V)) (fresh : Option (Where Sheet × Pen)) (r : Calling v m table last kept made taken put fresh) (ask : Ask) (asks : ask_of m ≡ Call ask) (answer : Answer) where
@@ -236,7 +240,7 @@ module _ {K V S H : Type 0} (eq : K → K → Bool) (input : K → List (List �
       on : Resting log (after m (answers.Call answer)) (hands_with last' kept made')
       on =
           let mid = resting_later eq input build write finish classes respects b matches by form k (exchanges_of begun) v r.lawful m (hands_with last kept made) (rests_of v m table last kept made taken put fresh r) before lb pre in
-          resting_told eq input build write finish classes respects b matches by form k (exchanges_of begun) before lb m (hands_with last kept made) mid log l more (answers.Call answer) (hands_with last' kept made')
+          resting_told eq input build write finish classes respects b matches by form k (exchanges_of begun) before lb m (hands_with last kept made) mid log l more (answers.Call answer) (λ e. subst (λ (z : Phase). HasWords (Wide log) (link_in z)) (sym own.0) tt) (hands_with last' kept made')
           (own_told m own.0 answer (Wide log) Coded k (state_of before) (hands_with last kept made) (exchanges_of more.0) (call_hands last' made') ask own.1 tells)
 
       changes : change_in (after m (answers.Call answer)).call.state ≡ change_after (kind_of_ask m) ask answer (change_in m.call.state)
@@ -263,7 +267,8 @@ module _ {K V S H : Type 0} (eq : K → K → Bool) (input : K → List (List �
         taken_placed = placed'';
         changed = λ change e. changed change (sym changes ∙ e);
         brings = brings;
-        counts = λ behind len unfit e. absurd (own_counts m own.0 answer behind len unfit e);
+        words = λ behind n chunks e. absurd (own_links m own.0 answer behind n chunks e);
+        counts = own_counts m own.0 answer (tables_of log);
       }
 
   module _ (log log' : List (Event K V S)) (pre : IsPrefix log log') (l' : IsLawfulLog eq hash b log') (m : Machine) (table : Option (Bor Sheet)) (last kept : Option (Stored K V)) (made : List (Stored K V)) (taken put : Option (Stored K V)) (fresh : Option (Where Sheet × Pen)) (r : Calling log m table last kept made taken put fresh) where
@@ -306,7 +311,7 @@ module _ {K V S H : Type 0} (eq : K → K → Bool) (input : K → List (List �
         (subst (λ (z : Option (Bor Sheet)). MatchOption z (r.number ≡ 0) (λ t. IsTable log' r.number t.now)) (sym table_is) still)
         (subst (λ (z : Option (Stored K V)). IsPlaced b (Some name) (pair_named z)) (sym same) (placed_last b name pair last is.placed r.last_placed)) r.made_placed
     loads (Aborted t) word table' last' asks h = absurd h
-    loads (Done t) word table' last' asks h = absurd h
+    loads (Done t c) word table' last' asks h = absurd h
 
     -- a hint was loaded
     pub hinted : (t x n : ℕ) → ask_of m ≡ Call (LoadHint t x) → IsSlotHint eq hash b t x n log' → Calling log' (after m (answers.Call (Word_read n))) table last kept made taken put fresh

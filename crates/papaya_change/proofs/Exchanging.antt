@@ -59,7 +59,7 @@ nothing_comes (steps.Mark u y q) t x p is = refl
 nothing_comes (steps.Close u y) t x p is = refl
 nothing_comes (steps.Place u y q) t x p is = refl
 nothing_comes (steps.Finish u y q) t x p is = refl
-nothing_comes (steps.Advance u y z) t x p is = refl
+nothing_comes (steps.Advance u y) t x p is = refl
 nothing_comes (steps.Promote u n) t x p is = refl
 nothing_comes (steps.Abort u) t x p is = refl
 

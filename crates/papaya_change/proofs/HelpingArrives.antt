@@ -127,6 +127,7 @@ module _ {K V S H : Type 0} (eq : K → K → Bool) (input : K → List (List �
           taken_placed = moved.taken_placed;
           changed = λ change e. let none : None ≡ Some change = sym moved.unchanged ∙ e in absurd (cc none);
           brings = λ n h. fresh_later b name log log' pre' n fresh (moved.brings n h);
+          words = moved.words;
           counts = counting_since (tables_of log) (tables_of log') (tables_since log log' pre') m moved.counts;
         }
 

@@ -26,13 +26,13 @@ use Rattle.papaya_book.specs.declared.rule.entry.Event.{Event}
 use Rattle.papaya_book.specs.Hashes.{hash_of}
 use Rattle.papaya_book.specs.Limits.{IsFull}
 use Rattle.papaya_book.specs.Logs.{Stored, state_of, steps_of}
-use Rattle.papaya_book.proofs.TableSizes.{sizes}
+use Rattle.papaya_book.proofs.TableSizes.{sizes, words_of}
 use Rattle.papaya_change.specs.declared.copier.Copier.{Copier}
 use Rattle.papaya_change.specs.declared.driver.Driver.{Driver}
-use Rattle.papaya_change.specs.Changing.{IsDriven, IsForm, IsFresh}
+use Rattle.papaya_change.specs.Changing.{IsDriven, IsForm, IsReadyAs}
 use Rattle.papaya_change.specs.Copier.{AnswersExchange, AnswersTo, CanAnswerTo, CanExchangeFor, HasMade, IsHandLeft, IsReached, copier_of, marked_or, with_copier}
 use Rattle.papaya_change.specs.Helping.{HasCopied, IsTriedFor}
-use Rattle.papaya_change.proofs.HelpingAnswers.{beaten, compared, counted, exchanged, follows_came, hand_kept, hand_tried, hashed, hinted, linking, loaded, may_try, noted, size_came, sized, tabled, try_came, unmade}
+use Rattle.papaya_change.proofs.HelpingAnswers.{beaten, compared, counted, exchanged, follows_came, hand_kept, hand_tried, hashed, hinted, linking, loaded, may_try, noted, ready, size_came, sized, tabled, try_came, unmade}
 use Rattle.papaya_change.proofs.HelpingExchanges.{C, G, can_link}
 use Rattle.papaya_change.proofs.HelpingPlaces.{all_there, chain_came, may_note}
 
@@ -50,7 +50,9 @@ module _ {K V S H : Type 0} (eq : K → K → Bool) (input : K → List (List �
   reached Root is = tt
   reached (Next t) is = chain_came v t is
   reached (Aborted t) is = chain_came v t is
-  reached (Done t) is = chain_came v t is
+  reached (Done t i) is =
+      let came = chain_came v t is.0 in
+      (came.0, came.1, subst (λ (n : ℕ). i < n) (words_of (steps_of v) t came.0 came.1) is.1)
   reached (Slot t x) is =
       let came = chain_came v t is.0 in
       (came.0, came.1, subst (λ (n : ℕ). x < n) (sizes (steps_of v) t came.0 came.1).0 is.1)
@@ -64,14 +66,16 @@ module _ {K V S H : Type 0} (eq : K → K → Bool) (input : K → List (List �
         record {
           come = try_came eq input build write finish classes respects b name matches fed form k begun made v c r (Next t) old new asked;
           fresh = l.fresh;
-          can = λ w number. can_link eq input build write finish classes respects b name matches fed form k begun v c.machine c.table c.last c.kept made c.taken c.put c.fresh r t old new asked l.kind l.none w number v ([], append-nil v);
+          can = λ w seal is.
+              can_link eq input build write finish classes respects b name matches fed form k begun v c.machine c.table c.last c.kept made c.taken c.put c.fresh r t old new asked l.kind l.none l.chunks l.link l.words w seal is
+              (ready eq input build write finish classes respects b name matches fed form k begun made v c r t old new asked w seal is).number_is v ([], append-nil v);
         },
         l.kind,
         l.none,
       )
   can_exchange Root old new asked = (tt, may_try eq input build write finish classes respects b name matches fed form k begun made v c r Root old new asked (λ t e. cc e) v ([], append-nil v))
   can_exchange (Aborted t) old new asked = (reached (Aborted t) (there (copies.Exchange (Aborted t) old new) asked), may_try eq input build write finish classes respects b name matches fed form k begun made v c r (Aborted t) old new asked (λ t e. cc e) v ([], append-nil v))
-  can_exchange (Done t) old new asked = (reached (Done t) (there (copies.Exchange (Done t) old new) asked), may_try eq input build write finish classes respects b name matches fed form k begun made v c r (Done t) old new asked (λ t e. cc e) v ([], append-nil v))
+  can_exchange (Done t i) old new asked = (reached (Done t i) (there (copies.Exchange (Done t i) old new) asked), may_try eq input build write finish classes respects b name matches fed form k begun made v c r (Done t i) old new asked (λ t e. cc e) v ([], append-nil v))
   can_exchange (Slot t x) old new asked = (reached (Slot t x) (there (copies.Exchange (Slot t x) old new) asked), may_try eq input build write finish classes respects b name matches fed form k begun made v c r (Slot t x) old new asked (λ t e. cc e) v ([], append-nil v))
 
   pub can_answer : (ask : CopyAsk) → ask_of c.machine ≡ asks.Copy ask → IsFitCopyAsk ask → Can ask
@@ -83,7 +87,7 @@ module _ {K V S H : Type 0} (eq : K → K → Bool) (input : K → List (List �
   can_answer (copies.HashOf n) asked fit = let p = there (copies.HashOf n) asked in record { some = (p.0, p.1); placed = r.last_placed }
   can_answer (copies.SamePair m n) asked fit = let p = there (copies.SamePair m n) asked in (record { some = (p.0, p.2); placed = r.kept_placed }, record { some = (p.1, p.3); placed = r.last_placed })
   can_answer copies.Count asked fit = tt
-  can_answer (copies.MakeTable slots limit) asked fit = (λ some. follows_came eq input build write finish classes respects b name matches fed form k begun made v c r slots limit asked, fit)
+  can_answer (copies.MakeTable slots limit chunks) asked fit = (λ some. follows_came eq input build write finish classes respects b name matches fed form k begun made v c r slots limit chunks asked, fit)
 
   module _ (standing : IsStanding c.machine) (log : List (Event K V S)) (pre : IsPrefix v log) (h : Copier K V S H) where
     -- the call that took back what its copier holds
@@ -93,10 +97,10 @@ module _ {K V S H : Type 0} (eq : K → K → Bool) (input : K → List (List �
     abbrev Leaves : List (Event K V S) → Answer → Type 0
     Leaves l answer = HasCopied eq hash b name matches fed k begun made l c c' answer
 
-    module _ (at : At) (old new : ℕ) (asked : ask_of c.machine ≡ asks.Copy (copies.Exchange at old new)) (found : ℕ) (pair : Option (Stored K V)) (t : IsTriedFor eq hash b name at (kind_of_ask c.machine) old new c.kept v found log pair) where
+    module _ (at : At) (old new : ℕ) (asked : ask_of c.machine ≡ asks.Copy (copies.Exchange at old new)) (found : ℕ) (pair : Option (Stored K V)) (t : IsTriedFor eq hash b name at (kind_of_ask c.machine) old new c.kept c.fresh v found log pair) where
       -- the table at hand, after an exchange was tried
       abbrev Hand : Call_answer → Type 0
-      Hand told = In (IsMadeLink (λ n. IsFresh b name log n h.fresh)) (link_in (after c.machine (answers.Call told)).phase)
+      Hand told = In (IsMadeLink (IsReadyAs b name log h.fresh)) (link_in (after c.machine (answers.Call told)).phase)
 
       not_made : (told : Call_answer) → (told ≡ Exchanged) ⊎ ((word : ℕ) × (told ≡ Found_instead word)) → (n : ℕ) → told ≡ Made_number n → ⊥
       not_made told (inl is) n e = let f : Exchanged ≡ Made_number n = sym is ∙ e in cc f
@@ -109,7 +113,7 @@ module _ {K V S H : Type 0} (eq : K → K → Bool) (input : K → List (List �
       hand (Next i) e left told is = hand_tried eq input build write finish classes respects b name matches fed form k begun made v c r standing i old new (asked ∙ ap (λ (a : At). asks.Copy (copies.Exchange a old new)) e) log h.fresh told is
       hand Root e left told is = stays told is left
       hand (Aborted i) e left told is = stays told is left
-      hand (Done i) e left told is = stays told is left
+      hand (Done i j) e left told is = stays told is left
       hand (Slot i x) e left told is = stays told is left
 
       ended : (z : Bool) → (found == old) ≡ z → h.kept ≡ c.kept → MatchBool z (h.last ≡ marked_or (kind_of_ask c.machine) pair c.last) (h.last ≡ or_last pair c.last) → IsHandLeft at c.fresh h.fresh → Leaves log (if z then answers.Call Exchanged else answers.Call (Found_instead found))
@@ -129,8 +133,8 @@ module _ {K V S H : Type 0} (eq : K → K → Bool) (input : K → List (List �
     copied (copies.HashOf n) asked answer a = subst (Leaves log) (sym a.is) (subst (λ (l : List (Event K V S)). Leaves l (answers.Hash a.word)) (sym a.still) (hashed eq input build write finish classes respects b name matches fed form k begun made v c r standing n asked a.word a.carries.hash_is c' (ap (with_copier c) a.rest) a.carries.kept))
     copied (copies.SamePair i n) asked answer a = subst (Leaves log) (sym a.is) (subst (λ (l : List (Event K V S)). Leaves l (answers.Call (Yes a.same))) (sym a.still) (compared eq input build write finish classes respects b name matches fed form k begun made v c r standing i n asked a.same a.same_is c' (ap (with_copier c) a.rest)))
     copied copies.Count asked answer a = subst (Leaves log) (sym a.is) (subst (λ (l : List (Event K V S)). Leaves l (answers.Count a.sum)) (sym a.still) (counted eq input build write finish classes respects b name matches fed form k begun made v c r standing asked a.sum c' (ap (with_copier c) a.rest) a.given_is))
-    copied (copies.MakeTable slots limit) asked answer a =
+    copied (copies.MakeTable slots limit chunks) asked answer a =
         ⊎_elim
-        (λ (y : (number : ℕ) × (answer ≡ answers.Call (Made_number number)) × HasMade eq hash b name number (follows_of c.machine) log h). subst (Leaves log) (sym y.1) (tabled eq input build write finish classes respects b name matches fed form k begun made v c r standing slots limit asked log a.lawful pre c' (ap (with_copier c) a.rest) y.0 y.2.past y.2.fresh))
-        (λ (n : (refused : Refused) × (answer ≡ answers.Call (Was_refused refused)) × ((refused ≡ Memory) ⊎ ((refused ≡ Capacity) × IsFull h.given.done)) × (h.fresh ≡ c.fresh)). subst (Leaves log) (sym n.1) (unmade eq input build write finish classes respects b name matches fed form k begun made v c r standing slots limit asked log a.lawful pre c' (ap (with_copier c) a.rest) n.0 n.2 n.3))
+        (λ (y : (number : ℕ) × (answer ≡ answers.Call (Made_number number)) × HasMade eq hash b name number (follows_of c.machine) chunks log h). subst (Leaves log) (sym y.1) (tabled eq input build write finish classes respects b name matches fed form k begun made v c r standing slots limit chunks asked log a.lawful pre c' (ap (with_copier c) a.rest) y.0 y.2.past (y.2.fresh, y.2.words)))
+        (λ (n : (refused : Refused) × (answer ≡ answers.Call (Was_refused refused)) × ((refused ≡ Memory) ⊎ ((refused ≡ Capacity) × IsFull h.given.done)) × (h.fresh ≡ c.fresh)). subst (Leaves log) (sym n.1) (unmade eq input build write finish classes respects b name matches fed form k begun made v c r standing slots limit chunks asked log a.lawful pre c' (ap (with_copier c) a.rest) n.0 n.2 n.3))
         a.makes

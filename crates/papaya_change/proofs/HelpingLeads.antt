@@ -2,6 +2,7 @@
 use Rattle.std.proofs.Common.{◌≡◌, ◌⊎◌, inl, inr, ⊎_elim, ℕ, Bool, true, false, Some, List, ◌++◌, refl, sym, ap, ◌∙◌, subst}
 use Rattle.papaya_words.specs.declared.probe.Refused.{Refused}
 use Rattle.papaya_words.specs.declared.probe.Refused.TheVariants.{Capacity, Memory}
+use Rattle.papaya_ask.specs.declared.ask.Answer.TheVariants.{Exchanged}
 use Rattle.papaya_ask.specs.declared.ask.Ask.TheVariants.{Done as Ask_done}
 use Rattle.papaya_ask.specs.declared.call.Reply.{Reply}
 use Rattle.papaya_ask.specs.declared.copy_ask.CopyAsk.{CopyAsk}
@@ -18,6 +19,7 @@ use Rattle.papaya_copy.specs.declared.step.Step.TheVariants as steps
 use Rattle.papaya_copy.specs.Link.{IsStandingLink}
 use Rattle.papaya_chain.specs.declared.ask.Ask.TheVariants as asks
 use Rattle.papaya_chain.specs.declared.ask.Answer.{Answer}
+use Rattle.papaya_chain.specs.declared.ask.Answer.TheVariants as answers
 use Rattle.papaya_chain.specs.declared.machine.Machine.{Machine}
 use Rattle.papaya_chain.specs.declared.machine.Phase.{Phase}
 use Rattle.papaya_chain.specs.declared.machine.Phase.TheVariants.{Calling, Linking, Copying as Copying_root}
@@ -27,8 +29,8 @@ use Rattle.papaya_law.specs.Code.{Coding, IsHashed}
 use Rattle.papaya_law.specs.Exchange.{Exchange, Setting, State, run, start}
 use Rattle.papaya_law.specs.Meaning.{map_left}
 use Rattle.papaya_law.proofs.OneMap.{keeping}
-use Rattle.papaya_rests.specs.Copier.{RestsCopied, RestsCopying, aim_of}
-use Rattle.papaya_chain_rests.specs.Goes.{WasNotMade, WouldBeTooLong}
+use Rattle.papaya_rests.specs.Copier.{HasWords, RestsCopied, RestsCopying, aim_of}
+use Rattle.papaya_chain_rests.specs.Goes.{WasNotMade, WouldBeTooLong, link_in}
 use Rattle.papaya_chain_rests.specs.Rests.{Rests, RestsPhase, left_by}
 use Rattle.papaya_chain_rests.specs.Told.{Hands, IsTold}
 use Rattle.papaya_chain_rests.proofs.CopyTold.{copying_learns}
@@ -37,7 +39,7 @@ use Rattle.papaya_chain_rests.proofs.Outcomes.{not_chunk}
 use Rattle.papaya_chain_rests.proofs.Refusals.{chain_refused}
 use Rattle.papaya_book.specs.declared.rule.own.Given.{Given}
 use Rattle.papaya_book.specs.Limits.{HasNoRoom}
-use Rattle.papaya_change.specs.Changing.{IsCountingOf}
+use Rattle.papaya_change.specs.Changing.{IsCountingOf, IsSizedBy}
 use Rattle.papaya_change.specs.Helping.{IsAside, IsGivenBy, IsLed}
 
 -- a machine that asks for a copy does not ask for its call
@@ -50,7 +52,7 @@ pub busy : (m : Machine) (ask : CopyAsk) → ask_of m ≡ asks.Copy ask → m.ph
 busy m ask e is = not_calling m m.phase ask is e
 
 module _ {K P : Type 0} (g : Setting K P) (c : Coding K P) (hashed : IsHashed g c) (begun since : List (Exchange P)) (may : AllAllowed g start (begun ++ since)) (k : K) (m : Machine) (hands : Hands P) (r : Rests g c begun since k m hands) (standing : IsStanding m)
-    (ask : CopyAsk) (asked : ask_of m ≡ asks.Copy ask) (answer : Answer) (es : List (Exchange P)) (hands' : Hands P) (told : IsTold g c k (run (begun ++ since) start) (kind_of_ask m) (follows_of m) hands (ask_of m) answer es hands') (tables : List ℕ) (counts : IsCountingOf tables m) (given : List Given) (by : IsGivenBy answer given) where
+    (ask : CopyAsk) (asked : ask_of m ≡ asks.Copy ask) (answer : Answer) (words : answer ≡ answers.Call Exchanged → HasWords g (link_in m.phase)) (es : List (Exchange P)) (hands' : Hands P) (told : IsTold g c k (run (begun ++ since) start) (kind_of_ask m) (follows_of m) hands (ask_of m) answer es hands') (tables : List ℕ) (counts : IsCountingOf tables m) (given : List Given) (by : IsGivenBy answer given) where
   -- the state after all exchanges
   abbrev now : State P
   now = run (begun ++ since) start
@@ -86,7 +88,7 @@ module _ {K P : Type 0} (g : Setting K P) (c : Coding K P) (hashed : IsHashed g 
           count = long.count;
           given_is = subst (λ (a : Answer). IsGivenBy a given) long.is by;
           len = long.slots;
-          there = counts long.behind long.slots long.unfit long.link;
+          there = subst (IsSizedBy tables) long.link counts;
           unfit = long.unfit;
           long = long.long;
         }),
@@ -141,11 +143,11 @@ module _ {K P : Type 0} (g : Setting K P) (c : Coding K P) (hashed : IsHashed g 
 
   left_for : (phase : Phase) → m.phase ≡ phase → RestsPhase g c begun since k m hands phase → IsTold g c k now (kind_in m.call phase) (follows_in phase) hands (asks_in m.call phase) answer es hands' → Left (after_in m answer phase)
   left_for Calling e at h = absurd (busy m ask asked e)
-  left_for (Linking link) e at h = linked_left (link_after link m.call.initial answer) (ap (after_in m answer) e)
+  left_for (Linking link) e at h = linked_left (link_after link m.call.mode m.call.initial answer) (ap (after_in m answer) e)
   left_for (Copying_root copying) e at h =
-      copied_left (copying_after copying m.call.mode m.call.initial answer)
-      (more_than copying (copying_after copying m.call.mode m.call.initial answer) (aimed copying at)
-      (copying_learns g c hashed now (map_left g (begun ++ since)) (keeping g hashed.lawful (begun ++ since) may) m.call.mode r.call.mode r.chunked m.call.initial hands copying (copies copying at) answer es hands' h).1)
+      copied_left (copying_after copying m.call.mode m.call.initial m.number answer)
+      (more_than copying (copying_after copying m.call.mode m.call.initial m.number answer) (aimed copying at)
+      (copying_learns g c hashed now (map_left g (begun ++ since)) (keeping g hashed.lawful (begun ++ since) may) m.call.mode r.call.mode r.cut m.call.initial m.number hands copying (copies copying at) answer (λ x. subst (λ (z : Phase). HasWords g (link_in z)) e (words x)) es hands' h).1)
       (ap (after_in m answer) e)
 
   pub leaves : Left (after m answer)

@@ -75,14 +75,14 @@ module _ {K V S H : Type 0} (eq : K → K → Bool) (input : K → List (List �
   HasComeFor Root = Unit {0}
   HasComeFor (Next t) = HasCome log t
   HasComeFor (Aborted t) = HasCome log t
-  HasComeFor (Done t) = HasCome log t
+  HasComeFor (Done t c) = HasCome log t
   HasComeFor (Slot t x) = HasCome log t
 
   pub came_for : (at : At) → IsThere g c (state_of log) last kept at → HasComeFor at
   came_for Root there = tt
   came_for (Next t) there = chain_came log t there
   came_for (Aborted t) there = chain_came log t there
-  came_for (Done t) there = chain_came log t there
+  came_for (Done t c) there = chain_came log t there.0
   came_for (Slot t x) there = chain_came log t there.0
 
   -- and has the slot, later too

@@ -7,7 +7,7 @@ use Rattle.boxcar.specs.Table.{Where}
 use Rattle.logbook.specs.Pages.{Book}
 use Rattle.logbook.specs.declared.tokens.Pen.{Pen}
 use Rattle.papaya_ask.specs.declared.ask.At.TheVariants.{Root, Next}
-use Rattle.papaya_ask.specs.declared.ask.Answer.TheVariants.{Made as Made_number, Size}
+use Rattle.papaya_ask.specs.declared.ask.Answer.TheVariants.{Exchanged, Made as Made_number, Size}
 use Rattle.papaya_ask.specs.declared.ask.Ask.TheVariants.{Exchange as Call_exchange, SizeOf, Done as Ask_done}
 use Rattle.papaya_ask.specs.declared.call.Reply.TheVariants.{Refused as Reply_refused}
 use Rattle.papaya_ask.specs.declared.copy_ask.CopyAsk.{CopyAsk}
@@ -29,6 +29,7 @@ use Rattle.papaya_chain_rests.proofs.LinkStates.{In}
 use Rattle.papaya_chain_rests.proofs.Order.{in_order}
 use Rattle.papaya_chain_rests.proofs.Replies.{anew, aside_unchanged, chain_changes}
 use Rattle.papaya_law.specs.Exchange.{Exchange, run, start}
+use Rattle.papaya_rests.specs.Copier.{HasWords}
 use Rattle.papaya_rests.specs.Rests.{change_in}
 use Rattle.papaya_book.specs.declared.rule.entry.Begun.{Begun}
 use Rattle.papaya_book.specs.declared.rule.entry.Event.{Event}
@@ -41,9 +42,10 @@ use Rattle.papaya_book.specs.Sheets.{Sheet}
 use Rattle.papaya_book.proofs.Brings.{made_since}
 use Rattle.papaya_book.proofs.Lengths.{tables_since}
 use Rattle.papaya_book.proofs.Logs.{prefix_trans}
-use Rattle.papaya_change.specs.Changing.{IsBringing, IsCalling, IsCountingOf, IsForm, IsFresh, hands_with}
+use Rattle.papaya_change.specs.Changing.{HasChunks, IsReadyAs, IsBringing, IsCalling, IsCountingOf, IsForm, IsFresh, hands_with}
 use Rattle.papaya_change.specs.Helping.{IsAside, IsGivenBy, IsLed, IsSetAside}
 use Rattle.papaya_change.proofs.HelpingLeads.{leaves, left_from}
+use Rattle.papaya_change.proofs.MakingAsks.{making_asks}
 use Rattle.papaya_change.proofs.HelpingPlaces.{resting}
 use Rattle.papaya_change.proofs.Sized.{counting_after, counting_since}
 use Rattle.papaya_change.proofs.Resting.{ChainResting, carried, coded, hashed_in, may_first, resting_later, resting_told, told_then, wide}
@@ -83,11 +85,11 @@ module _ (m m' : Machine) (tables : List ℕ) (given : List Given) where
   ]
 
   -- so a table comes only where one is about to be linked
-  brings_after : (Made : ℕ → Type 0) → IsAside m m' ⊎ IsLed m m' tables given → In (IsMadeLink Made) (link_in m'.phase) → (n : ℕ) → IsBringing (ask_of m') n → Made n
-  brings_after Made leads made n h =
+  brings_after : (Made : ℕ → Type 0) (Full : ℕ → Type 0) → IsAside m m' ⊎ IsLed m m' tables given → In (IsMadeLink (λ n chunks. Made n × Full chunks)) (link_in m'.phase) → (n : ℕ) → IsBringing (ask_of m') n → Made n
+  brings_after Made Full leads made n h =
       bringing (ask_of m') n (Made n) h
       (λ old new e. let both = opening m'.call m'.phase old new e in absurd (⊎_elim (λ (aside : IsAside m m'). aside.busy both.0) (λ (led : IsLed m m' tables given). led_opens led old new both.1) leads))
-      (λ t old new e same. subst Made same (is_made Made (link_in m'.phase) made t new (machine_links m' t old new e)))
+      (λ t old new e same. let about = machine_links m' t old new e in subst Made same (is_made (λ i chunks. Made i × Full chunks) (link_in m'.phase) made t new about.0 about.1).0)
 
 module _ {K V S H : Type 0} (eq : K → K → Bool) (input : K → List (List ℕ)) (build : S → H) (write : H → List ℕ → H) (finish : H → ℕ) (classes : IsEquivalence eq) (respects : (x y : K) → eq x y ≡ true → input x ≡ input y)
     (b : Begun K V S) (name : Book) (matches : K → Bool) (fed : ℕ) (form : IsForm eq (hash_of input build write finish) b matches fed) (k : Option K) (begun v : List (Event K V S)) (m : Machine) (table : Option (Bor Sheet)) (last kept : Option (Stored K V)) (made : List (Stored K V)) (taken put : Option (Stored K V)) (fresh : Option (Where Sheet × Pen))
@@ -102,27 +104,32 @@ module _ {K V S H : Type 0} (eq : K → K → Bool) (input : K → List (List �
   C = coded eq input build write finish classes respects b matches fed form k (exchanges_of begun)
 
   -- the table at hand, as one that may be linked
-  abbrev pub IsAtHand : List (Event K V S) → Option (Where Sheet × Pen) → ℕ → Type 0
-  IsAtHand log fresh' n = IsFresh b name log n fresh'
+  abbrev pub IsAtHand : List (Event K V S) → Option (Where Sheet × Pen) → (n chunks : ℕ) → Type 0
+  IsAtHand log fresh' n chunks = IsReadyAs b name log fresh' n chunks
 
   -- what is about to be linked is at hand
   at_hand : (log : List (Event K V S)) → IsPrefix v log → In (IsMadeLink (IsAtHand log fresh)) (link_in m.phase)
   at_hand log pre =
       made_is (IsAtHand log fresh) (link_in m.phase)
-      (λ behind t e. let links_it = machine_linking m behind t e in fresh_later b name v log pre t fresh (r.brings t (subst (λ (a : Ask). IsBringing a t) (sym links_it.0) (refl, refl))))
+      (λ behind t chunks e. let links_it = machine_linking m behind t chunks e in (fresh_later b name v log pre t fresh (r.brings t (subst (λ (a : Ask). IsBringing a t) (sym links_it.0) (refl, refl))), r.words behind t chunks e))
 
   -- and stays so where no table was made
   pub same_hand : (log : List (Event K V S)) → IsPrefix v log → (answer : Answer) → ((n : ℕ) → answer ≡ answers.Call (Made_number n) → ⊥) → In (IsMadeLink (IsAtHand log fresh)) (link_in (after m answer).phase)
-  same_hand log pre answer none = machine_made (IsAtHand log fresh) m answer (λ n aside e. absurd (none n e)) (at_hand log pre)
+  same_hand log pre answer none = machine_made (IsAtHand log fresh) m answer (λ n behind slots limit chunks aside e makes. absurd (none n e)) (at_hand log pre)
 
   -- a table that was made is at hand
-  pub new_hand : (log : List (Event K V S)) (slots limit : ℕ) → ask ≡ copies.MakeTable slots limit → (fresh' : Option (Where Sheet × Pen)) (n : ℕ) → IsFresh b name log n fresh' → In (IsMadeLink (IsAtHand log fresh')) (link_in (after m (answers.Call (Made_number n))).phase)
-  new_hand log slots limit makes fresh' n is =
-      machine_made (IsAtHand log fresh') m (answers.Call (Made_number n)) (λ i aside e. let same : n ≡ i = cc e in subst (IsAtHand log fresh') same is)
+  pub new_hand : (log : List (Event K V S)) (slots limit chunks : ℕ) → ask ≡ copies.MakeTable slots limit chunks → (fresh' : Option (Where Sheet × Pen)) (n : ℕ) → IsReadyAs b name log fresh' n chunks → In (IsMadeLink (IsAtHand log fresh')) (link_in (after m (answers.Call (Made_number n))).phase)
+  new_hand log slots limit chunks makes fresh' n is =
+      machine_made (IsAtHand log fresh') m (answers.Call (Made_number n))
+      (λ i behind slots' limit' chunks' aside e about.
+      let same : n ≡ i = cc e in
+      let one : copies.MakeTable slots' limit' chunks' ≡ copies.MakeTable slots limit chunks = making_asks m behind slots' limit' chunks' about ask asked ∙ makes in
+      let words : chunks ≡ chunks' = cc one in
+      subst (λ (z : ℕ × ℕ). IsAtHand log fresh' z.0 z.1) (λ j. (same j, words j)) is)
       (made_is (IsAtHand log fresh') (link_in m.phase)
-      (λ behind t e. let f : asks.Copy (copies.MakeTable slots limit) ≡ asks.Copy (copies.Exchange (Next behind) 0 t) = sym (asked ∙ ap asks.Copy makes) ∙ (machine_linking m behind t e).0 in absurd (cc f)))
+      (λ behind t chunks' e. let f : asks.Copy (copies.MakeTable slots limit chunks) ≡ asks.Copy (copies.Exchange (Next behind) 0 t) = sym (asked ∙ ap asks.Copy makes) ∙ (machine_linking m behind t chunks' e).0 in absurd (cc f)))
 
-  module _ (before : List (Event K V S)) (since : IsPrefix v before) (l₀ : IsLawfulLog eq hash b before) (log : List (Event K V S)) (l : IsLawfulLog eq hash b log) (pre : IsPrefix before log) (answer : Answer) (last' kept' : Option (Stored K V)) (fresh' : Option (Where Sheet × Pen)) (given : List Given) (by : IsGivenBy answer given)
+  module _ (before : List (Event K V S)) (since : IsPrefix v before) (l₀ : IsLawfulLog eq hash b before) (log : List (Event K V S)) (l : IsLawfulLog eq hash b log) (pre : IsPrefix before log) (answer : Answer) (words : answer ≡ answers.Call Exchanged → HasWords (G log) (link_in m.phase)) (last' kept' : Option (Stored K V)) (fresh' : Option (Where Sheet × Pen)) (given : List Given) (by : IsGivenBy answer given)
       (told : IsCopyTold (G log) C (state_of before) (kind_of_ask m) (follows_of m) (hands_with last kept made) ask answer (exchanges_of pre.0) (hands_with last' kept' made)) where
     abbrev mid : ChainResting eq input build write finish classes respects b matches fed form k (exchanges_of begun) before m (hands_with last kept made)
     mid = resting_later eq input build write finish classes respects b matches fed form k (exchanges_of begun) v r.lawful m (hands_with last kept made) (resting eq input build write finish classes respects b name matches fed form k begun v m table last kept made taken put fresh r) before l₀ since
@@ -146,13 +153,13 @@ module _ {K V S H : Type 0} (eq : K → K → Bool) (input : K → List (List �
     pub leads : IsAside m (after m answer) ⊎ IsLed m (after m answer) (tables_of log) given
     leads =
         leaves (G log) C (hashed_in eq input build write finish classes respects b matches fed form k (exchanges_of begun) log l) (exchanges_of begun) mid.since
-        (may_first eq input build write finish classes respects b matches fed form k (exchanges_of begun) before l₀ m (hands_with last kept made) mid log l pre) k m (hands_with last kept made) rested standing ask asked answer (exchanges_of pre.0) (hands_with last' kept' made) told_there (tables_of log) counting given by
+        (may_first eq input build write finish classes respects b matches fed form k (exchanges_of begun) before l₀ m (hands_with last kept made) mid log l pre) k m (hands_with last kept made) rested standing ask asked answer words (exchanges_of pre.0) (hands_with last' kept' made) told_there (tables_of log) counting given by
 
     -- it had changed nothing, and has not
     unchanged : change_in (after m answer).call.state ≡ None
     unchanged =
         let left = left_from (G log) C (hashed_in eq input build write finish classes respects b matches fed form k (exchanges_of begun) log l) (exchanges_of begun) mid.since
-        (may_first eq input build write finish classes respects b matches fed form k (exchanges_of begun) before l₀ m (hands_with last kept made) mid log l pre) k m (hands_with last kept made) rested standing ask asked answer (exchanges_of pre.0) (hands_with last' kept' made) told_there (tables_of log) counting given by in
+        (may_first eq input build write finish classes respects b matches fed form k (exchanges_of begun) before l₀ m (hands_with last kept made) mid log l pre) k m (hands_with last kept made) rested standing ask asked answer words (exchanges_of pre.0) (hands_with last' kept' made) told_there (tables_of log) counting given by in
         chain_changes (G log) C k (run (exchanges_of begun ++ mid.since) start) m (hands_with last kept made) answer (exchanges_of pre.0) (hands_with last' kept' made)
         (in_order (G log) C (exchanges_of begun) mid.since k m (hands_with last kept made) (run (exchanges_of begun ++ mid.since) start) answer (exchanges_of pre.0) (hands_with last' kept' made) rested told_there) told_there
         (hashed_in eq input build write finish classes respects b matches fed form k (exchanges_of begun) log l) rested.call.hash
@@ -162,7 +169,7 @@ module _ {K V S H : Type 0} (eq : K → K → Bool) (input : K → List (List �
     pub copied : IsPlaced b (Some name) (pair_named last') → IsPlaced b (Some name) (pair_named kept') → In (IsMadeLink (IsAtHand log fresh')) (link_in (after m answer).phase) → ((slots limit : ℕ) → answer ≡ answers.Call (Size slots limit) → Member slots (tables_of log))
         → IsSetAside eq hash b name matches fed k begun log (after m answer) last' kept' made taken put fresh'
     copied placed placed' hand size =
-        let on = resting_told eq input build write finish classes respects b matches fed form k (exchanges_of begun) before l₀ m (hands_with last kept made) mid log l pre answer (hands_with last' kept' made) told_so in record {
+        let on = resting_told eq input build write finish classes respects b matches fed form k (exchanges_of begun) before l₀ m (hands_with last kept made) mid log l pre answer words (hands_with last' kept' made) told_so in record {
           lawful = l;
           seen = prefix_trans begun v log r.seen (prefix_trans v before log since pre);
           since = on.since;
@@ -173,6 +180,7 @@ module _ {K V S H : Type 0} (eq : K → K → Bool) (input : K → List (List �
           made_placed = r.made_placed;
           taken_placed = r.taken_placed;
           unchanged = unchanged;
-          brings = brings_after m (after m answer) (tables_of log) given (IsAtHand log fresh') leads hand;
+          brings = brings_after m (after m answer) (tables_of log) given (λ n. IsFresh b name log n fresh') (HasChunks fresh') leads hand;
+          words = λ behind n chunks e. (is_made (IsAtHand log fresh') (link_in (after m answer).phase) hand behind n chunks e).1;
           counts = counting_after (tables_of log) m answer size counting;
         }

@@ -22,7 +22,6 @@ use Rattle.papaya_chain.specs.declared.machine.Phase.TheVariants.{Calling}
 use Rattle.papaya_chain.specs.Machine.{IsStanding, after, after_in, ask_of, kind_of_ask, started}
 use Rattle.papaya_chain_rests.proofs.Names.{call_asks}
 use Rattle.papaya_chain_rests.proofs.Replies.{chain_task}
-use Rattle.papaya_words.specs.Mode.{IsChunked}
 use Rattle.papaya_rests.specs.Followed.{MayAsk}
 use Rattle.papaya_call.specs.Machine.{IsComputer, MayInsert, made_in}
 use Rattle.papaya_call.specs.Machine as calls
@@ -139,10 +138,10 @@ module _ {K V S H : Type 0} (eq : K → K → Bool) (input : K → List (List �
 
 module _ {K V S H : Type 0} (eq : K → K → Bool) (hash : S → K → ℕ) (b : Begun K V S) (name : Book) (key : K) (value : V) where
   -- an insertion that begins
-  pub begins : (log : List (Event K V S)) (x : Insertion K V S H) → IsLawfulLog eq hash b log → IsChunked b.mode → (initial : ℕ) → x.writer.call.machine ≡ started (Insert true) (hash b.hasher key) b.mode initial → (x.writer.call.table ≡ None) × (x.writer.call.fresh ≡ None)
+  pub begins : (log : List (Event K V S)) (x : Insertion K V S H) → IsLawfulLog eq hash b log → (initial : ℕ) → x.writer.call.machine ≡ started (Insert true) (hash b.hasher key) b.mode initial 0 → (x.writer.call.table ≡ None) × (x.writer.call.fresh ≡ None)
       → (x.writer.call.last ≡ None) × (x.writer.call.kept ≡ None) × (x.writer.call.taken ≡ None) × (x.writer.call.put ≡ None) → x.made ≡ None → x.writer.key ≡ Some key → x.writer.brought ≡ None → x.writer.value ≡ Some value → IsInserting eq hash b name key value log log x
-  begins log x l chunked initial machine table pairs made own brought left = record {
-    writing = subst (λ (z : Option (Stored K V)). IsWriting eq hash b name key (made_list z) log log x.writer) (sym made) (begins_writing eq hash b name key log x.writer l chunked (Insert true) initial machine table pairs own brought);
+  begins log x l initial machine table pairs made own brought left = record {
+    writing = subst (λ (z : Option (Stored K V)). IsWriting eq hash b name key (made_list z) log log x.writer) (sym made) (begins_writing eq hash b name key log x.writer l (Insert true) initial machine table pairs own brought);
     task_is = ap (λ (z : Machine). z.call.task) machine;
     left_is = λ v e. let f = sym left ∙ e in sym (cc f);
     made_is = λ q e. let f = sym made ∙ e in absurd (cc f);

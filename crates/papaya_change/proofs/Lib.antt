@@ -30,6 +30,8 @@ pub mod RemovingHits
 pub mod HelpingPlaces
 pub mod HelpingFollows
 pub mod Sized
+pub mod MakingAsks
+pub mod Numbered
 pub mod HelpingLeads
 pub mod HelpingExchanges
 pub mod Copiers

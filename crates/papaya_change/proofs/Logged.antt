@@ -1,7 +1,6 @@
 -- An insertion that begins with its pair in the log; and one that went on where another one left the map as it was.
 use Rattle.std.proofs.Common.{◌≡◌, inl, ⊎_elim, ℕ, Bool, true, false, None, Some, List, [], ◌∷◌, append-nil, refl, sym, ap, ◌∙◌, subst}
 use Rattle.logbook.specs.Pages.{Book}
-use Rattle.papaya_words.specs.Mode.{IsChunked}
 use Rattle.papaya_ask.specs.declared.call.Task.TheVariants.{Insert}
 use Rattle.papaya_call.specs.declared.machine.State.TheVariants.{AtRoot}
 use Rattle.papaya_call.specs.declared.write.Made.TheVariants.{Pair}
@@ -29,14 +28,14 @@ module _ {K V S : Type 0} (eq : K → K → Bool) (hash : S → K → ℕ) (b : 
   own_pair p one = ⊎_elim (λ is. is) (λ other. absurd other) one
 
   -- its call, which has made the pair
-  calls : (log : List (Event K V S)) → IsLawfulLog eq hash b log → IsChunked b.mode → (initial : ℕ) → IsCalling eq hash b name (eq (key_of q)) (hash b.hasher (key_of q)) (Some (key_of q)) log log (insertion_at (hash b.hasher (key_of q)) b.mode initial (Pair q.index) AtRoot) None None None (q ∷ []) None None None
-  calls log l chunked initial = let r = begins_calling eq hash b name (eq (key_of q)) (hash b.hasher (key_of q)) (Some (key_of q)) refl log l chunked (Insert true) initial in record {
+  calls : (log : List (Event K V S)) → IsLawfulLog eq hash b log → (initial : ℕ) → IsCalling eq hash b name (eq (key_of q)) (hash b.hasher (key_of q)) (Some (key_of q)) log log (insertion_at (hash b.hasher (key_of q)) b.mode initial (Pair q.index) AtRoot) None None None (q ∷ []) None None None
+  calls log l initial = let r = begins_calling eq hash b name (eq (key_of q)) (hash b.hasher (key_of q)) (Some (key_of q)) refl log l (Insert true) initial in record {
     lawful = l;
     seen = r.seen;
     since = [];
     is = append-nil (exchanges_of log);
     rests = record {
-      chunked = chunked;
+      cut = λ x. refl;
       call = record {
         hash = refl;
         mode = r.rests.call.mode;
@@ -54,15 +53,16 @@ module _ {K V S : Type 0} (eq : K → K → Bool) (hash : S → K → ℕ) (b : 
     taken_placed = tt;
     changed = λ change e. absurd (cc e);
     brings = λ n e. absurd e;
-    counts = λ behind len unfit e. absurd (cc e);
+    words = λ behind n chunks e. absurd (cc e);
+    counts = tt;
   }
 
   -- an insertion of the pair that begins
-  pub begins_logged : {H : Type 0} (log : List (Event K V S)) (x : Insertion K V S H) → IsLawfulLog eq hash b log → IsChunked b.mode → (initial : ℕ) → x.writer.call.machine ≡ insertion_at (hash b.hasher (key_of q)) b.mode initial (Pair q.index) AtRoot → (x.writer.call.table ≡ None) × (x.writer.call.fresh ≡ None)
+  pub begins_logged : {H : Type 0} (log : List (Event K V S)) (x : Insertion K V S H) → IsLawfulLog eq hash b log → (initial : ℕ) → x.writer.call.machine ≡ insertion_at (hash b.hasher (key_of q)) b.mode initial (Pair q.index) AtRoot → (x.writer.call.table ≡ None) × (x.writer.call.fresh ≡ None)
       → (x.writer.call.last ≡ None) × (x.writer.call.kept ≡ None) × (x.writer.call.taken ≡ None) × (x.writer.call.put ≡ None) → x.made ≡ Some q → x.writer.key ≡ None → x.writer.brought ≡ Some q → x.writer.value ≡ None → IsInserting eq hash b name (key_of q) q.value.value log log x
-  begins_logged log x l chunked initial machine table pairs made none brought left = record {
+  begins_logged log x l initial machine table pairs made none brought left = record {
     writing = record {
-      calling = rw (made, machine, table.0, table.1, pairs.0, pairs.1, pairs.2, pairs.3) (calls log l chunked initial);
+      calling = rw (made, machine, table.0, table.1, pairs.0, pairs.1, pairs.2, pairs.3) (calls log l initial);
       keyed = record {
         own_is = λ k e. let f = sym none ∙ e in absurd (cc f);
         brought_is = λ p e. let f = sym brought ∙ e in let one : q ≡ p = cc f in subst (λ (z : Stored K V). (key_of z ≡ key_of q) × (z.value.key.at ≡ None)) one (refl, brings);

@@ -51,7 +51,7 @@ use Rattle.papaya_chain_rests.proofs.Names.{call_asks}
 use Rattle.papaya_chain_rests.proofs.Replies.{aside_asks, chain_changes}
 use Rattle.papaya_book.specs.Logs.{Stored}
 use Rattle.papaya_book.specs.Plays.{IsWished, Numbered, hands_of}
-use Rattle.papaya_change.specs.Changing.{IsBringing}
+use Rattle.papaya_change.specs.Changing.{IsBringing, IsSizedBy}
 
 -- a call that asks for itself asks its call's ask, and for an exchange of that kind
 pub calling_asks : (m : Machine) → m.phase ≡ Calling → ask_of m ≡ asked.Call (calls.ask_of m.call)
@@ -115,7 +115,7 @@ asked_by_call (Some kinds.Abort) own at new s made e (inr copies) = absurd own
 
 -- a call was just set aside
 abbrev pub IsSetAside : Phase → Type 0
-IsSetAside (Linking (links.Sizing t unfit)) = Unit {0}
+IsSetAside (Linking (links.Sizing t copied unfit)) = Unit {0}
 IsSetAside (Copying_root (Stepping aim At_root)) = Unit {0}
 IsSetAside (Copying_root (Lone slot Looking_to_settle)) = Unit {0}
 IsSetAside _ = ⊥
@@ -162,7 +162,7 @@ module _ (m : Machine) (calling : m.phase ≡ Calling) where
 
     grows_went : (mode : ResizeMode) (need : Need) → Leaves m (Word_read word) (grows_as m mode need word)
     grows_went Blocking need = inl (t, left, refl, tt)
-    grows_went (Incremental chunk) need = cond_both (word == 0) (record m { phase = Linking (links.Sizing (needed need) false) }) (onward m word) (Leaves m (Word_read word)) (λ _. inl (t, left, refl, tt)) (λ some. aside m.helped (aim_for m.call.state word) some)
+    grows_went (Incremental chunk) need = cond_both (word == 0) (record m { phase = Linking (links.Sizing (needed need) (needed need) false) }) (onward m word) (Leaves m (Word_read word)) (λ _. inl (t, left, refl, tt)) (λ some. aside m.helped (aim_for m.call.state word) some)
 
   next_went : (word : ℕ) (s : State) → m.call.state ≡ s → Went m (Word_read word) (told_next m s word)
   next_went word (Leaving t) e = leaves_went word t (ap left_by e) m.call.task
@@ -202,17 +202,24 @@ aside_calls (Copying_root copying) aside e = cc e
 
 -- a call that was just set aside brings no table
 aside_brings : (call : Call_machine) (phase : Phase) → IsSetAside phase → (n : ℕ) → IsBringing (asks_in call phase) n → ⊥
-aside_brings call (Linking (links.Sizing t unfit)) aside n brings = brings
+aside_brings call (Linking (links.Sizing t copied unfit)) aside n brings = brings
 aside_brings call (Copying_root (Stepping aim At_root)) aside n brings = brings
 aside_brings call (Copying_root (Lone slot Looking_to_settle)) aside n brings = brings
 aside_brings call _ aside n brings = absurd aside
 
 -- nor does it count yet for one
-aside_counts : (phase : Phase) → IsSetAside phase → (behind len : ℕ) (unfit : Bool) → link_in phase ≡ Some (links.Counting behind unfit len) → ⊥
-aside_counts (Linking (links.Sizing t before)) aside behind len unfit e = cc e
-aside_counts (Copying_root (Stepping aim At_root)) aside behind len unfit e = cc e
-aside_counts (Copying_root (Lone slot Looking_to_settle)) aside behind len unfit e = cc e
-aside_counts _ aside behind len unfit e = absurd aside
+aside_counts : (tables : List ℕ) (phase : Phase) → IsSetAside phase → IsSizedBy tables (link_in phase)
+aside_counts tables (Linking (links.Sizing t from before)) aside = tt
+aside_counts tables (Copying_root (Stepping aim At_root)) aside = tt
+aside_counts tables (Copying_root (Lone slot Looking_to_settle)) aside = tt
+aside_counts tables _ aside = absurd aside
+
+-- nor is it about to link one
+aside_links : (phase : Phase) → IsSetAside phase → (behind n chunks : ℕ) → link_in phase ≡ Some (links.Linking behind n chunks) → ⊥
+aside_links (Linking (links.Sizing t from before)) aside behind n chunks e = cc e
+aside_links (Copying_root (Stepping aim At_root)) aside behind n chunks e = cc e
+aside_links (Copying_root (Lone slot Looking_to_settle)) aside behind n chunks e = cc e
+aside_links _ aside behind n chunks e = absurd aside
 
 -- a call brings a table that it opens
 brought_root : (ask : Ask) (n : ℕ) → IsBringing (asked.Call ask) n → ask ≡ Exchange Root 0 n
@@ -222,7 +229,7 @@ brought_root ask n brings = absurd brings
 -- a call brings a table only where it asks for its exchange, or after it asked for one to be made
 abbrev pub IsBarren : Ask → Type 0
 IsBarren (Exchange Root old new) = ⊥
-IsBarren (MakeTable slots limit) = ⊥
+IsBarren (MakeTable slots limit chunks) = ⊥
 IsBarren _ = Unit {0}
 
 module _ (m : Machine) (calling : m.phase ≡ Calling) (answer : Answer) where
@@ -241,7 +248,7 @@ module _ (m : Machine) (calling : m.phase ≡ Calling) (answer : Answer) where
   ]
 
   -- after the answer it brings a table that it was told of, or that it brought before
-  pub own_brings : (n : ℕ) → IsBringing (ask_of m') n → ((answer ≡ Made_number n) × ((slots : ℕ) × (limit : ℕ) × (calls.ask_of m.call ≡ MakeTable slots limit))) ⊎ (calls.ask_of m.call ≡ Exchange Root 0 n)
+  pub own_brings : (n : ℕ) → IsBringing (ask_of m') n → ((answer ≡ Made_number n) × ((slots : ℕ) × (limit : ℕ) × (calls.ask_of m.call ≡ MakeTable slots limit 0))) ⊎ (calls.ask_of m.call ≡ Exchange Root 0 n)
   own_brings n brings = elim (own_went m calling answer) [
     | inl h ↦
         let asks : ask_of m' ≡ asked.Call (calls.ask_of (calls.after m.call answer)) = calling_asks m' h.1 ∙ ap (λ (z : Call_machine). asked.Call (calls.ask_of z)) h.0 in
@@ -253,11 +260,19 @@ module _ (m : Machine) (calling : m.phase ≡ Calling) (answer : Answer) where
   ]
 
   -- after the answer it counts for no table
-  pub own_counts : (behind len : ℕ) (unfit : Bool) → link_in m'.phase ≡ Some (links.Counting behind unfit len) → ⊥
-  own_counts behind len unfit e = elim (own_went m calling answer) [
-    | inl h ↦ let f : None ≡ Some (links.Counting behind unfit len) = sym (ap link_in h.1) ∙ e in cc f
-    | inr (inl h) ↦ aside_counts m'.phase h.3 behind len unfit e
-    | inr (inr h) ↦ let f : None ≡ Some (links.Counting behind unfit len) = sym (ap link_in h.6) ∙ e in cc f
+  pub own_counts : (tables : List ℕ) → IsSizedBy tables (link_in m'.phase)
+  own_counts tables = elim (own_went m calling answer) [
+    | inl h ↦ subst (IsSizedBy tables) (sym (ap link_in h.1)) tt
+    | inr (inl h) ↦ aside_counts tables m'.phase h.3
+    | inr (inr h) ↦ subst (IsSizedBy tables) (sym (ap link_in h.6)) tt
+  ]
+
+  -- and is about to link none
+  pub own_links : (behind n chunks : ℕ) → link_in m'.phase ≡ Some (links.Linking behind n chunks) → ⊥
+  own_links behind n chunks e = elim (own_went m calling answer) [
+    | inl h ↦ let f : None ≡ Some (links.Linking behind n chunks) = sym (ap link_in h.1) ∙ e in cc f
+    | inr (inl h) ↦ aside_links m'.phase h.3 behind n chunks e
+    | inr (inr h) ↦ let f : None ≡ Some (links.Linking behind n chunks) = sym (ap link_in h.6) ∙ e in cc f
   ]
 
   -- none, after another ask

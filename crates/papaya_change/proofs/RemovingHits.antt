@@ -4,8 +4,8 @@ use Rattle.std.specs.Cmp.{IsEquivalence}
 use mathlib.Core.List.{IsPrefix}
 use denote.Bor.{Bor}
 use Rattle.logbook.specs.Pages.{Book}
-use Rattle.papaya_words.specs.Mode.{IsChunked}
 use Rattle.papaya_words.specs.Word.{kind_of, pair_of}
+use Rattle.papaya_words.specs.Mode.{IsChunked}
 use Rattle.papaya_words.specs.declared.probe.Refused.{Refused}
 use Rattle.papaya_words.specs.declared.probe.ResizeMode.{ResizeMode}
 use Rattle.papaya_words.specs.declared.word.Kind.TheVariants.{Live}
@@ -53,6 +53,7 @@ use Rattle.papaya_change.proofs.Showings.{all_shown, held_wider, shown_each}
 abbrev pub removal_at : (hash : ℕ) → ResizeMode → State → Machine
 removal_at hash mode state = record {
   call = record (started RemoveIf hash mode 1) { state = state };
+  number = 0;
   helped = false;
   phase = Calling;
 }
@@ -92,7 +93,7 @@ module _ {K V S H F : Type 0} (eq : K → K → Bool) (input : K → List (List 
       since = hit.since;
       is = hit.is;
       rests = record {
-        chunked = chunked;
+        cut = λ x. refl;
         call = record {
           hash = refl;
           mode = mode_is b.mode;
@@ -110,7 +111,8 @@ module _ {K V S H F : Type 0} (eq : K → K → Bool) (input : K → List (List 
       taken_placed = tt;
       changed = λ change e. absurd (cc e);
       brings = λ n e. absurd e;
-      counts = λ behind len unfit e. absurd (cc e);
+      words = λ behind n chunks e. absurd (cc e);
+      counts = tt;
     }
 
     -- the removal with this machine, which its closure was shown this, and which took out this

@@ -14,7 +14,6 @@ use Rattle.papaya_chain.specs.declared.ask.Ask.TheVariants.{Call}
 use Rattle.papaya_chain.specs.declared.machine.Machine.{Machine}
 use Rattle.papaya_chain.specs.Machine.{ask_of, started}
 use Rattle.papaya_chain_rests.proofs.Names.{call_asks}
-use Rattle.papaya_words.specs.Mode.{IsChunked}
 use Rattle.papaya_rests.specs.Told.{Hands}
 use Rattle.papaya_rests.specs.Rests.{IsReply, change_in, change_of_reply}
 use Rattle.papaya_rests.specs.Says.{Agrees, Said, StandsOn, said_in, said_of_removal}
@@ -281,10 +280,10 @@ module _ {K V F : Type 0} (eq : K → K → Bool) (matches : K → Bool) (old ne
   none_stays always is = let h = subst (IsJudged eq matches old new r.said) is r.answered in let agreed : false ≡ true = said_only judges (λ a. a ≡ true) always first r.said r.left r.has_said h.0 false h.1 in cc agreed
 
 -- a removal that begins
-pub begins : {K V S H F : Type 0} (eq : K → K → Bool) (hash : S → K → ℕ) (b : Begun K V S) (name : Book) (matches : K → Bool) (fed : ℕ) (judges : F → Stored K V → Bool → F → Type 0) (first : F) (log : List (Event K V S)) (x : Removal K V S H) → IsLawfulLog eq hash b log → IsChunked b.mode → (initial : ℕ)
-    → x.call.machine ≡ started RemoveIf fed b.mode initial → (x.call.table ≡ None) × (x.call.fresh ≡ None) → (x.call.last ≡ None) × (x.call.kept ≡ None) × (x.call.taken ≡ None) × (x.call.put ≡ None) → x.shown ≡ None → IsRemoving eq hash b name matches fed judges first log log x first
-begins eq hash b name matches fed judges first log x l chunked initial machine table pairs shown = record {
-  calling = rw (machine, table.0, table.1, pairs.0, pairs.1, pairs.2, pairs.3) (begins_calling eq hash b name matches fed None refl log l chunked RemoveIf initial);
+pub begins : {K V S H F : Type 0} (eq : K → K → Bool) (hash : S → K → ℕ) (b : Begun K V S) (name : Book) (matches : K → Bool) (fed : ℕ) (judges : F → Stored K V → Bool → F → Type 0) (first : F) (log : List (Event K V S)) (x : Removal K V S H) → IsLawfulLog eq hash b log → (initial : ℕ)
+    → x.call.machine ≡ started RemoveIf fed b.mode initial 0 → (x.call.table ≡ None) × (x.call.fresh ≡ None) → (x.call.last ≡ None) × (x.call.kept ≡ None) × (x.call.taken ≡ None) × (x.call.put ≡ None) → x.shown ≡ None → IsRemoving eq hash b name matches fed judges first log log x first
+begins eq hash b name matches fed judges first log x l initial machine table pairs shown = record {
+  calling = rw (machine, table.0, table.1, pairs.0, pairs.1, pairs.2, pairs.3) (begins_calling eq hash b name matches fed None refl log l RemoveIf initial);
   task_is = ap (λ (z : Machine). z.call.task) machine;
   words = rw machine tt;
   shown_placed = rw shown tt;
@@ -296,7 +295,7 @@ begins eq hash b name matches fed judges first log x l chunked initial machine t
   crowded = λ e. let f = sym (ap ask_of machine) ∙ e in absurd (cc f);
 }
   where
-    nothing_said : {n : ℕ} {agrees : Bool} → StandsOn (started RemoveIf fed b.mode initial).call (Agrees n agrees) → ⊥
+    nothing_said : {n : ℕ} {agrees : Bool} → StandsOn (started RemoveIf fed b.mode initial 0).call (Agrees n agrees) → ⊥
     nothing_said (inl e) = cc e
     nothing_said (inr (inl e)) = cc e
     nothing_said (inr (inr e)) = cc e

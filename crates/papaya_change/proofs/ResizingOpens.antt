@@ -4,7 +4,6 @@ use Rattle.std.specs.Cmp.{IsEquivalence}
 use mathlib.Core.List.{IsPrefix}
 use Rattle.boxcar.specs.Table.{Where}
 use Rattle.logbook.specs.Pages.{Book}
-use Rattle.papaya_words.specs.Mode.{IsChunked}
 use Rattle.papaya_words.specs.declared.probe.Refused.{Refused as Cause}
 use Rattle.papaya_words.specs.declared.probe.ResizeMode.{ResizeMode}
 use Rattle.papaya_words.specs.declared.probe.ResizeMode.TheVariants.{Incremental, Blocking}
@@ -20,10 +19,11 @@ use Rattle.papaya_chain.specs.declared.resizer.Resizer.{Resizer}
 use Rattle.papaya_chain.specs.declared.resizer.State.{State as Stage}
 use Rattle.papaya_chain.specs.declared.resizer.State.TheVariants.{Opening}
 use Rattle.papaya_chain.specs.Resizer.{after, after_in, begun, begun_in, reply_in}
-use Rattle.papaya_chain_rests.specs.Resizers.{IsStageTold}
+use Rattle.papaya_chain_rests.specs.Resizers.{IsStageTold, link_of}
 use Rattle.papaya_chain_rests.proofs.ResizerRests.{stage_begins}
 use Rattle.papaya_law.specs.Exchange.{Exchange}
 use Rattle.papaya_law.specs.Exchange as law
+use Rattle.papaya_rests.specs.Copier.{HasWords}
 use Rattle.papaya_rests.specs.Rests.{IsModeOf}
 use Rattle.papaya_book.specs.declared.rule.entry.Begun.{Begun}
 use Rattle.papaya_book.specs.declared.rule.entry.Event.{Event}
@@ -39,9 +39,9 @@ use Rattle.papaya_book.specs.Rule.{IsLawfulLog}
 use Rattle.papaya_book.specs.Sheets.{Sheet}
 use Rattle.papaya_book.proofs.Wishes.{call_wished}
 use Rattle.papaya_change.specs.declared.copier.Copier.{Copier}
-use Rattle.papaya_change.specs.Changing.{IsFresh, hands_with}
+use Rattle.papaya_change.specs.Changing.{IsFresh, IsReadyAs, IsSizedBy, hands_with}
 use Rattle.papaya_change.specs.Copier.{tried_answer}
-use Rattle.papaya_change.specs.Resizing.{IsResizing, link_of}
+use Rattle.papaya_change.specs.Resizing.{IsResizing}
 use Rattle.papaya_change.proofs.ResizingAnswers.{again}
 use Rattle.papaya_change.proofs.ResizingRests.{C, G, hash}
 use Rattle.papaya_change.proofs.ResizingRooms.{room_begins}
@@ -62,6 +62,11 @@ links_none Chunk link e = cc e
 links_none CopyAll link e = cc e
 links_none (Reserve more) link e = cc e
 
+counts_none : (resize : Resize) (tables : List ℕ) → IsSizedBy tables (link_of (begun_in resize))
+counts_none Chunk tables = tt
+counts_none CopyAll tables = tt
+counts_none (Reserve more) tables = tt
+
 ends_none : (resize : Resize) (cause : Cause) → reply_in (begun_in resize) ≡ Some (Refused cause) → ⊥
 ends_none Chunk cause e = cc e
 ends_none CopyAll cause e = cc e
@@ -71,16 +76,16 @@ module _ {K V S H : Type 0} (eq : K → K → Bool) (input : K → List (List �
   abbrev hashing : S → K → ℕ
   hashing = hash eq input build write finish classes respects b
 
-  pub begins : (log : List (Event K V S)) → IsLawfulLog eq hashing b log → IsChunked b.mode → (resize : Resize) (initial : ℕ) (h : Copier K V S H) → h.last ≡ None → h.kept ≡ None → IsResizing eq hashing b name log (begun resize b.mode initial) h
-  begins log l chunked resize initial h none none' = record {
+  pub begins : (log : List (Event K V S)) → IsLawfulLog eq hashing b log → (resize : Resize) (initial number : ℕ) (h : Copier K V S H) → h.last ≡ None → h.kept ≡ None → IsResizing eq hashing b name log (begun resize b.mode initial number) h
+  begins log l resize initial number h none none' = record {
     lawful = l;
-    rests = record { mode = mode_is b.mode; chunked = chunked; stage = stage_begins (G eq input build write finish classes respects b log) (C eq input build write finish classes respects b) (state_of log) (hands_with h.last h.kept []) resize };
+    rests = record { mode = mode_is b.mode; cut = λ x. refl; stage = stage_begins (G eq input build write finish classes respects b log) (C eq input build write finish classes respects b) (state_of log) (hands_with h.last h.kept []) resize };
     last_placed = subst (λ (o : Option (Stored K V)). Rattle.papaya_book.specs.Rule.IsPlaced b (Some name) (Rattle.papaya_book.specs.Logs.pair_named o)) (sym none) tt;
     kept_placed = subst (λ (o : Option (Stored K V)). Rattle.papaya_book.specs.Rule.IsPlaced b (Some name) (Rattle.papaya_book.specs.Logs.pair_named o)) (sym none') tt;
     opens = λ n e. absurd (opens_none resize n e);
-    brings = λ behind n e. absurd (links_none resize (links.Linking behind n) e);
+    brings = λ behind n chunks e. absurd (links_none resize (links.Linking behind n chunks) e);
     room = room_begins resize (tables_of log) h.given.done;
-    counts = λ behind len unfit e. absurd (links_none resize (links.Counting behind unfit len) e);
+    counts = counts_none resize (tables_of log);
     ends = λ cause e. absurd (ends_none resize cause e);
   }
 
@@ -113,15 +118,15 @@ module _ {K V S H : Type 0} (eq : K → K → Bool) (input : K → List (List �
         let pre : IsPrefix t.before log = (Stepped done.0 ∷ [], sym done.2) in
         let none : ((state_of t.before).root == 0) ≡ true = ap (λ (i : ℕ). i == 0) t.is ∙ it in
         let told : IsStageTold Gs Cs (state_of t.before) (Opening n) (hands_with h.last h.kept []) (answers.Call Exchanged) (exchanges_of pre.0) (hands_with h'.last h'.kept []) = rw none (refl, ap (λ (x : Exchange (Stored K V)). x ∷ []) by, same) in
-        again eq input build write finish classes respects b name v m h r t.before t.since log t.now pre (answers.Call Exchanged) h' tt (subst (λ (s : Stage). IsStageTold Gs Cs (state_of t.before) s (hands_with h.last h.kept []) (answers.Call Exchanged) (exchanges_of pre.0) (hands_with h'.last h'.kept [])) (sym is) told) placed placed'
-        (subst (λ (s : Stage). IsMadeAt (λ i. IsFresh b name log i h'.fresh) (after_in m.resize m.mode m.initial (answers.Call Exchanged) s)) (sym is) tt) (λ slots limit f. absurd (cc f))
+        again eq input build write finish classes respects b name v m h r t.before t.since log t.now pre (answers.Call Exchanged) (λ e. subst (λ (s : Stage). HasWords Gs (link_of s)) (sym is) tt) h' tt (subst (λ (s : Stage). IsStageTold Gs Cs (state_of t.before) s (hands_with h.last h.kept []) (answers.Call Exchanged) (exchanges_of pre.0) (hands_with h'.last h'.kept [])) (sym is) told) placed placed'
+        (subst (λ (s : Stage). IsMadeAt (λ i. IsFresh b name log i h'.fresh) (IsReadyAs b name log h'.fresh) (after_in m.resize m.mode m.initial m.number (answers.Call Exchanged) s)) (sym is) tt) (λ slots limit f. absurd (cc f))
     opened false it =
         let still = subst After it t.after in
         let pre : IsPrefix t.before log = ([], append-nil t.before ∙ sym still) in
         let some : ((state_of t.before).root == 0) ≡ false = ap (λ (i : ℕ). i == 0) t.is ∙ it in
         let told : IsStageTold Gs Cs (state_of t.before) (Opening n) (hands_with h.last h.kept []) (answers.Call (Found_instead found)) [] (hands_with h'.last h'.kept []) = rw some (ap (λ (i : ℕ). answers.Call (Found_instead i)) (sym t.is), (refl, same)) in
-        again eq input build write finish classes respects b name v m h r t.before t.since log t.now pre (answers.Call (Found_instead found)) h' tt (subst (λ (s : Stage). IsStageTold Gs Cs (state_of t.before) s (hands_with h.last h.kept []) (answers.Call (Found_instead found)) [] (hands_with h'.last h'.kept [])) (sym is) told) placed placed'
-        (subst (λ (s : Stage). IsMadeAt (λ i. IsFresh b name log i h'.fresh) (after_in m.resize m.mode m.initial (answers.Call (Found_instead found)) s)) (sym is) tt) (λ slots limit f. absurd (cc f))
+        again eq input build write finish classes respects b name v m h r t.before t.since log t.now pre (answers.Call (Found_instead found)) (λ e. absurd (cc e)) h' tt (subst (λ (s : Stage). IsStageTold Gs Cs (state_of t.before) s (hands_with h.last h.kept []) (answers.Call (Found_instead found)) [] (hands_with h'.last h'.kept [])) (sym is) told) placed placed'
+        (subst (λ (s : Stage). IsMadeAt (λ i. IsFresh b name log i h'.fresh) (IsReadyAs b name log h'.fresh) (after_in m.resize m.mode m.initial m.number (answers.Call (Found_instead found)) s)) (sym is) tt) (λ slots limit f. absurd (cc f))
 
     pub tried : IsResizing eq hashing b name log (after m (tried_answer found 0)) h'
     tried = opened (found == 0) refl

@@ -34,8 +34,8 @@ module _ (tables : List ℕ) (given : List Given) where
   makes_in resize (Some room) = tt
 
   root_in : (resize : Resize) (root : ℕ) → In resize (at_root resize root)
-  root_in Chunk root = cond_both (root == 0) Done (Looking root None) (In Chunk) (λ _. tt) (λ _. tt)
-  root_in CopyAll root = cond_both (root == 0) Done (Looking root None) (In CopyAll) (λ _. tt) (λ _. tt)
+  root_in Chunk root = cond_both (root == 0) Done (Looking root 0 None) (In Chunk) (λ _. tt) (λ _. tt)
+  root_in CopyAll root = cond_both (root == 0) Done (Looking root 0 None) (In CopyAll) (λ _. tt) (λ _. tt)
   root_in (Reserve more) root = cond_both (root == 0) (makes (room_of more)) (Sizing root) (In (Reserve more)) (λ _. makes_in (Reserve more) (room_of more)) (λ _. tt)
 
   -- the length of a table that has room enough
@@ -48,7 +48,7 @@ module _ (tables : List ℕ) (given : List Given) where
 
   judges_in : (more root len count : ℕ) → given ≡ Sum count ∷ [] → Member len tables → (room : Option Room) → room_of (count + more) ≡ room → In (Reserve more) (judges root len room)
   judges_in more root len count given_is there None is = tt
-  judges_in more root len count given_is there (Some room) is = cond_both (nat_le room.len len) Done (Looking root (Some room)) (In (Reserve more))
+  judges_in more root len count given_is there (Some room) is = cond_both (nat_le room.len len) Done (Looking root len (Some room)) (In (Reserve more))
       (λ fits. record { count = count; counted = given_is; len = len; there = there; room = let least = enough (count + more) room is in let up = leb-true room.len len fits in omega (arith, least, up) })
       (λ _. tt)
 
@@ -57,14 +57,14 @@ module _ (tables : List ℕ) (given : List Given) where
   count_in CopyAll root len count given_is there = tt
   count_in (Reserve more) root len count given_is there = judges_in more root len count given_is there (room_of (count + more)) refl
 
-  last_in : (resize : Resize) (root : ℕ) (room : Option Room) → IsWantedBy resize room → In resize (at_last root room)
-  last_in Chunk root None h = tt
-  last_in CopyAll root None h = tt
-  last_in (Reserve more) root None h = absurd h
-  last_in resize root (Some room) h = tt
+  last_in : (resize : Resize) (mode : ResizeMode) (root len : ℕ) (room : Option Room) → IsWantedBy resize room → In resize (at_last mode root len room)
+  last_in Chunk mode root len None h = tt
+  last_in CopyAll mode root len None h = tt
+  last_in (Reserve more) mode root len None h = absurd h
+  last_in resize mode root len (Some room) h = tt
 
-  next_in : (resize : Resize) (root : ℕ) (room : Option Room) (next : ℕ) → IsWantedBy resize room → In resize (at_next root room next)
-  next_in resize root room next h = cond_both (next == 0) (at_last root room) (copies root) (In resize) (λ _. last_in resize root room h) (λ _. tt)
+  next_in : (resize : Resize) (mode : ResizeMode) (root len : ℕ) (room : Option Room) (next : ℕ) → IsWantedBy resize room → In resize (at_next mode root len room next)
+  next_in resize mode root len room next h = cond_both (next == 0) (at_last mode root len room) (copies root) (In resize) (λ _. last_in resize mode root len room h) (λ _. tt)
 
   over_in : (resize : Resize) → In resize (over resize)
   over_in Chunk = tt
@@ -84,47 +84,47 @@ module _ (tables : List ℕ) (given : List Given) where
   copied_in resize from (copied_to.Refused refused) = tt
 
   -- after an answer, where nothing is linked or copied
-  told_in : (resize : Resize) (stage : Stage) (answer : Call_answer) → ((slots limit : ℕ) → answer ≡ Size slots limit → Member slots tables) → In resize stage → In resize (told_root resize stage answer)
-  told_in resize AtRoot (Word_read root) size h = root_in resize root
-  told_in resize (Making room) (Made_number n) size h = tt
-  told_in resize (Making room) (Was_refused refused) size h = tt
-  told_in resize (Opening n) Exchanged size h = tt
-  told_in resize (Opening n) (Found_instead word) size h = tt
-  told_in resize (Sizing root) (Size slots limit) size h = size slots limit refl
-  told_in resize (Looking root room) (Word_read next) size h = next_in resize root room next h
-  told_in resize stage answer size h = h
+  told_in : (resize : Resize) (mode : ResizeMode) (stage : Stage) (answer : Call_answer) → ((slots limit : ℕ) → answer ≡ Size slots limit → Member slots tables) → In resize stage → In resize (told_root resize mode stage answer)
+  told_in resize mode AtRoot (Word_read root) size h = root_in resize root
+  told_in resize mode (Making room) (Made_number n) size h = tt
+  told_in resize mode (Making room) (Was_refused refused) size h = tt
+  told_in resize mode (Opening n) Exchanged size h = tt
+  told_in resize mode (Opening n) (Found_instead word) size h = tt
+  told_in resize mode (Sizing root) (Size slots limit) size h = size slots limit refl
+  told_in resize mode (Looking root len room) (Word_read next) size h = next_in resize mode root len room next h
+  told_in resize mode stage answer size h = h
 
   counted_in : (resize : Resize) (stage : Stage) (count : ℕ) → given ≡ Sum count ∷ [] → In resize stage → In resize (counted resize stage count)
   counted_in resize (Counting root len) count given_is h = count_in resize root len count given_is h
   counted_in resize stage count given_is h = h
 
-  called_in : (resize : Resize) (stage : Stage) (answer : Answer) → IsGivenBy answer given → ((slots limit : ℕ) → answer ≡ answers.Call (Size slots limit) → Member slots tables) → In resize stage → In resize (called resize stage answer)
-  called_in resize stage (answers.Call answer) by size h = told_in resize stage answer (λ slots limit e. size slots limit (ap answers.Call e)) h
-  called_in resize stage (answers.Count count) by size h = counted_in resize stage count by h
-  called_in resize stage (answers.Hash hash) by size h = h
+  called_in : (resize : Resize) (mode : ResizeMode) (stage : Stage) (answer : Answer) → IsGivenBy answer given → ((slots limit : ℕ) → answer ≡ answers.Call (Size slots limit) → Member slots tables) → In resize stage → In resize (called resize mode stage answer)
+  called_in resize mode stage (answers.Call answer) by size h = told_in resize mode stage answer (λ slots limit e. size slots limit (ap answers.Call e)) h
+  called_in resize mode stage (answers.Count count) by size h = counted_in resize stage count by h
+  called_in resize mode stage (answers.Hash hash) by size h = h
 
   -- after any answer to one that has not ended
-  room_in : (resize : Resize) (mode : ResizeMode) (initial : ℕ) (answer : Answer) (stage : Stage) → IsGivenBy answer given → ((slots limit : ℕ) → answer ≡ answers.Call (Size slots limit) → Member slots tables) → In resize stage → In resize (after_in resize mode initial answer stage)
-  room_in resize mode initial answer (Linking link) by size h = linked_in resize (follows link) (machine.link_after link initial answer)
-  room_in resize mode initial answer (Copying from goes) by size h = copied_in resize from (machine.copying_after goes mode initial answer)
-  room_in resize mode initial answer AtRoot by size h = called_in resize AtRoot answer by size h
-  room_in resize mode initial answer (Making room) by size h = called_in resize (Making room) answer by size h
-  room_in resize mode initial answer (Opening n) by size h = called_in resize (Opening n) answer by size h
-  room_in resize mode initial answer (Sizing root) by size h = called_in resize (Sizing root) answer by size h
-  room_in resize mode initial answer (Counting root len) by size h = called_in resize (Counting root len) answer by size h
-  room_in resize mode initial answer (Looking root room) by size h = called_in resize (Looking root room) answer by size h
-  room_in resize mode initial answer Done by size h = called_in resize Done answer by size h
-  room_in resize mode initial answer (Ended_refused refused) by size h = called_in resize (Ended_refused refused) answer by size h
+  room_in : (resize : Resize) (mode : ResizeMode) (initial number : ℕ) (answer : Answer) (stage : Stage) → IsGivenBy answer given → ((slots limit : ℕ) → answer ≡ answers.Call (Size slots limit) → Member slots tables) → In resize stage → In resize (after_in resize mode initial number answer stage)
+  room_in resize mode initial number answer (Linking link) by size h = linked_in resize (follows link) (machine.link_after link mode initial answer)
+  room_in resize mode initial number answer (Copying from goes) by size h = copied_in resize from (machine.copying_after goes mode initial number answer)
+  room_in resize mode initial number answer AtRoot by size h = called_in resize mode AtRoot answer by size h
+  room_in resize mode initial number answer (Making room) by size h = called_in resize mode (Making room) answer by size h
+  room_in resize mode initial number answer (Opening n) by size h = called_in resize mode (Opening n) answer by size h
+  room_in resize mode initial number answer (Sizing root) by size h = called_in resize mode (Sizing root) answer by size h
+  room_in resize mode initial number answer (Counting root len) by size h = called_in resize mode (Counting root len) answer by size h
+  room_in resize mode initial number answer (Looking root len room) by size h = called_in resize mode (Looking root len room) answer by size h
+  room_in resize mode initial number answer Done by size h = called_in resize mode Done answer by size h
+  room_in resize mode initial number answer (Ended_refused refused) by size h = called_in resize mode (Ended_refused refused) answer by size h
 
 -- what one that has not ended knows is so of more tables too, whatever was given since
 room_since : (resize : Resize) (tables tables' : List ℕ) (given given' : List Given) → ((len : ℕ) → Member len tables → Member len tables') → (stage : Stage) → (stage ≡ Done → ⊥) → IsRoomIn resize tables given stage → IsRoomIn resize tables' given' stage
 room_since resize tables tables' given given' more (Counting root len) on h = more len h
-room_since resize tables tables' given given' more (Looking root room) on h = h
+room_since resize tables tables' given given' more (Looking root len room) on h = h
 room_since resize tables tables' given given' more Done on h = absurd (on refl)
 room_since resize tables tables' given given' more other on h = tt
 
-pub room_after : (resize : Resize) (mode : ResizeMode) (initial : ℕ) (answer : Answer) (tables tables' : List ℕ) (given given' : List Given) → ((len : ℕ) → Member len tables → Member len tables') → (stage : Stage) → (stage ≡ Done → ⊥) → IsGivenBy answer given' → ((slots limit : ℕ) → answer ≡ answers.Call (Size slots limit) → Member slots tables') → IsRoomIn resize tables given stage → IsRoomIn resize tables' given' (after_in resize mode initial answer stage)
-room_after resize mode initial answer tables tables' given given' more stage on by size h = room_in tables' given' resize mode initial answer stage by size (room_since resize tables tables' given given' more stage on h)
+pub room_after : (resize : Resize) (mode : ResizeMode) (initial number : ℕ) (answer : Answer) (tables tables' : List ℕ) (given given' : List Given) → ((len : ℕ) → Member len tables → Member len tables') → (stage : Stage) → (stage ≡ Done → ⊥) → IsGivenBy answer given' → ((slots limit : ℕ) → answer ≡ answers.Call (Size slots limit) → Member slots tables') → IsRoomIn resize tables given stage → IsRoomIn resize tables' given' (after_in resize mode initial number answer stage)
+room_after resize mode initial number answer tables tables' given given' more stage on by size h = room_in tables' given' resize mode initial number answer stage by size (room_since resize tables tables' given given' more stage on h)
 
 -- one that begins has found nothing
 pub room_begins : (resize : Resize) (tables : List ℕ) (given : List Given) → IsRoomIn resize tables given (begun_in resize)

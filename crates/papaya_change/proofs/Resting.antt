@@ -1,10 +1,14 @@
 -- What a call over a chain of tables rests on, over longer logs and after each answer, with what it is called by as a further key.
-use Rattle.std.proofs.Common.{◌≡◌, ℕ, Bool, true, Option, List, [], ◌++◌, append_assoc, sym, ap, ◌∙◌, subst}
+use Rattle.std.proofs.Common.{◌≡◌, ℕ, Bool, true, Option, None, List, [], ◌++◌, append_assoc, sym, ap, ◌∙◌, subst}
 use Rattle.std.specs.Cmp.{IsEquivalence}
 use mathlib.Core.List.{IsPrefix}
+use Rattle.boxcar.specs.Table.{Where}
+use Rattle.papaya_ask.specs.declared.ask.Answer.TheVariants.{Exchanged}
 use Rattle.papaya_chain.specs.declared.ask.Answer.{Answer}
+use Rattle.papaya_chain.specs.declared.ask.Answer.TheVariants as answers
 use Rattle.papaya_chain.specs.declared.machine.Machine.{Machine}
 use Rattle.papaya_chain.specs.Machine.{after, ask_of, follows_of, kind_of_ask}
+use Rattle.papaya_chain_rests.specs.Goes.{link_in}
 use Rattle.papaya_chain_rests.specs.Rests.{Rests}
 use Rattle.papaya_chain_rests.specs.Told.{Hands, IsTold}
 use Rattle.papaya_chain_rests.proofs.Learns.{all_learns}
@@ -13,16 +17,20 @@ use Rattle.papaya_law.specs.Allows.{AllAllowed}
 use Rattle.papaya_law.specs.Class.{IsOn}
 use Rattle.papaya_law.specs.Code.{Coding, IsHashed}
 use Rattle.papaya_law.specs.Exchange.{Exchange, Setting, run, start}
-use Rattle.papaya_law.specs.Further.{IsLawfulKey}
+use Rattle.papaya_law.specs.Further.{IsLawfulKey, with_key}
 use Rattle.papaya_law.specs.Grows.{Agrees}
 use Rattle.papaya_law.proofs.Alike.{all_alike}
 use Rattle.papaya_law.proofs.Further.{key_agrees, key_alike, key_lawful}
 use Rattle.papaya_law.proofs.Moments.{allowed_first}
+use Rattle.papaya_rests.specs.Copier.{HasWords}
 use Rattle.papaya_book.specs.declared.rule.entry.Begun.{Begun}
 use Rattle.papaya_book.specs.declared.rule.entry.Event.{Event}
+use Rattle.papaya_book.specs.declared.rule.entry.Named.TheVariants as names
 use Rattle.papaya_book.specs.Hashes.{hash_of}
-use Rattle.papaya_book.specs.Logs.{Stored, coding_of, entries_of, exchanges_of, setting_of, state_of}
+use Rattle.papaya_book.specs.Logs.{Stored, coding_of, entries_of, exchanges_of, number_of, setting_of, setting_with, state_of, steps_of, table_in}
 use Rattle.papaya_book.specs.Rule.{IsLawfulLog}
+use Rattle.papaya_book.specs.Sheets.{Sheet}
+use Rattle.papaya_book.proofs.Linking.{with_agrees, with_allowed, with_hashed}
 use Rattle.papaya_book.proofs.Logs.{exchanges_of-append}
 use Rattle.papaya_book.proofs.Settings.{agrees_later, is_hashed}
 use Rattle.papaya_book.proofs.TableSizes.{some_slot}
@@ -63,6 +71,29 @@ module _ {K V S H : Type 0} (eq : K → K → Bool) (input : K → List (List �
     pub resting_may : AllAllowed (wide log) start (begun ++ r.since)
     resting_may = subst (AllAllowed (wide log) start) (sym r.is) (allowed_in log l)
 
+  -- the same where this table is the next to come
+  module _ (w : Where Sheet) (log : List (Event K V S)) (l : IsLawfulLog eq hash b log) (none : table_in (steps_of log) (number_of w) ≡ None) where
+    abbrev pub plain_with : Setting K (Stored K V)
+    plain_with = setting_with eq (hash b.hasher) b.mode (names.Table w) log
+
+    abbrev pub wide_with : Setting (Option K) (Stored K V)
+    wide_with = with_key plain_with matches by
+
+    pub hashed_with : IsHashed wide_with coded
+    hashed_with = key_lawful plain_with matches by (coding_of (hash b.hasher)) (with_hashed eq input build write finish classes respects b log l w) (record { class = key.class; hash_is = key.hash_is; hash_fits = key.hash_fits }) (some_slot (entries_of log) l.sized)
+
+    module _ (m : Machine) (hands : Hands (Stored K V)) (r : ChainResting log m hands) where
+      pub may_with : AllAllowed wide_with start (begun ++ r.since)
+      may_with = subst (AllAllowed wide_with start) (sym r.is) (all_alike plain_with wide_with (key_alike plain_with matches by) (exchanges_of log) start (with_allowed eq input build write finish classes respects b log l w none))
+
+      pub rests_with : Rests wide_with coded begun r.since k m hands
+      rests_with =
+          let On = IsOn (state_of log).first (state_of log).next in
+          let agree : Agrees On (wide log) wide_with = key_agrees On (plain log) plain_with (with_agrees eq input build write finish classes respects b log l w none) matches by in
+          let agree' : Agrees (IsOn (run (begun ++ r.since) start).first (run (begun ++ r.since) start).next) (wide log) wide_with =
+          subst (λ (z : List (Exchange (Stored K V))). Agrees (IsOn (run z start).first (run z start).next) (wide log) wide_with) (sym r.is) agree in
+          all_carries (wide log) wide_with coded (hashed_in log l) begun r.since (resting_may log l m hands r) agree' k m hands r.rests
+
   module _ (log : List (Event K V S)) (l : IsLawfulLog eq hash b log) (m : Machine) (hands : Hands (Stored K V)) (r : ChainResting log m hands) (log' : List (Event K V S)) (l' : IsLawfulLog eq hash b log') (pre : IsPrefix log log') where
     -- what has come since
     abbrev more : List (Exchange (Stored K V))
@@ -101,7 +132,7 @@ module _ {K V S H : Type 0} (eq : K → K → Bool) (input : K → List (List �
     told_then answer es hands' told = subst (λ (z : List (Exchange (Stored K V))). IsTold (wide log') coded k (run z start) (kind_of_ask m) (follows_of m) hands (ask_of m) answer es hands') (sym r.is) told
 
     -- it is told of the log's words, with which the log grew
-    pub resting_told : (answer : Answer) (hands' : Hands (Stored K V)) → IsTold (wide log') coded k (state_of log) (kind_of_ask m) (follows_of m) hands (ask_of m) answer more hands' → ChainResting log' (after m answer) hands'
-    resting_told answer hands' told =
-        let all = all_learns (wide log') coded (hashed_in log' l') begun r.since may_first k m hands carried answer more hands' (told_then answer more hands' told) in
+    pub resting_told : (answer : Answer) → (answer ≡ answers.Call Exchanged → HasWords (wide log') (link_in m.phase)) → (hands' : Hands (Stored K V)) → IsTold (wide log') coded k (state_of log) (kind_of_ask m) (follows_of m) hands (ask_of m) answer more hands' → ChainResting log' (after m answer) hands'
+    resting_told answer words hands' told =
+        let all = all_learns (wide log') coded (hashed_in log' l') begun r.since may_first k m hands carried answer words more hands' (told_then answer more hands' told) in
         record { since = r.since ++ more; is = longer; rests = all.1 }

@@ -6,7 +6,6 @@ use Rattle.std.specs.Prelude.{pos}
 use mathlib.Core.List.{IsPrefix}
 use denote.Bor.{Bor}
 use Rattle.logbook.specs.Pages.{Book}
-use Rattle.papaya_words.specs.Mode.{IsChunked}
 use Rattle.papaya_words.specs.Word.{hint_of, kind_of, live_word, may_hold, pair_of}
 use Rattle.papaya_words.specs.declared.word.Kind.{Kind}
 use Rattle.papaya_words.specs.declared.word.Kind.TheVariants as kinds
@@ -127,11 +126,11 @@ module _ {K V S H : Type 0} (eq : K → K → Bool) (input : K → List (List �
   Under log made state table last pairs = IsCalling eq hash b name (eq key) h (Some key) begun log (insertion_at h b.mode 1 made state) table last None pairs None None None
 
   -- the root was loaded, and its size told
-  pub root_found : (log : List (Event K V S)) → IsPrefix begun log → IsLawfulLog eq hash b begun → IsChunked b.mode → (word : ℕ) (root : Option (Bor Sheet)) (lent : Bor Sheet) → root ≡ Some lent → IsRoot eq hash b name word log root → (slots limit : ℕ) → slots ≡ length lent.now.slots → limit ≡ lent.now.limit → At log (Searching (Looking (first_place h word slots limit))) lent.now
-  root_found log pre lawful chunked word root lent some is slots limit slots_is limit_is =
+  pub root_found : (log : List (Event K V S)) → IsPrefix begun log → IsLawfulLog eq hash b begun → (word : ℕ) (root : Option (Bor Sheet)) (lent : Bor Sheet) → root ≡ Some lent → IsRoot eq hash b name word log root → (slots limit : ℕ) → slots ≡ length lent.now.slots → limit ≡ lent.now.limit → At log (Searching (Looking (first_place h word slots limit))) lent.now
+  root_found log pre lawful word root lent some is slots limit slots_is limit_is =
       let found : IsRoot eq hash b name word log (Some lent) = subst (IsRoot eq hash b name word log) some is in
-      let first = begins eq hash b name (eq key) h (Some key) refl begun lawful chunked (Insert true) 1 in
-      let loaded = loads eq input build write finish classes respects b (eq key) (input key) query (Some key) name begun begun log pre found.lawful (started (Insert true) h b.mode 1) None None None [] None None None first Root word (Some lent) None refl (Some lent, found, refl, refl) in
+      let first = begins eq hash b name (eq key) h (Some key) refl begun lawful (Insert true) 1 in
+      let loaded = loads eq input build write finish classes respects b (eq key) (input key) query (Some key) name begun begun log pre found.lawful (started (Insert true) h b.mode 1 0) None None None [] None None None first Root word (Some lent) None refl (Some lent, found, refl, refl) in
       let by = (table_came (steps_of log) word found.names.0.0 found.names.0.1).1 in
       let sizing : Under log Nothing (Searching (Sizing word)) (Some lent) None [] = subst (λ (z : Bool). Under log Nothing (if z then Making else Searching (Sizing word)) (Some lent) None []) (ne_eqb word 0 (λ z. omega (arith, by, z))) loaded in
       (lent, refl, None, sized eq input build write finish classes respects b (eq key) (input key) query (Some key) name begun log (insertion_at h b.mode 1 Nothing (Searching (Sizing word))) (Some lent) None None [] None None None sizing word lent refl slots limit slots_is limit_is refl)

@@ -36,7 +36,6 @@ use Rattle.papaya_book.specs.declared.rule.entry.Named.{Named}
 use Rattle.papaya_book.specs.declared.rule.entry.Named.TheVariants as names
 use Rattle.papaya_change.specs.declared.writing.Writer.{Writer}
 use Rattle.papaya_book.specs.Calls.{IsSlotTried, IsTable, IsTried}
-use Rattle.papaya_words.specs.Mode.{IsChunked}
 use Rattle.papaya_change.specs.Changing.{IsBringing, IsFresh}
 use Rattle.papaya_change.specs.Driver.{IsHeldAt, IsLoaded}
 use Rattle.papaya_book.specs.Hashes.{hash_of}
@@ -56,10 +55,10 @@ use Rattle.papaya_lookup.proofs.Readings.{IsQuery}
 use Rattle.papaya_change.proofs.Written.{Writing, WritingOn, goes_on, own_query}
 
 -- such a call that begins
-pub begins : {K V S H : Type 0} (eq : K → K → Bool) (hash : S → K → ℕ) (b : Begun K V S) (name : Book) (key : K) (log : List (Event K V S)) (w : Writer K V S H) → IsLawfulLog eq hash b log → IsChunked b.mode → (task : Task) (initial : ℕ) → w.call.machine ≡ started task (hash b.hasher key) b.mode initial
+pub begins : {K V S H : Type 0} (eq : K → K → Bool) (hash : S → K → ℕ) (b : Begun K V S) (name : Book) (key : K) (log : List (Event K V S)) (w : Writer K V S H) → IsLawfulLog eq hash b log → (task : Task) (initial : ℕ) → w.call.machine ≡ started task (hash b.hasher key) b.mode initial 0
     → (w.call.table ≡ None) × (w.call.fresh ≡ None) → (w.call.last ≡ None) × (w.call.kept ≡ None) × (w.call.taken ≡ None) × (w.call.put ≡ None) → w.key ≡ Some key → w.brought ≡ None → IsWriting eq hash b name key [] log log w
-begins eq hash b name key log w l chunked task initial machine table pairs own brought = record {
-  calling = rw (machine, table.0, table.1, pairs.0, pairs.1, pairs.2, pairs.3) (begins_calling eq hash b name (eq key) (hash b.hasher key) (Some key) refl log l chunked task initial);
+begins eq hash b name key log w l task initial machine table pairs own brought = record {
+  calling = rw (machine, table.0, table.1, pairs.0, pairs.1, pairs.2, pairs.3) (begins_calling eq hash b name (eq key) (hash b.hasher key) (Some key) refl log l task initial);
   keyed = record {
     own_is = λ k e. let f = sym own ∙ e in sym (cc f);
     brought_is = λ p e. let f = sym brought ∙ e in absurd (cc f);

@@ -149,24 +149,24 @@ module _ {K V S H : Type 0} (eq : K → K → Bool) (input : K → List (List �
           r.put_placed
 
       -- what it was told of a table that was to be made
-      table_told : (log' : List (Event K V S)) → IsPrefix log log' → IsLawfulLog eq hash b log' → (slots limit : ℕ) (answer : Answer) (fresh : Option (Where Sheet × Pen)) → ask_of m ≡ Call (MakeTable slots limit) → (((refused : Refused) × (answer ≡ Was_refused refused)) ⊎ (answer ≡ Ok_done)) ⊎ ((n : ℕ) × (0 < n) × (answer ≡ Made_number n))
+      table_told : (log' : List (Event K V S)) → IsPrefix log log' → IsLawfulLog eq hash b log' → (slots limit chunks : ℕ) (answer : Answer) (fresh : Option (Where Sheet × Pen)) → ask_of m ≡ Call (MakeTable slots limit chunks) → (((refused : Refused) × (answer ≡ Was_refused refused)) ⊎ (answer ≡ Ok_done)) ⊎ ((n : ℕ) × (0 < n) × (answer ≡ Made_number n))
           → IsFit answer → ((n : ℕ) → answer ≡ Made_number n → IsFresh b name log' n fresh) → WritingOn log' (record w { call = record w.call { fresh = fresh } }) answer
-      table_told log' pre l' slots limit answer fresh asks told fit is_fresh =
+      table_told log' pre l' slots limit chunks answer fresh asks told fit is_fresh =
           let brings : (n : ℕ) → IsBringing (ask_of (after m (answers.Call answer))) n → IsFresh b name log' n fresh =
-          λ n brought. let own = call_asks m (MakeTable slots limit) asks in ⊎_elim (λ h. is_fresh n h.0) (λ h. let f = sym own.1 ∙ h in absurd (cc f)) (own_brings m own.0 answer n brought) in
+          λ n brought. let own = call_asks m (MakeTable slots limit chunks) asks in ⊎_elim (λ h. is_fresh n h.0) (λ h. let f = sym own.1 ∙ h in absurd (cc f)) (own_brings m own.0 answer n brought) in
           goes_on made log' (record w { call = record w.call { fresh = fresh } }) answer r.keyed fit
           (quiet eq input build write finish classes respects b (eq key) (input key) own_query (Some key) name begun log log' pre l' m w.call.table w.call.last w.call.kept made w.call.taken w.call.put w.call.fresh r.calling
-          (MakeTable slots limit) asks answer w.call.last made w.call.table fresh (record { told = (told, (refl, refl)); same = refl; busy = λ z. z; brings = brings })
+          (MakeTable slots limit chunks) asks answer w.call.last made w.call.table fresh (record { told = (told, (refl, refl)); same = refl; busy = λ z. z; brings = brings })
           (held_later log log' pre r.calling.number w.call.table r.calling.holds_table) r.calling.last_placed r.calling.made_placed)
           r.put_placed
 
       -- no table was made
-      pub table_unmade : (log' : List (Event K V S)) → IsPrefix log log' → IsLawfulLog eq hash b log' → (slots limit : ℕ) (refused : Refused) → ask_of m ≡ Call (MakeTable slots limit) → WritingOn log' w (Was_refused refused)
-      table_unmade log' pre l' slots limit refused asks = table_told log' pre l' slots limit (Was_refused refused) w.call.fresh asks (inl (inl (refused, refl))) tt (λ n e. absurd (cc e))
+      pub table_unmade : (log' : List (Event K V S)) → IsPrefix log log' → IsLawfulLog eq hash b log' → (slots limit chunks : ℕ) (refused : Refused) → ask_of m ≡ Call (MakeTable slots limit chunks) → WritingOn log' w (Was_refused refused)
+      table_unmade log' pre l' slots limit chunks refused asks = table_told log' pre l' slots limit chunks (Was_refused refused) w.call.fresh asks (inl (inl (refused, refl))) tt (λ n e. absurd (cc e))
 
       -- a table was made
-      pub table_made : (log' : List (Event K V S)) → IsPrefix log log' → IsLawfulLog eq hash b log' → (slots limit : ℕ) (t : Where Sheet) (seal : Pen) (i : ℕ) → i ≡ number_of t → ask_of m ≡ Call (MakeTable slots limit) → IsMade t.value log' → IsPlaced b (Some name) (names.Table t) → seal.book ≡ name → seal.nib ≡ nib may_write t.value.seal 0
+      pub table_made : (log' : List (Event K V S)) → IsPrefix log log' → IsLawfulLog eq hash b log' → (slots limit chunks : ℕ) (t : Where Sheet) (seal : Pen) (i : ℕ) → i ≡ number_of t → ask_of m ≡ Call (MakeTable slots limit chunks) → IsMade t.value log' → IsPlaced b (Some name) (names.Table t) → seal.book ≡ name → seal.nib ≡ nib may_write t.value.seal 0
           → WritingOn log' (record w { call = record w.call { fresh = Some (t, seal) } }) (Made_number i)
-      table_made log' pre l' slots limit t seal i number_is asks is_made placed book is =
-          table_told log' pre l' slots limit (Made_number i) (Some (t, seal)) asks (inr (i, omega arith, refl)) (let low = placed.1 in omega arith)
+      table_made log' pre l' slots limit chunks t seal i number_is asks is_made placed book is =
+          table_told log' pre l' slots limit chunks (Made_number i) (Some (t, seal)) asks (inr (i, omega arith, refl)) (let low = placed.1 in omega arith)
           (λ n e. let number : i ≡ n = cc e in record { table = t; seal = seal; is = refl; number_is = sym number_is ∙ number; made = is_made; placed = placed; seal_book = book; seal_nib = is })

@@ -1,5 +1,5 @@
 -- What a changing call on the shared map holds and rests on, and what it changes.
-use Rattle.std.specs.Prelude.{◌≡◌, ℕ, Bool, true, MatchOption, Option, None, Some, List, [], ◌∷◌, ◌++◌}
+use Rattle.std.specs.Prelude.{◌≡◌, ℕ, Bool, true, MatchOption, Option, None, Some, List, [], ◌∷◌, ◌++◌, length}
 use mathlib.Core.List.{IsPrefix}
 use denote.Bor.{Bor}
 use Rattle.logbook.specs.Pages.{Book}
@@ -9,7 +9,8 @@ use Rattle.boxcar.specs.Table.{Where}
 use Rattle.papaya_ask.specs.declared.ask.Ask.TheVariants as asks
 use Rattle.papaya_ask.specs.declared.ask.At.TheVariants.{Root, Next}
 use Rattle.papaya_ask.specs.declared.copy_ask.CopyAsk.TheVariants as copies
-use Rattle.papaya_copy.specs.declared.link.Link.TheVariants.{Counting}
+use Rattle.papaya_copy.specs.declared.link.Link.{Link}
+use Rattle.papaya_copy.specs.declared.link.Link.TheVariants.{Counting, Linking, Measuring}
 use Rattle.papaya_chain.specs.declared.ask.Ask.{Ask}
 use Rattle.papaya_chain.specs.declared.ask.Ask.TheVariants.{Call, Copy}
 use Rattle.papaya_chain.specs.declared.machine.Machine.{Machine}
@@ -46,11 +47,18 @@ IsBringing (Call (asks.Exchange Root old new)) n = (old ≡ 0) × (new ≡ n)
 IsBringing (Copy (copies.Exchange (Next t) old new)) n = (old ≡ 0) × (new ≡ n)
 IsBringing _ n = ⊥
 
--- where the count is asked for, by which a next table is sized, the length that was told is that of
--- one of these tables
+-- where the length was told by which a next table is sized, it is that of one of these tables
+abbrev pub IsSizedLink : (tables : List ℕ) → Link → Type 0
+IsSizedLink tables (Measuring behind copied unfit len) = Member len tables
+IsSizedLink tables (Counting behind unfit len copied) = Member len tables
+IsSizedLink tables _ = Unit {0}
+
+abbrev pub IsSizedBy : (tables : List ℕ) → Option Link → Type 0
+IsSizedBy tables None = Unit {0}
+IsSizedBy tables (Some link) = IsSizedLink tables link
+
 abbrev pub IsCountingOf : (tables : List ℕ) → Machine → Type 0
-IsCountingOf tables m = (behind len : ℕ) (unfit : Bool)
-    → link_in m.phase ≡ Some (Counting behind unfit len) → Member len tables
+IsCountingOf tables m = IsSizedBy tables (link_in m.phase)
 
 -- the table of this number was made, and its seal is at hand
 pub record IsFresh {K V S : Type 0} (b : Begun K V S) (name : Book) (log : List (Event K V S))
@@ -63,6 +71,20 @@ pub record IsFresh {K V S : Type 0} (b : Begun K V S) (name : Book) (log : List 
   pub placed : IsPlaced b (Some name) (Table table)
   pub seal_book : seal.book ≡ name
   pub seal_nib : seal.nib ≡ nib may_write table.value.seal 0
+
+-- a table that was made is at hand, and has so many words for chunks
+abbrev pub HasChunks : Option (Where Sheet × Pen) → ℕ → Type 0
+HasChunks fresh chunks = MatchOption fresh ⊥ (λ f. length f.0.value.done ≡ chunks)
+
+-- it has this number too
+abbrev pub IsReadyAs : {K V S : Type 0} → Begun K V S → Book → List (Event K V S)
+    → Option (Where Sheet × Pen) → (n chunks : ℕ) → Type 0
+IsReadyAs b name log fresh n chunks = IsFresh b name log n fresh × HasChunks fresh chunks
+
+-- the table that is about to be linked has as many words for chunks as were asked for
+abbrev pub HasAskedWords : Option Link → Option (Where Sheet × Pen) → Type 0
+HasAskedWords link fresh = (behind n chunks : ℕ) → link ≡ Some (Linking behind n chunks)
+    → HasChunks fresh chunks
 
 -- The log ends with the call's change, which came after all that was there when it began. What it
 -- takes out and puts in has the numbers that the machine tells.
@@ -104,6 +126,7 @@ pub record IsCalling {K V S : Type 0} (eq : K → K → Bool) (hash : S → K �
   pub changed : (change : Option ℕ × Option ℕ) → change_in m.call.state ≡ Some change
       → HasChanged eq begun log taken put change
   pub brings : (n : ℕ) → IsBringing (ask_of m) n → IsFresh b name log n fresh
+  pub words : HasAskedWords (link_in m.phase) fresh
   pub counts : IsCountingOf (tables_of log) m
 
 -- the further key that a call may come with is lawful

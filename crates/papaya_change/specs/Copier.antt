@@ -2,6 +2,7 @@
 use Rattle.std.specs.Prelude.{◌≡◌, ◌≢◌, ◌⊎◌, ℕ, ◌+◌, ◌<◌, ◌==◌, Bool, MatchBool, if◌then◌else◌, Option, None, Some, List, [], ◌∷◌, length}
 use Rattle.boxcar.specs.Table.{Where}
 use Rattle.logbook.specs.Pages.{Book}
+use Rattle.logbook.specs.declared.tokens.Pen.{Pen}
 use Rattle.papaya_words.specs.declared.probe.Refused.{Refused}
 use Rattle.papaya_words.specs.declared.probe.Refused.TheVariants.{Capacity, Memory}
 use Rattle.papaya_ask.specs.Search.{IsSize}
@@ -29,7 +30,7 @@ use Rattle.papaya_book.specs.Sheets.{Sheet}
 use Rattle.papaya_change.specs.declared.copier.Asked.{Asked}
 use Rattle.papaya_change.specs.declared.copier.Copier.{Copier}
 use Rattle.papaya_change.specs.declared.driver.Driver.{Driver}
-use Rattle.papaya_change.specs.Changing.{IsFresh}
+use Rattle.papaya_change.specs.Changing.{HasChunks, IsFresh}
 use Rattle.papaya_change.specs.Helping.{IsLoadedFor, IsTriedFor}
 
 -- the pair last told of, after an exchange of this kind: the one that was marked
@@ -41,12 +42,13 @@ marked_or kind pair last = last
 abbrev pub tried_answer : (found old : ℕ) → Answer
 tried_answer found old = if found == old then answers.Call Exchanged else answers.Call (Found found)
 
--- the table of the place has come, and it has the slot
+-- the table of the place has come, and it has the slot, or the chunk's word
 abbrev pub IsReached : {K V S : Type 0} → List (Event K V S) → At → Type 0
 IsReached log Root = Unit {0}
 IsReached log (Next t) = HasCome log t
 IsReached log (Aborted t) = HasCome log t
-IsReached log (Done t) = HasCome log t
+IsReached log (Done t chunk) = (w : Where Sheet) × (table_in (steps_of log) t ≡ Some w)
+    × (chunk < length w.value.done)
 IsReached log (Slot t x) = (w : Where Sheet) × (table_in (steps_of log) t ≡ Some w)
     × (x < length w.value.slots)
 
@@ -71,10 +73,11 @@ module _ {K V S : Type 0} (eq : K → K → Bool) (hash : S → K → ℕ) (b : 
 
   -- an exchange was tried, and this word was found
   pub record HasTried (at : At) (kind : Option StepKind) (words : ℕ × ℕ)
-      (kept : Option (Stored K V)) (seen : List (Event K V S)) (last : Option (Stored K V))
-      (found : ℕ) (log : List (Event K V S)) (last' : Option (Stored K V)) : Type 0 where
+      (kept : Option (Stored K V)) (fresh : Option (Where Sheet × Pen))
+      (seen : List (Event K V S)) (last : Option (Stored K V)) (found : ℕ)
+      (log : List (Event K V S)) (last' : Option (Stored K V)) : Type 0 where
     pub pair : Option (Stored K V)
-    pub tried : IsTriedFor eq hash b name at kind words.0 words.1 kept seen found log pair
+    pub tried : IsTriedFor eq hash b name at kind words.0 words.1 kept fresh seen found log pair
     pub last_is : MatchBool (found == words.0) (last' ≡ marked_or kind pair last)
         (last' ≡ or_last pair last)
 
@@ -99,14 +102,15 @@ module _ {K V S H : Type 0} (eq : K → K → Bool) (hash : S → K → ℕ) (b 
   pub record CanJoin (t new : ℕ) (log : List (Event K V S)) (h : Copier K V S H) : Type 0 where
     pub come : HasCome log t
     pub fresh : IsFresh b name log new h.fresh
-    pub can : (w : Where Sheet) → number_of w ≡ new → CanExchange eq hash b (Next t)
-        (Some kinds.Link) 0 (w.index + 1) None (names.Table w) log
+    pub can : (w : Where Sheet) (seal : Pen) → h.fresh ≡ Some (w, seal) → CanExchange eq hash b
+        (Next t) (Some kinds.Link) 0 (w.index + 1) None (names.Table w) log
 
-  -- it was made after another one, and is at hand
-  pub record HasMade (number follows : ℕ) (log : List (Event K V S)) (h : Copier K V S H)
+  -- it was made after another one, with so many words for chunks, and is at hand
+  pub record HasMade (number follows chunks : ℕ) (log : List (Event K V S)) (h : Copier K V S H)
       : Type 0 where
     pub past : follows < number
     pub fresh : IsFresh b name log number h.fresh
+    pub words : HasChunks h.fresh chunks
 
   -- the pair last told of is carried, and this is the hash of its key
   pub record Carries (h h' : Copier K V S H) (word : ℕ) : Type 0 where
@@ -132,7 +136,7 @@ module _ {K V S H : Type 0} (eq : K → K → Bool) (hash : S → K → ℕ) (b 
   CanAnswerTo (HashOf n) kind follows log h = IsHeld b name h.last
   CanAnswerTo (SamePair m n) kind follows log h = IsHeld b name h.kept × IsHeld b name h.last
   CanAnswerTo Count kind follows log h = Unit {0}
-  CanAnswerTo (MakeTable slots limit) kind follows log h = (follows ≢ 0 → HasCome log follows)
+  CanAnswerTo (MakeTable slots limit chunks) kind follows log h = (follows ≢ 0 → HasCome log follows)
       × IsSize slots limit
 
   abbrev pub CanAnswer : Asked → List (Event K V S) → Copier K V S H → Type 0
@@ -152,7 +156,8 @@ module _ {K V S H : Type 0} (eq : K → K → Bool) (hash : S → K → ℕ) (b 
       (h' : Copier K V S H) (answer : Answer) : Type 0 where
     pub found : ℕ
     pub is : answer ≡ tried_answer found old
-    pub tried : HasTried eq hash b name at kind (old, new) h.kept log h.last found log' h'.last
+    pub tried : HasTried eq hash b name at kind (old, new) h.kept h.fresh log h.last found log'
+        h'.last
     pub hand : IsHandLeft at h.fresh h'.fresh
     pub rest : h' ≡ record h { last = h'.last; fresh = h'.fresh }
 
@@ -208,18 +213,18 @@ module _ {K V S H : Type 0} (eq : K → K → Bool) (hash : S → K → ℕ) (b 
     pub rest : h' ≡ record h { given = h'.given }
 
   -- a table was made, or was refused
-  abbrev pub MakesTable : (follows : ℕ) → (h : Copier K V S H) → (log' : List (Event K V S))
+  abbrev pub MakesTable : (follows chunks : ℕ) → (h : Copier K V S H) → (log' : List (Event K V S))
       → (h' : Copier K V S H) → Answer → Type 0
-  MakesTable follows h log' h' answer = ((number : ℕ) × (answer ≡ answers.Call (Made number))
-      × HasMade number follows log' h')
+  MakesTable follows chunks h log' h' answer = ((number : ℕ)
+      × (answer ≡ answers.Call (Made number)) × HasMade number follows chunks log' h')
       ⊎ ((refused : Refused) × (answer ≡ answers.Call (Was_refused refused))
       × ((refused ≡ Memory) ⊎ ((refused ≡ Capacity) × IsFull h'.given.done))
       × (h'.fresh ≡ h.fresh))
 
-  pub record AnswersTable (follows : ℕ) (h : Copier K V S H) (log' : List (Event K V S))
+  pub record AnswersTable (follows chunks : ℕ) (h : Copier K V S H) (log' : List (Event K V S))
       (h' : Copier K V S H) (answer : Answer) : Type 0 where
     pub lawful : IsLawfulLog eq hash b log'
-    pub makes : MakesTable follows h log' h' answer
+    pub makes : MakesTable follows chunks h log' h' answer
     pub rest : h' ≡ record h { fresh = h'.fresh; given = h'.given }
 
   -- what was asked was answered so
@@ -234,8 +239,8 @@ module _ {K V S H : Type 0} (eq : K → K → Bool) (hash : S → K → ℕ) (b 
   AnswersTo (HashOf n) kind follows log h log' h' answer = AnswersHash log h log' h' answer
   AnswersTo (SamePair m n) kind follows log h log' h' answer = AnswersSame log h log' h' answer
   AnswersTo Count kind follows log h log' h' answer = AnswersCount log h log' h' answer
-  AnswersTo (MakeTable slots limit) kind follows log h log' h' answer =
-      AnswersTable follows h log' h' answer
+  AnswersTo (MakeTable slots limit chunks) kind follows log h log' h' answer =
+      AnswersTable follows chunks h log' h' answer
 
   abbrev pub Answers : Asked → List (Event K V S) → Copier K V S H → List (Event K V S)
       → Copier K V S H → Answer → Type 0

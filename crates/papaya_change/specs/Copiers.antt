@@ -46,14 +46,14 @@ module _ {K V S H : Type 0} {d : keyed.Ghosts S K H} where
   abbrev pub TriesFor : At → Option StepKind → (words : ℕ × ℕ) → Window K V S H d
       → Copier K V S H → Window K V S H d → ℕ × Option (Stored K V) → Type 0
   TriesFor at kind words w h w' tried = helping.IsTriedFor d.keys.eq d.keys.hash
-      (begun_of w.book.now.parts) w.book.now.begun.book at kind words.0 words.1 h.kept w.sight.log
-      tried.0 w'.sight.log tried.1
+      (begun_of w.book.now.parts) w.book.now.begun.book at kind words.0 words.1 h.kept h.fresh
+      w.sight.log tried.0 w'.sight.log tried.1
 
   abbrev pub HasTried : At → Option StepKind → (words : ℕ × ℕ) → Window K V S H d
       → Copier K V S H → Window K V S H d → Copier K V S H → ℕ → Type 0
   HasTried at kind words w h w' h' found = copier.HasTried d.keys.eq d.keys.hash
-      (begun_of w.book.now.parts) w.book.now.begun.book at kind words h.kept w.sight.log h.last found
-      w'.sight.log h'.last
+      (begun_of w.book.now.parts) w.book.now.begun.book at kind words h.kept h.fresh w.sight.log
+      h.last found w'.sight.log h'.last
 
   abbrev pub Exchanges : At → Option StepKind → (words : ℕ × ℕ) → Window K V S H d
       → Copier K V S H → Window K V S H d → Copier K V S H → Answer → Type 0
@@ -63,7 +63,7 @@ module _ {K V S H : Type 0} {d : keyed.Ghosts S K H} where
 
   abbrev pub Joins : (t new : ℕ) → Window K V S H d → Copier K V S H → Window K V S H d → ℕ → Type 0
   Joins t new w h w' found = helping.IsTriedFor d.keys.eq d.keys.hash (begun_of w.book.now.parts)
-      w.book.now.begun.book (Next t) (Some Link) 0 new h.kept w.sight.log
+      w.book.now.begun.book (Next t) (Some Link) 0 new h.kept h.fresh w.sight.log
       found w'.sight.log None
 
   abbrev pub IsSizeOf : (t : ℕ) → (w w' : Window K V S H d) → ℕ × ℕ → Type 0
@@ -74,9 +74,9 @@ module _ {K V S H : Type 0} {d : keyed.Ghosts S K H} where
   Carries w h h' word = copier.Carries d.keys.eq d.keys.hash (begun_of w.book.now.parts)
       w.book.now.begun.book h h' word
 
-  abbrev pub HasMade : (number follows : ℕ) → Window K V S H d → Copier K V S H → Type 0
-  HasMade number follows w h = copier.HasMade d.keys.eq d.keys.hash (begun_of w.book.now.parts)
-      w.book.now.begun.book number follows w.sight.log h
+  abbrev pub HasMade : (number follows chunks : ℕ) → Window K V S H d → Copier K V S H → Type 0
+  HasMade number follows chunks w h = copier.HasMade d.keys.eq d.keys.hash
+      (begun_of w.book.now.parts) w.book.now.begun.book number follows chunks w.sight.log h
 
   abbrev pub Answers : Asked → Window K V S H d → Copier K V S H → Window K V S H d
       → Copier K V S H → Answer → Type 0

@@ -19,7 +19,7 @@ module _ {K V S : Type 0} where
   IsHeldAt (Slot t x) log table = MatchOption table ⊥
       (λ r. IsTable log t r.now × (x < length r.now.slots))
   IsHeldAt (Aborted t) log table = ⊥
-  IsHeldAt (Done t) log table = ⊥
+  IsHeldAt (Done t chunk) log table = ⊥
 
   -- What a load of a place tells, and which table and pair the call holds then: those that were
   -- loaded, or those of before where there is none.
@@ -33,4 +33,4 @@ module _ {K V S : Type 0} where
   IsLoaded eq hash b name (Slot t x) word log table table' last last' = (pair : Option (Stored K V))
       × IsSlot eq hash b name t x word log pair × (last' ≡ or_last pair last) × (table' ≡ table)
   IsLoaded eq hash b name (Aborted t) word log table table' last last' = ⊥
-  IsLoaded eq hash b name (Done t) word log table table' last last' = ⊥
+  IsLoaded eq hash b name (Done t chunk) word log table table' last last' = ⊥

@@ -1,5 +1,5 @@
 -- Where a call goes on that was set aside for a copy, and what each of the copy's answers leaves it.
-use Rattle.std.specs.Prelude.{◌≡◌, ◌⊎◌, ℕ, ◌==◌, Bool, MatchBool, Option, None, Some, List, [], ◌∷◌, ◌++◌}
+use Rattle.std.specs.Prelude.{◌≡◌, ◌⊎◌, ℕ, ◌==◌, Bool, MatchBool, MatchOption, Option, None, Some, List, [], ◌∷◌, ◌++◌}
 use mathlib.Core.List.{IsPrefix}
 use Rattle.logbook.specs.Pages.{Book}
 use Rattle.logbook.specs.declared.tokens.Pen.{Pen}
@@ -19,6 +19,7 @@ use Rattle.papaya_chain.specs.declared.ask.Answer.TheVariants as answers
 use Rattle.papaya_chain.specs.declared.machine.Machine.{Machine}
 use Rattle.papaya_chain.specs.declared.machine.Phase.TheVariants.{Calling}
 use Rattle.papaya_chain.specs.Machine.{after, ask_of}
+use Rattle.papaya_chain_rests.specs.Goes.{link_in}
 use Rattle.papaya_chain_rests.specs.Rests.{Rests, left_by}
 use Rattle.papaya_law.specs.Exchange.{Exchange, State}
 use Rattle.papaya_law.specs.Invariant.{named}
@@ -28,17 +29,19 @@ use Rattle.papaya_rests.specs.Told.{IsOneOf}
 use Rattle.papaya_book.specs.declared.rule.entry.Begun.{Begun}
 use Rattle.papaya_book.specs.declared.rule.entry.Event.{Event}
 use Rattle.papaya_book.specs.declared.rule.entry.Event.TheVariants.{Stepped}
+use Rattle.papaya_book.specs.declared.rule.entry.Named.{Named}
+use Rattle.papaya_book.specs.declared.rule.entry.Named.TheVariants as names
 use Rattle.papaya_book.specs.declared.rule.entry.Step.{Step}
 use Rattle.papaya_book.specs.declared.rule.own.Given.{Given}
 use Rattle.papaya_book.specs.declared.rule.own.Given.TheVariants.{Sum}
 use Rattle.papaya_book.specs.Limits.{HasNoRoom, IsFull, tables_of}
-use Rattle.papaya_book.specs.Logs.{Stored, exchange_of, exchanges_of, pair_named, state_of}
+use Rattle.papaya_book.specs.Logs.{Stored, comes, exchange_of, exchanges_of, pair_named, state_of}
 use Rattle.papaya_book.specs.Plays.{IsWished}
 use Rattle.papaya_book.specs.Rule.{IsLawfulLog, IsPlaced, word_in}
 use Rattle.papaya_book.specs.Sheets.{Sheet}
 use Rattle.papaya_lookup.specs.Lookups.{coding_for, setting_for}
 use Rattle.papaya_change.specs.declared.driver.Driver.{Driver}
-use Rattle.papaya_change.specs.Changing.{IsBringing, IsCountingOf, IsDriven, IsForm, IsFresh, hands_with}
+use Rattle.papaya_change.specs.Changing.{HasAskedWords, IsBringing, IsCountingOf, IsDriven, IsForm, IsFresh, hands_with}
 
 -- it looks for its key in a further table
 pub record HasGoneOn (m m' : Machine) : Type 0 where
@@ -95,6 +98,11 @@ abbrev pub pair_at : {P : Type 0} → State P → At → Option P
 pair_at s (Slot t x) = named (s.slot t x)
 pair_at s _ = None
 
+-- the table that comes is the one at hand
+abbrev pub IsOwnTable : {K V : Type 0} → Option (Where Sheet × Pen) → Named K V → Type 0
+IsOwnTable fresh (names.Table w) = MatchOption fresh ⊥ (λ f. f.0 ≡ w)
+IsOwnTable fresh _ = Unit {0}
+
 -- What a call that is set aside rests on, and what it holds. It may have no table yet in which to
 -- look for its key.
 pub record IsSetAside {K V S : Type 0} (eq : K → K → Bool) (hash : S → K → ℕ) (b : Begun K V S)
@@ -113,6 +121,7 @@ pub record IsSetAside {K V S : Type 0} (eq : K → K → Bool) (hash : S → K �
   pub taken_placed : IsPlaced b (Some name) (pair_named taken)
   pub unchanged : change_in m.call.state ≡ None
   pub brings : (n : ℕ) → IsBringing (ask_of m) n → IsFresh b name log n fresh
+  pub words : HasAskedWords (link_in m.phase) fresh
   pub counts : IsCountingOf (tables_of log) m
 
 module _ {K V S : Type 0} (eq : K → K → Bool) (hash : S → K → ℕ) (b : Begun K V S)
@@ -127,10 +136,11 @@ module _ {K V S : Type 0} (eq : K → K → Bool) (hash : S → K → ℕ) (b : 
         → IsPlaced b (Some name) (pair_named last')
 
   -- An exchange was made for a copy, after a log that goes on from what was seen, or another word
-  -- was found. This is the pair that the word named which was found.
+  -- was found. A table that came with it was at hand. This is the pair that the word named which was found.
   pub record IsTriedFor (at : At) (kind : Option StepKind) (old new : ℕ)
-      (kept : Option (Stored K V)) (seen : List (Event K V S)) (found : ℕ)
-      (log : List (Event K V S)) (pair : Option (Stored K V)) : Type 0 where
+      (kept : Option (Stored K V)) (fresh : Option (Where Sheet × Pen))
+      (seen : List (Event K V S)) (found : ℕ) (log : List (Event K V S))
+      (pair : Option (Stored K V)) : Type 0 where
     pub before : List (Event K V S)
     pub since : IsPrefix seen before
     pub lawful : IsLawfulLog eq hash b before
@@ -140,7 +150,7 @@ module _ {K V S : Type 0} (eq : K → K → Bool) (hash : S → K → ℕ) (b : 
     pub placed : IsPlaced b (Some name) (pair_named pair)
     pub after : MatchBool (found == old) ((e : Step K V)
         × IsWished kind at new (state_of before) kept (exchange_of e)
-        × (log ≡ before ++ Stepped e ∷ [])) (log ≡ before)
+        × IsOwnTable fresh (comes e) × (log ≡ before ++ Stepped e ∷ [])) (log ≡ before)
 
 module _ {K V S H : Type 0} (eq : K → K → Bool) (hash : S → K → ℕ) (b : Begun K V S)
     (name : Book) where

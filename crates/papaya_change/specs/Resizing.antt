@@ -4,18 +4,16 @@ use Rattle.logbook.specs.Pages.{Book}
 use Rattle.papaya_words.specs.declared.probe.Refused.{Refused as Cause}
 use Rattle.papaya_words.specs.declared.probe.Refused.TheVariants.{Capacity, Memory}
 use Rattle.papaya_ask.specs.declared.call.Reply.TheVariants.{Refused}
-use Rattle.papaya_copy.specs.declared.link.Link.{Link}
 use Rattle.papaya_copy.specs.declared.link.Link.TheVariants as links
 use Rattle.papaya_chain.specs.declared.resizer.Resize.{Resize}
 use Rattle.papaya_chain.specs.declared.resizer.Resize.TheVariants.{Reserve}
 use Rattle.papaya_chain.specs.declared.resizer.Resizer.{Resizer}
 use Rattle.papaya_chain.specs.declared.resizer.State.{State as Stage}
 use Rattle.papaya_chain.specs.declared.resizer.Room.{Room}
-use Rattle.papaya_chain.specs.declared.resizer.State.TheVariants.{Opening, Counting, Looking, Linking, Copying, Done}
+use Rattle.papaya_chain.specs.declared.resizer.State.TheVariants.{Opening, Counting, Looking, Done}
 use Rattle.papaya_chain.specs.Resizer.{reply_of}
 use Rattle.papaya_chain.specs.Room.{entries_of}
-use Rattle.papaya_chain_rests.specs.Goes.{link_in_copying}
-use Rattle.papaya_chain_rests.specs.Resizers.{RestsResizer}
+use Rattle.papaya_chain_rests.specs.Resizers.{RestsResizer, link_of}
 use Rattle.papaya_book.specs.declared.rule.entry.Begun.{Begun}
 use Rattle.papaya_book.specs.declared.rule.entry.Event.{Event}
 use Rattle.papaya_book.specs.declared.rule.own.Given.{Given}
@@ -24,13 +22,7 @@ use Rattle.papaya_book.specs.Limits.{HasNoRoom, tables_of}
 use Rattle.papaya_book.specs.Logs.{Member, coding_of, pair_named, setting_of, state_of}
 use Rattle.papaya_book.specs.Rule.{IsLawfulLog, IsPlaced}
 use Rattle.papaya_change.specs.declared.copier.Copier.{Copier}
-use Rattle.papaya_change.specs.Changing.{IsFresh, hands_with}
-
--- the making of a table that is under way, if one is
-abbrev pub link_of : Stage → Option Link
-link_of (Linking link) = Some link
-link_of (Copying from copying) = link_in_copying copying
-link_of _ = None
+use Rattle.papaya_change.specs.Changing.{HasChunks, IsFresh, IsSizedBy, hands_with}
 
 -- Room was asked for, for more pairs than a table may have slots for: beside as many as this sum of
 -- the count, or beside none where there is no table.
@@ -69,7 +61,7 @@ IsWantedBy _ room = Unit {0}
 -- it knows the length of the root, and what it wants beside it; and in the end it has that
 abbrev pub IsRoomIn : Resize → (tables : List ℕ) → List Given → Stage → Type 0
 IsRoomIn resize tables given (Counting root len) = Member len tables
-IsRoomIn resize tables given (Looking root room) = IsWantedBy resize room
+IsRoomIn resize tables given (Looking root len room) = IsWantedBy resize room
 IsRoomIn resize tables given Done = HasRoomFor resize tables given
 IsRoomIn resize tables given _ = Unit {0}
 
@@ -88,10 +80,9 @@ pub record IsResizing {K V S H : Type 0} (eq : K → K → Bool) (hash : S → K
   pub last_placed : IsPlaced b (Some name) (pair_named h.last)
   pub kept_placed : IsPlaced b (Some name) (pair_named h.kept)
   pub opens : (n : ℕ) → m.state ≡ Opening n → IsFresh b name log n h.fresh
-  pub brings : (behind n : ℕ) → link_of m.state ≡ Some (links.Linking behind n)
-      → IsFresh b name log n h.fresh
-  pub counts : (behind len : ℕ) (unfit : Bool) → link_of m.state
-      ≡ Some (links.Counting behind unfit len) → Member len (tables_of log)
+  pub brings : (behind n chunks : ℕ) → link_of m.state ≡ Some (links.Linking behind n chunks)
+      → IsFresh b name log n h.fresh × HasChunks h.fresh chunks
+  pub counts : IsSizedBy (tables_of log) (link_of m.state)
   pub room : IsRoomIn m.resize (tables_of log) h.given.done m.state
   pub ends : (cause : Cause) → reply_of m ≡ Some (Refused cause)
       → IsResizeEnd m.initial m.resize (tables_of log) h.given.done cause

@@ -25,6 +25,7 @@ use Rattle.papaya_change.specs.Changing.{IsCalling}
 abbrev pub insertion_at : (hash : ℕ) → ResizeMode → (initial : ℕ) → Made → State → Machine
 insertion_at hash mode initial made state = record {
   call = record (started (Insert true) hash mode initial) { made = made; state = state };
+  number = 0;
   helped = false;
   phase = Calling;
 }

@@ -17,7 +17,7 @@ use boxcar::Pushed;
 use logbook::Pen;
 use papaya_ask::ask::{Answer as CallAnswer, At, StepKind};
 use papaya_ask::copy_ask::CopyAsk;
-use papaya_book::count::Count;
+use papaya_book::count::{Count, Shard};
 use papaya_book::rule::entry::Stored;
 use papaya_book::rule::own::{Given, Own};
 use papaya_book::table::Table;
@@ -82,7 +82,7 @@ impl<K: Hash + Eq, V, S: BuildHasher> Copier<K, V, S> {
         &mut self,
         rt: &R,
         alloc: Global,
-        count: &Count,
+        shard: &Shard<'_>,
         asked: Asked,
         making: &mut Option<MutexGuard<'a, ()>>,
         window: &mut Window<'a, K, V, S>,
@@ -115,10 +115,10 @@ impl<K: Hash + Eq, V, S: BuildHasher> Copier<K, V, S> {
             }
             CopyAsk::HashOf(_) => Answer::Hash(self.carry(window)),
             CopyAsk::SamePair(_, _) => Answer::Call(CallAnswer::Yes(self.same_pair(window))),
-            CopyAsk::Count => Answer::Count(self.sum(count)),
-            CopyAsk::MakeTable { len, limit } => {
+            CopyAsk::Count => Answer::Count(self.sum(shard.count())),
+            CopyAsk::MakeTable { len, limit, chunks } => {
                 let size = (len, limit);
-                match self.make_next(rt, alloc, asked.follows, size, making, window) {
+                match self.make_next(rt, alloc, asked.follows, size, chunks, making, window) {
                     Ok(number) => Answer::Call(CallAnswer::Made(number)),
                     Err(refused) => Answer::Call(CallAnswer::Refused(refused)),
                 }
@@ -156,9 +156,9 @@ impl<K: Hash + Eq, V, S: BuildHasher> Copier<K, V, S> {
                 let table = window.table(number);
                 window.aborted(table, number)
             }
-            At::Done(number) => {
+            At::Done(number, chunk) => {
                 let table = window.table(number);
-                window.done(table, number)
+                window.done(table, number, chunk)
             }
             At::Slot(number, place) => {
                 let table = window.table(number);
@@ -256,9 +256,9 @@ impl<K: Hash + Eq, V, S: BuildHasher> Copier<K, V, S> {
                 let found = window.copy_aborted(table, number, kind, &self.kept, words);
                 (found, None)
             }
-            At::Done(number) => {
+            At::Done(number, chunk) => {
                 let table = window.table(number);
-                let found = window.copy_done(table, number, kind, &self.kept, words);
+                let found = window.copy_done(table, number, chunk, kind, &self.kept, words);
                 (found, None)
             }
             At::Slot(number, place) => {
@@ -311,14 +311,15 @@ impl<K: Hash + Eq, V, S: BuildHasher> Copier<K, V, S> {
         sum
     }
 
-    /// Makes a table that is to follow another, once it is this thread's turn, and keeps it with its
-    /// seal until it is tried to be linked: its number.
+    /// Makes a table that is to follow another, with so many words for chunks, once it is this
+    /// thread's turn, and keeps it with its seal until it is tried to be linked: its number.
     fn make_next<'a, R: Wait>(
         &mut self,
         rt: &R,
         alloc: Global,
         follows: u64,
         size: (usize, usize),
+        chunks: usize,
         making: &mut Option<MutexGuard<'a, ()>>,
         window: &mut Window<'a, K, V, S>,
     ) -> Result<u64, Refused>
@@ -327,7 +328,8 @@ impl<K: Hash + Eq, V, S: BuildHasher> Copier<K, V, S> {
         ensures sees { Sees window.old window.new }
         ensures own { window.new.own ≡ window.old.own }
         ensures lawful { IsLawful window.new }
-        ensures made { IfOk result (λ number. HasMade number follows window.new self.new) }
+        ensures made { IfOk result (λ number. HasMade number follows chunks window.new
+            self.new) }
         ensures refused { IfErr result (λ refused. ((refused ≡ Refused.Memory)
             ⊎ ((refused ≡ Refused.Capacity) × IsFull self.new.given.done))
             × (self.new.fresh ≡ self.old.fresh)) }
@@ -337,7 +339,7 @@ impl<K: Hash + Eq, V, S: BuildHasher> Copier<K, V, S> {
         } }
     {
         let size = turn(rt, follows, size, making, window);
-        let made = window.make_table_after(rt, alloc, follows, size, &mut self.given);
+        let made = window.make_table_after(rt, alloc, follows, size, chunks, &mut self.given);
         window.learn();
         let (table, seal) = made?;
         let number = table.index() as u64 + 1;

@@ -42,12 +42,12 @@ pub struct Driver<'a, K: Hash + Eq, V, S: BuildHasher> {
 }
 
 impl<'a, K: Hash + Eq, V, S: BuildHasher> Driver<'a, K, V, S> {
-    /// A call that begins.
+    /// A call that begins. At which chunk it copies a table first is told once it is set aside.
     #[inline(always)]
     pub fn new(task: Task, hash: u64, mode: ResizeMode, initial: usize) -> Driver<'a, K, V, S>
         requires chunked { IsChunked mode }
         requires initial { IsPowerOfTwo initial }
-        ensures machine { result.machine ≡ started task hash mode initial }
+        ensures machine { result.machine ≡ started task hash mode initial 0 }
         ensures standing { IsStanding result.machine }
         ensures table { (result.table ≡ None) × (result.fresh ≡ None) }
         ensures pairs { (result.last ≡ None) × (result.kept ≡ None) × (result.taken ≡ None)
@@ -55,7 +55,7 @@ impl<'a, K: Hash + Eq, V, S: BuildHasher> Driver<'a, K, V, S> {
         ensures given { result.given.done ≡ [] }
     {
         Driver {
-            machine: Machine::new(task, hash, mode, initial),
+            machine: Machine::new(task, hash, mode, initial, 0),
             table: None,
             last: None,
             kept: None,

@@ -1,6 +1,6 @@
 //! A call that is set aside makes a further table or copies the root, and goes on then. What it asks
 //! for that a copier answers.
-ghost use Rattle.std.specs.Prelude.{◌≡◌, ℕ, MatchOption};
+ghost use Rattle.std.specs.Prelude.{◌≡◌, ◌≢◌, ℕ, MatchOption};
 ghost use Rattle.papaya_chain.specs.Machine.{IsFit, IsStanding, ask_of};
 ghost use Rattle.papaya_chain.specs.declared.ask.Ask.TheVariants.{Copy};
 ghost use Rattle.papaya_chain.specs.declared.machine.Phase.TheVariants.{Calling};
@@ -15,7 +15,7 @@ use crate::copier::{Asked, Copier};
 use crate::driver::Driver;
 use papaya_ask::copy_ask::CopyAsk;
 use papaya_ask::search::Search;
-use papaya_book::count::Count;
+use papaya_book::count::Shard;
 use papaya_book::rule::own::Own;
 use papaya_book::window::Window;
 use papaya_call::machine::State;
@@ -35,7 +35,7 @@ impl<'a, K: Hash + Eq, V, S: BuildHasher> Driver<'a, K, V, S> {
         &mut self,
         rt: &R,
         alloc: Global,
-        count: &Count,
+        shard: &Shard<'_>,
         window: &mut Window<'a, K, V, S>,
     )
         requires standing { IsStanding self.old.machine }
@@ -54,7 +54,18 @@ impl<'a, K: Hash + Eq, V, S: BuildHasher> Driver<'a, K, V, S> {
         if let Phase::Calling = self.machine.phase {
             return;
         }
-        self.help_set_aside(rt, alloc, count, window);
+        self.help_set_aside(rt, alloc, shard, window);
+    }
+
+    /// Has the call copy a table from the chunk of this number on, of as many as there are.
+    fn copy_from(&mut self, number: u64)
+        ensures { self.new ≡ record self.old {
+          machine = record self.old.machine { number = number };
+        } }
+    {
+        let mut machine = self.machine;
+        machine.number = number;
+        self.machine = machine;
     }
 
     /// Copies until the call goes on for itself. It is a function of its own, so that a call that is
@@ -64,11 +75,12 @@ impl<'a, K: Hash + Eq, V, S: BuildHasher> Driver<'a, K, V, S> {
         &mut self,
         rt: &R,
         alloc: Global,
-        count: &Count,
+        shard: &Shard<'_>,
         window: &mut Window<'a, K, V, S>,
     )
         requires standing { IsStanding self.old.machine }
         requires can { CanGoOn window.old self.old }
+        requires aside { self.old.machine.phase ≢ Calling }
         ensures sees { Sees window.old window.new }
         ensures own { window.new.own ≡ window.old.own }
         ensures standing { IsStanding self.new.machine }
@@ -77,9 +89,8 @@ impl<'a, K: Hash + Eq, V, S: BuildHasher> Driver<'a, K, V, S> {
             (tables_of window.new.sight.log) self.new.given.done }
         ensures goes_on { GoesOn window.old self.old window.new self.new }
         ensures rest { (self.new.taken ≡ self.old.taken) × (self.new.put ≡ self.old.put) }
-        ensures still { self.old.machine.phase ≡ Calling
-            → (self.new ≡ self.old) × (window.new ≡ window.old) }
     {
+        self.copy_from(shard.start());
         // The turn to make a next table, until that is linked. Where it is refused the copy ends, and
         // the turn goes with it.
         let mut making: Option<MutexGuard<'a, ()>> = None;
@@ -87,7 +98,7 @@ impl<'a, K: Hash + Eq, V, S: BuildHasher> Driver<'a, K, V, S> {
             let Ask::Copy(ask) = self.machine.ask() else {
                 return;
             };
-            let answer = self.copy(rt, alloc, count, ask, &mut making, window);
+            let answer = self.copy(rt, alloc, shard, ask, &mut making, window);
             self.machine.answer(answer);
             self.arrive(window);
         }
@@ -120,7 +131,7 @@ impl<'a, K: Hash + Eq, V, S: BuildHasher> Driver<'a, K, V, S> {
         &mut self,
         rt: &R,
         alloc: Global,
-        count: &Count,
+        shard: &Shard<'_>,
         ask: CopyAsk,
         making: &mut Option<MutexGuard<'a, ()>>,
         window: &mut Window<'a, K, V, S>,
@@ -146,7 +157,7 @@ impl<'a, K: Hash + Eq, V, S: BuildHasher> Driver<'a, K, V, S> {
             follows: self.machine.follows(),
         };
         let mut copier = self.lend();
-        let answer = copier.answer(rt, alloc, count, asked, making, window);
+        let answer = copier.answer(rt, alloc, shard, asked, making, window);
         self.take_back(copier);
         answer
     }

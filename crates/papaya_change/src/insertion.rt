@@ -115,9 +115,10 @@ impl<'a, K: Hash + Eq + Drop, V: Drop, S: BuildHasher> Insertion<'a, K, V, S> {
             CallAsk::SameKey(_) => Some(self.writer.same(window)),
             CallAsk::MakeKey => Some(self.writer.make_key()),
             CallAsk::MakePair => Some(self.make_pair(rt, window)),
-            CallAsk::MakeTable { len, limit } => {
-                Some(self.writer.make_table(rt, alloc, len, limit, window))
-            }
+            CallAsk::MakeTable { len, limit, chunks } => Some(
+                self.writer
+                    .make_table(rt, alloc, len, limit, chunks, window),
+            ),
             CallAsk::Exchange(At::Root, _, _) => Some(self.writer.open(window)),
             CallAsk::Exchange(At::Slot(number, place), old, new) => {
                 Some(self.put(number, place, (old, new), window))
@@ -185,7 +186,7 @@ fn drive<'a, R: Wait, K: Hash + Eq + Drop, V: Drop, S: BuildHasher>(
                 insertion
                     .writer
                     .call
-                    .help(means.rt, means.alloc, means.shard.count(), window);
+                    .help(means.rt, means.alloc, means.shard, window);
             }
             None => {
                 *given = insertion.writer.call.given.again();

@@ -213,8 +213,9 @@ pub fn remove_stepwise<
         match removal.answer(means.shard, key, &mut agrees, window) {
             Some(answer) => {
                 removal.call.answer(answer);
-                let count = means.shard.count();
-                removal.call.help(means.rt, means.alloc, count, window);
+                removal
+                    .call
+                    .help(means.rt, means.alloc, means.shard, window);
             }
             None => {
                 *given = removal.call.given.again();

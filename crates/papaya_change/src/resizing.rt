@@ -14,7 +14,7 @@ ghost use Rattle.papaya_change.specs.Writing.{IsMemoryOrCapacity};
 use crate::copier::{Asked, Copier, tried};
 use papaya_ask::call::Reply;
 use papaya_ask::copy_ask::CopyAsk;
-use papaya_book::count::Count;
+use papaya_book::count::Shard;
 use papaya_book::rule::own::{Given, Own};
 use papaya_book::window::Window;
 use papaya_chain::ask::Answer;
@@ -37,7 +37,7 @@ impl<K: Hash + Eq, V, S: BuildHasher> Resizing<K, V, S> {
         &mut self,
         rt: &R,
         alloc: Global,
-        count: &Count,
+        shard: &Shard<'_>,
         ask: CopyAsk,
         making: &mut Option<MutexGuard<'a, ()>>,
         window: &mut Window<'a, K, V, S>,
@@ -59,7 +59,7 @@ impl<K: Hash + Eq, V, S: BuildHasher> Resizing<K, V, S> {
             kind: self.machine.kind(),
             follows: self.machine.follows(),
         };
-        self.copier.answer(rt, alloc, count, asked, making, window)
+        self.copier.answer(rt, alloc, shard, asked, making, window)
     }
 
     /// Tries to make the table that was made the root.
@@ -101,7 +101,7 @@ pub fn resize<'a, R: Wait, K: Hash + Eq, V, S: BuildHasher>(
     rt: &R,
     alloc: Global,
     initial: usize,
-    count: &Count,
+    shard: &Shard<'_>,
     window: &mut Window<'a, K, V, S>,
     given: &mut Own<Given>,
     resize: Resize,
@@ -117,8 +117,9 @@ pub fn resize<'a, R: Wait, K: Hash + Eq, V, S: BuildHasher>(
         (tables_of window.new.sight.log) given.new.done }
 {
     window.learn();
+    let machine = Resizer::new(resize, window.book.parts.mode, initial, shard.start());
     let mut resizing = Resizing {
-        machine: Resizer::new(resize, window.book.parts.mode, initial),
+        machine,
         copier: Copier::new(),
     };
     let mut making: Option<MutexGuard<'a, ()>> = None;
@@ -127,7 +128,7 @@ pub fn resize<'a, R: Wait, K: Hash + Eq, V, S: BuildHasher>(
             *given = resizing.copier.given.again();
             return resizing.replied();
         };
-        let answer = resizing.answer(rt, alloc, count, ask, &mut making, window);
+        let answer = resizing.answer(rt, alloc, shard, ask, &mut making, window);
         resizing.machine.answer(answer);
     }
     unreachable!()

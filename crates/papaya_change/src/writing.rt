@@ -197,10 +197,11 @@ impl<'a, K: Hash + Eq + Drop, V: Drop, S: BuildHasher> Writer<'a, K, V, S> {
         alloc: Global,
         len: usize,
         limit: usize,
+        chunks: usize,
         window: &mut Window<'a, K, V, S>,
     ) -> Answer
         requires can { CanWrite window.old self.old }
-        requires asks { ask_of self.old.call.machine ≡ Call (MakeTable len limit) }
+        requires asks { ask_of self.old.call.machine ≡ Call (MakeTable len limit chunks) }
         requires standing { IsStanding self.old.call.machine }
         requires size { IsSize len limit }
         ensures sees { Sees window.old window.new }
@@ -211,7 +212,7 @@ impl<'a, K: Hash + Eq + Drop, V: Drop, S: BuildHasher> Writer<'a, K, V, S> {
         ensures put { self.new.call.put ≡ self.old.call.put }
         ensures writes { Writes window.old self.old window.new self.new result }
     {
-        let made = window.make_table(rt, alloc, len, limit, &mut self.call.given);
+        let made = window.make_table(rt, alloc, len, limit, chunks, &mut self.call.given);
         window.learn();
         match made {
             Ok((table, seal)) => {

@@ -49,7 +49,7 @@ writers_silent (Load at) h = tt
 writers_silent (Exchange Root old new) h = tt
 writers_silent (Exchange (Next t) old new) h = absurd h
 writers_silent (Exchange (Aborted_word t) old new) h = absurd h
-writers_silent (Exchange (Done_word t) old new) h = absurd h
+writers_silent (Exchange (Done_word t chunk) old new) h = absurd h
 writers_silent (Exchange (Slot t x) old new) h = absurd h
 writers_silent (LoadHint t x) h = tt
 writers_silent (WriteHint t x hint) h = absurd h
@@ -59,7 +59,7 @@ writers_silent (ShowPair n) h = absurd h
 writers_silent (SizeOf t) h = tt
 writers_silent MakeKey h = tt
 writers_silent MakePair h = absurd h
-writers_silent (MakeTable slots limit) h = tt
+writers_silent (MakeTable slots limit chunks) h = tt
 writers_silent (AddToShard by) h = absurd h
 writers_silent (Done reply) h = absurd h
 

@@ -12,7 +12,6 @@ use Rattle.papaya_ask.specs.declared.call.Reply.{Reply}
 use Rattle.papaya_ask.specs.declared.call.Reply.TheVariants.{Absent, Found, Inserted, Replaced, Occupied, Removed, Kept, Aborted, Done as Reply_done, Refused}
 use Rattle.papaya_ask.specs.declared.call.Task.{Task}
 use Rattle.papaya_ask.specs.declared.call.Task.TheVariants.{Compute}
-use Rattle.papaya_words.specs.Mode.{IsChunked}
 use Rattle.papaya_chain.specs.declared.ask.Ask.TheVariants.{Call}
 use Rattle.papaya_chain.specs.declared.machine.Machine.{Machine}
 use Rattle.papaya_chain.specs.Machine.{ask_of, started}
@@ -299,11 +298,11 @@ module _ {K V T : Type 0} (eq : K → K → Bool) (key : K) (older old new : Lis
       record { said = heard; left = left; has_said = has; held = s.held; none_once = s.none_once; operated = s.operated }
 
 -- a compute that begins
-pub begins : {K V S T H : Type 0} (eq : K → K → Bool) (hash : S → K → ℕ) (b : Begun K V S) (name : Book) (key : K) (log : List (Event K V S)) (x : Computing K V S T H) → IsLawfulLog eq hash b log → IsChunked b.mode → (initial : ℕ) → x.writer.call.machine ≡ started Compute (hash b.hasher key) b.mode initial
+pub begins : {K V S T H : Type 0} (eq : K → K → Bool) (hash : S → K → ℕ) (b : Begun K V S) (name : Book) (key : K) (log : List (Event K V S)) (x : Computing K V S T H) → IsLawfulLog eq hash b log → (initial : ℕ) → x.writer.call.machine ≡ started Compute (hash b.hasher key) b.mode initial 0
     → (x.writer.call.table ≡ None) × (x.writer.call.fresh ≡ None) → (x.writer.call.last ≡ None) × (x.writer.call.kept ≡ None) × (x.writer.call.taken ≡ None) × (x.writer.call.put ≡ None) → x.writer.key ≡ Some key → x.writer.brought ≡ None → x.shown ≡ None → x.fill ≡ None → x.chosen ≡ None → IsComputing eq hash b name key log log x []
-begins eq hash b name key log x l chunked initial machine table pairs own brought shown fill chosen = record {
+begins eq hash b name key log x l initial machine table pairs own brought shown fill chosen = record {
   made = [];
-  writing = begins_writing eq hash b name key log x.writer l chunked Compute initial machine table pairs own brought;
+  writing = begins_writing eq hash b name key log x.writer l Compute initial machine table pairs own brought;
   task_is = ap (λ (z : Machine). z.call.task) machine;
   words = rw machine tt;
   shown_placed = rw shown tt;
@@ -318,7 +317,7 @@ begins eq hash b name key log x l chunked initial machine table pairs own brough
   crowded = λ e. let g = sym (ap ask_of machine) ∙ e in absurd (cc g);
 }
   where
-    nothing_said : {stands : Said} → StandsOn (started Compute (hash b.hasher key) b.mode initial).call stands → ⊥
+    nothing_said : {stands : Said} → StandsOn (started Compute (hash b.hasher key) b.mode initial 0).call stands → ⊥
     nothing_said (inl e) = cc e
     nothing_said (inr (inl e)) = cc e
     nothing_said (inr (inr e)) = cc e

@@ -99,7 +99,7 @@ IsWriters (LoadHint t x) = Unit {0}
 IsWriters (SizeOf t) = Unit {0}
 IsWriters (SameKey n) = Unit {0}
 IsWriters MakeKey = Unit {0}
-IsWriters (MakeTable len limit) = Unit {0}
+IsWriters (MakeTable len limit chunks) = Unit {0}
 IsWriters (Exchange Root old new) = Unit {0}
 IsWriters _ = ⊥
 

@@ -23,7 +23,7 @@ ghost use Rattle.papaya_book.specs.Limits.{tables_of};
 use papaya_ask::ask::{Answer, Ask as CallAsk, At, OpKind, StepKind};
 use papaya_ask::call::{Reply, Task};
 use papaya_book::book::Book;
-use papaya_book::count::{Count, Shard};
+use papaya_book::count::Shard;
 use papaya_book::keyed::Keyed;
 use papaya_book::rule::entry::Stored;
 use papaya_book::window::Window;
@@ -169,7 +169,7 @@ impl<'a, K: Hash + Eq + Drop, V: Drop, S: BuildHasher, T: Drop> Computing<'a, K,
         &mut self,
         rt: &R,
         alloc: Global,
-        count: &Count,
+        shard: &Shard<'_>,
         answer: Answer,
         window: &mut Window<'a, K, V, S>,
     )
@@ -187,7 +187,7 @@ impl<'a, K: Hash + Eq + Drop, V: Drop, S: BuildHasher, T: Drop> Computing<'a, K,
         ensures takes { Takes window.old self.old answer window.new self.new }
     {
         self.writer.call.answer(answer);
-        self.writer.call.help(rt, alloc, count, window);
+        self.writer.call.help(rt, alloc, shard, window);
     }
 
     /// Logs a pair of the key and of the value that the closure answered last.
@@ -284,9 +284,9 @@ impl<'a, K: Hash + Eq + Drop, V: Drop, S: BuildHasher, T: Drop> Computing<'a, K,
             CallAsk::SizeOf(_) => self.writer.size(window),
             CallAsk::SameKey(_) => self.writer.same(window),
             CallAsk::MakeKey => self.writer.make_key(),
-            CallAsk::MakeTable { len, limit } => {
-                self.writer.make_table(rt, alloc, len, limit, window)
-            }
+            CallAsk::MakeTable { len, limit, chunks } => self
+                .writer
+                .make_table(rt, alloc, len, limit, chunks, window),
             CallAsk::Exchange(At::Root, _, _) => self.writer.open(window),
             _ => unreachable!(),
         }

@@ -143,11 +143,11 @@ pub fn decide<'a, R: Wait, K: Hash + Eq + Drop, V: Drop, S: BuildHasher, D: Rule
     let mut computing: Computing<'a, K, V, S, ()> = Computing::new(window, initial, key);
     for _ in rt.forever() {
         match computing.turn(rt, alloc, shard, window) {
-            Turn::Answered(answer) => computing.tell(rt, alloc, shard.count(), answer, window),
+            Turn::Answered(answer) => computing.tell(rt, alloc, shard, answer, window),
             Turn::Shows(shown) => {
                 let operation = wish(book, &shown, rule);
                 let answer = computing.hear(shown, operation);
-                computing.tell(rt, alloc, shard.count(), answer, window);
+                computing.tell(rt, alloc, shard, answer, window);
             }
             Turn::Replied => {
                 *given = computing.writer.call.given.again();

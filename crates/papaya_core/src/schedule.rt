@@ -98,6 +98,7 @@ fn call_on<K: Hash + Eq, V: Drop, S: BuildHasher, A>(
     store: &Store<K, V, S>,
     mode: ResizeMode,
     initial: usize,
+    number: u64,
     task: Task,
     key: K,
     handed: (Option<V>, Option<A>),
@@ -105,13 +106,13 @@ fn call_on<K: Hash + Eq, V: Drop, S: BuildHasher, A>(
     requires chunked { IsChunked mode }
     requires initial { IsPowerOfTwo initial }
     ensures begun { result ≡ Work.Call (begun (hash_of K.hash_input S.build_hasher S.Hasher.write
-        S.Hasher.finish store.now.hasher) mode initial task key handed.0 handed.1) }
+        S.Hasher.finish store.now.hasher) mode initial number task key handed.0 handed.1) }
     ensures fits { hash_of K.hash_input S.build_hasher S.Hasher.write S.Hasher.finish
         store.now.hasher key < 2 ^ 64 }
 {
     let (value, answers) = handed;
     Work::Call(Running {
-        machine: Machine::new(task, store.hash(&key), mode, initial),
+        machine: Machine::new(task, store.hash(&key), mode, initial, number),
         key: KeyOf::Own(key),
         value,
         answers,
@@ -123,32 +124,34 @@ fn visit_on<K, V, A>(
     alloc: Global,
     mode: ResizeMode,
     initial: usize,
+    number: u64,
     visit: Visit,
     answers: Option<A>,
 ) -> Work<K, V, A>
     requires chunked { IsChunked mode }
     requires initial { IsPowerOfTwo initial }
-    ensures { result ≡ Work.Visit (visitor_begun mode initial visit answers) }
+    ensures { result ≡ Work.Visit (visitor_begun mode initial number visit answers) }
 {
     Work::Visit(Visiting {
-        visitor: Visitor::new(visit, mode, initial),
+        visitor: Visitor::new(visit, mode, initial, number),
         answers,
         given: Numbers::new(alloc),
     })
 }
 
-/// A call as it begins.
+/// A call as it begins. Calls with different numbers copy a table from different chunks on.
 fn begin_call<K: Hash + Eq, V: Drop, S: BuildHasher, A>(
     alloc: Global,
     store: &Store<K, V, S>,
     mode: ResizeMode,
     initial: usize,
+    number: u64,
     call: Call<K, V, A>,
 ) -> Work<K, V, A>
     requires chunked { IsChunked mode }
     requires initial { IsPowerOfTwo initial }
     ensures begun { result ≡ begun_work (hash_of K.hash_input S.build_hasher S.Hasher.write
-        S.Hasher.finish store.now.hasher) mode initial call }
+        S.Hasher.finish store.now.hasher) mode initial number call }
     ensures fits { (k : K) → key_of call ≡ Some k → hash_of K.hash_input S.build_hasher
         S.Hasher.write S.Hasher.finish store.now.hasher k < 2 ^ 64 }
 {
@@ -159,16 +162,18 @@ fn begin_call<K: Hash + Eq, V: Drop, S: BuildHasher, A>(
         Call::RemoveIf(key, answers) => (Task::RemoveIf, key, (None, Some(answers))),
         Call::Compute(key, answers) => (Task::Compute, key, (None, Some(answers))),
         Call::Reserve(more) => {
-            return Work::Resize(Resizer::new(Resize::Reserve(more), mode, initial));
+            return Work::Resize(Resizer::new(Resize::Reserve(more), mode, initial, number));
         }
-        Call::CopyAll => return Work::Resize(Resizer::new(Resize::CopyAll, mode, initial)),
-        Call::Clear => return visit_on(alloc, mode, initial, Visit::Clear, None),
+        Call::CopyAll => {
+            return Work::Resize(Resizer::new(Resize::CopyAll, mode, initial, number));
+        }
+        Call::Clear => return visit_on(alloc, mode, initial, number, Visit::Clear, None),
         Call::Retain(answers) => {
-            return visit_on(alloc, mode, initial, Visit::Retain, Some(answers));
+            return visit_on(alloc, mode, initial, number, Visit::Retain, Some(answers));
         }
-        Call::Walk => return visit_on(alloc, mode, initial, Visit::Walk, None),
+        Call::Walk => return visit_on(alloc, mode, initial, number, Visit::Walk, None),
     };
-    call_on(store, mode, initial, task, key, handed)
+    call_on(store, mode, initial, number, task, key, handed)
 }
 
 /// The reply of a machine that asks no more.
@@ -320,20 +325,32 @@ impl<K: Hash + Eq + Drop, V: Drop, S: BuildHasher + Drop, A> Core<K, V, S, A> {
 }
 
 impl<K: Hash + Eq + Drop, V: Drop, S: BuildHasher, A: Answers<K, V> + Drop> Core<K, V, S, A> {
-    /// Begins a call of a caller that is in none.
+    /// Begins a call of a caller that is in none. Its number says from which chunk on the call
+    /// copies a table.
     ///
     /// `Refused::Memory` where a growth was refused: the call and what it was handed are dropped.
     pub fn begin(&mut self, caller: usize, call: Call<K, V, A>) -> Result<(), Refused>
         requires { work_of self.old caller ≡ None }
         ensures ok { OnOk result (Begins (hash_of K.hash_input S.build_hasher S.Hasher.write
             S.Hasher.finish self.old.store.hasher) self.old caller call self.new) }
+        ensures number { OnOk result ((begins : Begins (hash_of K.hash_input S.build_hasher
+            S.Hasher.write S.Hasher.finish self.old.store.hasher) self.old caller call self.new)
+            × (begins.number ≡ caller)) }
         ensures err { IfErr result (λ e. (e ≡ Refused.Memory) × (self.new ≡ self.old)) }
         ensures handed { OnOk result ((work : _) → work_of self.new caller ≡ Some work
             → IntendsHanded self.new.store call work) }
         ensures counted { IsCounted K.eq self.new.store self.new.callers }
     {
         self.callers.seat(caller)?;
-        let work = begin_call(self.alloc, &self.store, self.mode, self.initial, call);
+        let number = caller as u64;
+        let work = begin_call(
+            self.alloc,
+            &self.store,
+            self.mode,
+            self.initial,
+            number,
+            call,
+        );
         self.callers.put(caller, Some(work));
         Ok(())
     }

@@ -1,5 +1,6 @@
 // What is done with a full table, and beside a caller that has stopped in an insertion into one; room
-// that is made ahead; and a table that is given up since the count lags behind stopped callers.
+// that is made ahead; chunks that two callers copy at a time; and a table that is given up since the
+// count lags behind stopped callers.
 use crate::expect::{is, is_at};
 use crate::plain::{
     Asked, MODES, Numbers, WHOLE, answers_in, begin, by_value, go_on, holds, removal, replies,
@@ -270,17 +271,66 @@ fn has_no_table(rt: &impl Abort, alloc: Global, core: &mut Numbers) -> Result<()
     replies(rt, alloc, core, (6, 2), Call::CopyAll, Reply::Done)
 }
 
-/// A caller claims a place for its pair, and stops before it counts it.
-fn claims(alloc: Global, core: &mut Numbers, caller: usize) -> Result<bool, Fail> {
-    let key = caller as u64;
+/// A caller inserts a key, and stops when it has made an exchange of this kind.
+fn stops_at(
+    alloc: Global,
+    core: &mut Numbers,
+    caller: usize,
+    key: u64,
+    kind: StepKind,
+) -> Result<bool, Fail> {
     let _ = begin(alloc, core, caller, Call::Insert(key, value(key)), 0)?;
     for _ in 0..STEPS_OF_GROWTH {
         let trace = core.run(vec![in alloc; Turn::Step(caller, false)]?)?;
-        if times(&trace, StepKind::Claim) > 0 {
+        if times(&trace, kind) > 0 {
             return Ok(core.running(caller));
         }
     }
     Ok(false)
+}
+
+/// A caller claims a place for its pair, and stops before it counts it.
+fn claims(alloc: Global, core: &mut Numbers, caller: usize) -> Result<bool, Fail> {
+    stops_at(alloc, core, caller, caller as u64, StepKind::Claim)
+}
+
+/// Caller 1 has marked the pair of its chunk and stops, while another caller copies a chunk. That one
+/// marks so many pairs: none where its number picks the chunk of caller 1, which it ends. Then caller
+/// 1 goes on.
+fn copies_beside(
+    rt: &impl Abort,
+    alloc: Global,
+    core: &mut Numbers,
+    other: usize,
+    marked: usize,
+) -> Result<(), Fail> {
+    let stopped = stops_at(alloc, core, 1, KEYS, StepKind::Mark)?;
+    is_at(rt, other, stopped, true);
+    let key = KEYS.wrapping_add(1);
+    let trace = begin(alloc, core, other, Call::Insert(key, value(key)), WHOLE)?;
+    let copied = (
+        times(&trace, StepKind::Mark),
+        times(&trace, StepKind::Advance),
+    );
+    is_at(rt, other, copied, (marked, 1));
+    let rest = go_on(alloc, core, 1)?;
+    let last = (
+        times(&rest, StepKind::Mark),
+        times(&rest, StepKind::Advance),
+    );
+    is_at(rt, other, last, (0, marked));
+    holds(rt, alloc, core, other, (0, KEYS.wrapping_add(2)))
+}
+
+/// A table of 8 slots is copied slot by slot, from the chunk on that a caller's number picks.
+#[test]
+fn callers_with_different_numbers_copy_different_chunks(rt: HostRuntime) -> Result<(), Fail> {
+    for (other, marked) in [(0, 1), (2, 1), (7, 1), (8, 1), (9, 0), (17, 0)] {
+        let mut core = Core::new(rt.alloc(), ResizeMode::Incremental(1), 6, 1, APART)?;
+        stores(&rt, rt.alloc(), &mut core, (0, KEYS))?;
+        copies_beside(&rt, rt.alloc(), &mut core, other, marked)?;
+    }
+    Ok(())
 }
 
 /// How many keys fill a table of 32 slots on one path.

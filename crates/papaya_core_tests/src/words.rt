@@ -183,7 +183,7 @@ fn sums_of_shards(rt: HostRuntime) -> Result<(), Fail> {
 
 #[test]
 fn words_of_a_table(rt: HostRuntime) -> Result<(), Fail> {
-    let mut table = Table::new(rt.alloc(), 1, 8, 15)?;
+    let mut table = Table::new(rt.alloc(), 1, 8, 15, 3)?;
     is(
         &rt,
         (table.number(), table.len(), table.limit()),
@@ -191,17 +191,23 @@ fn words_of_a_table(rt: HostRuntime) -> Result<(), Fail> {
     );
     is(
         &rt,
-        (table.next(), table.aborted(), table.done()),
+        (table.next(), table.aborted(), table.chunks()),
+        (0, 0, 3),
+    );
+    is(
+        &rt,
+        (table.done(0), table.done(1), table.done(2)),
         (0, 0, 0),
     );
     table.set_next(2);
     table.set_aborted(1);
-    table.set_done(3);
+    table.set_done(1, 1);
     table.put(6, 3073);
+    is(&rt, (table.next(), table.aborted()), (2, 1));
     is(
         &rt,
-        (table.next(), table.aborted(), table.done()),
-        (2, 1, 3),
+        (table.done(0), table.done(1), table.done(2)),
+        (0, 1, 0),
     );
     is(&rt, (table.slot(6), table.slot(7)), (3073, 0));
     table.set_hint(6, 7);

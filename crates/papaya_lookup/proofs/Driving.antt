@@ -60,22 +60,22 @@ module _ {K K' P : Type 0} (c : Coding K P) (c' : Coding K' P) (numbers : (p : P
   asked_by_made (Some kinds.Open) Root new s e a = a
   asked_by_made (Some kinds.Open) (Next t) new s e a = absurd a
   asked_by_made (Some kinds.Open) (Aborted t) new s e a = absurd a
-  asked_by_made (Some kinds.Open) (Done t) new s e a = absurd a
+  asked_by_made (Some kinds.Open) (Done t chunk) new s e a = absurd a
   asked_by_made (Some kinds.Open) (Slot t x) new s e a = absurd a
   asked_by_made (Some kinds.Claim) Root new s e a = absurd a
   asked_by_made (Some kinds.Claim) (Next t) new s e a = absurd a
   asked_by_made (Some kinds.Claim) (Aborted t) new s e a = absurd a
-  asked_by_made (Some kinds.Claim) (Done t) new s e a = absurd a
+  asked_by_made (Some kinds.Claim) (Done t chunk) new s e a = absurd a
   asked_by_made (Some kinds.Claim) (Slot t x) new s e a = (a.0, own_word new a.0 a.1, a.2)
   asked_by_made (Some kinds.Replace) Root new s e a = absurd a
   asked_by_made (Some kinds.Replace) (Next t) new s e a = absurd a
   asked_by_made (Some kinds.Replace) (Aborted t) new s e a = absurd a
-  asked_by_made (Some kinds.Replace) (Done t) new s e a = absurd a
+  asked_by_made (Some kinds.Replace) (Done t chunk) new s e a = absurd a
   asked_by_made (Some kinds.Replace) (Slot t x) new s e a = (a.0, a.1, a.2, own_word new a.1 a.3, a.4)
   asked_by_made (Some kinds.Bury) Root new s e a = absurd a
   asked_by_made (Some kinds.Bury) (Next t) new s e a = absurd a
   asked_by_made (Some kinds.Bury) (Aborted t) new s e a = absurd a
-  asked_by_made (Some kinds.Bury) (Done t) new s e a = absurd a
+  asked_by_made (Some kinds.Bury) (Done t chunk) new s e a = absurd a
   asked_by_made (Some kinds.Bury) (Slot t x) new s e a = a
   asked_by_made (Some kinds.Link) at new s e a = absurd a
   asked_by_made (Some kinds.Mark) at new s e a = absurd a
@@ -100,7 +100,7 @@ pub word_same : {K P : Type 0} (g g' : Setting K P) (c : Coding K P) (s : State 
 word_same g g' c s Root = refl
 word_same g g' c s (Next t) = refl
 word_same g g' c s (Aborted t) = refl
-word_same g g' c s (Done t) = refl
+word_same g g' c s (Done t chunk) = refl
 word_same g g' c s (Slot t x) = code_same g g' c (s.slot t x)
 
 module _ {K V S H : Type 0} (eq : K → K → Bool) (input : K → List (List ℕ)) (build : S → H) (write : H → List ℕ → H) (finish : H → ℕ) (classes : IsEquivalence eq) (respects : (x y : K) → eq x y ≡ true → input x ≡ input y)

@@ -38,7 +38,7 @@ module _ {K P : Type 0} (g : Setting K P) where
   replay_is m (Close t x ∷ es) = replay_is m es
   replay_is m (Place n x p ∷ es) = replay_is m es
   replay_is m (Finish t x p ∷ es) = replay_is m es
-  replay_is m (Advance n a b ∷ es) = replay_is m es
+  replay_is m (Advance n a ∷ es) = replay_is m es
   replay_is m (Promote t n ∷ es) = replay_is m es
   replay_is m (Abort n ∷ es) = replay_is m es
 
@@ -67,7 +67,7 @@ module _ {K P : Type 0} (g : Setting K P) where
   legal_changes law s m (Close t x ∷ es) may legal = legal_changes law (after s (Close t x)) m es may.1 legal.1
   legal_changes law s m (Place n x p ∷ es) may legal = legal_changes law (after s (Place n x p)) m es may.1 legal.1
   legal_changes law s m (Finish t x p ∷ es) may legal = legal_changes law (after s (Finish t x p)) m es may.1 legal.1
-  legal_changes law s m (Advance n a b ∷ es) may legal = legal_changes law (after s (Advance n a b)) m es may.1 legal.1
+  legal_changes law s m (Advance n a ∷ es) may legal = legal_changes law (after s (Advance n a)) m es may.1 legal.1
   legal_changes law s m (Promote t n ∷ es) may legal = legal_changes law (after s (Promote t n)) m es may.1 legal.1
   legal_changes law s m (Abort n ∷ es) may legal = legal_changes law (after s (Abort n)) m es may.1 legal.1
 

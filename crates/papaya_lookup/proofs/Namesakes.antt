@@ -24,7 +24,7 @@ module _ {K P : Type 0} (g : Setting K P) (c : Coding K P) (p q : P) (key : g.ke
   same_words s t x Root = refl
   same_words s t x (Next u) = refl
   same_words s t x (Aborted u) = refl
-  same_words s t x (Done u) = refl
+  same_words s t x (Done u chunk) = refl
   same_words s t x (Slot u y) = same_cond ((u == t) && (y == x)) (s.slot u y)
 
   pub written_instead : (s : State P) (t x : ℕ) (at : At) (new : ℕ) → IsWritten g c s at new (slot_put s t x (Live p)) → IsWritten g c s at new (slot_put s t x (Live q))

@@ -33,7 +33,7 @@ brought_or_not (steps.Mark u x p) t = inr (refl, refl)
 brought_or_not (steps.Close u x) t = inr (refl, refl)
 brought_or_not (steps.Place u x p) t = inr (refl, refl)
 brought_or_not (steps.Finish u x p) t = inr (refl, refl)
-brought_or_not (steps.Advance u a b) t = inr (refl, refl)
+brought_or_not (steps.Advance u a) t = inr (refl, refl)
 brought_or_not (steps.Promote u n) t = inr (refl, refl)
 brought_or_not (steps.Abort u) t = inr (refl, refl)
 

@@ -89,11 +89,11 @@ pub fn compute<
     let mut computing: Computing<'a, K, V, S, T> = Computing::new(window, initial, key);
     for _ in rt.forever() {
         match computing.turn(rt, alloc, shard, window) {
-            Turn::Answered(answer) => computing.tell(rt, alloc, shard.count(), answer, window),
+            Turn::Answered(answer) => computing.tell(rt, alloc, shard, answer, window),
             Turn::Shows(shown) => {
                 let operation = operate(book, &shown, &mut f);
                 let answer = computing.hear(shown, operation);
-                computing.tell(rt, alloc, shard.count(), answer, window);
+                computing.tell(rt, alloc, shard, answer, window);
             }
             Turn::Replied => {
                 *given = computing.writer.call.given.again();

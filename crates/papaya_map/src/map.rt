@@ -373,13 +373,14 @@ impl<'a, K: Hash + Eq, V, S: BuildHasher> HashMapRef<'a, K, V, S> {
             additional pass.new.tables pass.new.given }
     {
         let map: &'a HashMap<K, V, S> = self.map;
+        let shard = map.count.shard(pass.number);
         let mut window = Window::new(&map.book, &self.kept, &pass.sight, &pass.own);
         let mut given = Own::nothing();
         let reserved = resize(
             rt,
             map.alloc,
             map.initial,
-            &map.count,
+            &shard,
             &mut window,
             &mut given,
             Resize::Reserve(additional),
@@ -464,17 +465,11 @@ impl<'a, K: Hash + Eq, V, S: BuildHasher> HashMapRef<'a, K, V, S> {
             pass.new.tables pass.new.given }
     {
         let map: &'a HashMap<K, V, S> = self.map;
+        let shard = map.count.shard(pass.number);
         let began = pass.sight.again();
         let mut window = Window::new(&map.book, &self.kept, &pass.sight, &pass.own);
         let mut given = Own::nothing();
-        let taken = take_root(
-            rt,
-            map.alloc,
-            map.initial,
-            &map.count,
-            &mut window,
-            &mut given,
-        );
+        let taken = take_root(rt, map.alloc, map.initial, &shard, &mut window, &mut given);
         pass.sight = window.sight.again();
         pass.given = given;
         match taken {

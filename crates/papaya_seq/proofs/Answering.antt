@@ -38,14 +38,14 @@ module _ {K V S A : Type 0} (eq : K → K → Bool) (says : Says K V A) (o : Opt
   answering_call refuse (SizeOf n) store r answer store' later unshown (e, (same, stays)) = ((e, (same, ap (answering o) stays)), ap (λ q. q.answers) stays)
   answering_call true MakeKey store r answer store' later unshown (e, (same, stays)) = ((e, (same, ap (answering o) stays)), ap (λ q. q.answers) stays)
   answering_call true MakePair store r answer store' later unshown (e, (same, stays)) = ((e, (same, ap (answering o) stays)), ap (λ q. q.answers) stays)
-  answering_call true (MakeTable slots limit) store r answer store' later unshown (e, (same, stays)) = ((e, (same, ap (answering o) stays)), ap (λ q. q.answers) stays)
+  answering_call true (MakeTable slots limit chunks) store r answer store' later unshown (e, (same, stays)) = ((e, (same, ap (answering o) stays)), ap (λ q. q.answers) stays)
   answering_call false MakeKey store r answer store' later unshown (inl (refused, (same, stays))) = (inl (refused, (same, ap (answering o) stays)), ap (λ q. q.answers) stays)
   answering_call false MakeKey store r answer store' later unshown (inr (inl (has, (same, stays)))) = (inr (inl (has, (same, ap (answering o) stays))), ap (λ q. q.answers) stays)
   answering_call false MakeKey store r answer store' later unshown (inr (inr (k, own, e, few, same, goes))) = (inr (inr (k, own, e, few, same, ap (answering o) goes)), ap (λ q. q.answers) goes)
   answering_call false MakePair store r answer store' later unshown (inl (refused, (same, stays))) = (inl (refused, (same, ap (answering o) stays)), ap (λ q. q.answers) stays)
   answering_call false MakePair store r answer store' later unshown (inr (inl (has, (same, stays)))) = (inr (inl (has, (same, ap (answering o) stays))), ap (λ q. q.answers) stays)
   answering_call false MakePair store r answer store' later unshown (inr (inr (n, v, key, value, e, few, same, goes))) = (inr (inr (n, v, key, value, e, few, same, ap (answering o) goes)), ap (λ q. q.answers) goes)
-  answering_call false (MakeTable slots limit) store r answer store' later unshown (made, stays) = ((made, ap (answering o) stays), ap (λ q. q.answers) stays)
+  answering_call false (MakeTable slots limit chunks) store r answer store' later unshown (made, stays) = ((made, ap (answering o) stays), ap (λ q. q.answers) stays)
   answering_call refuse (AddToShard by) store r answer store' later unshown (e, same, stays) = ((e, same, ap (answering o) stays), ap (λ q. q.answers) stays)
   answering_call refuse (Ask_done reply) store r answer store' later unshown (e, (same, stays)) = ((e, (same, ap (answering o) stays)), ap (λ q. q.answers) stays)
 
@@ -74,7 +74,7 @@ module _ {K V S A : Type 0} (eq : K → K → Bool) (says : Says K V A) where
   silent_call refuse replace (SizeOf n) store r answer store' later silence task performs = answering_call eq says None refuse (SizeOf n) store r answer store' later (λ f. f) performs
   silent_call refuse replace MakeKey store r answer store' later silence task performs = answering_call eq says None refuse MakeKey store r answer store' later (λ f. f) performs
   silent_call refuse replace MakePair store r answer store' later silence task performs = answering_call eq says None refuse MakePair store r answer store' later (λ f. f) performs
-  silent_call refuse replace (MakeTable slots limit) store r answer store' later silence task performs = answering_call eq says None refuse (MakeTable slots limit) store r answer store' later (λ f. f) performs
+  silent_call refuse replace (MakeTable slots limit chunks) store r answer store' later silence task performs = answering_call eq says None refuse (MakeTable slots limit chunks) store r answer store' later (λ f. f) performs
   silent_call refuse replace (AddToShard by) store r answer store' later silence task performs = answering_call eq says None refuse (AddToShard by) store r answer store' later (λ f. f) performs
   silent_call refuse replace (Ask_done reply) store r answer store' later silence task performs = answering_call eq says None refuse (Ask_done reply) store r answer store' later (λ f. f) performs
 

@@ -78,7 +78,7 @@ module _ {K V S : Type 0} (eq : K → K → Bool) (hash : S → K → ℕ) where
     searched_step m answer (ShowPair n) is asked told = absurd asked
     searched_step m answer MakeKey is asked told = absurd asked
     searched_step m answer MakePair is asked told = absurd asked
-    searched_step m answer (MakeTable slots limit) is asked told = absurd asked
+    searched_step m answer (MakeTable slots limit chunks) is asked told = absurd asked
     searched_step m answer (AddToShard by) is asked told = absurd asked
     searched_step m answer (Ask_done reply) is asked told = absurd asked
 

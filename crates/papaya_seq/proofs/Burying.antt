@@ -72,7 +72,7 @@ module _ {K V S F : Type 0} (g : Mut F (Bor K × (Bor V × Unit {0})) Bool) (mat
     searched_answer (ShowPair n) answer asked told = absurd asked
     searched_answer MakeKey answer asked told = absurd asked
     searched_answer MakePair answer asked told = absurd asked
-    searched_answer (MakeTable slots limit) answer asked told = absurd asked
+    searched_answer (MakeTable slots limit chunks) answer asked told = absurd asked
     searched_answer (AddToShard by) answer asked told = absurd asked
     searched_answer (Ask_done reply) answer asked told = absurd asked
 

@@ -1,5 +1,5 @@
 -- How long the tables are that a call on a key makes of a map for one caller.
-use Rattle.std.proofs.Common.{◌≡◌, ◌⊎◌, inl, inr, ⊎_elim, ℕ, zero, suc, ◌+◌, ◌<◌, ◌≤◌, Bool, false, List, [], ◌∷◌, ◌++◌, length, map, max, slice_get, Option, None, Some, refl, sym, ◌∙◌, ap, subst, arith}
+use Rattle.std.proofs.Common.{◌≡◌, ◌⊎◌, inl, inr, ⊎_elim, ℕ, zero, suc, ◌<◌, ◌≤◌, Bool, false, List, [], ◌∷◌, ◌++◌, length, map, max, slice_get, Option, None, Some, refl, sym, ◌∙◌, ap, subst, arith}
 use Rattle.std.proofs.lemmas.Bool.{cases_lt}
 use Rattle.std.proofs.lemmas.List.{append_assoc, append-nil}
 use Rattle.std.proofs.lemmas.List.Elements.{All-append, All-cons, All-contains, All-nil, Contains-append_left}
@@ -10,7 +10,6 @@ use Rattle.papaya_words.specs.declared.limits.TheConstants.{FIRST_TABLE_LEN, FIR
 use Rattle.papaya_ask.specs.declared.ask.Answer.{Answer as Call_answer}
 use Rattle.papaya_ask.specs.declared.ask.Answer.TheVariants as told
 use Rattle.papaya_ask.specs.declared.ask.Ask.TheVariants.{MakeTable}
-use Rattle.papaya_ask.specs.declared.ask.At.TheVariants.{Root}
 use Rattle.papaya_ask.specs.declared.call.Reply.{Reply}
 use Rattle.papaya_ask.specs.declared.call.Reply.TheVariants.{Inserted, Removed}
 use Rattle.papaya_ask.specs.declared.copy_ask.CopyAsk.{CopyAsk}
@@ -25,7 +24,6 @@ use Rattle.papaya_call.specs.declared.write.Made.{Made}
 use Rattle.papaya_call.specs.declared.write.Made.TheVariants.{Nothing, Key, Pair}
 use Rattle.papaya_call.specs.Machine.{asks as call_asks}
 use Rattle.papaya_call.specs.Machine as call_machine
-use Rattle.papaya_copy.specs.declared.copying.Copying.{Copying}
 use Rattle.papaya_copy.specs.declared.link.Link.{Link}
 use Rattle.papaya_copy.specs.declared.link.Link.TheVariants as links
 use Rattle.papaya_copy.specs.Copying.{copying_ask}
@@ -57,30 +55,30 @@ use Rattle.papaya_seq.proofs.Sizes.{link_asked, sized_as}
 use Rattle.papaya_seq.proofs.TableLengths.{IsCountedBy, IsLengthened, copy_counts, copy_long, own_counts, own_long}
 
 -- a call that asks for a table for itself makes its first one
-makes_first : (made : Made) (hash : ℕ) (state : State) (slots limit : ℕ) → call_asks made hash state ≡ MakeTable slots limit → (state ≡ Making) × (slots ≡ FIRST_TABLE_LEN)
-makes_first made hash Making slots limit e = (refl, let f : MakeTable FIRST_TABLE_LEN FIRST_TABLE_LIMIT ≡ MakeTable slots limit = e in sym cc)
-makes_first made hash AtRoot slots limit e = absurd cc
-makes_first made hash (Opening t) slots limit e = absurd cc
-makes_first made hash (Searching (searches.Sizing t)) slots limit e = absurd cc
-makes_first made hash (Searching (searches.Looking at)) slots limit e = absurd cc
-makes_first made hash (Searching (searches.Reading at)) slots limit e = absurd cc
-makes_first made hash (Searching (searches.Comparing at word)) slots limit e = absurd cc
-makes_first Nothing hash (Writing write) slots limit e = absurd cc
-makes_first Key hash (Writing write) slots limit e = absurd cc
-makes_first (Pair n) hash (Writing write) slots limit e = absurd cc
-makes_first made hash (Offering gap) slots limit e = absurd cc
-makes_first made hash (Showing removal) slots limit e = absurd cc
-makes_first Nothing hash (Pairing purpose) slots limit e = absurd cc
-makes_first Key hash (Pairing purpose) slots limit e = absurd cc
-makes_first (Pair n) hash (Pairing purpose) slots limit e = absurd cc
-makes_first made hash (Putting put) slots limit e = absurd cc
-makes_first made hash (Burying removal) slots limit e = absurd cc
-makes_first made hash (Counting n) slots limit e = absurd cc
-makes_first made hash (Noting n) slots limit e = absurd cc
-makes_first made hash (Uncounting n) slots limit e = absurd cc
-makes_first made hash (Leaving t) slots limit e = absurd cc
-makes_first made hash (Growing need) slots limit e = absurd cc
-makes_first made hash (Ended reply) slots limit e = absurd cc
+makes_first : (made : Made) (hash : ℕ) (state : State) (slots limit chunks : ℕ) → call_asks made hash state ≡ MakeTable slots limit chunks → (state ≡ Making) × (slots ≡ FIRST_TABLE_LEN)
+makes_first made hash Making slots limit chunks e = (refl, let f : MakeTable FIRST_TABLE_LEN FIRST_TABLE_LIMIT 0 ≡ MakeTable slots limit chunks = e in sym cc)
+makes_first made hash AtRoot slots limit chunks e = absurd cc
+makes_first made hash (Opening t) slots limit chunks e = absurd cc
+makes_first made hash (Searching (searches.Sizing t)) slots limit chunks e = absurd cc
+makes_first made hash (Searching (searches.Looking at)) slots limit chunks e = absurd cc
+makes_first made hash (Searching (searches.Reading at)) slots limit chunks e = absurd cc
+makes_first made hash (Searching (searches.Comparing at word)) slots limit chunks e = absurd cc
+makes_first Nothing hash (Writing write) slots limit chunks e = absurd cc
+makes_first Key hash (Writing write) slots limit chunks e = absurd cc
+makes_first (Pair n) hash (Writing write) slots limit chunks e = absurd cc
+makes_first made hash (Offering gap) slots limit chunks e = absurd cc
+makes_first made hash (Showing removal) slots limit chunks e = absurd cc
+makes_first Nothing hash (Pairing purpose) slots limit chunks e = absurd cc
+makes_first Key hash (Pairing purpose) slots limit chunks e = absurd cc
+makes_first (Pair n) hash (Pairing purpose) slots limit chunks e = absurd cc
+makes_first made hash (Putting put) slots limit chunks e = absurd cc
+makes_first made hash (Burying removal) slots limit chunks e = absurd cc
+makes_first made hash (Counting n) slots limit chunks e = absurd cc
+makes_first made hash (Noting n) slots limit chunks e = absurd cc
+makes_first made hash (Uncounting n) slots limit chunks e = absurd cc
+makes_first made hash (Leaving t) slots limit chunks e = absurd cc
+makes_first made hash (Growing need) slots limit chunks e = absurd cc
+makes_first made hash (Ended reply) slots limit chunks e = absurd cc
 
 -- the reply of a call in this state, where it is told that all went well
 abbrev replied_at : Machine → Phase → State → Option Reply
@@ -120,7 +118,7 @@ root_long initial words enough = of_table (table_of words.tables words.root) ref
 module _ {K V S : Type 0} (eq : K → K → Bool) (hash : S → K → ℕ) (store store' : StoreState K V S) (m : Machine) (answer : Answer) where
   -- What one step of a call did: what it asked for itself left the lengths, and counted nothing but where it adds to the count; what it asked for a copy was performed. Where it makes its first table there was no root, and a root stays.
   pub record IsCallStep : Type 0 where
-    pub own : m.phase ≡ Calling → IsLengthened (λ slots. (limit : ℕ) × (call_machine.ask_of m.call ≡ MakeTable slots limit)) store store'
+    pub own : m.phase ≡ Calling → IsLengthened (λ slots. (limit chunks : ℕ) × (call_machine.ask_of m.call ≡ MakeTable slots limit chunks)) store store'
     pub counted : m.phase ≡ Calling → (told_so : Call_answer) × (answer ≡ answers.Call told_so) × IsCountedBy (call_machine.ask_of m.call) store told_so store'
     pub copy : (ask : CopyAsk) → ask_of m ≡ asks.Copy ask → PerformsCopy eq hash false ask store answer store'
     pub first : m.phase ≡ Calling → m.call.state ≡ Making → store.words.root ≡ 0
@@ -210,21 +208,21 @@ module _ {K V S : Type 0} (s : MapState K V S) where
     lengthened : IsLengthened MayMake store store'
     lengthened = by_phase m.phase refl long.link
       where
-        asked_first : (slots : ℕ) → m.phase ≡ Calling → (limit : ℕ) × (call_machine.ask_of m.call ≡ MakeTable slots limit) → MayMake slots
-        asked_first slots calling (limit, e) = let (making, is) = makes_first m.call.made m.call.hash m.call.state slots limit e in inl (no_root calling making, is)
+        asked_first : (slots : ℕ) → m.phase ≡ Calling → (limit chunks : ℕ) × (call_machine.ask_of m.call ≡ MakeTable slots limit chunks) → MayMake slots
+        asked_first slots calling (limit, chunks, e) = let (making, is) = makes_first m.call.made m.call.hash m.call.state slots limit chunks e in inl (no_root calling making, is)
 
-        by_call : m.phase ≡ Calling → IsLengthened (λ slots. (limit : ℕ) × (call_machine.ask_of m.call ≡ MakeTable slots limit)) store store' → IsLengthened MayMake store store'
+        by_call : m.phase ≡ Calling → IsLengthened (λ slots. (limit chunks : ℕ) × (call_machine.ask_of m.call ≡ MakeTable slots limit chunks)) store store' → IsLengthened MayMake store store'
         by_call calling (inl same) = inl same
         by_call calling (inr (slots, asked, more)) = inr (slots, asked_first slots calling asked, more)
 
-        by_copy : (ask : CopyAsk) → ((slots limit : ℕ) → ask ≡ copies.MakeTable slots limit → Follows lengths slots) → IsLengthened (λ slots. (limit : ℕ) × (ask ≡ copies.MakeTable slots limit)) store store' → IsLengthened MayMake store store'
+        by_copy : (ask : CopyAsk) → ((slots limit chunks : ℕ) → ask ≡ copies.MakeTable slots limit chunks → Follows lengths slots) → IsLengthened (λ slots. (limit chunks : ℕ) × (ask ≡ copies.MakeTable slots limit chunks)) store store' → IsLengthened MayMake store store'
         by_copy ask good (inl same) = inl same
-        by_copy ask good (inr (slots, (limit, asked), more)) = inr (slots, inr (good slots limit asked), more)
+        by_copy ask good (inr (slots, (limit, chunks, asked), more)) = inr (slots, inr (good slots limit chunks asked), more)
 
         by_phase : (phase : Phase) → m.phase ≡ phase → In (IsLongLink (Follows lengths) lengths) (link_in phase) → IsLengthened MayMake store store'
         by_phase Calling e link = by_call e (step.own e)
-        by_phase (Linking made) e link = by_copy (link_ask made) (λ slots limit asked. link_good (Follows lengths) lengths made slots limit asked link) (copy_long eq false hash (link_ask made) store answer store' (step.copy (link_ask made) (ap (asks_in m.call) e)))
-        by_phase (Copying_root goes) e link = by_copy (copying_ask goes) (λ slots limit asked. copy_good (Follows lengths) lengths goes slots limit asked link) (copy_long eq false hash (copying_ask goes) store answer store' (step.copy (copying_ask goes) (ap (asks_in m.call) e)))
+        by_phase (Linking made) e link = by_copy (link_ask made) (λ slots limit chunks asked. link_good (Follows lengths) lengths made slots limit chunks asked link) (copy_long eq false hash (link_ask made) store answer store' (step.copy (link_ask made) (ap (asks_in m.call) e)))
+        by_phase (Copying_root goes) e link = by_copy (copying_ask goes) (λ slots limit chunks asked. copy_good (Follows lengths) lengths goes slots limit chunks asked link) (copy_long eq false hash (copying_ask goes) store answer store' (step.copy (copying_ask goes) (ap (asks_in m.call) e)))
 
     -- none of those that were is gone
     still_there : (len : ℕ) → Contains lengths len → Contains lengths' len
@@ -269,17 +267,17 @@ module _ {K V S : Type 0} (s : MapState K V S) where
         lengthened
 
     -- the making of a table
-    sizes : (made : Link) → link_in m.phase ≡ Some made → (slots limit : ℕ) → answer ≡ answers.Call (told.Size slots limit) → (behind : ℕ) (unfit : Bool) → made ≡ links.Sizing behind unfit → Contains lengths' slots
-    sizes made e slots limit is behind unfit sizing =
-        let h = step.copy (copies.SizeOf behind) (link_asked m (links.Sizing behind unfit) (e ∙ ap (λ x. Some x) sizing)) in
+    sizes : (made : Link) → link_in m.phase ≡ Some made → (slots limit : ℕ) → answer ≡ answers.Call (told.Size slots limit) → (behind copied : ℕ) (unfit : Bool) → made ≡ links.Sizing behind copied unfit → Contains lengths' slots
+    sizes made e slots limit is behind copied unfit sizing =
+        let h = step.copy (copies.SizeOf behind) (link_asked m (links.Sizing behind copied unfit) (e ∙ ap (λ x. Some x) sizing)) in
         let f : answers.Call (size_of (table_of store.words.tables behind)) ≡ answers.Call (told.Size slots limit) = sym h.0 ∙ is in
         let size : size_of (table_of store.words.tables behind) ≡ told.Size slots limit = cc f in
         let (t, there, long_is) = sized_as (table_of store.words.tables behind) slots limit size in
         still_there slots (subst (Contains lengths) long_is (table_length store.words.tables behind t there))
 
-    counts : (made : Link) → link_in m.phase ≡ Some made → (count : ℕ) → answer ≡ answers.Count count → (behind before : ℕ) (unfit : Bool) → made ≡ links.Counting behind unfit before → Contains lengths' before → Follows lengths' (max (length_after before count s.initial unfit) 8)
-    counts made e count is behind before unfit counting there =
-        let h = step.copy copies.Count (link_asked m (links.Counting behind unfit before) (e ∙ ap (λ x. Some x) counting)) in
+    counts : (made : Link) → link_in m.phase ≡ Some made → (count : ℕ) → answer ≡ answers.Count count → (behind before copied : ℕ) (unfit : Bool) → made ≡ links.Counting behind unfit before copied → Contains lengths' before → Follows lengths' (max (length_after before count s.initial unfit) 8)
+    counts made e count is behind before copied unfit counting there =
+        let h = step.copy copies.Count (link_asked m (links.Counting behind unfit before copied) (e ∙ ap (λ x. Some x) counting)) in
         let f : answers.Count (count_of store.count.sum) ≡ answers.Count count = sym h.0 ∙ is in
         let count_is : count_of store.count.sum ≡ count = cc f in
         let same : count_of store.count.sum ≡ pairs = ap (λ c. count_of c.sum) (long.count going (λ counted. let f : None ≡ Some made = sym (ap link_in counted.0) ∙ e in absurd cc)) in
@@ -287,8 +285,8 @@ module _ {K V S : Type 0} (s : MapState K V S) where
 
     link_long : In (IsLongLink (Follows lengths') lengths') (link_in (after m answer).phase)
     link_long =
-        led_long (Follows lengths') lengths' s.initial answer (link_in m.phase) (link_in (after m answer).phase)
-        (subst (λ n. In (IsLed n answer (link_in m.phase)) (link_in (after m answer).phase)) long.initial (machine_leads m answer))
+        led_long (Follows lengths') lengths' m.call.mode s.initial answer (link_in m.phase) (link_in (after m answer).phase)
+        (subst (λ n. In (IsLed m.call.mode n answer (link_in m.phase)) (link_in (after m answer).phase)) long.initial (machine_leads m answer))
         sizes counts (long_beside (Follows lengths) (Follows lengths') lengths lengths' still_follows still_there (link_in m.phase) long.link)
 
     -- nothing is counted before the call ends, or has only its hint to write

@@ -1,5 +1,5 @@
 -- Why a call of a map for one caller is refused: a log was full, or there is no further table, or memory was short; or its closure would remove a pair where there is none.
-use Rattle.std.proofs.Common.{◌≡◌, ◌⊎◌, inl, inr, ℕ, ◌^◌, ◌<◌, ◌≤◌, Bool, false, Option, None, Some, length, refl, sym, ◌∙◌, ap, subst}
+use Rattle.std.proofs.Common.{◌≡◌, ◌⊎◌, inl, inr, ℕ, ◌^◌, ◌<◌, ◌≤◌, Bool, false, None, Some, length, refl, sym, ◌∙◌, ap, subst}
 use Rattle.papaya_words.specs.Counter.{count_of}
 use Rattle.papaya_words.specs.Table.{TableWords, length_after}
 use Rattle.papaya_words.specs.declared.limits.TheConstants.{FIRST_TABLE_LEN, FIRST_TABLE_LIMIT, MAX_LOG_LEN, MAX_TABLES}
@@ -24,7 +24,6 @@ use Rattle.papaya_call.specs.declared.write.Made.TheVariants.{Nothing, Key, Pair
 use Rattle.papaya_call.specs.Compute.{nothing}
 use Rattle.papaya_call.specs.Machine.{IsComputer, IsStandingState, IsWriter, asks as call_asks}
 use Rattle.papaya_call.specs.Machine as call_machine
-use Rattle.papaya_copy.specs.declared.link.Link.{Link}
 use Rattle.papaya_copy.specs.declared.link.Link.TheVariants as links
 use Rattle.papaya_copy.specs.Link.{link_ask}
 use Rattle.papaya_chain.specs.declared.ask.Ask.TheVariants as asks
@@ -37,7 +36,7 @@ use Rattle.papaya_chain.specs.Machine.{after, ask_of, asks_in}
 use Rattle.papaya_chain.proofs.Settings.{settings_stay}
 use Rattle.papaya_chain_rests.specs.Goes.{IsOwnRefusal, IsOwnStep, IsTableRefusal, IsToMake, WasNotMade, WouldBeTooLong, link_in}
 use Rattle.papaya_chain_rests.specs.Rests.{left_by}
-use Rattle.papaya_chain_rests.proofs.CopyRefusals.{copying_asks}
+use Rattle.papaya_chain_rests.proofs.LinkStates.{In}
 use Rattle.papaya_chain_rests.proofs.Replies.{aside_asks}
 use Rattle.papaya_rests.proofs.Tasks.{same_task}
 use Rattle.papaya_store.specs.Asks.{PerformsAsk}
@@ -56,7 +55,7 @@ use Rattle.papaya_seq.specs.Map.{HasNoTable, IsLogFull, IsWriteCause, MapState}
 use Rattle.papaya_seq.proofs.KeyCalls.{KeyCall, first_of}
 use Rattle.papaya_seq.proofs.Logs.{IsFirst, SameLogs, copy_logs, first_before, own_logs, unmade_before}
 use Rattle.papaya_seq.proofs.OwnSteps.{own_performs}
-use Rattle.papaya_seq.proofs.Sizes.{is_sized, link_asked, machine_sized, sized_as, sized_is}
+use Rattle.papaya_seq.proofs.Sizes.{IsSizedLink, is_sized, link_asked, machine_sized, sized_as, sized_beside}
 use Rattle.papaya_seq.proofs.Steps.{HasCome, made_caused, made_goes, seated, stepped}
 
 -- a call asks for a table: it is set aside, or makes its first one
@@ -116,9 +115,9 @@ module _ {K V S : Type 0} (s : MapState K V S) (store store' : StoreState K V S)
     | inr (capacity, full) ↦ inr (capacity, inl (subst (λ (y : StoreState K V S). MAX_TABLES ≤ length y.words.tables) (sym stays) full))
   ]
 
-  pub table_refused : (slots limit : ℕ) (told : Call_answer) → told ≡ Was_refused refused → (Refuses MAX_TABLES (length store.words.tables) told × (store' ≡ store)) ⊎ MakesTable told slots limit store store' → IsNoTableRefusal (record s { store = store' }) refused
-  table_refused slots limit told is (inl (none, stays)) = tables_full told is none stays
-  table_refused slots limit told is (inr (made, few, more)) = absurd (cc (made, is))
+  pub table_refused : (slots limit chunks : ℕ) (told : Call_answer) → told ≡ Was_refused refused → (Refuses MAX_TABLES (length store.words.tables) told × (store' ≡ store)) ⊎ MakesTable told slots limit chunks store store' → IsNoTableRefusal (record s { store = store' }) refused
+  table_refused slots limit chunks told is (inl (none, stays)) = tables_full told is none stays
+  table_refused slots limit chunks told is (inr (made, few, more)) = absurd (cc (made, is))
 
   -- or would be too long, by the count, after one that is there
   pub table_long : refused ≡ Capacity → (behind slots : ℕ) (unfit : Bool) → HasSlots store behind slots → 2 ^ 32 < length_after slots (count_of store.count.sum) s.initial unfit → store' ≡ store → IsNoTableRefusal (record s { store = store' }) refused
@@ -137,16 +136,16 @@ module _ {K V S : Type 0} (eq : K → K → Bool) (hash : S → K → ℕ) (s : 
     pub mode : r.machine.call.mode ≡ s.mode
     pub initial : r.machine.call.initial ≡ s.initial
     -- the length of a next table is counted by the slots of the one before
-    pub sized : (behind slots : ℕ) (unfit : Bool) → link_in r.machine.phase ≡ Some (links.Counting behind unfit slots) → HasSlots store behind slots
+    pub sized : In (IsSizedLink (HasSlots store)) (link_in r.machine.phase)
 
   -- a call that begins
-  pub unlogged_none : IsUnlogged s.store (first_of (hash s.store.hasher) s.mode s.initial call)
-  unlogged_none = record {
+  pub unlogged_none : (number : ℕ) → IsUnlogged s.store (first_of (hash s.store.hasher) s.mode s.initial number call)
+  unlogged_none number = record {
     keys = λ e. refl;
     pairs = λ e. refl;
     mode = refl;
     initial = refl;
-    sized = λ behind slots unfit e. absurd cc;
+    sized = tt;
   }
 
   module _ (store : StoreState K V S) (r : Running K V (Unit {0})) (answer : Answer) (store' : StoreState K V S) (later : Running K V (Unit {0})) (going : reply_in (ask_of r.machine) ≡ None) (performs : PerformsAsk eq whatever hash false (ask_of r.machine) store r answer store' later) (same : later.machine ≡ r.machine) (keys : IsLawfulKeys eq (hash s.store.hasher)) (came : HasCome eq hash s call store r) (un : IsUnlogged store r) where
@@ -171,18 +170,15 @@ module _ {K V S : Type 0} (eq : K → K → Bool) (hash : S → K → ℕ) (s : 
     still_there behind slots (t, there, is) = let more = grown behind t there in (more.0, more.1, more.2 ∙ is)
 
     -- a table's size that was answered
-    told_size : (slots limit : ℕ) → answer ≡ answers.Call (Size slots limit) → (behind : ℕ) (unfit : Bool) → link_in r.machine.phase ≡ Some (links.Sizing behind unfit) → HasSlots store' behind slots
-    told_size slots limit is behind unfit e =
-        let h = subst (λ ask. PerformsAsk eq whatever hash false ask store r answer store' later) (link_asked r.machine (links.Sizing behind unfit) e) performs in
+    told_size : (slots limit : ℕ) → answer ≡ answers.Call (Size slots limit) → (behind copied : ℕ) (unfit : Bool) → link_in r.machine.phase ≡ Some (links.Sizing behind copied unfit) → HasSlots store' behind slots
+    told_size slots limit is behind copied unfit e =
+        let h = subst (λ ask. PerformsAsk eq whatever hash false ask store r answer store' later) (link_asked r.machine (links.Sizing behind copied unfit) e) performs in
         let f : answers.Call (size_of (table_of store.words.tables behind)) ≡ answers.Call (Size slots limit) = sym h.0.0 ∙ is in
         let told : size_of (table_of store.words.tables behind) ≡ Size slots limit = cc f in
         still_there behind slots (sized_as (table_of store.words.tables behind) slots limit told)
 
-    next_sized : (behind slots : ℕ) (unfit : Bool) → link_in (after r.machine answer).phase ≡ Some (links.Counting behind unfit slots) → HasSlots store' behind slots
-    next_sized =
-        is_sized (HasSlots store') (link_in (after r.machine answer).phase)
-        (machine_sized (HasSlots store') r.machine answer told_size
-        (sized_is (HasSlots store') (link_in r.machine.phase) (λ behind slots unfit e. still_there behind slots (un.sized behind slots unfit e))))
+    next_sized : In (IsSizedLink (HasSlots store')) (link_in (after r.machine answer).phase)
+    next_sized = machine_sized (HasSlots store') r.machine answer told_size (sized_beside (HasSlots store) (HasSlots store') still_there (link_in r.machine.phase) un.sized)
 
     -- where the call is this after the step
     unlogged_then : (then : Call_machine) → (after r.machine answer).call ≡ then → then.mode ≡ own.mode → then.initial ≡ own.initial
@@ -278,7 +274,7 @@ module _ {K V S : Type 0} (eq : K → K → Bool) (hash : S → K → ℕ) (s : 
       Why = (IsLogAsk r.machine × IsLogRefusal s refused) ⊎ (IsTableAsk r.machine × IsNoTableRefusal then refused)
 
       make_refused : (made : Made) (stage : Stage) → own.made ≡ made → own.state ≡ stage → r.machine.phase ≡ Calling → (told : Call_answer) → told ≡ Was_refused refused → IsToMake (call_asks made own.hash stage) → Performs eq whatever false (call_asks made own.hash stage) store r told store' later → Why
-      make_refused made Making m e calling told is makes h = inr (λ _. e, table_refused s store store' refused FIRST_TABLE_LEN FIRST_TABLE_LIMIT told is h.0)
+      make_refused made Making m e calling told is makes h = inr (λ _. e, table_refused s store store' refused FIRST_TABLE_LEN FIRST_TABLE_LIMIT 0 told is h.0)
       make_refused Nothing (Writing write) m e calling told is makes h = inl ((calling, subst IsLogStage (sym e) tt), key_refused m told is h)
       make_refused Key (Writing write) m e calling told is makes h =
           let writes : IsWriter own.task = (subst (IsStandingState own.task) e standing).0 in
@@ -321,7 +317,7 @@ module _ {K V S : Type 0} (eq : K → K → Bool) (hash : S → K → ℕ) (s : 
           let ((told, is, h), stays) = subst (λ ask. PerformsAsk eq whatever hash false ask store r answer store' later) because.asks performs in
           let f : answers.Call told ≡ answers.Call (Was_refused refused) = sym is ∙ because.is in
           let as_told : told ≡ Was_refused refused = cc f in
-          table_refused s store store' refused because.slots because.limit told as_told h
+          table_refused s store store' refused because.slots because.limit because.chunks told as_told h
 
       -- or would be too long
       next_long : WouldBeTooLong r.machine answer refused → IsNoTableRefusal then refused
@@ -331,7 +327,7 @@ module _ {K V S : Type 0} (eq : K → K → Bool) (hash : S → K → ℕ) (s : 
           let counted : because.count ≡ count_of store.count.sum = cc f in
           let at_count : 2 ^ 32 < length_after because.slots (count_of store.count.sum) own.initial because.unfit = subst (λ n. 2 ^ 32 < length_after because.slots n own.initial because.unfit) counted because.long in
           let at_initial : 2 ^ 32 < length_after because.slots (count_of store.count.sum) s.initial because.unfit = subst (λ n. 2 ^ 32 < length_after because.slots (count_of store.count.sum) n because.unfit) un.initial at_count in
-          table_long s store store' refused because.capacity because.behind because.slots because.unfit (un.sized because.behind because.slots because.unfit because.link) at_initial stays
+          table_long s store store' refused because.capacity because.behind because.slots because.unfit (is_sized (HasSlots store) (link_in r.machine.phase) un.sized because.behind because.slots because.copied because.unfit because.link) at_initial stays
 
       next_table : IsTableRefusal r.machine answer refused → IsTableAsk r.machine × IsNoTableRefusal then refused
       next_table because = elim because.why [

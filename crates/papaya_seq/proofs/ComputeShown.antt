@@ -126,10 +126,10 @@ module _ {K V S H : Type 0} (eq : K → K → Bool) (input : K → List (List �
   pair_there : (n : ℕ) (left : Map K V) → IsAnswered eq (compute_of k) (map_in eq s.store) (Removed n) left → (p : Stored K V) × (map_in eq s.store k ≡ Some p) × (p.number ≡ n)
   pair_there n left done = let (q, went, number) = pair_went n done.went done.came done.does in (q, done.update.before ∙ went, number)
 
-  module _ (store : StoreState K V S) (call : Machine) (helped : Bool) (key : KeyOf K) (left : Option V) where
+  module _ (store : StoreState K V S) (call : Machine) (number : ℕ) (helped : Bool) (key : KeyOf K) (left : Option V) where
     -- the call in a state
     abbrev at_state : State → Running K V (Unit {0})
-    at_state state = record { machine = record { call = record call { task = Compute; state = state }; helped = helped; phase = Calling }; key = key; value = left; answers = Some tt }
+    at_state state = record { machine = record { call = record call { task = Compute; state = state }; number = number; helped = helped; phase = Calling }; key = key; value = left; answers = Some tt }
 
     none_shown : (gap : Gap) → Came store (at_state (Offering gap)) → map_in eq s.store k ≡ None
     none_shown gap came =
@@ -169,12 +169,12 @@ module _ {K V S H : Type 0} (eq : K → K → Bool) (input : K → List (List �
 
   module _ {A : Type 0} (store : StoreState K V S) (r : Running K V A) (came : Came store (asking r)) where
     -- the same of a call that is known to be in this state
-    at_once : (state : State) → r.machine.phase ≡ Calling → r.machine.call.state ≡ state → Came store (at_state store r.machine.call r.machine.helped r.key r.value state)
+    at_once : (state : State) → r.machine.phase ≡ Calling → r.machine.call.state ≡ state → Came store (at_state store r.machine.call r.machine.number r.machine.helped r.key r.value state)
     at_once state phase is =
         subst (λ (m : Chain_machine). Came store (record { machine = m; key = r.key; value = r.value; answers = Some tt }))
         (ap (λ (p : _). record r.machine { phase = p }) phase
-        ∙ ap (λ (t : _). record { call = record r.machine.call { task = t }; helped = r.machine.helped; phase = Calling }) came.task
-        ∙ ap (λ (x : State). record { call = record r.machine.call { task = Compute; state = x }; helped = r.machine.helped; phase = Calling }) is)
+        ∙ ap (λ (t : _). record { call = record r.machine.call { task = t }; number = r.machine.number; helped = r.machine.helped; phase = Calling }) came.task
+        ∙ ap (λ (x : State). record { call = record r.machine.call { task = Compute; state = x }; number = r.machine.number; helped = r.machine.helped; phase = Calling }) is)
         came
 
     -- its closure is shown none where the map has none
@@ -182,7 +182,7 @@ module _ {K V S H : Type 0} (eq : K → K → Bool) (input : K → List (List �
     shows_none e =
         let own = call_asks r.machine ShowNone e in
         let (gap, is) = offering r.machine.call.made r.machine.call.hash r.machine.call.state own.1 in
-        none_shown store r.machine.call r.machine.helped r.key r.value gap (at_once (Offering gap) own.0 is)
+        none_shown store r.machine.call r.machine.number r.machine.helped r.key r.value gap (at_once (Offering gap) own.0 is)
 
     -- or the pair that the map has
     pub shows_pair : (n : ℕ) → ask_of r.machine ≡ asked.Call (ShowPair n) → (q : Stored K V) × (map_in eq s.store k ≡ Some q) × (q.number ≡ n) × (pair_of store n ≡ Some q)
@@ -190,4 +190,4 @@ module _ {K V S H : Type 0} (eq : K → K → Bool) (input : K → List (List �
         let own = call_asks r.machine (ShowPair n) e in
         let (removal, is, number) = showing r.machine.call.made r.machine.call.hash n r.machine.call.state own.1 in
         subst (λ i. (q : Stored K V) × (map_in eq s.store k ≡ Some q) × (q.number ≡ i) × (pair_of store i ≡ Some q)) number
-        (pair_shown store r.machine.call r.machine.helped r.key r.value removal (at_once (Showing removal) own.0 is))
+        (pair_shown store r.machine.call r.machine.number r.machine.helped r.key r.value removal (at_once (Showing removal) own.0 is))

@@ -82,14 +82,14 @@ goes_in root Blocking (seen.Over t) there = tt
 
 -- a compute that goes on for itself and remembers nothing
 abbrev pub bare_at : Machine → State → Machine
-bare_at m state = record { call = record m.call { task = Compute; remembered = nothing; state = state }; helped = m.helped; phase = Calling }
+bare_at m state = record { call = record m.call { task = Compute; remembered = nothing; state = state }; number = m.number; helped = m.helped; phase = Calling }
 
 pub bare_is : (m : Machine) (state : State) → m.call.task ≡ Compute → m.call.remembered ≡ nothing → m.phase ≡ Calling → m.call.state ≡ state → m ≡ bare_at m state
 bare_is m state task held phase is =
     ap (λ p. record m { phase = p }) phase
-    ∙ ap (λ t. record { call = record m.call { task = t }; helped = m.helped; phase = Calling }) task
-    ∙ ap (λ h. record { call = record m.call { task = Compute; remembered = h }; helped = m.helped; phase = Calling }) held
-    ∙ ap (λ x. record { call = record m.call { task = Compute; remembered = nothing; state = x }; helped = m.helped; phase = Calling }) is
+    ∙ ap (λ t. record { call = record m.call { task = t }; number = m.number; helped = m.helped; phase = Calling }) task
+    ∙ ap (λ h. record { call = record m.call { task = Compute; remembered = h }; number = m.number; helped = m.helped; phase = Calling }) held
+    ∙ ap (λ x. record { call = record m.call { task = Compute; remembered = nothing; state = x }; number = m.number; helped = m.helped; phase = Calling }) is
 
 module _ {K V S A : Type 0} (eq : K → K → Bool) (says : Says K V A) (hash : S → K → ℕ) (store : StoreState K V S) (r : Running K V A) (store' : StoreState K V S) (later : Running K V A) where
   module _ (m : Machine) (last : word_at store.words (Next store.words.root) ≡ 0) (unmarked : (i : ℕ) → kind_of (word_at store.words (Slot store.words.root i)) ≡ kinds.Marked → ⊥) where

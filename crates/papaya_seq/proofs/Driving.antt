@@ -20,7 +20,7 @@ use Rattle.papaya_timeline.specs.Advances as advances
 
 -- the machine of a call that goes on for itself
 abbrev pub calling : Call_machine → Machine
-calling m = record { call = m; helped = false; phase = Calling }
+calling m = record { call = m; number = 0; helped = false; phase = Calling }
 
 -- the reply in what a call asks
 abbrev pub reply_in : Ask → Option Reply

@@ -1,5 +1,5 @@
 -- A map that is filled, one pair on.
-use Rattle.std.proofs.Common.{◌≡◌, ℕ, ⊎_elim, Bool, not, true, false, cond, List, [], ◌∷◌, ◌++◌, Option, Some, Ok, Err, option_map, refl, sym, ap, ◌∙◌, subst}
+use Rattle.std.proofs.Common.{◌≡◌, ℕ, ⊎_elim, Bool, true, false, cond, List, [], ◌∷◌, ◌++◌, Option, Some, Ok, Err, option_map, refl, sym, ap, ◌∙◌, subst}
 use Rattle.std.proofs.lemmas.Bool.{cases_Bool, cond-true, cond-false}
 use Rattle.std.proofs.lemmas.List.Sums.{fold_push}
 use Rattle.papaya_words.specs.Probe.{IsEntriesFor}

@@ -92,7 +92,7 @@ module _ {K V S : Type 0} where
     copy_pairs hash refuse (copies.HashOf n) s a s' (is, hashed, same) = same_pairs s s' same
     copy_pairs hash refuse (copies.SamePair m n) s a s' (is, same) = same_pairs s s' same
     copy_pairs hash refuse copies.Count s a s' (is, same) = same_pairs s s' same
-    copy_pairs hash refuse (copies.MakeTable slots limit) s a s' (told, is, h) =
+    copy_pairs hash refuse (copies.MakeTable slots limit chunks) s a s' (told, is, h) =
         matched (SamePairs s s') refuse _ _ h (λ _ none. same_pairs s s' none.1)
         (λ _ makes. elim makes [ inl refused ↦ same_pairs s s' refused.1 | inr (is, few, same) ↦ (ap (λ (y : StoreState K V S). y.pairs) same, ap (λ (y : StoreState K V S). y.count.shards) same) ])
 
@@ -116,7 +116,7 @@ module _ {K V S A : Type 0} (eq : K → K → Bool) (says : Says K V A) (refuse 
       by_cases (inr (inl (has, stays))) = same_pairs s s' stays.0
       by_cases (inr (inr (k, own, is, few, grown, later))) = (ap (λ (y : StoreState K V S). y.pairs) grown, ap (λ (y : StoreState K V S). y.count.shards) grown)
   plain_pairs MakePair s r a s' r' plain h = absurd plain
-  plain_pairs (MakeTable slots limit) s r a s' r' plain h =
+  plain_pairs (MakeTable slots limit chunks) s r a s' r' plain h =
       matched (SamePairs s s') refuse _ _ h (λ _ none. same_pairs s s' none.1.0)
       (λ _ makes. elim makes.0 [ inl refused ↦ same_pairs s s' refused.1 | inr (is, few, same) ↦ (ap (λ (y : StoreState K V S). y.pairs) same, ap (λ (y : StoreState K V S). y.count.shards) same) ])
   plain_pairs (AddToShard by) s r a s' r' plain (e, (number, same), moved) = (ap (λ (y : StoreState K V S). y.pairs) same, ap (λ (y : StoreState K V S). y.count.shards) same)
@@ -144,7 +144,7 @@ module _ {K V S A : Type 0} (eq : K → K → Bool) (says : Says K V A) (refuse 
   one_logged (ShowPair n) s r a s' r' h = logs_none s s' (plain_pairs (ShowPair n) s r a s' r' tt h)
   one_logged (SizeOf n) s r a s' r' h = logs_none s s' (plain_pairs (SizeOf n) s r a s' r' tt h)
   one_logged MakeKey s r a s' r' h = logs_none s s' (plain_pairs MakeKey s r a s' r' tt h)
-  one_logged (MakeTable slots limit) s r a s' r' h = logs_none s s' (plain_pairs (MakeTable slots limit) s r a s' r' tt h)
+  one_logged (MakeTable slots limit chunks) s r a s' r' h = logs_none s s' (plain_pairs (MakeTable slots limit chunks) s r a s' r' tt h)
   one_logged (AddToShard by) s r a s' r' h = logs_none s s' (plain_pairs (AddToShard by) s r a s' r' tt h)
   one_logged (Ask_done reply) s r a s' r' h = logs_none s s' (plain_pairs (Ask_done reply) s r a s' r' tt h)
 

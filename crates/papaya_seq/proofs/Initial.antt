@@ -45,7 +45,7 @@ module _ (m : Machine) where
 
   grows_initial : (mode : ResizeMode) (need : Need) (next : ℕ) → Alike (grows_as m mode need next)
   grows_initial Blocking need next = refl
-  grows_initial (Incremental chunk) need next = cond_both (next == 0) (record m { phase = Linking (links.Sizing (needed need) false) }) (onward m next) Alike (λ _. refl) (λ _. onward_initial next)
+  grows_initial (Incremental chunk) need next = cond_both (next == 0) (record m { phase = Linking (links.Sizing (needed need) (needed need) false) }) (onward m next) Alike (λ _. refl) (λ _. onward_initial next)
 
   leaves_initial : (task : Task) (next : ℕ) → Alike (leaves m task next)
   leaves_initial tasks.Get next = stepped_initial (Word_read next)
@@ -79,8 +79,8 @@ module _ (m : Machine) where
 
   phase_initial : (answer : Answer) (phase : Phase) → Alike (after_in m answer phase)
   phase_initial answer Calling = answered_initial answer
-  phase_initial answer (Linking link) = linked_initial (link_after link m.call.initial answer)
-  phase_initial answer (Copying_root copying) = copied_initial (copying_after copying m.call.mode m.call.initial answer)
+  phase_initial answer (Linking link) = linked_initial (link_after link m.call.mode m.call.initial answer)
+  phase_initial answer (Copying_root copying) = copied_initial (copying_after copying m.call.mode m.call.initial m.number answer)
 
   pub chain_initial : (answer : Answer) → Alike (after m answer)
   chain_initial answer = phase_initial answer m.phase

@@ -83,22 +83,22 @@ unreplied (asks.Call (ShowPair n)) open_still = refl
 unreplied (asks.Call (SizeOf t)) open_still = refl
 unreplied (asks.Call MakeKey) open_still = refl
 unreplied (asks.Call MakePair) open_still = refl
-unreplied (asks.Call (MakeTable slots limit)) open_still = refl
+unreplied (asks.Call (MakeTable slots limit chunks)) open_still = refl
 unreplied (asks.Call (AddToShard by)) open_still = refl
 unreplied (asks.Copy ask) open_still = refl
 
 module _ {K V S A : Type 0} (eq : K → K → Bool) (hash : S → K → ℕ) (s : MapState K V S) (replace : Bool) (k : K) (value : V) where
   -- it begins
-  pub inserting_begin : (m : Machine) (hashed : ℕ) → m ≡ started (Insert replace) hashed s.mode s.initial → hashed ≡ hash s.store.hasher k → IsStanding m → IsInserting {A = A} eq hash s replace k value s.store (record { machine = m; key = Own k; value = Some value; answers = None })
-  inserting_begin m hashed is hash_same standing =
-      let machine : m ≡ started (Insert replace) (hash s.store.hasher k) s.mode s.initial = is ∙ ap (λ n. started (Insert replace) n s.mode s.initial) hash_same in
+  pub inserting_begin : (m : Machine) (hashed number : ℕ) → m ≡ started (Insert replace) hashed s.mode s.initial number → hashed ≡ hash s.store.hasher k → IsStanding m → IsInserting {A = A} eq hash s replace k value s.store (record { machine = m; key = Own k; value = Some value; answers = None })
+  inserting_begin m hashed number is hash_same standing =
+      let machine : m ≡ started (Insert replace) (hash s.store.hasher k) s.mode s.initial number = is ∙ ap (λ n. started (Insert replace) n s.mode s.initial number) hash_same in
       subst (λ (x : Machine). IsInserting {A = A} eq hash s replace k value s.store (record { machine = x; key = Own k; value = Some value; answers = None })) (sym machine) (record {
-        steps = made_none eq hash s (keyed_insertion replace k value);
+        steps = made_none eq hash s (keyed_insertion replace k value) number;
         silence = refl;
         standing = subst IsStanding machine standing;
         hand = inl refl;
         resting = λ last. inr (record { calling = refl; stage = last });
-        unlogged = unlogged_none eq hash s (keyed_insertion replace k value);
+        unlogged = unlogged_none eq hash s (keyed_insertion replace k value) number;
         logs = logs_none s.store s.store (refl, refl);
         caused = λ refused e. let f : None ≡ Some (Reply_refused refused) = e in absurd cc;
       })

@@ -19,11 +19,11 @@ pub record KeyCall (K V : Type 0) : Type 0 where
   pub value : Option V
   pub answers : Option (Unit {0})
   pub key_is : key_of call ≡ Some key
-  pub begins : (hash : K → ℕ) (mode : ResizeMode) (initial : ℕ) → begun_work hash mode initial call ≡ works.Call (begun hash mode initial task key value answers)
+  pub begins : (hash : K → ℕ) (mode : ResizeMode) (initial number : ℕ) → begun_work hash mode initial number call ≡ works.Call (begun hash mode initial number task key value answers)
 
 -- as it begins
-abbrev pub first_of : {K V : Type 0} → (K → ℕ) → ResizeMode → ℕ → KeyCall K V → Running K V (Unit {0})
-first_of hash mode initial call = begun hash mode initial call.task call.key call.value call.answers
+abbrev pub first_of : {K V : Type 0} → (K → ℕ) → ResizeMode → (initial number : ℕ) → KeyCall K V → Running K V (Unit {0})
+first_of hash mode initial number call = begun hash mode initial number call.task call.key call.value call.answers
 
 -- the hash of its key, where that of this key has 64 bits
 pub key_fits : {K V : Type 0} (hash : K → ℕ) (call : KeyCall K V) → hash call.key < 2 ^ 64 → (k : K) → key_of call.call ≡ Some k → hash k < 2 ^ 64
@@ -37,13 +37,13 @@ keyed_insertion replace k value = record { call = insertion replace k value; key
     key_is true k value = refl
     key_is false k value = refl
 
-    begins : {K V : Type 0} (replace : Bool) (k : K) (value : V) (hash : K → ℕ) (mode : ResizeMode) (initial : ℕ) → begun_work hash mode initial (insertion replace k value) ≡ works.Call (begun hash mode initial (Insert replace) k (Some value) None)
-    begins true k value hash mode initial = refl
-    begins false k value hash mode initial = refl
+    begins : {K V : Type 0} (replace : Bool) (k : K) (value : V) (hash : K → ℕ) (mode : ResizeMode) (initial number : ℕ) → begun_work hash mode initial number (insertion replace k value) ≡ works.Call (begun hash mode initial number (Insert replace) k (Some value) None)
+    begins true k value hash mode initial number = refl
+    begins false k value hash mode initial number = refl
 
 -- a removal, and a compute, whatever a closure answers
 abbrev pub keyed_removal : {K V : Type 0} → K → KeyCall K V
-keyed_removal k = record { call = calls.RemoveIf k tt; key = k; task = RemoveIf; value = None; answers = Some tt; key_is = refl; begins = λ hash mode initial. refl }
+keyed_removal k = record { call = calls.RemoveIf k tt; key = k; task = RemoveIf; value = None; answers = Some tt; key_is = refl; begins = λ hash mode initial number. refl }
 
 abbrev pub keyed_compute : {K V : Type 0} → K → KeyCall K V
-keyed_compute k = record { call = calls.Compute k tt; key = k; task = Compute; value = None; answers = Some tt; key_is = refl; begins = λ hash mode initial. refl }
+keyed_compute k = record { call = calls.Compute k tt; key = k; task = Compute; value = None; answers = Some tt; key_is = refl; begins = λ hash mode initial number. refl }

@@ -68,7 +68,7 @@ module _ {K V S : Type 0} where
     copy_logs hash refuse (copies.HashOf n) s a s' (is, hashed, same) = same_logs s s' same
     copy_logs hash refuse (copies.SamePair m n) s a s' (is, same) = same_logs s s' same
     copy_logs hash refuse copies.Count s a s' (is, same) = same_logs s s' same
-    copy_logs hash refuse (copies.MakeTable slots limit) s a s' (told, is, h) =
+    copy_logs hash refuse (copies.MakeTable slots limit chunks) s a s' (told, is, h) =
         matched (SameLogs s s') refuse _ _ h (λ _ none. same_logs s s' none.1)
         (λ _ makes. elim makes [ inl refused ↦ same_logs s s' refused.1 | inr (is, few, same) ↦ (ap (λ (y : StoreState K V S). y.keys) same, ap (λ (y : StoreState K V S). y.pairs) same) ])
 
@@ -87,7 +87,7 @@ module _ {K V S A : Type 0} (eq : K → K → Bool) (says : Says K V A) where
   plain_logs refuse (SizeOf n) s r a s' r' plain (e, stays) = same_logs s s' stays.0
   plain_logs refuse MakeKey s r a s' r' plain h = absurd plain
   plain_logs refuse MakePair s r a s' r' plain h = absurd plain
-  plain_logs refuse (MakeTable slots limit) s r a s' r' plain h =
+  plain_logs refuse (MakeTable slots limit chunks) s r a s' r' plain h =
       matched (SameLogs s s') refuse _ _ h (λ _ none. same_logs s s' none.1.0)
       (λ _ makes. elim makes.0 [ inl refused ↦ same_logs s s' refused.1 | inr (is, few, same) ↦ (ap (λ (y : StoreState K V S). y.keys) same, ap (λ (y : StoreState K V S). y.pairs) same) ])
   plain_logs refuse (AddToShard by) s r a s' r' plain (e, (number, same), moved) = (ap (λ (y : StoreState K V S). y.keys) same, ap (λ (y : StoreState K V S). y.pairs) same)

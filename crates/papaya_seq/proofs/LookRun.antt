@@ -67,7 +67,7 @@ module _ {K V S : Type 0} (eq : K → K → Bool) (hash : S → K → ℕ) (s : 
   told_performs m MakeKey answer told = absurd told
   told_performs m ShowNone answer told = absurd told
   told_performs m MakePair answer told = absurd told
-  told_performs m (MakeTable slots limit) answer told = absurd told
+  told_performs m (MakeTable slots limit chunks) answer told = absurd told
   told_performs m (AddToShard by) answer told = absurd told
   told_performs m (Ask_done reply) answer told = absurd told
 
@@ -83,7 +83,7 @@ module _ {K V S : Type 0} (eq : K → K → Bool) (hash : S → K → ℕ) (s : 
   told_goes MakeKey answer told = absurd told
   told_goes ShowNone answer told = absurd told
   told_goes MakePair answer told = absurd told
-  told_goes (MakeTable slots limit) answer told = absurd told
+  told_goes (MakeTable slots limit chunks) answer told = absurd told
   told_goes (AddToShard by) answer told = absurd told
   told_goes (Ask_done reply) answer told = absurd told
 
@@ -150,6 +150,6 @@ module _ {K V S : Type 0} (eq : K → K → Bool) (hash : S → K → ℕ) (s : 
         steps = run.steps;
         last = run.last;
         before = run.before;
-        runs = (Finish 0 run.steps, core_in (Some (getting m)), with_event 0 0 Begun [], refl, (Begin 0 (Get k), core_of s, [], refl, (refl, refl), inl (refl, record { store = refl; callers = refl; mode = refl; initial = refl; fits = λ j e. subst (λ x. hash s.store.hasher x < 2 ^ 64) (let same : k ≡ j = cc e in same) fits; power = power }, refl)), run.runs);
+        runs = (Finish 0 run.steps, core_in (Some (getting m)), with_event 0 0 Begun [], refl, (Begin 0 (Get k), core_of s, [], refl, (refl, refl), inl (refl, record { number = 0; store = refl; callers = refl; mode = refl; initial = refl; fits = λ j e. subst (λ x. hash s.store.hasher x < 2 ^ 64) (let same : k ≡ j = cc e in same) fits; power = power }, refl)), run.runs);
         replied = run.replied;
       }

@@ -25,6 +25,7 @@ use Rattle.papaya_chain.specs.declared.ask.Answer.TheVariants as answers
 use Rattle.papaya_chain.specs.declared.machine.Machine.{Machine}
 use Rattle.papaya_chain.specs.Machine.{after, ask_of, asks_in, started}
 use Rattle.papaya_chain_rests.specs.Goes.{IsCause, IsToMake, WasNotMade, WouldBeTooLong, link_in}
+use Rattle.papaya_chain_rests.proofs.LinkStates.{In}
 use Rattle.papaya_store.specs.Copies.{PerformsCopy}
 use Rattle.papaya_store.specs.Performs.{Exchanges, size_of}
 use Rattle.papaya_store.specs.Store.{StoreState}
@@ -37,7 +38,7 @@ use Rattle.papaya_seq.specs.Removes.{IsRemovalAnswer}
 use Rattle.papaya_seq.proofs.Causes.{HasSlots, IsNoTableRefusal, table_long, table_refused}
 use Rattle.papaya_seq.proofs.Initial.{chain_initial}
 use Rattle.papaya_seq.proofs.SeekTurns.{IsAnswered}
-use Rattle.papaya_seq.proofs.Sizes.{is_sized, link_asked, machine_sized, sized_as, sized_is}
+use Rattle.papaya_seq.proofs.Sizes.{IsSizedLink, is_sized, link_asked, machine_sized, sized_as, sized_beside}
 
 -- each table is as long after a write as before it, also where none has the place
 put_at_grown : (w : Tables) (at : At) (n word : ℕ) → HasMoreTables w.tables (put_at at n w word).tables
@@ -61,7 +62,7 @@ pub put_grown : (w : Tables) (at : At) (word : ℕ) → HasMoreTables w.tables (
 put_grown w Root word = grown-same w.tables
 put_grown w (Next n) word = put_at_grown w (Next n) n word
 put_grown w (Aborted n) word = put_at_grown w (Aborted n) n word
-put_grown w (Done n) word = put_at_grown w (Done n) n word
+put_grown w (Done n chunk) word = put_at_grown w (Done n chunk) n word
 put_grown w (Slot n i) word = put_at_grown w (Slot n i) n word
 
 module _ {K V S : Type 0} where
@@ -87,8 +88,8 @@ module _ {K V S : Type 0} where
   copy_grown eq hash (copies.HashOf n) s answer s' (_, _, same) = grown_stays s s' same
   copy_grown eq hash (copies.SamePair m n) s answer s' (_, same) = grown_stays s s' same
   copy_grown eq hash copies.Count s answer s' (_, same) = grown_stays s s' same
-  copy_grown eq hash (copies.MakeTable slots limit) s answer s' (told, _, inl (_, same)) = grown_stays s s' same
-  copy_grown eq hash (copies.MakeTable slots limit) s answer s' (told, _, inr (_, _, is)) = grown_as s s' _ (ap (λ (y : StoreState K V S). y.words) is) (made-grown s.words _ slots limit)
+  copy_grown eq hash (copies.MakeTable slots limit chunks) s answer s' (told, _, inl (_, same)) = grown_stays s s' same
+  copy_grown eq hash (copies.MakeTable slots limit chunks) s answer s' (told, _, inr (_, _, is)) = grown_as s s' _ (ap (λ (y : StoreState K V S). y.words) is) (made-grown s.words _ slots limit chunks)
 
 module _ {K V S F : Type 0} (eq : K → K → Bool) (hash : S → K → ℕ) (g : Mut F (Bor K × (Bor V × Unit {0})) Bool) (matches : K → Bool) where
   call_grown : (ask : Call_ask) (s : StoreState K V S) (f : F) (answer : Call_answer) (s' : StoreState K V S) (f' : F) → IsRemovalAnswer g matches ask s f answer s' f' → HasMoreTables s.words.tables s'.words.tables
@@ -108,12 +109,12 @@ module _ {K V S F : Type 0} (eq : K → K → Bool) (hash : S → K → ℕ) (g 
   module _ (map : MapState K V S) where
     -- What holds between two answers: by which table the length of a next one is counted, and the initial capacity.
     pub record IsCounting (s : StoreState K V S) (m : Machine) : Type 0 where
-      pub sized : (behind slots : ℕ) (unfit : Bool) → link_in m.phase ≡ Some (links.Counting behind unfit slots) → HasSlots s behind slots
+      pub sized : In (IsSizedLink (HasSlots s)) (link_in m.phase)
       pub initial : m.call.initial ≡ map.initial
 
     -- as it begins
-    pub counting_begun : (hashed : ℕ) → IsCounting map.store (started RemoveIf hashed map.mode map.initial)
-    counting_begun hashed = record { sized = λ behind slots unfit e. absurd cc; initial = refl }
+    pub counting_begun : (hashed number : ℕ) → IsCounting map.store (started RemoveIf hashed map.mode map.initial number)
+    counting_begun hashed number = record { sized = tt; initial = refl }
 
     module _ (s : StoreState K V S) (f : F) (m : Machine) (answer : Answer) (s' : StoreState K V S) (f' : F) (answered : IsAnswered eq hash g matches (ask_of m) s f answer s' f') (now : IsCounting s m) where
       -- what is answered where it asks this
@@ -125,9 +126,9 @@ module _ {K V S F : Type 0} (eq : K → K → Bool) (hash : S → K → ℕ) (g 
       still_there behind slots (t, there, is) = let more = answered_grown (ask_of m) s f answer s' f' answered behind t there in (more.0, more.1, more.2 ∙ is)
 
       -- a table's size that was answered
-      told_size : (slots limit : ℕ) → answer ≡ answers.Call (Size slots limit) → (behind : ℕ) (unfit : Bool) → link_in m.phase ≡ Some (links.Sizing behind unfit) → HasSlots s' behind slots
-      told_size slots limit is behind unfit e =
-          let (told, same) = answered_at (asks.Copy (copies.SizeOf behind)) (link_asked m (links.Sizing behind unfit) e) in
+      told_size : (slots limit : ℕ) → answer ≡ answers.Call (Size slots limit) → (behind copied : ℕ) (unfit : Bool) → link_in m.phase ≡ Some (links.Sizing behind copied unfit) → HasSlots s' behind slots
+      told_size slots limit is behind copied unfit e =
+          let (told, same) = answered_at (asks.Copy (copies.SizeOf behind)) (link_asked m (links.Sizing behind copied unfit) e) in
           let both : answers.Call (size_of (table_of s.words.tables behind)) ≡ answers.Call (Size slots limit) = sym told.0 ∙ is in
           let size : size_of (table_of s.words.tables behind) ≡ Size slots limit = cc both in
           still_there behind slots (sized_as (table_of s.words.tables behind) slots limit size)
@@ -135,8 +136,7 @@ module _ {K V S F : Type 0} (eq : K → K → Bool) (hash : S → K → ℕ) (g 
       -- so after an answer
       pub counting_more : IsCounting s' (after m answer)
       counting_more = record {
-        sized = is_sized (HasSlots s') (link_in (after m answer).phase)
-            (machine_sized (HasSlots s') m answer told_size (sized_is (HasSlots s') (link_in m.phase) (λ behind slots unfit e. still_there behind slots (now.sized behind slots unfit e))));
+        sized = machine_sized (HasSlots s') m answer told_size (sized_beside (HasSlots s) (HasSlots s') still_there (link_in m.phase) now.sized);
         initial = chain_initial m answer ∙ now.initial;
       }
 
@@ -149,16 +149,16 @@ module _ {K V S F : Type 0} (eq : K → K → Bool) (hash : S → K → ℕ) (g 
         makes_nothing : (ask : Call_ask) → IsToMake ask → (told : Call_answer) → IsRemovalAnswer g matches ask s f told s' f' → ⊥
         makes_nothing MakeKey makes told removes = removes
         makes_nothing MakePair makes told removes = removes
-        makes_nothing (Make_own slots limit) makes told removes = removes
+        makes_nothing (Make_own slots limit chunks) makes told removes = removes
         makes_nothing ask makes told removes = absurd makes
 
         -- a next table was not made
         next_refused : WasNotMade m answer refused → IsNoTableRefusal then refused
         next_refused because =
-            let ((told, is, made), same) = answered_at (asks.Copy (copies.MakeTable because.slots because.limit)) because.asks in
+            let ((told, is, made), same) = answered_at (asks.Copy (copies.MakeTable because.slots because.limit because.chunks)) because.asks in
             let both : answers.Call told ≡ answers.Call (Was_refused refused) = sym is ∙ because.is in
             let as_told : told ≡ Was_refused refused = cc both in
-            table_refused map s s' refused because.slots because.limit told as_told made
+            table_refused map s s' refused because.slots because.limit because.chunks told as_told made
 
         -- or would be too long
         next_long : WouldBeTooLong m answer refused → IsNoTableRefusal then refused
@@ -168,7 +168,7 @@ module _ {K V S F : Type 0} (eq : K → K → Bool) (hash : S → K → ℕ) (g 
             let counted : because.count ≡ count_of s.count.sum = cc both in
             let at_count : 2 ^ 32 < length_after because.slots (count_of s.count.sum) m.call.initial because.unfit = subst (λ n. 2 ^ 32 < length_after because.slots n m.call.initial because.unfit) counted because.long in
             let at_initial : 2 ^ 32 < length_after because.slots (count_of s.count.sum) map.initial because.unfit = subst (λ n. 2 ^ 32 < length_after because.slots (count_of s.count.sum) n because.unfit) now.initial at_count in
-            table_long map s s' refused because.capacity because.behind because.slots because.unfit (now.sized because.behind because.slots because.unfit because.link) at_initial stays
+            table_long map s s' refused because.capacity because.behind because.slots because.unfit (is_sized (HasSlots s) (link_in m.phase) now.sized because.behind because.slots because.copied because.unfit because.link) at_initial stays
 
         -- so a refusal is one of a next table
         pub cause_table : IsCause m answer refused → IsNoTableRefusal then refused

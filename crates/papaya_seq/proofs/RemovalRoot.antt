@@ -131,15 +131,16 @@ pub record IsInRoot {K V S : Type 0} (first s : StoreState K V S) (m : Machine) 
   pub stage : IsRootStage first.words.root m.call.state
 
 -- as it begins
-pub in_root_begun : {K V S : Type 0} (first : StoreState K V S) (hashed : ℕ) (mode : ResizeMode) (initial : ℕ) → IsInRoot first first (started RemoveIf hashed mode initial)
-in_root_begun first hashed mode initial = record { kept = record { root = refl; slots = refl; next = refl }; phase = refl; stage = tt }
+pub in_root_begun : {K V S : Type 0} (first : StoreState K V S) (hashed : ℕ) (mode : ResizeMode) (initial number : ℕ) → IsInRoot first first (started RemoveIf hashed mode initial number)
+in_root_begun first hashed mode initial number = record { kept = record { root = refl; slots = refl; next = refl }; phase = refl; stage = tt }
 
 module _ {K V S F : Type 0} (g : Mut F (Bor K × (Bor V × Unit {0})) Bool) (matches : K → Bool) (s : StoreState K V S) (f : F) (s' : StoreState K V S) (f' : F) (last : next_of s ≡ 0) (open_still : (i : ℕ) → kind_of (word_at s.words (Slot s.words.root i)) ≡ kinds.Marked → ⊥)
-    (made : Made) (hashed : ℕ) (mode : ResizeMode) (initial : ℕ) (held : Remembered) (helped : Bool) where
+    (made : Made) (hashed : ℕ) (mode : ResizeMode) (initial : ℕ) (held : Remembered) (number : ℕ) (helped : Bool) where
   -- the removal in a state
   abbrev at : State → Machine
   at st = record {
     call = record { task = RemoveIf; hash = hashed; mode = mode; initial = initial; made = made; remembered = held; state = st };
+    number = number;
     helped = helped;
     phase = Calling;
   }
@@ -223,15 +224,15 @@ pub in_root_more : {K V S F : Type 0} (g : Mut F (Bor K × (Bor V × Unit {0})) 
     → (m.phase ≡ Calling → IsRead (word_at s.words) m.call.state) → IsInRoot first s m → IsAnswered eq hash g matches (ask_of m) s f answer s' f' → IsInRoot first s' (after m answer)
 in_root_more {K} {V} {S} {F} g eq hash matches first s f s' f' m answer single task open_still read now told =
     let c = m.call in
-    let it : m ≡ record { call = record c { task = RemoveIf }; helped = m.helped; phase = Calling } = ap (λ t. record m { call = record c { task = t } }) task ∙ ap (λ p. record { call = record c { task = RemoveIf }; helped = m.helped; phase = p }) now.phase in
+    let it : m ≡ record { call = record c { task = RemoveIf }; number = m.number; helped = m.helped; phase = Calling } = ap (λ t. record m { call = record c { task = t } }) task ∙ ap (λ p. record { call = record c { task = RemoveIf }; number = m.number; helped = m.helped; phase = p }) now.phase in
     let asked : IsAnswered eq hash g matches (asks_in c Calling) s f answer s' f' = subst (λ phase. IsAnswered eq hash g matches (asks_in c phase) s f answer s' f') now.phase told in
     let last : next_of s ≡ 0 = now.kept.next ∙ single in
-    let stays = root_stays g matches s f s' f' last (open_still s.words.root (next_is s.words.tables s.words.root ∙ last)) c.made c.hash c.mode c.initial c.remembered m.helped c.state asked.0
+    let stays = root_stays g matches s f s' f' last (open_still s.words.root (next_is s.words.tables s.words.root ∙ last)) c.made c.hash c.mode c.initial c.remembered m.number m.helped c.state asked.0
     (subst (λ root. IsRootStage root c.state) (sym now.kept.root) now.stage) (read now.phase) asked.2 in
     subst (λ (y : Machine). IsInRoot first s' (after y answer)) (sym it)
-    (subst (λ a. IsInRoot first s' (after (record { call = record c { task = RemoveIf }; helped = m.helped; phase = Calling }) a)) (sym asked.1)
+    (subst (λ a. IsInRoot first s' (after (record { call = record c { task = RemoveIf }; number = m.number; helped = m.helped; phase = Calling }) a)) (sym asked.1)
     (record {
       kept = record { root = stays.kept.root ∙ now.kept.root; slots = stays.kept.slots ∙ now.kept.slots; next = stays.kept.next ∙ now.kept.next };
       phase = stays.phase;
-      stage = subst (λ root. IsRootStage root (after (record { call = record c { task = RemoveIf }; helped = m.helped; phase = Calling }) (answers.Call asked.0)).call.state) now.kept.root stays.stage;
+      stage = subst (λ root. IsRootStage root (after (record { call = record c { task = RemoveIf }; number = m.number; helped = m.helped; phase = Calling }) (answers.Call asked.0)).call.state) now.kept.root stays.stage;
     }))

@@ -126,7 +126,7 @@ module _ {K V S F : Type 0} (g : Mut F (Bor K × (Bor V × Unit {0})) Bool) (eq 
   going_call MakeKey s f answer s' f' told = absurd told
   going_call ShowNone s f answer s' f' told = absurd told
   going_call MakePair s f answer s' f' told = absurd told
-  going_call (MakeTable slots limit) s f answer s' f' told = absurd told
+  going_call (MakeTable slots limit chunks) s f answer s' f' told = absurd told
   going_call (Ask_done reply) s f answer s' f' told = absurd told
 
   pub answered_going : (ask : Ask) (s : StoreState K V S) (f : F) (answer : Answer) (s' : StoreState K V S) (f' : F) → IsAnswered eq hash g matches ask s f answer s' f' → reply_in ask ≡ None
@@ -156,7 +156,7 @@ module _ {K V S F : Type 0} (g : Mut F (Bor K × (Bor V × Unit {0})) Bool) (eq 
   log_call MakeKey s f answer s' f' told = absurd told
   log_call ShowNone s f answer s' f' told = absurd told
   log_call MakePair s f answer s' f' told = absurd told
-  log_call (MakeTable slots limit) s f answer s' f' told = absurd told
+  log_call (MakeTable slots limit chunks) s f answer s' f' told = absurd told
   log_call (Ask_done reply) s f answer s' f' told = absurd told
 
   log_copy : (ask : CopyAsk) (s : StoreState K V S) (answer : Answer) (s' : StoreState K V S) → PerformsCopy eq hash false ask s answer s' → IsLogOf s s'
@@ -172,8 +172,8 @@ module _ {K V S F : Type 0} (g : Mut F (Bor K × (Bor V × Unit {0})) Bool) (eq 
   log_copy (copies.HashOf n) s answer s' (_, _, same) = same_log s s' same
   log_copy (copies.SamePair m n) s answer s' (_, same) = same_log s s' same
   log_copy copies.Count s answer s' (_, same) = same_log s s' same
-  log_copy (copies.MakeTable slots limit) s answer s' (told, _, inl (_, same)) = same_log s s' same
-  log_copy (copies.MakeTable slots limit) s answer s' (told, _, inr (_, _, is)) = record {
+  log_copy (copies.MakeTable slots limit chunks) s answer s' (told, _, inl (_, same)) = same_log s s' same
+  log_copy (copies.MakeTable slots limit chunks) s answer s' (told, _, inr (_, _, is)) = record {
     keys = ap (λ (y : StoreState K V S). y.keys) is;
     pairs = ap (λ (y : StoreState K V S). y.pairs) is;
     hasher = ap (λ (y : StoreState K V S). y.hasher) is;
@@ -200,7 +200,7 @@ module _ {K V S F : Type 0} (g : Mut F (Bor K × (Bor V × Unit {0})) Bool) (eq 
   performed_call k alike m is_removal MakeKey s f answer s' f' told = absurd told
   performed_call k alike m is_removal ShowNone s f answer s' f' told = absurd told
   performed_call k alike m is_removal MakePair s f answer s' f' told = absurd told
-  performed_call k alike m is_removal (MakeTable slots limit) s f answer s' f' told = absurd told
+  performed_call k alike m is_removal (MakeTable slots limit chunks) s f answer s' f' told = absurd told
   performed_call k alike m is_removal (Ask_done reply) s f answer s' f' told = absurd told
 
   pub performed : (k : K) → ((l : K) → matches l ≡ eq k l) → (m : Machine) → m.call.task ≡ RemoveIf → (ask : Ask) (s : StoreState K V S) (f : F) (answer : Answer) (s' : StoreState K V S) (f' : F) → IsAnswered eq hash g matches ask s f answer s' f' → PerformsAsk eq whatever hash false ask s (removing m k) answer s' (removing m k)

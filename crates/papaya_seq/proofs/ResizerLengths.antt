@@ -1,11 +1,9 @@
 -- How long the tables are that a call makes which resizes a map for one caller: none is shorter than the initial capacity.
-use Rattle.std.proofs.Common.{◌≡◌, ◌⊎◌, inl, inr, ⊎_elim, ℕ, ◌+◌, ◌==◌, ◌<◌, ◌≤◌, ◌^◌, nat_le, Bool, true, false, cond, List, [], ◌∷◌, ◌++◌, max, Option, None, Some, option_map, refl, sym, ◌∙◌, ap, subst, arith}
+use Rattle.std.proofs.Common.{◌≡◌, inl, inr, ⊎_elim, ℕ, ◌+◌, ◌==◌, ◌<◌, ◌≤◌, ◌^◌, nat_le, Bool, false, List, [], ◌∷◌, max, Option, None, Some, option_map, refl, sym, ◌∙◌, ap, subst, arith}
 use Rattle.std.proofs.lemmas.Bool.{cases_lt, cond_both, eqb-true, leb-false}
 use Rattle.std.proofs.lemmas.List.Elements.{All-append, All-cons, All-contains, All-nil, Contains-append_left}
 use Rattle.std.specs.List.{All, Contains}
-use Rattle.papaya_words.specs.Table.{length_after}
 use Rattle.papaya_words.specs.declared.limits.TheConstants.{LEAST_TABLE_LEN}
-use Rattle.papaya_words.specs.declared.probe.Refused.TheVariants.{Capacity}
 use Rattle.papaya_words.specs.declared.probe.ResizeMode.{ResizeMode}
 use Rattle.papaya_ask.specs.declared.ask.Answer.{Answer as Call_answer}
 use Rattle.papaya_ask.specs.declared.ask.Answer.TheVariants as told
@@ -15,7 +13,6 @@ use Rattle.papaya_ask.specs.declared.copy_ask.CopyAsk.TheVariants as copies
 use Rattle.papaya_copy.specs.declared.copying.Copied.{Copied}
 use Rattle.papaya_copy.specs.declared.copying.Copied.TheVariants as copied_to
 use Rattle.papaya_copy.specs.declared.link.Link.{Link}
-use Rattle.papaya_copy.specs.declared.link.Link.TheVariants as links
 use Rattle.papaya_copy.specs.declared.link.Linked.{Linked}
 use Rattle.papaya_copy.specs.declared.link.Linked.TheVariants as linked_to
 use Rattle.papaya_copy.specs.Link.{follows, link_ask}
@@ -31,7 +28,7 @@ use Rattle.papaya_chain.specs.declared.resizer.State.TheVariants as stages
 use Rattle.papaya_chain.specs.Machine as machine
 use Rattle.papaya_chain.specs.Resizer.{after, after_in, ask_of, asks_in, at_count, at_last, at_next, at_root, called, copied, copies as copies_root, counted, judges, linked, makes, over, told_root}
 use Rattle.papaya_chain.specs.Room.{entries_of, room_of, room_of_len}
-use Rattle.papaya_chain_rests.specs.Goes.{link_in_copying}
+use Rattle.papaya_rests.specs.Copier.{link_in_copying}
 use Rattle.papaya_chain_rests.proofs.CopyRefusals.{copying_asks}
 use Rattle.papaya_chain_rests.proofs.LinkStates.{In, Linked_in}
 use Rattle.papaya_store.specs.Copies.{PerformsCopy}
@@ -71,17 +68,17 @@ module _ (initial : ℕ) where
     abbrev pub IsLongStage : State → Type 0
     IsLongStage (stages.Making room) = initial ≤ room.len
     IsLongStage (stages.Counting root len) = initial ≤ len
-    IsLongStage (stages.Looking root room) = IsRoomy room
+    IsLongStage (stages.Looking root len room) = IsRoomy room
     IsLongStage (stages.Linking link) = IsLongLink IsEnough lengths link
     IsLongStage (stages.Copying from copying) = In (IsLongLink IsEnough lengths) (link_in_copying copying)
     IsLongStage _ = Unit {0}
 
     -- a table that it asks for is long enough
-    pub stage_good : (stage : State) (slots limit : ℕ) → asks_in stage ≡ Some (copies.MakeTable slots limit) → IsLongStage stage → initial ≤ slots
-    stage_good (stages.Making room) slots limit e h = let same : room.len ≡ slots = (let f : copies.MakeTable room.len room.limit ≡ copies.MakeTable slots limit = cc e in cc f) in subst (λ n. initial ≤ n) same h
-    stage_good (stages.Linking made) slots limit e h = link_good IsEnough lengths made slots limit (let f : link_ask made ≡ copies.MakeTable slots limit = cc e in f) h
-    stage_good (stages.Copying from goes) slots limit e h = copy_good IsEnough lengths goes slots limit (let f : copying_ask goes ≡ copies.MakeTable slots limit = cc e in f) h
-    stage_good other slots limit e h = absurd cc
+    pub stage_good : (stage : State) (slots limit chunks : ℕ) → asks_in stage ≡ Some (copies.MakeTable slots limit chunks) → IsLongStage stage → initial ≤ slots
+    stage_good (stages.Making room) slots limit chunks e h = let same : room.len ≡ slots = (let f : copies.MakeTable room.len room.limit 0 ≡ copies.MakeTable slots limit chunks = cc e in cc f) in subst (λ n. initial ≤ n) same h
+    stage_good (stages.Linking made) slots limit chunks e h = link_good IsEnough lengths made slots limit chunks (let f : link_ask made ≡ copies.MakeTable slots limit chunks = cc e in f) h
+    stage_good (stages.Copying from goes) slots limit chunks e h = copy_good IsEnough lengths goes slots limit chunks (let f : copying_ask goes ≡ copies.MakeTable slots limit chunks = cc e in f) h
+    stage_good other slots limit chunks e h = absurd cc
 
     -- where it goes on while nothing is linked or copied
     makes_long : (room : Option Room) → IsRoomy room → IsLongStage (makes room)
@@ -90,48 +87,48 @@ module _ (initial : ℕ) where
 
     root_long : (resize : Resize) (root : ℕ) → (root ≡ 0 → initial ≤ 8) → IsLongStage (at_root resize root)
     root_long (resizes.Reserve more) root first = cond_both (root == 0) (makes (room_of more)) (stages.Sizing root) IsLongStage (λ e. makes_long (room_of more) (room_enough (first (eqb-true root 0 e)) more)) (λ _. tt)
-    root_long resizes.Chunk root first = cond_both (root == 0) stages.Done (stages.Looking root None) IsLongStage (λ _. tt) (λ _. tt)
-    root_long resizes.CopyAll root first = cond_both (root == 0) stages.Done (stages.Looking root None) IsLongStage (λ _. tt) (λ _. tt)
+    root_long resizes.Chunk root first = cond_both (root == 0) stages.Done (stages.Looking root 0 None) IsLongStage (λ _. tt) (λ _. tt)
+    root_long resizes.CopyAll root first = cond_both (root == 0) stages.Done (stages.Looking root 0 None) IsLongStage (λ _. tt) (λ _. tt)
 
     judges_long : (root len : ℕ) (room : Option Room) → initial ≤ len → IsLongStage (judges root len room)
     judges_long root len None h = tt
-    judges_long root len (Some room) h = cond_both (nat_le room.len len) stages.Done (stages.Looking root (Some room)) IsLongStage (λ _. tt) (λ e. let more = leb-false room.len len e in omega (arith, more, h))
+    judges_long root len (Some room) h = cond_both (nat_le room.len len) stages.Done (stages.Looking root len (Some room)) IsLongStage (λ _. tt) (λ e. let more = leb-false room.len len e in omega (arith, more, h))
 
     count_long : (resize : Resize) (root len count : ℕ) → initial ≤ len → IsLongStage (at_count resize root len count)
     count_long (resizes.Reserve more) root len count h = judges_long root len (room_of (count + more)) h
     count_long resizes.Chunk root len count h = tt
     count_long resizes.CopyAll root len count h = tt
 
-    last_long : (root : ℕ) (room : Option Room) → IsRoomy room → IsLongStage (at_last root room)
-    last_long root None h = tt
-    last_long root (Some room) h = h
+    last_long : (mode : ResizeMode) (root len : ℕ) (room : Option Room) → IsRoomy room → IsLongStage (at_last mode root len room)
+    last_long mode root len None h = tt
+    last_long mode root len (Some room) h = h
 
-    next_long : (root : ℕ) (room : Option Room) (next : ℕ) → IsRoomy room → IsLongStage (at_next root room next)
-    next_long root room next h = cond_both (next == 0) (at_last root room) (copies_root root) IsLongStage (λ _. last_long root room h) (λ _. tt)
+    next_long : (mode : ResizeMode) (root len : ℕ) (room : Option Room) (next : ℕ) → IsRoomy room → IsLongStage (at_next mode root len room next)
+    next_long mode root len room next h = cond_both (next == 0) (at_last mode root len room) (copies_root root) IsLongStage (λ _. last_long mode root len room h) (λ _. tt)
 
     module _ (resize : Resize) (mode : ResizeMode) (answer : Answer) (stage : State) where
       -- what is so of the answer: a root that it has not loaded is wanted to be none where the least table is long enough, and sizes and counts are those of the map
       pub record IsToldSo : Type 0 where
         pub root : (root : ℕ) → answer ≡ answers.Call (told.Word root) → stage ≡ stages.AtRoot → root ≡ 0 → initial ≤ 8
         pub size : (slots limit : ℕ) → answer ≡ answers.Call (told.Size slots limit) → (root : ℕ) → stage ≡ stages.Sizing root → initial ≤ slots
-        pub sizes : (made : Link) → stage_link stage ≡ Some made → Sizes IsEnough lengths initial answer made
-        pub counts : (made : Link) → stage_link stage ≡ Some made → Counts IsEnough lengths initial answer made
+        pub sizes : (made : Link) → stage_link stage ≡ Some made → Sizes IsEnough lengths mode initial answer made
+        pub counts : (made : Link) → stage_link stage ≡ Some made → Counts IsEnough lengths mode initial answer made
 
-    told_long : (resize : Resize) (mode : ResizeMode) (stage : State) (a : Call_answer) → IsToldSo resize mode (answers.Call a) stage → IsLongStage stage → IsLongStage (told_root resize stage a)
+    told_long : (resize : Resize) (mode : ResizeMode) (stage : State) (a : Call_answer) → IsToldSo resize mode (answers.Call a) stage → IsLongStage stage → IsLongStage (told_root resize mode stage a)
     told_long resize mode stages.AtRoot (told.Word root) so h = root_long resize root (so.root root refl refl)
     told_long resize mode (stages.Making room) (told.Made table) so h = tt
     told_long resize mode (stages.Making room) (told.Refused refused) so h = tt
     told_long resize mode (stages.Opening table) told.Exchanged so h = tt
     told_long resize mode (stages.Opening table) (told.Found word) so h = tt
     told_long resize mode (stages.Sizing root) (told.Size slots limit) so h = so.size slots limit refl root refl
-    told_long resize mode (stages.Looking root room) (told.Word next) so h = next_long root room next h
+    told_long resize mode (stages.Looking root len room) (told.Word next) so h = next_long mode root len room next h
     told_long resize mode stage a so h = h
 
     counted_long : (resize : Resize) (stage : State) (count : ℕ) → IsLongStage stage → IsLongStage (counted resize stage count)
     counted_long resize (stages.Counting root len) count h = count_long resize root len count h
     counted_long resize stage count h = h
 
-    called_long : (resize : Resize) (mode : ResizeMode) (stage : State) (a : Answer) → IsToldSo resize mode a stage → IsLongStage stage → IsLongStage (called resize stage a)
+    called_long : (resize : Resize) (mode : ResizeMode) (stage : State) (a : Answer) → IsToldSo resize mode a stage → IsLongStage stage → IsLongStage (called resize mode stage a)
     called_long resize mode stage (answers.Call a) so h = told_long resize mode stage a so h
     called_long resize mode stage (answers.Count count) so h = counted_long resize stage count h
     called_long resize mode stage (answers.Hash hash) so h = h
@@ -148,24 +145,24 @@ module _ (initial : ℕ) where
     over_long (resizes.Reserve more) = tt
 
     -- a copy led there
-    copied_long : (resize : Resize) (from : ℕ) (answer : Answer) (o : Option Link) (end : Copied) → IsCopyLedFrom initial answer o end → ((made : Link) → o ≡ Some made → Sizes IsEnough lengths initial answer made) → ((made : Link) → o ≡ Some made → Counts IsEnough lengths initial answer made) → In (IsLongLink IsEnough lengths) o → IsLongStage (copied resize from end)
-    copied_long resize from answer o (copied_to.On copying) led sizes counts h = led_long IsEnough lengths initial answer o (link_in_copying copying) led sizes counts h
-    copied_long resize from answer o (copied_to.Refused refused) led sizes counts h = tt
-    copied_long resize from answer o (copied_to.Search table) led sizes counts h = over_long resize
-    copied_long resize from answer o (copied_to.Root root) led sizes counts h = over_long resize
-    copied_long resize from answer o copied_to.Chunk led sizes counts h = over_long resize
+    copied_long : (resize : Resize) (mode : ResizeMode) (from : ℕ) (answer : Answer) (o : Option Link) (end : Copied) → IsCopyLedFrom mode initial answer o end → ((made : Link) → o ≡ Some made → Sizes IsEnough lengths mode initial answer made) → ((made : Link) → o ≡ Some made → Counts IsEnough lengths mode initial answer made) → In (IsLongLink IsEnough lengths) o → IsLongStage (copied resize from end)
+    copied_long resize mode from answer o (copied_to.On copying) led sizes counts h = led_long IsEnough lengths mode initial answer o (link_in_copying copying) led sizes counts h
+    copied_long resize mode from answer o (copied_to.Refused refused) led sizes counts h = tt
+    copied_long resize mode from answer o (copied_to.Search table) led sizes counts h = over_long resize
+    copied_long resize mode from answer o (copied_to.Root root) led sizes counts h = over_long resize
+    copied_long resize mode from answer o copied_to.Chunk led sizes counts h = over_long resize
 
-    pub stage_long : (resize : Resize) (mode : ResizeMode) (answer : Answer) (stage : State) → IsToldSo resize mode answer stage → IsLongStage stage → IsLongStage (after_in resize mode initial answer stage)
-    stage_long resize mode answer (stages.Linking link) so h = linked_long (follows link) (machine.link_after link initial answer) (after_long IsEnough lengths initial link answer (so.sizes link refl) (so.counts link refl) h)
-    stage_long resize mode answer (stages.Copying from goes) so h = copied_long resize from answer (link_in_copying goes) (machine.copying_after goes mode initial answer) (copying_leads initial answer goes mode) so.sizes so.counts h
-    stage_long resize mode answer stages.AtRoot so h = called_long resize mode stages.AtRoot answer so h
-    stage_long resize mode answer (stages.Making room) so h = called_long resize mode (stages.Making room) answer so h
-    stage_long resize mode answer (stages.Opening table) so h = called_long resize mode (stages.Opening table) answer so h
-    stage_long resize mode answer (stages.Sizing root) so h = called_long resize mode (stages.Sizing root) answer so h
-    stage_long resize mode answer (stages.Counting root len) so h = called_long resize mode (stages.Counting root len) answer so h
-    stage_long resize mode answer (stages.Looking root room) so h = called_long resize mode (stages.Looking root room) answer so h
-    stage_long resize mode answer stages.Done so h = called_long resize mode stages.Done answer so h
-    stage_long resize mode answer (stages.Refused refused) so h = called_long resize mode (stages.Refused refused) answer so h
+    pub stage_long : (resize : Resize) (mode : ResizeMode) (number : ℕ) (answer : Answer) (stage : State) → IsToldSo resize mode answer stage → IsLongStage stage → IsLongStage (after_in resize mode initial number answer stage)
+    stage_long resize mode number answer (stages.Linking link) so h = linked_long (follows link) (machine.link_after link mode initial answer) (after_long IsEnough lengths mode initial link answer (so.sizes link refl) (so.counts link refl) h)
+    stage_long resize mode number answer (stages.Copying from goes) so h = copied_long resize mode from answer (link_in_copying goes) (machine.copying_after goes mode initial number answer) (copying_leads mode initial answer goes number) so.sizes so.counts h
+    stage_long resize mode number answer stages.AtRoot so h = called_long resize mode stages.AtRoot answer so h
+    stage_long resize mode number answer (stages.Making room) so h = called_long resize mode (stages.Making room) answer so h
+    stage_long resize mode number answer (stages.Opening table) so h = called_long resize mode (stages.Opening table) answer so h
+    stage_long resize mode number answer (stages.Sizing root) so h = called_long resize mode (stages.Sizing root) answer so h
+    stage_long resize mode number answer (stages.Counting root len) so h = called_long resize mode (stages.Counting root len) answer so h
+    stage_long resize mode number answer (stages.Looking root len room) so h = called_long resize mode (stages.Looking root len room) answer so h
+    stage_long resize mode number answer stages.Done so h = called_long resize mode stages.Done answer so h
+    stage_long resize mode number answer (stages.Refused refused) so h = called_long resize mode (stages.Refused refused) answer so h
 
 -- what a resizer asks that makes a table
 stage_asks : (stage : State) (made : Link) → stage_link stage ≡ Some made → asks_in stage ≡ Some (link_ask made)
@@ -212,9 +209,9 @@ module _ {K V S : Type 0} (s : MapState K V S) where
     lengthened : IsLengthened (IsEnough s.initial) store store'
     lengthened = of_ask (copy_long eq false hash ask store answer store' performs)
       where
-        of_ask : IsLengthened (λ slots. (limit : ℕ) × (ask ≡ copies.MakeTable slots limit)) store store' → IsLengthened (IsEnough s.initial) store store'
+        of_ask : IsLengthened (λ slots. (limit chunks : ℕ) × (ask ≡ copies.MakeTable slots limit chunks)) store store' → IsLengthened (IsEnough s.initial) store store'
         of_ask (inl same) = inl same
-        of_ask (inr (slots, (limit, is), more)) = inr (slots, stage_good s.initial lengths z.state slots limit (asked ∙ ap (λ x. Some x) is) long.stage, more)
+        of_ask (inr (slots, (limit, chunks, is), more)) = inr (slots, stage_good s.initial lengths z.state slots limit chunks (asked ∙ ap (λ x. Some x) is) long.stage, more)
 
     still_there : (len : ℕ) → Contains lengths len → Contains lengths' len
     still_there len there = ⊎_elim
@@ -251,15 +248,15 @@ module _ {K V S : Type 0} (s : MapState K V S) where
           let same : store.words.root ≡ root = cc f in
           no_root store z long (same ∙ none);
       size = λ slots limit is root at. All-contains (IsEnough s.initial) lengths slots long.enough (size_there root slots limit (ap asks_in at) is);
-      sizes = λ made e slots limit is behind unfit sizing. still_there slots (size_there behind slots limit (stage_asks z.state made e ∙ ap (λ x. Some (link_ask x)) sizing) is);
-      counts = λ made e count is behind before unfit counting there. next_enough s.initial before count unfit (All-contains (IsEnough s.initial) lengths' before all_enough there);
+      sizes = λ made e slots limit is behind copied unfit sizing. still_there slots (size_there behind slots limit (stage_asks z.state made e ∙ ap (λ x. Some (link_ask x)) sizing) is);
+      counts = λ made e count is behind before copied unfit counting there. next_enough s.initial before count unfit (All-contains (IsEnough s.initial) lengths' before all_enough there);
     }
 
     -- one more ask is answered
     pub resize_long_more : IsLongResize store' (after z answer)
     resize_long_more = record {
       enough = all_enough;
-      stage = subst (λ n. IsLongStage s.initial lengths' (after_in z.resize z.mode n answer z.state)) (sym initial_is) (stage_long s.initial lengths' z.resize z.mode answer z.state told_so (stage_beside z.state long.stage));
+      stage = subst (λ n. IsLongStage s.initial lengths' (after_in z.resize z.mode n z.number answer z.state)) (sym initial_is) (stage_long s.initial lengths' z.resize z.mode z.number answer z.state told_so (stage_beside z.state long.stage));
       rooted = λ some. stays (long.rooted some);
       first = long.first;
     }

@@ -78,7 +78,7 @@ calm_unrefused : (root : ℕ) (stage : State) (refused : Refused) → reply_in s
 calm_unrefused root (stages.Refused r) refused e calm = calm
 calm_unrefused root stages.Done refused e calm = let f : Some Reply_done ≡ Some (Reply_refused refused) = e in cc
 calm_unrefused root stages.AtRoot refused e calm = let f : None ≡ Some (Reply_refused refused) = e in cc
-calm_unrefused root (stages.Looking t room) refused e calm = let f : None ≡ Some (Reply_refused refused) = e in cc
+calm_unrefused root (stages.Looking t len room) refused e calm = let f : None ≡ Some (Reply_refused refused) = e in cc
 calm_unrefused root _ refused e calm = calm
 
 module _ {K V S : Type 0} (eq : K → K → Bool) (hash : S → K → ℕ) (s : MapState K V S) (resize : Resize) where
@@ -97,13 +97,13 @@ module _ {K V S H : Type 0} (eq : K → K → Bool) (input : K → List (List �
   IsGoing store z = IsResizingTo eq hash s resize store z
 
   -- it begins
-  pub resizing_begun : (resize ≡ resizes.Chunk → ⊥) → (z : Resizer) → z ≡ begun resize s.mode s.initial → IsStandingResizer z → IsGoing s.store z
-  resizing_begun whole z is standing =
+  pub resizing_begun : (resize ≡ resizes.Chunk → ⊥) → (z : Resizer) (number : ℕ) → z ≡ begun resize s.mode s.initial number → IsStandingResizer z → IsGoing s.store z
+  resizing_begun whole z number is standing =
       let call = call_for resize whole in
       subst (IsGoing s.store) (sym is) (record {
         call = call;
-        came = resize_begun eq input build write finish classes respects s resize call lawful;
-        causes = caused_begun eq hash s resize (begun resize s.mode s.initial) call.at_root;
+        came = resize_begun eq input build write finish classes respects s resize call lawful number;
+        causes = caused_begun eq hash s resize (begun resize s.mode s.initial number) call.at_root;
         standing = subst IsStandingResizer is standing;
       })
 
@@ -202,7 +202,7 @@ module _ {K V S H : Type 0} (eq : K → K → Bool) (input : K → List (List �
 
       -- a call that resizes the map leaves it
       same_by : (IsLeftBy now.call.call (map_in eq s.store) (map_in eq store) → Same (map_in eq s.store) (map_in eq store)) × (IsDoneBy now.call.call (map_in eq s.store) (map_in eq store) → Same (map_in eq s.store) (map_in eq store))
-      same_by = resized_same (λ k. 0) s.mode s.initial now.call.call (begun resize s.mode s.initial) (now.call.begins (λ k. 0) s.mode s.initial) (map_in eq s.store) (map_in eq store)
+      same_by = resized_same (λ k. 0) s.mode s.initial 0 now.call.call (begun resize s.mode s.initial 0) (now.call.begins (λ k. 0) s.mode s.initial 0) (map_in eq s.store) (map_in eq store)
 
       -- no pair of the map changes
       pub resized_unchanged : ask_of z ≡ None → Unchanged eq s.store store

@@ -21,10 +21,10 @@ use Rattle.papaya_chain.specs.declared.resizer.State.TheVariants as stages
 use Rattle.papaya_chain.specs.Machine as machine
 use Rattle.papaya_chain.specs.Resizer.{after_in, at_count, at_last, at_next, at_root, called, copied, copies, counted, judges, linked, makes, over, told_root}
 use Rattle.papaya_chain.specs.Room.{room_of}
-use Rattle.papaya_chain_rests.specs.Goes.{link_in_copying}
+use Rattle.papaya_rests.specs.Copier.{link_in_copying}
 use Rattle.papaya_chain_rests.specs.Resizers.{HasLink}
 use Rattle.papaya_chain_rests.proofs.LinkStates.{Copied_holds, In, Linked_in, Of, copying_after, link_after}
-use Rattle.papaya_seq.proofs.Sizes.{IsSizedLink, New, Told, is_sized, sized_is, stable}
+use Rattle.papaya_seq.proofs.Sizes.{IsSizedLink, New, Told, is_sized, sized_beside, stable}
 
 -- `Sized` is what the number of a table and that of its slots are.
 module _ (Sized : ℕ → ℕ → Type 0) where
@@ -35,15 +35,10 @@ module _ (Sized : ℕ → ℕ → Type 0) where
   IsSizedStage _ = Unit {0}
 
   -- in other words
-  pub stage_is : (stage : State) → ((behind slots : ℕ) (unfit : Bool) → HasLink stage (links.Counting behind unfit slots) → Sized behind slots) → IsSizedStage stage
-  stage_is (stages.Linking link) has = sized_is Sized (Some link) (λ behind slots unfit e. has behind slots unfit (let f : link ≡ links.Counting behind unfit slots = cc e in f))
-  stage_is (stages.Copying from copying) has = sized_is Sized (link_in_copying copying) has
-  stage_is _ has = tt
-
-  pub stage_has : (stage : State) → IsSizedStage stage → (behind slots : ℕ) (unfit : Bool) → HasLink stage (links.Counting behind unfit slots) → Sized behind slots
-  stage_has (stages.Linking link) h behind slots unfit e = subst (IsSizedLink Sized) e h
-  stage_has (stages.Copying from copying) h behind slots unfit e = is_sized Sized (link_in_copying copying) h behind slots unfit e
-  stage_has _ h behind slots unfit e = absurd e
+  pub stage_has : (stage : State) → IsSizedStage stage → (behind slots copied : ℕ) (unfit : Bool) → HasLink stage (links.Counting behind unfit slots copied) → Sized behind slots
+  stage_has (stages.Linking link) h behind slots copied unfit e = subst (IsSizedLink Sized) e h
+  stage_has (stages.Copying from copying) h behind slots copied unfit e = is_sized Sized (link_in_copying copying) h behind slots copied unfit e
+  stage_has _ h behind slots copied unfit e = absurd e
 
   -- where it goes on while nothing is linked or copied
   makes_sized : (room : Option Room) → IsSizedStage (makes room)
@@ -52,43 +47,43 @@ module _ (Sized : ℕ → ℕ → Type 0) where
 
   judges_sized : (root len : ℕ) (room : Option Room) → IsSizedStage (judges root len room)
   judges_sized root len None = tt
-  judges_sized root len (Some room) = cond_both (nat_le room.len len) stages.Done (stages.Looking root (Some room)) IsSizedStage (λ _. tt) (λ _. tt)
+  judges_sized root len (Some room) = cond_both (nat_le room.len len) stages.Done (stages.Looking root len (Some room)) IsSizedStage (λ _. tt) (λ _. tt)
 
-  last_sized : (root : ℕ) (room : Option Room) → IsSizedStage (at_last root room)
-  last_sized root None = tt
-  last_sized root (Some room) = tt
+  last_sized : (mode : ResizeMode) (root len : ℕ) (room : Option Room) → IsSizedStage (at_last mode root len room)
+  last_sized mode root len None = tt
+  last_sized mode root len (Some room) = tt
 
-  next_sized : (root : ℕ) (room : Option Room) (next : ℕ) → IsSizedStage (at_next root room next)
-  next_sized root room next = cond_both (next == 0) (at_last root room) (copies root) IsSizedStage (λ _. last_sized root room) (λ _. tt)
+  next_sized : (mode : ResizeMode) (root len : ℕ) (room : Option Room) (next : ℕ) → IsSizedStage (at_next mode root len room next)
+  next_sized mode root len room next = cond_both (next == 0) (at_last mode root len room) (copies root) IsSizedStage (λ _. last_sized mode root len room) (λ _. tt)
 
   root_sized : (resize : Resize) (root : ℕ) → IsSizedStage (at_root resize root)
   root_sized (resizes.Reserve more) root = cond_both (root == 0) (makes (room_of more)) (stages.Sizing root) IsSizedStage (λ _. makes_sized (room_of more)) (λ _. tt)
-  root_sized resizes.Chunk root = cond_both (root == 0) stages.Done (stages.Looking root None) IsSizedStage (λ _. tt) (λ _. tt)
-  root_sized resizes.CopyAll root = cond_both (root == 0) stages.Done (stages.Looking root None) IsSizedStage (λ _. tt) (λ _. tt)
+  root_sized resizes.Chunk root = cond_both (root == 0) stages.Done (stages.Looking root 0 None) IsSizedStage (λ _. tt) (λ _. tt)
+  root_sized resizes.CopyAll root = cond_both (root == 0) stages.Done (stages.Looking root 0 None) IsSizedStage (λ _. tt) (λ _. tt)
 
   count_sized : (resize : Resize) (root len count : ℕ) → IsSizedStage (at_count resize root len count)
   count_sized (resizes.Reserve more) root len count = judges_sized root len (room_of (count + more))
   count_sized resizes.Chunk root len count = tt
   count_sized resizes.CopyAll root len count = tt
 
-  told_sized : (resize : Resize) (stage : State) (a : Call_answer) → IsSizedStage stage → IsSizedStage (told_root resize stage a)
-  told_sized resize stages.AtRoot (told.Word root) h = root_sized resize root
-  told_sized resize (stages.Making room) (told.Made table) h = tt
-  told_sized resize (stages.Making room) (told.Refused refused) h = tt
-  told_sized resize (stages.Opening table) told.Exchanged h = tt
-  told_sized resize (stages.Opening table) (told.Found word) h = tt
-  told_sized resize (stages.Sizing root) (told.Size slots limit) h = tt
-  told_sized resize (stages.Looking root room) (told.Word next) h = next_sized root room next
-  told_sized resize stage a h = h
+  told_sized : (resize : Resize) (mode : ResizeMode) (stage : State) (a : Call_answer) → IsSizedStage stage → IsSizedStage (told_root resize mode stage a)
+  told_sized resize mode stages.AtRoot (told.Word root) h = root_sized resize root
+  told_sized resize mode (stages.Making room) (told.Made table) h = tt
+  told_sized resize mode (stages.Making room) (told.Refused refused) h = tt
+  told_sized resize mode (stages.Opening table) told.Exchanged h = tt
+  told_sized resize mode (stages.Opening table) (told.Found word) h = tt
+  told_sized resize mode (stages.Sizing root) (told.Size slots limit) h = tt
+  told_sized resize mode (stages.Looking root len room) (told.Word next) h = next_sized mode root len room next
+  told_sized resize mode stage a h = h
 
   counted_sized : (resize : Resize) (stage : State) (count : ℕ) → IsSizedStage stage → IsSizedStage (counted resize stage count)
   counted_sized resize (stages.Counting root len) count h = count_sized resize root len count
   counted_sized resize stage count h = h
 
-  called_sized : (resize : Resize) (stage : State) (a : Answer) → IsSizedStage stage → IsSizedStage (called resize stage a)
-  called_sized resize stage (answers.Call a) h = told_sized resize stage a h
-  called_sized resize stage (answers.Count count) h = counted_sized resize stage count h
-  called_sized resize stage (answers.Hash hash) h = h
+  called_sized : (resize : Resize) (mode : ResizeMode) (stage : State) (a : Answer) → IsSizedStage stage → IsSizedStage (called resize mode stage a)
+  called_sized resize mode stage (answers.Call a) h = told_sized resize mode stage a h
+  called_sized resize mode stage (answers.Count count) h = counted_sized resize stage count h
+  called_sized resize mode stage (answers.Hash hash) h = h
 
   -- and after it
   linked_sized : (root : ℕ) (end : Linked) → Linked_in (IsSizedLink Sized) end → IsSizedStage (linked root end)
@@ -109,27 +104,33 @@ module _ (Sized : ℕ → ℕ → Type 0) where
   copied_sized resize from copied_to.Chunk h = over_sized resize
 
   -- what is told of a link
-  told_in : (o : Option Link) (slots : ℕ) → ((behind : ℕ) (unfit : Bool) → o ≡ Some (links.Sizing behind unfit) → Sized behind slots) → Of (Told Sized) o slots
+  told_in : (o : Option Link) (slots : ℕ) → ((behind copied : ℕ) (unfit : Bool) → o ≡ Some (links.Sizing behind copied unfit) → Sized behind slots) → Of (Told Sized) o slots
   told_in None slots told = tt
-  told_in (Some made) slots told = λ behind unfit e. told behind unfit (ap (λ y. Some y) e)
+  told_in (Some made) slots told = λ behind copied unfit e. told behind copied unfit (ap (λ y. Some y) e)
 
   new_in : (o : Option Link) (n : ℕ) → Of (New Sized) o n
   new_in None n = tt
   new_in (Some made) n = tt
 
   -- where it counts by the slots of a table after an answer, it did before, or was told of them
-  pub stage_sized : (resize : Resize) (mode : ResizeMode) (initial : ℕ) (a : Answer) (stage : State) → ((slots limit : ℕ) → a ≡ answers.Call (told.Size slots limit) → (behind : ℕ) (unfit : Bool) → HasLink stage (links.Sizing behind unfit) → Sized behind slots) → IsSizedStage stage → IsSizedStage (after_in resize mode initial a stage)
-  stage_sized resize mode initial a (stages.Linking link) size h =
-      linked_sized (follows link) (machine.link_after link initial a)
-      (link_after (IsSizedLink Sized) (Told Sized) (New Sized) (stable Sized) link initial a (λ slots limit e. told_in (Some link) slots (λ behind unfit is. size slots limit e behind unfit (let f : link ≡ links.Sizing behind unfit = cc is in f))) (λ n e. new_in (Some link) n) h)
-  stage_sized resize mode initial a (stages.Copying from copying) size h =
-      copied_sized resize from (machine.copying_after copying mode initial a)
-      (copying_after (IsSizedLink Sized) (Told Sized) (New Sized) (stable Sized) copying mode initial a (λ slots limit e. told_in (link_in_copying copying) slots (size slots limit e)) (λ n e. new_in (link_in_copying copying) n) h)
-  stage_sized resize mode initial a stages.AtRoot size h = called_sized resize stages.AtRoot a h
-  stage_sized resize mode initial a (stages.Making room) size h = called_sized resize (stages.Making room) a h
-  stage_sized resize mode initial a (stages.Opening table) size h = called_sized resize (stages.Opening table) a h
-  stage_sized resize mode initial a (stages.Sizing root) size h = called_sized resize (stages.Sizing root) a h
-  stage_sized resize mode initial a (stages.Counting root len) size h = called_sized resize (stages.Counting root len) a h
-  stage_sized resize mode initial a (stages.Looking root room) size h = called_sized resize (stages.Looking root room) a h
-  stage_sized resize mode initial a stages.Done size h = called_sized resize stages.Done a h
-  stage_sized resize mode initial a (stages.Refused refused) size h = called_sized resize (stages.Refused refused) a h
+  pub stage_sized : (resize : Resize) (mode : ResizeMode) (initial number : ℕ) (a : Answer) (stage : State) → ((slots limit : ℕ) → a ≡ answers.Call (told.Size slots limit) → (behind copied : ℕ) (unfit : Bool) → HasLink stage (links.Sizing behind copied unfit) → Sized behind slots) → IsSizedStage stage → IsSizedStage (after_in resize mode initial number a stage)
+  stage_sized resize mode initial number a (stages.Linking link) size h =
+      linked_sized (follows link) (machine.link_after link mode initial a)
+      (link_after (IsSizedLink Sized) (Told Sized) (New Sized) (stable Sized) link mode initial a (λ slots limit e. told_in (Some link) slots (λ behind copied unfit is. size slots limit e behind copied unfit (let f : link ≡ links.Sizing behind copied unfit = cc is in f))) (λ n e. new_in (Some link) n) h)
+  stage_sized resize mode initial number a (stages.Copying from copying) size h =
+      copied_sized resize from (machine.copying_after copying mode initial number a)
+      (copying_after (IsSizedLink Sized) (Told Sized) (New Sized) (stable Sized) copying mode initial number a (λ slots limit e. told_in (link_in_copying copying) slots (size slots limit e)) (λ n e. new_in (link_in_copying copying) n) h)
+  stage_sized resize mode initial number a stages.AtRoot size h = called_sized resize mode stages.AtRoot a h
+  stage_sized resize mode initial number a (stages.Making room) size h = called_sized resize mode (stages.Making room) a h
+  stage_sized resize mode initial number a (stages.Opening table) size h = called_sized resize mode (stages.Opening table) a h
+  stage_sized resize mode initial number a (stages.Sizing root) size h = called_sized resize mode (stages.Sizing root) a h
+  stage_sized resize mode initial number a (stages.Counting root len) size h = called_sized resize mode (stages.Counting root len) a h
+  stage_sized resize mode initial number a (stages.Looking root len room) size h = called_sized resize mode (stages.Looking root len room) a h
+  stage_sized resize mode initial number a stages.Done size h = called_sized resize mode stages.Done a h
+  stage_sized resize mode initial number a (stages.Refused refused) size h = called_sized resize mode (stages.Refused refused) a h
+
+-- so it is where that is so of more numbers
+pub stage_beside : (Sized Sized' : ℕ → ℕ → Type 0) → ((n slots : ℕ) → Sized n slots → Sized' n slots) → (stage : State) → IsSizedStage Sized stage → IsSizedStage Sized' stage
+stage_beside Sized Sized' more (stages.Linking link) h = sized_beside Sized Sized' more (Some link) h
+stage_beside Sized Sized' more (stages.Copying from copying) h = sized_beside Sized Sized' more (link_in_copying copying) h
+stage_beside Sized Sized' more other h = tt

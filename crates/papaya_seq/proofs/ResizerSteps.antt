@@ -59,13 +59,13 @@ use Rattle.papaya_seq.proofs.Turns.{IsOver, begins_so, last_entry, made_over, se
 pub record ResizeCall (K V : Type 0) (resize : Resize) : Type 0 where
   pub call : Call K V (Unit {0})
   pub no_key : key_of call ≡ None
-  pub begins : (hash : K → ℕ) (mode : ResizeMode) (initial : ℕ) → begun_work hash mode initial call ≡ works.Resize (begun resize mode initial)
+  pub begins : (hash : K → ℕ) (mode : ResizeMode) (initial number : ℕ) → begun_work hash mode initial number call ≡ works.Resize (begun resize mode initial number)
   pub at_root : begun_in resize ≡ stages.AtRoot
 
 pub call_for : {K V : Type 0} (resize : Resize) → (resize ≡ resizes.Chunk → ⊥) → ResizeCall K V resize
 call_for resizes.Chunk whole = absurd (whole refl)
-call_for resizes.CopyAll whole = record { call = calls.CopyAll; no_key = refl; begins = λ hash mode initial. refl; at_root = refl }
-call_for (resizes.Reserve more) whole = record { call = calls.Reserve more; no_key = refl; begins = λ hash mode initial. refl; at_root = refl }
+call_for resizes.CopyAll whole = record { call = calls.CopyAll; no_key = refl; begins = λ hash mode initial number. refl; at_root = refl }
+call_for (resizes.Reserve more) whole = record { call = calls.Reserve more; no_key = refl; begins = λ hash mode initial number. refl; at_root = refl }
 
 -- one that asks has not replied
 goes_in : (stage : State) (ask : CopyAsk) → asks_in stage ≡ Some ask → reply_in stage ≡ None
@@ -87,9 +87,10 @@ still_resizing z = goes_on (reply_of z) (works.Resize z)
 module _ {K V S : Type 0} (eq : K → K → Bool) (hash : S → K → ℕ) (s : MapState K V S) (resize : Resize) (call : ResizeCall K V resize) where
   -- The call came to this by steps of the core, which is in order while it is under way; where it has replied, the last of them gave the reply.
   pub record HasResizedTo (store : StoreState K V S) (z : Resizer) : Type 0 where
+    pub number : ℕ
     pub steps : ℕ
     pub history : History
-    pub runs : StepsRun eq whatever hash 1 0 steps (start eq hash s call.call) (with_event 0 0 Begun []) (seated_work store (still_resizing z) s.mode s.initial) history
+    pub runs : StepsRun eq whatever hash 1 0 steps (start eq hash s call.call number) (with_event 0 0 Begun []) (seated_work store (still_resizing z) s.mode s.initial) history
     pub replied : (reply : Reply) → reply_of z ≡ Some reply → (last : Entry) × (before : History) × (history ≡ last ∷ before) × (last.event ≡ Replied reply)
     -- until then it is alone, and what it has read stands there
     pub lone : reply_of z ≡ None → IsLoneResizer eq hash (seated_work {A = Unit {0}} store (Some (works.Resize z)) s.mode s.initial) z
@@ -116,30 +117,31 @@ module _ {K V S H : Type 0} (eq : K → K → Bool) (input : K → List (List �
 
   module _ (lawful : IsLawfulMap eq (hash s.store.hasher) s.store s.mode s.initial) where
     -- as it begins
-    begun_going : reply_of (begun resize s.mode s.initial) ≡ None
-    begun_going = ap reply_in call.at_root
+    begun_going : (number : ℕ) → reply_of (begun resize s.mode s.initial number) ≡ None
+    begun_going number = ap reply_in call.at_root
 
-    pub resize_begun : HasCome s.store (begun resize s.mode s.initial)
-    resize_begun = record {
+    pub resize_begun : (number : ℕ) → HasCome s.store (begun resize s.mode s.initial number)
+    resize_begun number = record {
+      number = number;
       steps = 0;
       history = with_event 0 0 Begun [];
-      runs = (ap (λ o. seated_work s.store o s.mode s.initial) (ap (λ o. goes_on o (works.Resize (begun resize s.mode s.initial))) begun_going ∙ ap (λ w. Some w) (sym (call.begins (hash s.store.hasher) s.mode s.initial))), refl);
-      replied = λ reply e. let f : None ≡ Some reply = sym begun_going ∙ e in absurd cc;
-      lone = λ going. subst (λ w. IsLoneWork eq hash (seated_work {A = Unit {0}} s.store (Some w) s.mode s.initial) w) (call.begins (hash s.store.hasher) s.mode s.initial)
-          (lone_begin eq hash (core_of s) (keys_lawful eq input build write finish classes respects s.store.hasher) call.call (start eq hash s call.call) refl lawful.lawful (begins_so eq hash s call.call hashed lawful.power));
-      done = λ e. let f : None ≡ Some Reply_done = sym begun_going ∙ e in absurd cc;
+      runs = (ap (λ o. seated_work s.store o s.mode s.initial) (ap (λ o. goes_on o (works.Resize (begun resize s.mode s.initial number))) (begun_going number) ∙ ap (λ w. Some w) (sym (call.begins (hash s.store.hasher) s.mode s.initial number))), refl);
+      replied = λ reply e. let f : None ≡ Some reply = sym (begun_going number) ∙ e in absurd cc;
+      lone = λ going. subst (λ w. IsLoneWork eq hash (seated_work {A = Unit {0}} s.store (Some w) s.mode s.initial) w) (call.begins (hash s.store.hasher) s.mode s.initial number)
+          (lone_begin eq hash (core_of s) (keys_lawful eq input build write finish classes respects s.store.hasher) call.call (start eq hash s call.call number) refl lawful.lawful (begins_so eq hash s call.call number hashed lawful.power));
+      done = λ e. let f : None ≡ Some Reply_done = sym (begun_going number) ∙ e in absurd cc;
       resize_is = refl;
       initial_is = refl;
       logs = refl;
-      long = resize_long_begun s lawful.long (begun resize s.mode s.initial) call.at_root;
+      long = resize_long_begun s lawful.long (begun resize s.mode s.initial number) call.at_root;
     }
 
     -- it has replied: it was made alone
     pub resize_over : (store : StoreState K V S) (z : Resizer) (reply : Reply) → reply_of z ≡ Some reply → HasCome store z → IsOver eq hash s call.call store reply
     resize_over store z reply told came =
         let ends = came.replied reply told in
-        made_over eq hash s call.call hashed lawful.power came.steps store came.history
-        (subst (λ (o : Option Reply). StepsRun eq whatever hash 1 0 came.steps (start eq hash s call.call) (with_event 0 0 Begun []) (seated_work store (goes_on o (works.Resize z)) s.mode s.initial) came.history) told came.runs)
+        made_over eq hash s call.call came.number hashed lawful.power came.steps store came.history
+        (subst (λ (o : Option Reply). StepsRun eq whatever hash 1 0 came.steps (start eq hash s call.call came.number) (with_event 0 0 Begun []) (seated_work store (goes_on o (works.Resize z)) s.mode s.initial) came.history) told came.runs)
         reply ends.0 ends.1 ends.2 ends.3 (resize_long_left s store z came.long)
 
     module _ (store : StoreState K V S) (z : Resizer) (ask : CopyAsk) (answer : Answer) (store' : StoreState K V S) (asked : ask_of z ≡ Some ask) (performs : PerformsCopy eq hash false ask store answer store') (came : HasCome store z) where
@@ -243,9 +245,10 @@ module _ {K V S H : Type 0} (eq : K → K → Bool) (input : K → List (List �
       -- the call came there
       pub resize_more : HasCome store' (after z answer)
       resize_more = record {
+        number = came.number;
         steps = suc came.steps;
         history = with_step 1 0 event reply came.history;
-        runs = (now, came.history, subst (λ o. StepsRun eq whatever hash 1 0 came.steps (start eq hash s call.call) (with_event 0 0 Begun []) (seated_work store o s.mode s.initial) came.history) under_way came.runs, inl (event, reply, inr (inl made_step), refl));
+        runs = (now, came.history, subst (λ o. StepsRun eq whatever hash 1 0 came.steps (start eq hash s call.call came.number) (with_event 0 0 Begun []) (seated_work store o s.mode s.initial) came.history) under_way came.runs, inl (event, reply, inr (inl made_step), refl));
         replied = λ x e. last_entry event reply came.history x e;
         lone = λ none. let near = nearer none in subst (IsLoneResizer eq hash (seated_work store' (Some (works.Resize next)) s.mode s.initial)) (nearer_is near) near.lone;
         done = λ e. subst (λ y. IsResized y store') came.resize_is (resizer_done eq input build write finish classes respects false now (seated_work store' None s.mode s.initial) event z lone (stepped_to (Some Reply_done) e));

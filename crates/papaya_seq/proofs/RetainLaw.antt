@@ -183,7 +183,7 @@ module _ {K V S : Type 0} (eq : K → K → Bool) (hash : K → ℕ) (s : MapSta
       others Root differ = refl
       others (Next t) differ = refl
       others (Aborted t) differ = refl
-      others (Done t) differ = refl
+      others (Done t chunk) differ = refl
       others (Slot t x) differ = ap (code g c) (put_elsewhere now root i (Buried p) t x (λ same. differ (ap (λ y. Slot y x) (sym same.0) ∙ ap (Slot root) (sym same.1))))
 
   -- a pair that a slot names stood in one

@@ -1,6 +1,8 @@
 -- An answer to a removal that meets no pair leaves it in order, and brings it nearer its end.
 use Rattle.std.proofs.Common.{◌≡◌, ⊎_elim, inl, inr, ℕ, ◌^◌, ◌<◌, Bool, false, Option, None, Some, List, [], ◌++◌, append_assoc, refl, sym, ◌∙◌, ap, subst, ◌⊎◌, suc, ◌+◌, ◌-◌, ◌==◌, ◌≤◌, true, ◌∷◌, length, arith, eqb-true, length-append}
 use mathlib.Core.Path.{fun_ext}
+use Rattle.std.proofs.Math.Nat.{div-le_self}
+use Rattle.papaya_words.specs.Chunks.{chunk_len}
 use Rattle.papaya_words.specs.Table.{TableWords, new_table}
 use Rattle.papaya_words.specs.declared.limits.TheConstants.{MAX_TABLES}
 use Rattle.papaya_ask.specs.declared.ask.Ask.{Ask as Call_ask}
@@ -46,6 +48,7 @@ use Rattle.papaya_law.specs.Meaning.{map_left}
 use Rattle.papaya_law.proofs.Logs.{on_comes}
 use Rattle.papaya_law.proofs.OneMap.{keeping, keeping_sound}
 use Rattle.papaya_rests.specs.Alone.{HasMetNone, IsSeeker, IsUnmatched}
+use Rattle.papaya_rests.specs.Copier.{HasWords}
 use Rattle.papaya_rests.specs.Told.{word_of}
 use Rattle.papaya_rests.proofs.AloneUnmatched.{machine_meets_none}
 use Rattle.papaya_store.specs.Asks.{PerformsAsk}
@@ -57,7 +60,7 @@ use Rattle.papaya_store.specs.Copies.{PerformsCopy}
 use Rattle.papaya_timeline.proofs.KeptAnswer.{IsAnswered as IsLeft}
 use Rattle.papaya_timeline.specs.Advances.{reply_in}
 use Rattle.papaya_timeline.specs.Core.{IsCore}
-use Rattle.papaya_timeline.specs.Kept.{IsKept, IsMade, Tale, slots_in}
+use Rattle.papaya_timeline.specs.Kept.{IsKept, IsMadeFor, Tale, slots_in}
 use Rattle.papaya_timeline.specs.Solo.{whatever}
 use Rattle.papaya_timeline.proofs.BudgetSpends.{kept_bounded, budget_bounded}
 use Rattle.papaya_timeline.proofs.KeptSettings.{IsLawfulKeys}
@@ -65,8 +68,8 @@ use Rattle.papaya_chain_rests.proofs.LinkMade.{is_made, machine_made, made_is}
 use Rattle.papaya_timeline.proofs.MadeTables.{copy_made}
 use Rattle.papaya_timeline.proofs.StoreLemmas.{AllSized, IsKeptAsked, numbered, performed_ask, unnumbered, matched}
 use Rattle.papaya_timeline.specs.Ends.{budget_in, budget_of}
-use Rattle.papaya_timeline.proofs.BudgetLaw.{copy_fewer}
-use Rattle.papaya_timeline.proofs.BudgetTables.{changes_at, noted-budget, placed-changes}
+use Rattle.papaya_timeline.proofs.BudgetLaw.{copy_chunk, copy_fewer}
+use Rattle.papaya_timeline.proofs.BudgetTables.{IsChunkOf, changes_at, noted-budget, placed-changes}
 use Rattle.papaya_timeline.proofs.KeptMade.{refusal}
 use Rattle.papaya_timeline.proofs.KeptTables.{IsPlaced, placed-many, table_low}
 use Rattle.papaya_timeline.proofs.KeptWritten.{asked_copy, placed_copy}
@@ -96,12 +99,12 @@ seeks_none (Ended reply) met = inl met
 seeks_none st met = absurd met
 
 -- a word that may change less often then spends an exchange
-write_spends : (w : Tables) (at : At) (new : ℕ) → IsPlaced w.tables at → changes_at (length w.tables) at new < changes_at (length w.tables) at (word_at w at) → ((budget_in (put w at new)).tables ≡ (budget_in w).tables) × ((budget_in (put w at new)).exchanges < (budget_in w).exchanges)
-write_spends w at new placed less = (ap (λ n. 2 ^ 32 - n) (placed-many w at new placed), let change = placed-changes w at new placed in omega (arith, change, less))
+write_spends : (w : Tables) (at : At) (new : ℕ) → IsPlaced w.tables at → IsChunkOf at → changes_at (length w.tables) at new < changes_at (length w.tables) at (word_at w at) → ((budget_in (put w at new)).tables ≡ (budget_in w).tables) × ((budget_in (put w at new)).exchanges < (budget_in w).exchanges)
+write_spends w at new placed chunk_is less = (ap (λ n. 2 ^ 32 - n) (placed-many w at new placed), let change = placed-changes w at new placed chunk_is in omega (arith, change, less))
 
 -- a table that is made is spent
-made_spends : (w : Tables) (n slots limit : ℕ) → length w.tables < MAX_TABLES → (budget_in (record w { tables = w.tables ++ new_table n slots limit ∷ [] })).tables < (budget_in w).tables
-made_spends w n slots limit few = let more : length (w.tables ++ new_table n slots limit ∷ []) ≡ length w.tables + 1 = length-append w.tables (new_table n slots limit ∷ []) in omega (arith, more, few)
+made_spends : (w : Tables) (n slots limit chunks : ℕ) → length w.tables < MAX_TABLES → (budget_in (record w { tables = w.tables ++ new_table n slots limit chunks ∷ [] })).tables < (budget_in w).tables
+made_spends w n slots limit chunks few = let more : length (w.tables ++ new_table n slots limit chunks ∷ []) ≡ length w.tables + 1 = length-append w.tables (new_table n slots limit chunks ∷ []) in omega (arith, more, few)
 
 module _ {K V S : Type 0} (eq : K → K → Bool) (hash : S → K → ℕ) (s : MapState K V S) (h : ℕ) (keys : IsLawfulKeys eq (hash s.store.hasher)) (fits : h < 2 ^ 64)
     (store : StoreState K V S) (m : Machine) (answer : Answer) (store' : StoreState K V S) (seeking : IsSeeking eq hash s h store m) (going : reply_in (ask_of m) ≡ None) (turn : IsTurn eq hash store (ask_of m) answer store') where
@@ -197,12 +200,15 @@ module _ {K V S : Type 0} (eq : K → K → Bool) (hash : S → K → ℕ) (s : 
   pub words'_are : word_of gq cq (run es' start) ≡ word_at store'.words
   words'_are = fun_ext (λ at. ap (λ l. word_of gq cq (run l start) at) (sym (append_assoc tale.begun tale.since left.made)) ∙ left.coded at)
 
+  has_words : HasWords gq (link_in m.phase)
+  has_words = turns.has_words eq hash s h keys fits store m answer store' seeking going turn
+
   pub read : IsCurrent (word_of gq cq (run es start)) m
   read = subst (λ words. IsCurrent words m) (sym words_are) seeking.current
 
   current' : IsCurrent (word_at store'.words) (after m answer)
   current' = subst (λ words. IsCurrent words (after m answer)) words'_are
-      (call_current gq cq (hashed) tale.begun tale.since (may) bounded None m tale.hands seeking.rests read answer left.made left.hands left.told served)
+      (call_current gq cq (hashed) tale.begun tale.since (may) bounded None m tale.hands seeking.rests has_words read answer left.made left.hands left.told served)
 
   seeker : IsSeeker m.call.task
   seeker = subst IsSeeker (sym seeking.task) tt
@@ -243,13 +249,12 @@ module _ {K V S : Type 0} (eq : K → K → Bool) (hash : S → K → ℕ) (s : 
       by_ask (asks.Call ask) e looks = absurd (aside (call_asks m ask e).0)
       by_ask (asks.Copy ask) e copied = (copied, refl)
 
-  links' : (behind t : ℕ) → link_in (after m answer).phase ≡ Some (Linking behind t) → IsMade store' t
-  links' behind t =
-      is_made (IsMade store') (link_in (after m answer).phase)
-      (machine_made (IsMade store') m answer
-      (λ n aside is. copy_made eq whatever hash false store r answer store' r m aside (performs_copy aside) n is)
-      (made_is (IsMade store') (link_in m.phase) (λ behind t linking. turns.still_there eq hash s h keys fits store m answer store' seeking going turn t (seeking.links behind t linking))))
-      behind t
+  links' : (behind t chunks : ℕ) → link_in (after m answer).phase ≡ Some (Linking behind t chunks) → IsMadeFor store' t chunks
+  links' =
+      is_made (IsMadeFor store') (link_in (after m answer).phase)
+      (machine_made (IsMadeFor store') m answer
+      (λ n behind slots limit chunks aside is making. copy_made eq whatever hash false store r answer store' r m behind slots limit chunks making (performs_copy aside) n is)
+      (made_is (IsMadeFor store') (link_in m.phase) (λ behind t chunks linking. turns.still_made eq hash s h keys fits store m answer store' seeking going turn t chunks (seeking.links behind t chunks linking))))
 
   -- what the step did to the lengths of tables: a lookup leaves them
   stepped : IsCallStep eq hash store store' m answer
@@ -310,16 +315,20 @@ module _ {K V S : Type 0} (eq : K → K → Bool) (hash : S → K → ℕ) (s : 
       by_table None e = omega arith
       by_table (Some words) e = (seeking.core.sizes t words e).most
 
+  -- a slot's chunk has no greater number than the slot
+  cut_low : (x : ℕ) → gq.chunk_of x ≤ x
+  cut_low x = div-le_self x (chunk_len s.mode)
+
   -- an exchange of its copy was made
   copy_exchanges : (at : At) (old new : ℕ) → ask_of m ≡ asks.Copy (copies.Exchange at old new) → (word_at store.words at == old) ≡ true → ((budget_in (put store.words at new)).tables ≡ (budget_of store).tables) × ((budget_in (put store.words at new)).exchanges < (budget_of store).exchanges)
   copy_exchanges at old new e hit =
       let no_open = turns.no_open eq hash s h keys fits store m answer store' seeking going turn in
       let stands : word_of gq cq now at ≡ old = coded at ∙ eqb-true (word_at store.words at) old hit in
-      let x = asked_copy gq cq store r es tale (own_key store r) hashed None refl may seeking.rests coded seeking.kept.made no_open seeking.links refl (λ t. refl) at old new e stands in
-      let placed = placed_copy gq cq store r es tale (own_key store r) hashed None refl may seeking.rests coded seeking.kept.made no_open seeking.links refl (λ t. refl) at old new e in
-      write_spends store.words at new placed
+      let x = asked_copy gq cq store r es tale (own_key store r) hashed None refl may seeking.rests coded seeking.kept.made no_open seeking.links refl (λ t. refl) (λ t. refl) at old new e stands in
+      let placed = placed_copy gq cq store r es tale (own_key store r) hashed None refl may seeking.rests coded seeking.kept.made no_open seeking.links refl (λ t. refl) (λ t. refl) at old new e in
+      write_spends store.words at new placed (copy_chunk gq cq now (length store.words.tables) sound slots_most cut_low on_low (kind_of_ask m) at new tale.hands.kept x.0 x.1 x.2)
       (subst (λ y. changes_at (length store.words.tables) at new < changes_at (length store.words.tables) at y) (coded at)
-      (copy_fewer gq cq now (length store.words.tables) sound slots_most on_low (kind_of_ask m) at new tale.hands.kept x.0 x.1 x.2 (sym x.3.here)))
+      (copy_fewer gq cq now (length store.words.tables) sound slots_most cut_low on_low (kind_of_ask m) at new tale.hands.kept x.0 x.1 x.2 (sym x.3.here)))
 
   same_words : store' ≡ store → budget_of store' ≡ budget_of store
   same_words same = ap (λ (y : StoreState K V S). budget_of y) same
@@ -335,11 +344,11 @@ module _ {K V S : Type 0} (eq : K → K → Bool) (hash : S → K → ℕ) (s : 
       (λ miss lost. subst (λ y. SpendsCopy (copies.Exchange at old new) (answers.Call y) (budget_of store) (budget_of store')) (sym lost.0) (same_words lost.1))
 
   -- a table, made or refused
-  spends_table : (slots limit : ℕ) (told : Call_answer) → (Refuses MAX_TABLES (length store.words.tables) told × (store' ≡ store)) ⊎ MakesTable told slots limit store store' → SpendsCopy (copies.MakeTable slots limit) (answers.Call told) (budget_of store) (budget_of store')
-  spends_table slots limit told (inl (refuses, same)) = let no = refusal _ _ told refuses in subst (λ y. SpendsCopy (copies.MakeTable slots limit) (answers.Call y) (budget_of store) (budget_of store')) (sym no.1) (same_words same)
-  spends_table slots limit told (inr (is, few, grown)) =
-      subst (λ y. SpendsCopy (copies.MakeTable slots limit) (answers.Call y) (budget_of store) (budget_of store')) (sym is)
-      (subst (λ (y : StoreState K V S). (budget_of y).tables < (budget_of store).tables) (sym grown) (made_spends store.words (length store.words.tables + 1) slots limit few))
+  spends_table : (slots limit chunks : ℕ) (told : Call_answer) → (Refuses MAX_TABLES (length store.words.tables) told × (store' ≡ store)) ⊎ MakesTable told slots limit chunks store store' → SpendsCopy (copies.MakeTable slots limit chunks) (answers.Call told) (budget_of store) (budget_of store')
+  spends_table slots limit chunks told (inl (refuses, same)) = let no = refusal _ _ told refuses in subst (λ y. SpendsCopy (copies.MakeTable slots limit chunks) (answers.Call y) (budget_of store) (budget_of store')) (sym no.1) (same_words same)
+  spends_table slots limit chunks told (inr (is, few, grown)) =
+      subst (λ y. SpendsCopy (copies.MakeTable slots limit chunks) (answers.Call y) (budget_of store) (budget_of store')) (sym is)
+      (subst (λ (y : StoreState K V S). (budget_of y).tables < (budget_of store).tables) (sym grown) (made_spends store.words (length store.words.tables + 1) slots limit chunks few))
 
   spends_copy : (ask : CopyAsk) → ask_of m ≡ asks.Copy ask → PerformsCopy eq hash false ask store answer store' → SpendsCopy ask answer (budget_of store) (budget_of store')
   spends_copy (copies.Load at) e (is, same) = same_words same
@@ -350,7 +359,7 @@ module _ {K V S : Type 0} (eq : K → K → Bool) (hash : S → K → ℕ) (s : 
   spends_copy (copies.HashOf n) e (is, fit, same) = same_words same
   spends_copy (copies.SamePair i n) e (is, same) = same_words same
   spends_copy copies.Count e (is, same) = same_words same
-  spends_copy (copies.MakeTable slots limit) e (told, is, makes) = subst (λ y. SpendsCopy (copies.MakeTable slots limit) y (budget_of store) (budget_of store')) (sym is) (spends_table slots limit told makes)
+  spends_copy (copies.MakeTable slots limit chunks) e (told, is, makes) = subst (λ y. SpendsCopy (copies.MakeTable slots limit chunks) y (budget_of store) (budget_of store')) (sym is) (spends_table slots limit chunks told makes)
 
   spends_look : (ask : Call_ask) (told : Call_answer) → Looks store ask told → store' ≡ store → SpendsCall (kind_of_ask m) ask told (budget_of store) (budget_of store')
   spends_look (Load at) told looks same = same_words same
@@ -374,7 +383,7 @@ module _ {K V S : Type 0} (eq : K → K → Bool) (hash : S → K → ℕ) (s : 
   falls =
       subst (λ n. measure (budget_of store') n (after m answer) < measure (budget_of store) store.words.root m) (ap (λ f. f Root) (words'_are))
       (subst (λ n. measure (budget_of store') (run es' start).root (after m answer) < measure (budget_of store) n m) (ap (λ f. f Root) (words_are))
-      (call_nears gq cq hashed tale.begun tale.since may (bounded) None m tale.hands seeking.rests (read) answer left.made left.hands left.told
+      (call_nears gq cq hashed tale.begun tale.since may (bounded) None m tale.hands seeking.rests has_words (read) answer left.made left.hands left.told
       (served) (budget_of store) (budget_of store') spends few (standing')))
 
   pub turn_nears : left_of store' (after m answer) < left_of store m

@@ -1,5 +1,5 @@
 -- One answer to a removal that meets no pair: what it leaves of the words, the logs and the map.
-use Rattle.std.proofs.Common.{◌≡◌, ◌⊎◌, inl, inr, ℕ, ◌%◌, ◌^◌, ◌<◌, ◌==◌, Bool, false, Option, None, Some, List, [], ◌∷◌, ◌++◌, append_assoc, append-nil, refl, sym, ◌∙◌, ap, subst}
+use Rattle.std.proofs.Common.{◌≡◌, ◌⊎◌, inl, inr, ℕ, ◌%◌, ◌^◌, ◌<◌, ◌≤◌, ◌==◌, Bool, false, Option, None, Some, List, [], ◌∷◌, ◌++◌, append_assoc, append-nil, refl, sym, ◌∙◌, ap, subst}
 use denote.Ref.{Bor}
 use Rattle.std.specs.Fn.{Mut}
 use Rattle.papaya_ask.specs.declared.ask.At.{At}
@@ -44,7 +44,7 @@ use Rattle.papaya_law.specs.Invariant.{named}
 use Rattle.papaya_law.specs.Later.{IsLater}
 use Rattle.papaya_law.proofs.Hints.{hint_agrees, hint_lasts}
 use Rattle.papaya_law.proofs.Later.{later_run}
-use Rattle.papaya_rests.specs.Copier.{IsCopyAsked}
+use Rattle.papaya_rests.specs.Copier.{HasWords, IsCopyAsked}
 use Rattle.papaya_rests.specs.Rests.{change_after, change_in}
 use Rattle.papaya_rests.specs.Told.{Hands as Call_hands, IsTold as IsCallTold, told_of, word_of}
 use Rattle.papaya_rests.proofs.RestsNames.{IsNamed, ask_named}
@@ -57,11 +57,11 @@ use Rattle.papaya_store.specs.declared.pairs.Running.{Running}
 use Rattle.papaya_timeline.specs.Advances.{reply_in}
 use Rattle.papaya_timeline.specs.Content.{map_in}
 use Rattle.papaya_timeline.specs.Core.{IsCore}
-use Rattle.papaya_timeline.specs.Kept.{IsKept, IsLogged, IsMade, Tale, places_in, slots_in}
+use Rattle.papaya_timeline.specs.Kept.{IsKept, IsLogged, IsMade, IsMadeFor, Tale, places_in, slots_in}
 use Rattle.papaya_timeline.proofs.KeptAnswer.{IsAnswered as IsLeft, Stands, own_told, quiet, told_last, told_made}
 use Rattle.papaya_ask.specs.declared.call.Reply.TheVariants.{Refused as Reply_refused}
 use Rattle.papaya_words.specs.declared.probe.Refused.{Refused}
-use Rattle.papaya_chain_rests.specs.Goes.{IsCause}
+use Rattle.papaya_chain_rests.specs.Goes.{IsCause, link_in}
 use Rattle.papaya_chain_rests.proofs.Order.{in_order}
 use Rattle.papaya_chain_rests.proofs.Refusals.{chain_refused}
 use Rattle.papaya_timeline.proofs.CoreLemmas.{reply_asked}
@@ -69,6 +69,7 @@ use Rattle.papaya_timeline.proofs.KeptCopied.{Suits, answered_copy}
 use Rattle.papaya_timeline.proofs.KeptMap.{kept_map}
 use Rattle.papaya_timeline.proofs.KeptSettings.{IsLawfulKeys, grown_agrees}
 use Rattle.papaya_timeline.proofs.KeptWritten.{on_there}
+use Rattle.papaya_timeline.proofs.LinkWords.{link_words}
 use Rattle.papaya_timeline.proofs.StepEvents.{copy_told}
 use Rattle.papaya_timeline.proofs.StoreLemmas.{matched}
 use Rattle.papaya_seq.specs.Looks.{matches_in}
@@ -131,7 +132,7 @@ module _ {K V S : Type 0} where
   turn_words eq hash store (asks.Copy (copies.HashOf n)) answer store' (is, fits, same) = words_only store store' store.words same
   turn_words eq hash store (asks.Copy (copies.SamePair m n)) answer store' (is, same) = words_only store store' store.words same
   turn_words eq hash store (asks.Copy copies.Count) answer store' (is, same) = words_only store store' store.words same
-  turn_words eq hash store (asks.Copy (copies.MakeTable slots limit)) answer store' (told, is, makes) = elim makes [
+  turn_words eq hash store (asks.Copy (copies.MakeTable slots limit chunks)) answer store' (told, is, makes) = elim makes [
     | inl none ↦ words_only store store' store.words none.1
     | inr made ↦ words_only store store' _ made.2
   ]
@@ -169,7 +170,7 @@ copy_still g c (Some kinds.Mark) (Slot t x) new s kept e (p, live, is) m k = ap 
 copy_still g c (Some kinds.Close) (Slot t x) new s kept e is m k = ap (λ y. map_after g m y k) is
 copy_still g c (Some kinds.Place) (Slot t x) new s kept e (p, own, number, is) m k = ap (λ y. map_after g m y k) is
 copy_still g c (Some kinds.Finish) (Slot t x) new s kept e (p, marked, is) m k = ap (λ y. map_after g m y k) is
-copy_still g c (Some kinds.Advance) (Done n) new s kept e is m k = ap (λ y. map_after g m y k) is
+copy_still g c (Some kinds.Advance) (Done n chunk) new s kept e is m k = ap (λ y. map_after g m y k) is
 copy_still g c (Some kinds.Promote) Root new s kept e is m k = ap (λ y. map_after g m y k) is
 copy_still g c (Some kinds.Abort) (Aborted n) new s kept e is m k = ap (λ y. map_after g m y k) is
 copy_still g c _ _ new s kept e is m k = absurd is
@@ -228,6 +229,7 @@ module _ {K V S : Type 0} (eq : K → K → Bool) (hash : S → K → ℕ) (s : 
   suits = record {
     sizes = λ t. refl;
     places = λ t. refl;
+    chunks = λ t. refl;
     numbers = λ p. refl;
     hashes_of = λ p. ap (λ (y : StoreState K V S). hash y.hasher p.key % 2 ^ 64) (sym seeking.logs);
     sames = λ p q. refl;
@@ -243,7 +245,7 @@ module _ {K V S : Type 0} (eq : K → K → Bool) (hash : S → K → ℕ) (s : 
   answered_quietly ask e told hands same tells look stood made =
       quiet gq cq store r es tale (own_key store r) hashed None seeking.rests coded seeking.kept.made refl (asks.Call ask) e (answers.Call told) store' r (record tale.hands { call = hands }) store.count same refl
       (own_told gq cq store r es tale (own_key store r) hashed None seeking.rests coded seeking.kept.made ask told [] hands tells) (unmoved ask look) stood (λ p l. inl l) made
-      (λ t is which. elim which [ inl (slots, limit, f) ↦ (let asked : ask ≡ MakeTable slots limit = cc in subst IsLook asked look) | inr (slots, limit, f) ↦ absurd cc ])
+      (λ t is which. elim which [ inl (slots, limit, chunks, f) ↦ (let asked : ask ≡ MakeTable slots limit chunks = cc in subst IsLook asked look) | inr (slots, limit, chunks, f) ↦ absurd cc ])
     where
       unmoved : (ask : Call_ask) → IsLook ask → change_after (kind_of_ask m) ask told (change_in m.call.state) ≡ change_in m.call.state
       unmoved (Load at) look = refl
@@ -261,7 +263,7 @@ module _ {K V S : Type 0} (eq : K → K → Bool) (hash : S → K → ℕ) (s : 
   answered_look (SizeOf n) e told is same =
       let call = m.call in
       let on : IsOn (run es start).first (run es start).next n = subst (IsNamed gq cq hashed tale.begun tale.since may None) (call_asks m (SizeOf n) e).1 (ask_named gq cq hashed tale.begun tale.since may None tale.hands.call call.task call.hash call.made call.state seeking.rests.call.stage) in
-      let words = on_there gq cq store r es tale (own_key store r) hashed None refl may seeking.rests coded seeking.kept.made no_open seeking.links refl (λ t. refl) n on in
+      let words = on_there gq cq store r es tale (own_key store r) hashed None refl may seeking.rests coded seeking.kept.made no_open seeking.links refl (λ t. refl) (λ t. refl) n on in
       answered_quietly (SizeOf n) e told tale.hands.call same
       ((words.0.limit, sym (ap places_in words.1), is ∙ ap size_of words.1 ∙ ap (λ y. Size y words.0.limit) (sym (ap slots_in words.1))), (refl, refl)) tt (λ p l. inl l) refl
   answered_look ask e told is same = absurd is
@@ -288,9 +290,13 @@ module _ {K V S : Type 0} (eq : K → K → Bool) (hash : S → K → ℕ) (s : 
   abbrev pub tale' : Tale K V
   tale' = record { begun = tale.begun; since = since'; hands = left.hands; visit = tale.visit }
 
+  -- a table that is about to be linked has its words
+  pub has_words : HasWords gq (link_in m.phase)
+  has_words = link_words gq store (λ t. refl) (link_in m.phase) seeking.links
+
   -- they were allowed, and the machine rests on them
   pub learnt : AllAllowed gq start es' × Rests gq cq tale.begun since' None (after m answer) left.hands
-  learnt = all_learns gq cq hashed tale.begun tale.since may None m tale.hands seeking.rests answer left.made left.hands left.told
+  learnt = all_learns gq cq hashed tale.begun tale.since may None m tale.hands seeking.rests answer (λ _. has_words) left.made left.hands left.told
 
   all_own : AllAllowed g start es'
   all_own = all_alike gq g (alike_back g gq (key_alike g (λ k. false) h)) es' start learnt.0
@@ -307,6 +313,9 @@ module _ {K V S : Type 0} (eq : K → K → Bool) (hash : S → K → ℕ) (s : 
 
   pub still_there : (t : ℕ) → IsMade store t → IsMade store' t
   still_there t w = let grown = left.grown t w.0 w.1 in (grown.0, grown.1)
+
+  pub still_made : (t chunks : ℕ) → IsMadeFor store t chunks → IsMadeFor store' t chunks
+  still_made t chunks w = let grown = left.grown t w.0 w.1 in (grown.0, grown.1, subst (λ n. chunks ≤ n) (sym grown.4) w.2)
 
   pub stood_logged : (p : Stored K V) → Stands (run es start) p → IsLogged store' p
   stood_logged p (t, x, names) = left.logged p.number p (seeking.kept.logged t x p names)

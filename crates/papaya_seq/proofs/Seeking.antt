@@ -31,7 +31,7 @@ use Rattle.papaya_store.specs.Store.{StoreState, Stored}
 use Rattle.papaya_store.specs.Tables.{table_of, word_at}
 use Rattle.papaya_timeline.specs.Core.{IsCore}
 use Rattle.papaya_chain_rests.specs.VisitTold as visits
-use Rattle.papaya_timeline.specs.Kept.{IsKept, IsLogged, IsMade, Tale, coding_of, is_blocking, low, setting_of, slots_in}
+use Rattle.papaya_timeline.specs.Kept.{IsKept, IsLogged, IsMadeFor, Tale, coding_of, is_blocking, low, setting_of, slots_in}
 use Rattle.papaya_timeline.proofs.KeptSettings.{IsLawfulKeys, tables_hashed}
 use Rattle.papaya_seq.proofs.CallLengths.{IsLong, long_begun}
 use Rattle.papaya_seq.specs.Map.{IsLawfulMap, MapState, Unchanged}
@@ -77,7 +77,7 @@ module _ {K V S : Type 0} (eq : K → K → Bool) (hash : S → K → ℕ) (s : 
     pub last : (p : Stored K V) → tale.hands.call.last ≡ Some p → IsLogged store p
     pub carried : (p : Stored K V) → tale.hands.kept ≡ Some p → IsLogged store p
     pub made : (p : Stored K V) → IsOneOf tale.hands.call.made p → IsLogged store p
-    pub links : (behind t : ℕ) → link_in m.phase ≡ Some (Linking behind t) → IsMade store t
+    pub links : (behind t chunks : ℕ) → link_in m.phase ≡ Some (Linking behind t chunks) → IsMadeFor store t chunks
     pub standing : IsStanding m
     pub current : IsCurrent (word_at store.words) m
     pub task : m.call.task ≡ RemoveIf
@@ -92,7 +92,7 @@ module _ {K V S : Type 0} (eq : K → K → Bool) (hash : S → K → ℕ) (s : 
   sought_word tables z Root = refl
   sought_word tables z (Next t) = refl
   sought_word tables z (Aborted t) = refl
-  sought_word tables z (Done t) = refl
+  sought_word tables z (Done t chunk) = refl
   sought_word tables z (Slot t x) = key_code (own_setting tables) (λ k. false) h own_coding (z.slot t x)
 
   -- and a slot the hints that it had
@@ -125,8 +125,8 @@ module _ {K V S : Type 0} (eq : K → K → Bool) (hash : S → K → ℕ) (s : 
         key_lawful g (λ k. false) h own_coding (own_hashed store core) form (λ t. sized_slot (table_of store.words.tables t) (λ w e. core.sizes t w e))
 
     -- a removal that begins
-    pub seek_begin : IsLawfulMap eq (hash s.store.hasher) s.store s.mode s.initial → IsSeeking s.store (started RemoveIf h s.mode s.initial)
-    seek_begin lawful =
+    pub seek_begin : (number : ℕ) → IsLawfulMap eq (hash s.store.hasher) s.store s.mode s.initial → IsSeeking s.store (started RemoveIf h s.mode s.initial number)
+    seek_begin number lawful =
         let (es, (tales, kept)) = lawful.lawful.law in
         let tale : Tale K V = record { begun = es; since = []; hands = no_hands; visit = visits.no_hands } in
         let same_es : es ≡ es ++ [] = sym (append-nil es) in
@@ -137,20 +137,20 @@ module _ {K V S : Type 0} (eq : K → K → Bool) (hash : S → K → ℕ) (s : 
           kept = subst (λ l. IsKept {A = Unit {0}} eq (hash s.store.hasher) s.mode s.store [] l (λ d. tale)) same_es
               (record { allowed = kept.allowed; coded = kept.coded; hints = kept.hints; made = kept.made; logged = kept.logged; few = kept.few; tables_few = kept.tables_few; calls = λ d r e. absurd cc; resizers = λ d z e. absurd cc; visitors = λ d v e. absurd cc; apart = λ d e r q x. absurd cc });
           rests = record {
-            chunked = core.chunked;
+            cut = λ x. refl;
             call = record { hash = refl; mode = mode_of s.mode; made = record { keys = λ q l. absurd l; made_is = tt; fill_is = tt; choice_is = tt }; stage = tt };
             phase = tt;
           };
           last = λ p l. absurd cc;
           carried = λ p l. absurd cc;
           made = λ p l. absurd l;
-          links = λ behind t l. absurd cc;
-          standing = started_stands RemoveIf h s.mode s.initial core.chunked lawful.power;
+          links = λ behind t chunks l. absurd cc;
+          standing = started_stands RemoveIf h s.mode s.initial number core.chunked lawful.power;
           current = (tt, tt);
           task = refl;
           hash_is = refl;
           seeks = tt;
           logs = refl;
           same = λ k. refl;
-          long = long_begun s lawful.long (started RemoveIf h s.mode s.initial) refl refl;
+          long = long_begun s lawful.long (started RemoveIf h s.mode s.initial number) refl refl;
         }

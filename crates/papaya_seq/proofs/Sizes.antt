@@ -1,9 +1,11 @@
 -- By how many slots a next table is counted: by those of the table that it is to follow, which is asked for its size.
-use Rattle.std.proofs.Common.{◌≡◌, ℕ, ◌^◌, nat_le, Bool, Option, None, Some, length, refl, ap, subst}
+use Rattle.std.proofs.Common.{◌≡◌, ℕ, ◌==◌, ◌^◌, nat_le, Bool, Option, None, Some, length, refl, ap, subst}
 use Rattle.std.proofs.lemmas.Bool.{cond_both}
+use Rattle.papaya_words.specs.Chunks.{chunk_count, chunk_len}
 use Rattle.papaya_words.specs.Table.{TableWords, length_after}
 use Rattle.papaya_words.specs.declared.probe.Refused.{Refused}
 use Rattle.papaya_words.specs.declared.probe.Refused.TheVariants.{Capacity}
+use Rattle.papaya_words.specs.declared.probe.ResizeMode.{ResizeMode}
 use Rattle.papaya_ask.specs.declared.ask.Answer.TheVariants.{Size}
 use Rattle.papaya_copy.specs.declared.link.Link.{Link}
 use Rattle.papaya_copy.specs.declared.link.Link.TheVariants as links
@@ -27,56 +29,54 @@ use Rattle.papaya_store.specs.Performs.{size_of}
 module _ (Sized : ℕ → ℕ → Type 0) where
   -- the table that is to get a next one has the slots by which that is counted
   abbrev pub IsSizedLink : Link → Type 0
-  IsSizedLink (links.Counting behind unfit slots) = Sized behind slots
+  IsSizedLink (links.Measuring behind copied unfit slots) = Sized behind slots
+  IsSizedLink (links.Counting behind unfit slots copied) = Sized behind slots
   IsSizedLink _ = Unit {0}
 
   -- the answer is the size of the table that is asked for
   abbrev pub Told : Link → ℕ → Type 0
-  Told made slots = (behind : ℕ) (unfit : Bool) → made ≡ links.Sizing behind unfit → Sized behind slots
+  Told made slots = (behind copied : ℕ) (unfit : Bool) → made ≡ links.Sizing behind copied unfit → Sized behind slots
 
   abbrev pub New : Link → ℕ → Type 0
   New made n = Unit {0}
 
   -- in other words
-  pub is_sized : (o : Option Link) → In IsSizedLink o → (behind slots : ℕ) (unfit : Bool) → o ≡ Some (links.Counting behind unfit slots) → Sized behind slots
-  is_sized o h behind slots unfit e = subst (In IsSizedLink) e h
-
-  pub sized_is : (o : Option Link) → ((behind slots : ℕ) (unfit : Bool) → o ≡ Some (links.Counting behind unfit slots) → Sized behind slots) → In IsSizedLink o
-  sized_is None h = tt
-  sized_is (Some (links.Counting behind unfit slots)) h = h behind slots unfit refl
-  sized_is (Some other) h = tt
+  pub is_sized : (o : Option Link) → In IsSizedLink o → (behind slots copied : ℕ) (unfit : Bool) → o ≡ Some (links.Counting behind unfit slots copied) → Sized behind slots
+  is_sized o h behind slots copied unfit e = subst (In IsSizedLink) e h
 
   -- the making of a table
   link_size : (made : Link) (slots : ℕ) → Told made slots → IsSizedLink made → IsSizedLink (link.at_size made slots)
-  link_size (links.Sizing behind unfit) slots told h = told behind unfit refl
+  link_size (links.Sizing behind copied unfit) slots told h =
+      cond_both (copied == behind) (links.Counting behind unfit slots slots) (links.Measuring behind copied unfit slots) IsSizedLink (λ _. told behind copied unfit refl) (λ _. told behind copied unfit refl)
+  link_size (links.Measuring behind copied unfit before) slots told h = h
   link_size other slots told h = h
 
   link_made : (made : Link) (n : ℕ) → IsSizedLink made → IsSizedLink (link.at_made made n)
-  link_made (links.Making behind slots limit) n h = tt
+  link_made (links.Making behind slots limit chunks) n h = tt
   link_made other n h = h
 
-  counted : (behind before : ℕ) (unfit : Bool) (asked : ℕ) → Linked_in IsSizedLink (link.counted behind before unfit asked)
-  counted behind before unfit asked = cond_both (nat_le asked (2 ^ 32)) (linked.On (link.making behind before unfit asked)) (linked.Refused Capacity) (Linked_in IsSizedLink) (λ _. tt) (λ _. tt)
+  counted : (behind before : ℕ) (unfit : Bool) (chunks asked : ℕ) → Linked_in IsSizedLink (link.counted behind before unfit chunks asked)
+  counted behind before unfit chunks asked = cond_both (nat_le asked (2 ^ 32)) (linked.On (link.making behind before unfit chunks asked)) (linked.Refused Capacity) (Linked_in IsSizedLink) (λ _. tt) (λ _. tt)
 
-  link_count : (made : Link) (count initial : ℕ) → IsSizedLink made → Linked_in IsSizedLink (link.at_count made count initial)
-  link_count (links.Counting behind unfit slots) count initial h = counted behind slots unfit (length_after slots count initial unfit)
-  link_count other count initial h = h
+  link_count : (made : Link) (mode : ResizeMode) (count initial : ℕ) → IsSizedLink made → Linked_in IsSizedLink (link.at_count made mode count initial)
+  link_count (links.Counting behind unfit slots copied) mode count initial h = counted behind slots unfit (chunk_count copied (chunk_len mode)) (length_after slots count initial unfit)
+  link_count other mode count initial h = h
 
   link_refused : (made : Link) (refused : Refused) → IsSizedLink made → Linked_in IsSizedLink (link.at_refused made refused)
-  link_refused (links.Making behind slots limit) refused h = tt
+  link_refused (links.Making behind slots limit chunks) refused h = tt
   link_refused other refused h = h
 
   link_exchanged : (made : Link) → IsSizedLink made → Linked_in IsSizedLink (link.at_exchanged made)
-  link_exchanged (links.Linking behind table) h = tt
+  link_exchanged (links.Linking behind table chunks) h = tt
   link_exchanged other h = h
 
   link_found : (made : Link) (word : ℕ) → IsSizedLink made → Linked_in IsSizedLink (link.at_found made word)
-  link_found (links.Linking behind table) word h = tt
+  link_found (links.Linking behind table chunks) word h = tt
   link_found other word h = h
 
   pub stable : IsStable IsSizedLink Told New
   stable = record {
-    fresh = λ behind unfit. tt;
+    fresh = λ behind copied unfit. tt;
     sizes = link_size;
     makes = λ made n new h. link_made made n h;
     counts = link_count;
@@ -86,16 +86,23 @@ module _ (Sized : ℕ → ℕ → Type 0) where
   }
 
   -- where the machine counts by the slots of a table after an answer, it did before, or was told of them
-  pub machine_sized : (m : Machine) (answer : Answer) → ((slots limit : ℕ) → answer ≡ answers.Call (Size slots limit) → (behind : ℕ) (unfit : Bool) → link_in m.phase ≡ Some (links.Sizing behind unfit) → Sized behind slots) → In IsSizedLink (link_in m.phase) → In IsSizedLink (link_in (machine.after m answer).phase)
+  pub machine_sized : (m : Machine) (answer : Answer) → ((slots limit : ℕ) → answer ≡ answers.Call (Size slots limit) → (behind copied : ℕ) (unfit : Bool) → link_in m.phase ≡ Some (links.Sizing behind copied unfit) → Sized behind slots) → In IsSizedLink (link_in m.phase) → In IsSizedLink (link_in (machine.after m answer).phase)
   machine_sized m answer told h = machine_holds IsSizedLink Told New stable m answer (λ slots limit is. told_in (link_in m.phase) slots (told slots limit is)) (λ n aside is. new_in (link_in m.phase) n) h
     where
-      told_in : (o : Option Link) (slots : ℕ) → ((behind : ℕ) (unfit : Bool) → o ≡ Some (links.Sizing behind unfit) → Sized behind slots) → Of Told o slots
+      told_in : (o : Option Link) (slots : ℕ) → ((behind copied : ℕ) (unfit : Bool) → o ≡ Some (links.Sizing behind copied unfit) → Sized behind slots) → Of Told o slots
       told_in None slots told = tt
-      told_in (Some made) slots told = λ behind unfit e. told behind unfit (ap (λ y. Some y) e)
+      told_in (Some made) slots told = λ behind copied unfit e. told behind copied unfit (ap (λ y. Some y) e)
 
       new_in : (o : Option Link) (n : ℕ) → Of New o n
       new_in None n = tt
       new_in (Some made) n = tt
+
+-- so it is where that is so of more numbers
+pub sized_beside : (Sized Sized' : ℕ → ℕ → Type 0) → ((n slots : ℕ) → Sized n slots → Sized' n slots) → (o : Option Link) → In (IsSizedLink Sized) o → In (IsSizedLink Sized') o
+sized_beside Sized Sized' more None h = tt
+sized_beside Sized Sized' more (Some (links.Measuring behind copied unfit slots)) h = more behind slots h
+sized_beside Sized Sized' more (Some (links.Counting behind unfit slots copied)) h = more behind slots h
+sized_beside Sized Sized' more (Some other) h = tt
 
 -- what a machine asks that makes a table for a copy
 pub link_asked : (m : Machine) (made : Link) → link_in m.phase ≡ Some made → ask_of m ≡ asks.Copy (link_ask made)

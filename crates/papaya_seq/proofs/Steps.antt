@@ -61,9 +61,10 @@ stepped later m answer = record later { machine = after m answer }
 module _ {K V S : Type 0} (eq : K → K → Bool) (hash : S → K → ℕ) (s : MapState K V S) (call : KeyCall K V) where
   -- The call came to this by steps of the core, which is in order; where it has replied, the last of them gave the reply.
   pub record HasCome (store : StoreState K V S) (r : Running K V (Unit {0})) : Type 0 where
+    pub number : ℕ
     pub steps : ℕ
     pub history : History
-    pub runs : StepsRun eq whatever hash 1 0 steps (start eq hash s call.call) (with_event 0 0 Begun []) (seated store (still r) s.mode s.initial) history
+    pub runs : StepsRun eq whatever hash 1 0 steps (start eq hash s call.call number) (with_event 0 0 Begun []) (seated store (still r) s.mode s.initial) history
     pub replied : (reply : Reply) → reply_in (ask_of r.machine) ≡ Some reply → (last : Entry) × (before : History) × (history ≡ last ∷ before) × (last.event ≡ Replied reply)
     pub lawful : IsLawfulCore eq (hash s.store.hasher) store (record { caller = 0; work = as_work (still r) } ∷ []) s.mode
     -- until then it is alone, and what it has read stands there
@@ -81,17 +82,18 @@ module _ {K V S : Type 0} (eq : K → K → Bool) (hash : S → K → ℕ) (s : 
   abbrev pub IsMade : StoreState K V S → Running K V (Unit {0}) → Type 0
   IsMade store r = IsLawfulKeys eq (hash s.store.hasher) → IsLawfulMap eq (hash s.store.hasher) s.store s.mode s.initial → hash s.store.hasher call.key < 2 ^ 64 → HasCome store r
 
-  -- a call that begins
-  pub made_none : IsMade s.store (first_of (hash s.store.hasher) s.mode s.initial call)
-  made_none keys lawful fits =
-      let first = first_of (hash s.store.hasher) s.mode s.initial call in
+  -- a call that begins, with any number
+  pub made_none : (number : ℕ) → IsMade s.store (first_of (hash s.store.hasher) s.mode s.initial number call)
+  made_none number keys lawful fits =
+      let first = first_of (hash s.store.hasher) s.mode s.initial number call in
       let lone : IsLone eq hash (seated s.store (Some first) s.mode s.initial) first =
-      subst (λ w. IsLoneWork eq hash (seated_work {A = Unit {0}} s.store (Some w) s.mode s.initial) w) (call.begins (hash s.store.hasher) s.mode s.initial)
-      (lone_begin eq hash (core_of s) keys call.call (start eq hash s call.call) refl lawful.lawful (begins_so eq hash s call.call (key_fits (hash s.store.hasher) call fits) lawful.power)) in
+      subst (λ w. IsLoneWork eq hash (seated_work {A = Unit {0}} s.store (Some w) s.mode s.initial) w) (call.begins (hash s.store.hasher) s.mode s.initial number)
+      (lone_begin eq hash (core_of s) keys call.call (start eq hash s call.call number) refl lawful.lawful (begins_so eq hash s call.call number (key_fits (hash s.store.hasher) call fits) lawful.power)) in
       record {
+        number = number;
         steps = 0;
         history = with_event 0 0 Begun [];
-        runs = (ap (λ w. seated_work s.store (Some w) s.mode s.initial) (sym (call.begins (hash s.store.hasher) s.mode s.initial)), refl);
+        runs = (ap (λ w. seated_work s.store (Some w) s.mode s.initial) (sym (call.begins (hash s.store.hasher) s.mode s.initial number)), refl);
         replied = λ reply e. let f : None ≡ Some reply = e in absurd cc;
         lawful = lone.lawful;
         lone = λ going. lone;
@@ -214,9 +216,10 @@ module _ {K V S : Type 0} (eq : K → K → Bool) (hash : S → K → ℕ) (s : 
         let core = advance-core eq whatever hash false now 0 (seated store' (goes_on reply next) s.mode s.initial) event reply made_step now_lawful.core in
         let told = chain_task r.machine answer made_ordered in
         record {
+          number = came.number;
           steps = suc came.steps;
           history = with_step 1 0 event reply came.history;
-          runs = (now, came.history, subst (λ o. StepsRun eq whatever hash 1 0 came.steps (start eq hash s call.call) (with_event 0 0 Begun []) (seated store o s.mode s.initial) came.history) under_way came.runs, inl (event, reply, inl made_step, refl));
+          runs = (now, came.history, subst (λ o. StepsRun eq whatever hash 1 0 came.steps (start eq hash s call.call came.number) (with_event 0 0 Begun []) (seated store o s.mode s.initial) came.history) under_way came.runs, inl (event, reply, inl made_step, refl));
           replied = λ x e. last_entry event reply came.history x e;
           lawful = record { core = core; law = (es ++ step.made, (told_tales tales 0 step.made step.hands, step.kept)) };
           lone = next_lone;
@@ -243,7 +246,7 @@ module _ {K V S : Type 0} (eq : K → K → Bool) (hash : S → K → ℕ) (s : 
   pub made_unchanged : IsLawfulKeys eq (hash s.store.hasher) → IsLawfulMap eq (hash s.store.hasher) s.store s.mode s.initial → hash s.store.hasher call.key < 2 ^ 64 → (store : StoreState K V S) (r : Running K V (Unit {0})) → reply_in (ask_of r.machine) ≡ None → change_in r.machine.call.state ≡ None → HasCome store r → Unchanged eq s.store store × KeepsPairs s.store store
   made_unchanged keys lawful fits store r going none came =
       let left : IsLeft eq hash (core_of s) (seated store (still r) s.mode s.initial) r =
-      call_left eq hash (core_of s) keys whatever (seated store (still r) s.mode s.initial) came.history r (ap (λ o. call_in (as_work (goes_on o r))) going) call.call came.steps lawful.lawful refl (turns_made eq hash s call.call (key_fits (hash s.store.hasher) call fits) lawful.power came.steps (seated store (still r) s.mode s.initial) came.history came.runs) none in
+      call_left eq hash (core_of s) keys whatever (seated store (still r) s.mode s.initial) came.history r (ap (λ o. call_in (as_work (goes_on o r))) going) call.call came.steps lawful.lawful refl (turns_made eq hash s call.call came.number (key_fits (hash s.store.hasher) call fits) lawful.power came.steps (seated store (still r) s.mode s.initial) came.history came.runs) none in
       (left.map, left.keeps)
 
   -- the tables that a call on a key has made
@@ -255,6 +258,6 @@ module _ {K V S : Type 0} (eq : K → K → Bool) (hash : S → K → ℕ) (s : 
   made_alone keys lawful fits store r reply told made =
       let came = made keys lawful fits in
       let ends = came.replied reply told in
-      made_over eq hash s call.call (key_fits (hash s.store.hasher) call fits) lawful.power came.steps store came.history
-      (subst (λ (o : Option Reply). StepsRun eq whatever hash 1 0 came.steps (start eq hash s call.call) (with_event 0 0 Begun []) (seated store (goes_on o r) s.mode s.initial) came.history) told came.runs)
+      made_over eq hash s call.call came.number (key_fits (hash s.store.hasher) call fits) lawful.power came.steps store came.history
+      (subst (λ (o : Option Reply). StepsRun eq whatever hash 1 0 came.steps (start eq hash s call.call came.number) (with_event 0 0 Begun []) (seated store (goes_on o r) s.mode s.initial) came.history) told came.runs)
       reply ends.0 ends.1 ends.2 ends.3 (long_left s store r.machine came.long)

@@ -19,7 +19,7 @@ use Rattle.papaya_chain.specs.declared.ask.Answer.{Answer}
 use Rattle.papaya_store.specs.declared.pairs.Running.{Running}
 use Rattle.papaya_store.specs.Copies.{PerformsCopy}
 use Rattle.papaya_store.specs.New.{HasCapacity}
-use Rattle.papaya_store.specs.Performs.{Exchanges, HasKey, HasNoPair, LogsKey, LogsPair, MakesTable, Performs, Refuses, Stays}
+use Rattle.papaya_store.specs.Performs.{Exchanges, MakesTable, Performs}
 use Rattle.papaya_store.specs.Store.{StoreState}
 use Rattle.papaya_store.specs.Tables.{Tables, hinted, note, put, put_at, put_in, word_at, written}
 use Rattle.papaya_timeline.proofs.KeptHints.{by-table, hinted-same}
@@ -37,7 +37,7 @@ written_long : (at : At) (t : TableWords) (word : ℕ) → long (written at t wo
 written_long Root t word = refl
 written_long (Next n) t word = refl
 written_long (Aborted n) t word = refl
-written_long (Done n) t word = refl
+written_long (Done n chunk) t word = elim (nat_lt chunk (length t.done)) as (λ b. long (cond b (record t { done = slice_set t.done chunk word }) t) ≡ long t) [ true ↦ refl | false ↦ refl ]
 written_long (Slot n i) t word = elim (nat_lt i (length t.slots)) as (λ b. long (cond b (record t { slots = slice_set t.slots i word }) t) ≡ long t) [ true ↦ length-set t.slots i word | false ↦ refl ]
 
 set_lengths : (tables : List TableWords) (k : ℕ) (t u : TableWords) → slice_get tables k ≡ Some t → long u ≡ long t → map long (slice_set tables k u) ≡ map long tables
@@ -61,7 +61,7 @@ pub put_lengths : (w : Tables) (at : At) (word : ℕ) → lengths_of (put w at w
 put_lengths w Root word = refl
 put_lengths w (Next n) word = put_at_lengths (Next n) n w word
 put_lengths w (Aborted n) word = put_at_lengths (Aborted n) n w word
-put_lengths w (Done n) word = put_at_lengths (Done n) n w word
+put_lengths w (Done n chunk) word = put_at_lengths (Done n chunk) n w word
 put_lengths w (Slot n i) word = put_at_lengths (Slot n i) n w word
 
 -- and a hint that is written leaves them
@@ -87,14 +87,14 @@ module _ {K V S : Type 0} (Asked : ℕ → Type 0) (s s' : StoreState K V S) whe
       (λ _ done. inl (ap (λ (y : StoreState K V S). lengths_of y.words) done.1 ∙ put_lengths s.words at new)) (λ _ lost. as_long lost.1)
 
   -- a table
-  made_long : (slots limit : ℕ) (told : Call_answer) → Asked slots → MakesTable told slots limit s s' → IsLengthened
-  made_long slots limit told asked (is, few, more) =
+  made_long : (slots limit chunks : ℕ) (told : Call_answer) → Asked slots → MakesTable told slots limit chunks s s' → IsLengthened
+  made_long slots limit chunks told asked (is, few, more) =
       let n : ℕ = length s.words.tables + 1 in
-      inr (slots, asked, ap (λ (y : StoreState K V S). lengths_of y.words) more ∙ map-append long s.words.tables (new_table n slots limit ∷ []) ∙ ap (λ m. lengths_of s.words ++ m ∷ []) (length-replicate slots 0))
+      inr (slots, asked, ap (λ (y : StoreState K V S). lengths_of y.words) more ∙ map-append long s.words.tables (new_table n slots limit chunks ∷ []) ∙ ap (λ m. lengths_of s.words ++ m ∷ []) (length-replicate slots 0))
 
 module _ {K V S : Type 0} (eq : K → K → Bool) (refuse : Bool) where
   -- an ask of a copy
-  pub copy_long : (hash : S → K → ℕ) (ask : CopyAsk) (s : StoreState K V S) (a : Answer) (s' : StoreState K V S) → PerformsCopy eq hash refuse ask s a s' → IsLengthened (λ slots. (limit : ℕ) × (ask ≡ copies.MakeTable slots limit)) s s'
+  pub copy_long : (hash : S → K → ℕ) (ask : CopyAsk) (s : StoreState K V S) (a : Answer) (s' : StoreState K V S) → PerformsCopy eq hash refuse ask s a s' → IsLengthened (λ slots. (limit chunks : ℕ) × (ask ≡ copies.MakeTable slots limit chunks)) s s'
   copy_long hash (copies.Load at) s a s' (is, same) = as_long _ s s' same
   copy_long hash (copies.Exchange at old new) s a s' (told, is, h) = exchanged_long _ s s' at (word_at s.words at) old new told h
   copy_long hash (copies.LoadHint t x) s a s' (is, same) = as_long _ s s' same
@@ -103,9 +103,9 @@ module _ {K V S : Type 0} (eq : K → K → Bool) (refuse : Bool) where
   copy_long hash (copies.HashOf n) s a s' (is, hashed, same) = as_long _ s s' same
   copy_long hash (copies.SamePair m n) s a s' (is, same) = as_long _ s s' same
   copy_long hash copies.Count s a s' (is, same) = as_long _ s s' same
-  copy_long hash (copies.MakeTable slots limit) s a s' (told, is, h) =
-      matched (IsLengthened (λ n. (l : ℕ) × (copies.MakeTable slots limit ≡ copies.MakeTable n l)) s s') refuse _ _ h (λ _ none. as_long _ s s' none.1)
-      (λ _ makes. elim makes [ inl refused ↦ as_long _ s s' refused.1 | inr made ↦ made_long _ s s' slots limit told (limit, refl) made ])
+  copy_long hash (copies.MakeTable slots limit chunks) s a s' (told, is, h) =
+      matched (IsLengthened (λ n. (l c : ℕ) × (copies.MakeTable slots limit chunks ≡ copies.MakeTable n l c)) s s') refuse _ _ h (λ _ none. as_long _ s s' none.1)
+      (λ _ makes. elim makes [ inl refused ↦ as_long _ s s' refused.1 | inr made ↦ made_long _ s s' slots limit chunks told (limit, chunks, refl) made ])
 
   -- it counts nothing
   pub copy_counts : (hash : S → K → ℕ) (ask : CopyAsk) (s : StoreState K V S) (a : Answer) (s' : StoreState K V S) → PerformsCopy eq hash refuse ask s a s' → s'.count ≡ s.count
@@ -118,7 +118,7 @@ module _ {K V S : Type 0} (eq : K → K → Bool) (refuse : Bool) where
   copy_counts hash (copies.HashOf n) s a s' (is, hashed, same) = ap (λ (y : StoreState K V S). y.count) same
   copy_counts hash (copies.SamePair m n) s a s' (is, same) = ap (λ (y : StoreState K V S). y.count) same
   copy_counts hash copies.Count s a s' (is, same) = ap (λ (y : StoreState K V S). y.count) same
-  copy_counts hash (copies.MakeTable slots limit) s a s' (told, is, h) =
+  copy_counts hash (copies.MakeTable slots limit chunks) s a s' (told, is, h) =
       matched (s'.count ≡ s.count) refuse _ _ h (λ _ none. ap (λ (y : StoreState K V S). y.count) none.1)
       (λ _ makes. elim makes [ inl refused ↦ ap (λ (y : StoreState K V S). y.count) refused.1 | inr (e, few, made) ↦ ap (λ (y : StoreState K V S). y.count) made ])
 
@@ -130,7 +130,7 @@ IsCountedBy ask s a s' = s'.count ≡ s.count
 
 module _ {K V S A : Type 0} (eq : K → K → Bool) (says : Says K V A) (refuse : Bool) where
   -- an ask of a call for itself
-  pub own_long : (ask : Call_ask) (s : StoreState K V S) (r : Running K V A) (a : Call_answer) (s' : StoreState K V S) (r' : Running K V A) → Performs eq says refuse ask s r a s' r' → IsLengthened (λ slots. (limit : ℕ) × (ask ≡ MakeTable slots limit)) s s'
+  pub own_long : (ask : Call_ask) (s : StoreState K V S) (r : Running K V A) (a : Call_answer) (s' : StoreState K V S) (r' : Running K V A) → Performs eq says refuse ask s r a s' r' → IsLengthened (λ slots. (limit chunks : ℕ) × (ask ≡ MakeTable slots limit chunks)) s s'
   own_long (Load at) s r a s' r' (e, stays) = as_long _ s s' stays.0
   own_long (Exchange at old new) s r a s' r' (h, moved) = exchanged_long _ s s' at (word_at s.words at) old new a h
   own_long (LoadHint t x) s r a s' r' (e, stays) = as_long _ s s' stays.0
@@ -140,14 +140,14 @@ module _ {K V S A : Type 0} (eq : K → K → Bool) (says : Says K V A) (refuse 
   own_long (ShowPair n) s r a s' r' h = as_long _ s s' (pair_shown says r.machine.call.task n s r a s' r' h).store
   own_long (SizeOf n) s r a s' r' (e, stays) = as_long _ s s' stays.0
   own_long MakeKey s r a s' r' h =
-      matched (IsLengthened (λ slots. (limit : ℕ) × (MakeKey ≡ MakeTable slots limit)) s s') refuse _ _ h (λ _ none. as_long _ s s' none.1.0)
+      matched (IsLengthened (λ slots. (limit chunks : ℕ) × (MakeKey ≡ MakeTable slots limit chunks)) s s') refuse _ _ h (λ _ none. as_long _ s s' none.1.0)
       (λ _ makes. elim makes [ inl refused ↦ as_long _ s s' refused.1.0 | inr (inl has) ↦ as_long _ s s' has.1.0 | inr (inr (k, has, made, few, more, moved)) ↦ inl (ap (λ (y : StoreState K V S). lengths_of y.words) more) ])
   own_long MakePair s r a s' r' h =
-      matched (IsLengthened (λ slots. (limit : ℕ) × (MakePair ≡ MakeTable slots limit)) s s') refuse _ _ h (λ _ none. as_long _ s s' none.1.0)
+      matched (IsLengthened (λ slots. (limit chunks : ℕ) × (MakePair ≡ MakeTable slots limit chunks)) s s') refuse _ _ h (λ _ none. as_long _ s s' none.1.0)
       (λ _ makes. elim makes [ inl refused ↦ as_long _ s s' refused.1.0 | inr (inl has) ↦ as_long _ s s' has.1.0 | inr (inr (n, v, logged, value, made, few, more, moved)) ↦ inl (ap (λ (y : StoreState K V S). lengths_of y.words) more) ])
-  own_long (MakeTable slots limit) s r a s' r' h =
-      matched (IsLengthened (λ n. (l : ℕ) × (MakeTable slots limit ≡ MakeTable n l)) s s') refuse _ _ h (λ _ none. as_long _ s s' none.1.0)
-      (λ _ makes. elim makes.0 [ inl refused ↦ as_long _ s s' refused.1 | inr made ↦ made_long _ s s' slots limit a (limit, refl) made ])
+  own_long (MakeTable slots limit chunks) s r a s' r' h =
+      matched (IsLengthened (λ n. (l c : ℕ) × (MakeTable slots limit chunks ≡ MakeTable n l c)) s s') refuse _ _ h (λ _ none. as_long _ s s' none.1.0)
+      (λ _ makes. elim makes.0 [ inl refused ↦ as_long _ s s' refused.1 | inr made ↦ made_long _ s s' slots limit chunks a (limit, chunks, refl) made ])
   own_long (AddToShard by) s r a s' r' (e, (number, same), moved) = inl (ap (λ (y : StoreState K V S). lengths_of y.words) same)
   own_long (Ask_done reply) s r a s' r' (e, stays) = as_long _ s s' stays.0
 
@@ -167,7 +167,7 @@ module _ {K V S A : Type 0} (eq : K → K → Bool) (says : Says K V A) (refuse 
   own_counts MakePair s r a s' r' h =
       matched (s'.count ≡ s.count) refuse _ _ h (λ _ none. ap (λ (y : StoreState K V S). y.count) none.1.0)
       (λ _ makes. elim makes [ inl refused ↦ ap (λ (y : StoreState K V S). y.count) refused.1.0 | inr (inl has) ↦ ap (λ (y : StoreState K V S). y.count) has.1.0 | inr (inr (n, v, logged, value, made, few, more, moved)) ↦ ap (λ (y : StoreState K V S). y.count) more ])
-  own_counts (MakeTable slots limit) s r a s' r' h =
+  own_counts (MakeTable slots limit chunks) s r a s' r' h =
       matched (s'.count ≡ s.count) refuse _ _ h (λ _ none. ap (λ (y : StoreState K V S). y.count) none.1.0)
       (λ _ makes. elim makes.0 [ inl refused ↦ ap (λ (y : StoreState K V S). y.count) refused.1 | inr (e, few, made) ↦ ap (λ (y : StoreState K V S). y.count) made ])
   own_counts (AddToShard by) s r a s' r' (e, (number, same), moved) = e

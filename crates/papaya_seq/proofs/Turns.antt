@@ -30,26 +30,26 @@ last_entry event (Some told) before reply e =
     (record { turn = 1; caller = 0; event = Replied told }, with_event 1 0 event before, refl, subst (λ r. Replied told ≡ Replied r) same refl)
 
 module _ {K V S : Type 0} (eq : K → K → Bool) (hash : S → K → ℕ) (s : MapState K V S) (call : Call K V (Unit {0})) where
-  -- the call as it begins, in its seat
-  abbrev pub start : CoreState K V S (Unit {0})
-  start = seated_work s.store (Some (begun_work (hash s.store.hasher) s.mode s.initial call)) s.mode s.initial
+  -- the call as it begins with this number, in its seat
+  abbrev pub start : (number : ℕ) → CoreState K V S (Unit {0})
+  start number = seated_work s.store (Some (begun_work (hash s.store.hasher) s.mode s.initial number call)) s.mode s.initial
 
   -- the hash of its key has 64 bits
   abbrev pub IsHashed : Type 0
   IsHashed = (k : K) → key_of call ≡ Some k → hash s.store.hasher k < 2 ^ 64
 
   -- it begins
-  pub begins_so : IsHashed → IsPowerOfTwo s.initial → Begins (hash s.store.hasher) (core_of s) 0 call start
-  begins_so fits power = record { store = refl; callers = refl; mode = refl; initial = refl; fits = fits; power = power }
+  abbrev pub begins_so : (number : ℕ) → IsHashed → IsPowerOfTwo s.initial → Begins (hash s.store.hasher) (core_of s) 0 call (start number)
+  begins_so number fits power = record { number = number; store = refl; callers = refl; mode = refl; initial = refl; fits = fits; power = power }
 
   -- the turns of a run that made so many steps
-  pub turns_made : IsHashed → IsPowerOfTwo s.initial → (steps : ℕ) (s' : CoreState K V S (Unit {0})) (history : History) → StepsRun eq whatever hash 1 0 steps start (with_event 0 0 Begun []) s' history → TurnsRun eq whatever hash (Begin 0 call ∷ Finish 0 steps ∷ []) 2 (core_of s) s' history
-  turns_made fits power steps s' history runs = (
+  pub turns_made : (number : ℕ) → IsHashed → IsPowerOfTwo s.initial → (steps : ℕ) (s' : CoreState K V S (Unit {0})) (history : History) → StepsRun eq whatever hash 1 0 steps (start number) (with_event 0 0 Begun []) s' history → TurnsRun eq whatever hash (Begin 0 call ∷ Finish 0 steps ∷ []) 2 (core_of s) s' history
+  turns_made number fits power steps s' history runs = (
     Finish 0 steps,
-    start,
+    start number,
     with_event 0 0 Begun [],
     refl,
-    (Begin 0 call, core_of s, [], refl, (refl, refl), inl (refl, begins_so fits power, refl)),
+    (Begin 0 call, core_of s, [], refl, (refl, refl), inl (refl, begins_so number fits power, refl)),
     runs,
   )
 
@@ -58,16 +58,16 @@ module _ {K V S : Type 0} (eq : K → K → Bool) (hash : S → K → ℕ) (s : 
     pub ran : RunsAlone eq hash (core_of s) call reply (seated_work store None s.mode s.initial)
     pub long : IsLongEnough s.initial store.words
 
-  pub made_over : IsHashed → IsPowerOfTwo s.initial → (steps : ℕ) (store : StoreState K V S) (history : History) → StepsRun eq whatever hash 1 0 steps start (with_event 0 0 Begun []) (seated_work store None s.mode s.initial) history
+  pub made_over : (number : ℕ) → IsHashed → IsPowerOfTwo s.initial → (steps : ℕ) (store : StoreState K V S) (history : History) → StepsRun eq whatever hash 1 0 steps (start number) (with_event 0 0 Begun []) (seated_work store None s.mode s.initial) history
       → (reply : Reply) (last : Entry) (before : History) → history ≡ last ∷ before → last.event ≡ Replied reply → IsLongEnough s.initial store.words → IsOver store reply
-  made_over fits power steps store history runs reply last before ends replied long = record {
+  made_over number fits power steps store history runs reply last before ends replied long = record {
     long = long;
     ran = record {
       idle = refl;
       steps = steps;
       last = last;
       before = before;
-      runs = turns_made fits power steps (seated_work store None s.mode s.initial) (last ∷ before) (subst (λ (h : History). StepsRun eq whatever hash 1 0 steps start (with_event 0 0 Begun []) (seated_work store None s.mode s.initial) h) ends runs);
+      runs = turns_made number fits power steps (seated_work store None s.mode s.initial) (last ∷ before) (subst (λ (h : History). StepsRun eq whatever hash 1 0 steps (start number) (with_event 0 0 Begun []) (seated_work store None s.mode s.initial) h) ends runs);
       replied = replied;
     };
   }

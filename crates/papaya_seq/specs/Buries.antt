@@ -22,7 +22,7 @@ use Rattle.papaya_seq.specs.Removes.{IsRemovalAnswer}
 
 -- a call that goes on for itself
 abbrev pub itself : Call_machine → Machine
-itself m = record { call = m; helped = false; phase = Calling }
+itself m = record { call = m; number = 0; helped = false; phase = Calling }
 
 module _ {K V S F : Type 0} (g : Mut F (Bor K × (Bor V × Unit {0})) Bool) (matches : K → Bool) where
   -- an ask of the removal was answered by the store, or by its closure

@@ -23,7 +23,7 @@ use Rattle.papaya_timeline.specs.Solo.{whatever}
 -- a call that goes on for itself, with its key and value at hand
 abbrev pub at_hand : {K V A : Type 0} → Call_machine → K → V → Running K V A
 at_hand m key value = record {
-  machine = record { call = m; helped = false; phase = Calling };
+  machine = record { call = m; number = 0; helped = false; phase = Calling };
   key = Own key;
   value = Some value;
   answers = None;

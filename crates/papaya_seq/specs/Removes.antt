@@ -37,7 +37,7 @@ IsRemovalAsk (WriteHint t i hint) = ⊥
 IsRemovalAsk ShowNone = ⊥
 IsRemovalAsk MakeKey = ⊥
 IsRemovalAsk MakePair = ⊥
-IsRemovalAsk (MakeTable slots limit) = ⊥
+IsRemovalAsk (MakeTable slots limit chunks) = ⊥
 IsRemovalAsk (Ask_done reply) = ⊥
 IsRemovalAsk _ = Unit {0}
 

@@ -6,6 +6,7 @@ ghost use Rattle.papaya_seq.specs.Computes.{ComputesBy, Says, Takes};
 ghost use Rattle.papaya_seq.specs.Computing.{IsComputed, IsKept, Replies};
 ghost use Rattle.papaya_seq.specs.MadeAlone.{IsComputedAlone};
 
+use crate::copies::copies_from;
 use crate::seq::HashMap;
 use papaya_ask::ask::{Answer as CallAnswer, Ask as CallAsk, OpKind};
 use papaya_ask::call::{Reply, Task};
@@ -85,8 +86,9 @@ impl<K: Hash + Eq + Drop, V: Drop, S: BuildHasher> HashMap<K, V, S> {
             result.1 self.new }
     {
         let hash = self.store.hash(&key);
+        let number = copies_from(&self.store);
         let mut running: Running<K, V, Listed<V>> = Running {
-            machine: Machine::new(Task::Compute, hash, self.mode, self.initial),
+            machine: Machine::new(Task::Compute, hash, self.mode, self.initial, number),
             key: KeyOf::Own(key),
             value: None,
             answers: None,

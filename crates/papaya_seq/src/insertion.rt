@@ -7,6 +7,7 @@ ghost use Rattle.papaya_timeline.specs.Solo.{IsAnswered, IsNewIn};
 ghost use Rattle.papaya_seq.specs.MadeAlone.{IsMadeAlone};
 ghost use Rattle.papaya_seq.specs.Map.{IsTryCause, IsWriteCauseAt, KeepsAndGrows, LogsOne, insertion};
 
+use crate::copies::copies_from;
 use crate::seq::HashMap;
 use crate::writing::insert_at_once;
 use papaya_ask::ask::Ask as CallAsk;
@@ -70,8 +71,15 @@ impl<K: Hash + Eq + Drop, V: Drop, S: BuildHasher> HashMap<K, V, S> {
         ensures logs { LogsOne self.old.store self.new.store }
     {
         let hash = self.store.hash(&key);
+        let number = copies_from(&self.store);
         let mut running: Running<K, V, Listed<V>> = Running {
-            machine: Machine::new(Task::Insert { replace }, hash, self.mode, self.initial),
+            machine: Machine::new(
+                Task::Insert { replace },
+                hash,
+                self.mode,
+                self.initial,
+                number,
+            ),
             key: KeyOf::Own(key),
             value: Some(value),
             answers: None,

@@ -11,6 +11,7 @@ mod collecting;
 mod comparing;
 mod computes;
 mod computing;
+mod copies;
 mod insertion;
 pub mod laws;
 mod lookup;

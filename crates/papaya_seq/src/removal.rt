@@ -12,6 +12,7 @@ ghost use Rattle.papaya_seq.specs.Resizes.{IsCopyCause};
 ghost use Rattle.papaya_seq.specs.Removes.{IsRemovalAnswer, IsRemovalAsk, IsRemovalBy, IsShown};
 ghost use Rattle.papaya_seq.specs.Removes.{Judges};
 
+use crate::copies::copies_from;
 use crate::lookup::matches;
 use crate::search::{Turn, search_root};
 use crate::seq::HashMap;
@@ -168,7 +169,8 @@ impl<K: Hash + Eq + Drop, V: Drop, S: BuildHasher> HashMap<K, V, S> {
         ensures keeps { KeepsRemoving self.old self.new }
     {
         let hash = self.store.hash(key);
-        let mut machine = Machine::new(Task::RemoveIf, hash, self.mode, self.initial);
+        let number = copies_from(&self.store);
+        let mut machine = Machine::new(Task::RemoveIf, hash, self.mode, self.initial, number);
         loop {
             let answer = match machine.ask() {
                 Ask::Call(ask) => match ask {

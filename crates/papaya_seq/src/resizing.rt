@@ -5,6 +5,7 @@ ghost use Rattle.papaya_seq.specs.Map.{Keeps, Unchanged, next_of};
 ghost use Rattle.papaya_seq.specs.Resizes.{HasRoomFor, IsCopyCause, IsPastLimit, IsReserveCause};
 ghost use Rattle.papaya_seq.specs.Resizes.{IsResizeRefusal, IsResizedTo, pairs_with};
 
+use crate::copies::copies_from;
 use crate::seq::HashMap;
 use papaya_chain::resizer::{Resize, Resizer, State};
 use papaya_words::probe::Refused;
@@ -24,7 +25,8 @@ impl<K: Hash + Eq + Drop, V: Drop, S: BuildHasher> HashMap<K, V, S> {
     {
         // By this read the count is known to have 64 bits.
         let _count = self.store.count();
-        let mut resizer = Resizer::new(resize, self.mode, self.initial);
+        let number = copies_from(&self.store);
+        let mut resizer = Resizer::new(resize, self.mode, self.initial, number);
         while let Some(ask) = resizer.ask() {
             let answer = self.store.perform_copy(self.alloc, ask, false);
             resizer.answer(answer);

@@ -39,7 +39,7 @@ fn write<K: Hash + Eq + Drop, V: Drop, S: BuildHasher>(
 {
     let mut running: Running<K, V, Listed<V>> = Running {
         // The store asks the key and the value alone.
-        machine: Machine::new(Task::Get, hash, ResizeMode::Blocking, 1),
+        machine: Machine::new(Task::Get, hash, ResizeMode::Blocking, 1, 0),
         key: KeyOf::Own(key),
         value: Some(value),
         answers: None,

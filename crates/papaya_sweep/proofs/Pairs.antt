@@ -56,7 +56,7 @@ change_out key p (Mark t x q) out = absurd out
 change_out key p (Close t x) out = absurd out
 change_out key p (Place n x q) out = absurd out
 change_out key p (Finish t x q) out = absurd out
-change_out key p (Advance n a c) out = absurd out
+change_out key p (Advance n c) out = absurd out
 change_out key p (Promote t n) out = absurd out
 change_out key p (Abort n) out = absurd out
 
@@ -73,7 +73,7 @@ module _ {K P : Type 0} (g : Setting K P) (law : IsLawful g) where
   one : (s : State P) (t x : ℕ) (p : P) (e : Exchange P) → Allows g s e → s.slot t x ≡ Live p → ((after s e).slot t x ≡ Live p) ⊎ TakesIt e p ⊎ ((after s e).slot t x ≡ Marked p)
   one s t x p (Open u) may live = inl live
   one s t x p (Link u n) may live = inl live
-  one s t x p (Advance n a b) may live = inl live
+  one s t x p (Advance n c) may live = inl live
   one s t x p (Promote u n) may live = inl live
   one s t x p (Abort n) may live = inl live
   one s t x p (Claim u y q) may live = ⊎_elim (λ h. inl (h.0 ∙ live)) (λ h. absurd (let a = h.0 in let b = h.1 in let m = may.empty in cc (a, b, m, live))) (slot_cases s u y (Live q) t x)

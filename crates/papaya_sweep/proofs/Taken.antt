@@ -75,7 +75,7 @@ slot_written g c s t x w = record { here = ap (code g c) (put_there s t x w t x 
     others Root different = refl
     others (Next u) different = refl
     others (Aborted u) different = refl
-    others (Done u) different = refl
+    others (Done u chunk) different = refl
     others (Slot u y) different = ap (code g c) (put_elsewhere s t x w u y (λ e. different (ap (λ a. Slot a y) (sym e.0) ∙ ap (Slot t) (sym e.1))))
 
 -- a buried pair's word is the code of its Buried word

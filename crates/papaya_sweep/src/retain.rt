@@ -142,23 +142,14 @@ pub fn retain<'a, R: Wait, K: Hash + Eq, V, S: BuildHasher, F: FnMut(&K, &V) -> 
 {
     let began = window.sight.again();
     for _ in rt.forever() {
-        let Some((number, table)) = take_root(rt, alloc, initial, shard.count(), window, given)?
-        else {
+        let Some((number, table)) = take_root(rt, alloc, initial, shard, window, given)? else {
             return Ok(());
         };
         if !visit_table(rt, shard, table, number, &mut stays, &began, window) {
             window.learn();
             return Ok(());
         }
-        resize(
-            rt,
-            alloc,
-            initial,
-            shard.count(),
-            window,
-            given,
-            Resize::CopyAll,
-        )?;
+        resize(rt, alloc, initial, shard, window, given, Resize::CopyAll)?;
     }
     unreachable!()
 }

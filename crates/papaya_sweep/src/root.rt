@@ -6,7 +6,7 @@ ghost use Rattle.papaya_book.specs.Windows.{IsLawful, IsTable, Sees};
 ghost use Rattle.papaya_change.specs.Writing.{IsMemoryOrCapacity};
 ghost use Rattle.papaya_sweep.specs.Sweeps.{IsTaken, root_of};
 
-use papaya_book::count::Count;
+use papaya_book::count::Shard;
 use papaya_book::rule::own::{Given, Own};
 use papaya_book::table::Table;
 use papaya_book::window::Window;
@@ -24,7 +24,7 @@ pub fn take_root<'a, R: Wait, K: Hash + Eq, V, S: BuildHasher>(
     rt: &R,
     alloc: Global,
     initial: usize,
-    count: &Count,
+    shard: &Shard<'_>,
     window: &mut Window<'a, K, V, S>,
     given: &mut Own<Given>,
 ) -> Result<Option<(u64, &'a Table<K, V, S>)>, Refused>
@@ -54,7 +54,7 @@ pub fn take_root<'a, R: Wait, K: Hash + Eq, V, S: BuildHasher>(
         if next == 0 {
             return Ok(Some((number, table)));
         }
-        resize(rt, alloc, initial, count, window, given, Resize::CopyAll)?;
+        resize(rt, alloc, initial, shard, window, given, Resize::CopyAll)?;
     }
     unreachable!()
 }

@@ -1,5 +1,5 @@
 -- A step gives what is under way no other intent than what a closure answers in it.
-use Rattle.std.proofs.Common.{◌≡◌, ◌≢◌, ◌⊎◌, inl, inr, ⊎_elim, ℕ, ◌<◌, ◌∷◌, Bool, true, Option, None, Some, List, length, refl, sym, ◌∙◌, ap, subst, arith}
+use Rattle.std.proofs.Common.{◌≡◌, ◌⊎◌, inl, inr, ⊎_elim, ℕ, Bool, true, Option, None, Some, List, length, refl, sym, ◌∙◌, ap, subst, arith}
 use Rattle.std.specs.Cmp.{IsEquivalence}
 use Rattle.papaya_ask.specs.declared.ask.Ask.TheVariants.{MakePair, ShowNone}
 use Rattle.papaya_ask.specs.declared.ask.Answer.TheVariants.{Made as Made_number}
@@ -8,10 +8,8 @@ use Rattle.papaya_ask.specs.declared.call.Task.TheVariants.{Compute}
 use Rattle.papaya_call.specs.Answers.{Says}
 use Rattle.papaya_call.specs.declared.answers.Operation.{Operation}
 use Rattle.papaya_call.specs.declared.answers.Operation.TheVariants as ops
-use Rattle.papaya_call.specs.declared.write.Made.TheVariants.{Pair}
 use Rattle.papaya_chain.specs.declared.ask.Ask.TheVariants as asks
 use Rattle.papaya_chain.specs.declared.ask.Answer.TheVariants as told_to
-use Rattle.papaya_chain.specs.declared.resizer.Resizer.{Resizer}
 use Rattle.papaya_chain.specs.Machine.{after, ask_of, follows_of, kind_of_ask}
 use Rattle.papaya_chain.specs.Resizer as resizer
 use Rattle.papaya_chain.specs.Visitor as visitor
@@ -20,8 +18,7 @@ use Rattle.papaya_chain_rests.specs.Goes.{IsInOrder}
 use Rattle.papaya_chain_rests.proofs.Goes.{machine_goes}
 use Rattle.papaya_chain_rests.proofs.Replies.{chain_said, chain_task}
 use Rattle.papaya_law.specs.Exchange.{Exchange, run, start as first_state}
-use Rattle.papaya_rests.specs.Rests.{IsOwnPair, RestsMade}
-use Rattle.papaya_rests.specs.Says.{Makes, StandsOn}
+use Rattle.papaya_rests.specs.Rests.{RestsMade}
 use Rattle.papaya_rests.specs.Told.{IsOneOf}
 use Rattle.papaya_store.specs.declared.pairs.Running.{Running}
 use Rattle.papaya_store.specs.declared.visits.Visiting.{Visiting}
@@ -44,7 +41,7 @@ use Rattle.papaya_timeline.proofs.ChainLemmas.{own_asks}
 use Rattle.papaya_timeline.proofs.CoreLemmas.{cases_same}
 use Rattle.papaya_timeline.proofs.Intents.{HasLogged, call_intends, stands_own, still_intends}
 use Rattle.papaya_timeline.proofs.IntentVisits.{visit_intends}
-use Rattle.papaya_timeline.proofs.HeadlineLemmas.{advance-core, lawful_keeps, lawful_resizes}
+use Rattle.papaya_timeline.proofs.HeadlineLemmas.{advance-core, lawful_resizes}
 use Rattle.papaya_timeline.proofs.KeptCore.{keys_lawful}
 use Rattle.papaya_timeline.proofs.KeptLemmas.{IsLawfulKeys, IsStep, kept_step}
 use Rattle.papaya_timeline.proofs.LawfulVisits.{visit_keeps}

@@ -1,18 +1,16 @@
 -- What a call on one key intends: by it the call changes the map, and a step gives it no other intent than what its closure answers in it.
-use Rattle.std.proofs.Common.{rules, ◌≡◌, ◌⊎◌, inl, inr, ⊎_elim, ℕ, ◌==◌, Bool, true, false, cond, Option, None, Some, refl, sym, ◌∙◌, ap, subst, List}
+use Rattle.std.proofs.Common.{rules, ◌≡◌, ◌⊎◌, inl, inr, ⊎_elim, ℕ, Bool, true, Option, None, Some, refl, sym, ◌∙◌, ap, subst, List}
 use Rattle.papaya_words.specs.declared.probe.ResizeMode.{ResizeMode}
 use Rattle.papaya_words.specs.declared.probe.ResizeMode.TheVariants.{Incremental, Blocking}
-use Rattle.papaya_words.specs.Word.{pair_of as pair_in}
 use Rattle.papaya_ask.specs.declared.ask.At.{At}
 use Rattle.papaya_ask.specs.declared.ask.Ask.TheVariants.{Exchange as Ask_exchange, MakePair, ShowPair}
 use Rattle.papaya_ask.specs.declared.ask.Answer.{Answer as Call_answer}
-use Rattle.papaya_ask.specs.declared.ask.Answer.TheVariants.{Exchanged, Made as Made_number, Op, Yes}
+use Rattle.papaya_ask.specs.declared.ask.Answer.TheVariants.{Exchanged, Made as Made_number, Op}
 use Rattle.papaya_ask.specs.declared.ask.OpKind.{OpKind}
 use Rattle.papaya_ask.specs.declared.ask.OpKind.TheVariants as op_kinds
 use Rattle.papaya_ask.specs.declared.ask.StepKind.{StepKind}
 use Rattle.papaya_ask.specs.declared.call.Call.{Call}
 use Rattle.papaya_ask.specs.declared.call.Call.TheVariants.{Get, Insert, TryInsert, RemoveIf, Compute, Reserve, CopyAll, Clear, Retain, Walk}
-use Rattle.papaya_ask.specs.declared.call.Reply.TheVariants.{Replaced}
 use Rattle.papaya_ask.specs.declared.call.Task.{Task}
 use Rattle.papaya_ask.specs.declared.call.Task.TheVariants as tasks
 use Rattle.papaya_call.specs.Answers.{Says, op_kind}
@@ -42,7 +40,7 @@ use Rattle.papaya_store.specs.Store.{KeepsPairs, StoreState, Stored, pair_of}
 use Rattle.papaya_timeline.specs.declared.seat.Work.TheVariants as works
 use Rattle.papaya_timeline.specs.declared.trace.Event.{Event}
 use Rattle.papaya_timeline.specs.declared.trace.Event.TheVariants.{Asked, Changed, Shown}
-use Rattle.papaya_timeline.specs.Advances.{answered_event, event_of, kind_event}
+use Rattle.papaya_timeline.specs.Advances.{answered_event, event_of}
 use Rattle.papaya_timeline.specs.Begins.{begun_work}
 use Rattle.papaya_chain.specs.Visitor.{begun_in}
 use Rattle.papaya_timeline.specs.Given.{GivesIn, asks_closure}
@@ -105,8 +103,8 @@ handed w made op v is (inl same) none = (v, is, same)
 handed w made op v is (inr so) none = absurd (none so)
 
 -- A call that begins intends to store what it was handed.
-module _ {K V S A : Type 0} (store : StoreState K V S) (hash : K → ℕ) (mode : ResizeMode) (initial : ℕ) where
-  pub begun_intends : (call : Call K V A) → IntendsHanded store call (begun_work hash mode initial call)
+module _ {K V S A : Type 0} (store : StoreState K V S) (hash : K → ℕ) (mode : ResizeMode) (initial number : ℕ) where
+  pub begun_intends : (call : Call K V A) → IntendsHanded store call (begun_work hash mode initial number call)
   begun_intends (Get k) shown op h = absurd h
   begun_intends (Insert k w) shown (ops.Insert v) h = handed w _ (ops.Insert v) v refl h (λ is. let f = is.1 in absurd cc)
   begun_intends (Insert k w) shown ops.Remove h = absurd h

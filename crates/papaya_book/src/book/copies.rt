@@ -61,19 +61,27 @@ impl<K: Hash + Eq, V, S: BuildHasher> Book<K, V, S> {
         found
     }
 
-    /// One atomic load of the count of slots that were copied to a table.
-    pub fn done(&self, table: &Table<K, V, S>, number: u64, sight: &mut Sight<K, V, S>) -> u64
+    /// One atomic load of the word that says whether a chunk was copied to a table.
+    pub fn done(
+        &self,
+        table: &Table<K, V, S>,
+        number: u64,
+        chunk: usize,
+        sight: &mut Sight<K, V, S>,
+    ) -> u64
         requires book { sight.old.book ≡ self.now.begun.book }
         requires table { IsTable sight.old.log number table.now }
+        requires chunk { chunk < length table.now.done }
         ensures book { sight.new.book ≡ sight.old.book }
         ensures seen { IsPrefix sight.old.log sight.new.log }
-        ensures word { IsWord ⟦<S as Keyed<K>>⟧.keys self.now (Done number) result sight.new.log }
+        ensures word { IsWord ⟦<S as Keyed<K>>⟧.keys self.now (Done number chunk) result
+            sight.new.log }
     {
         sight.learn(&self.begun);
         let sought = Sought {
-            at: At::Done(number),
+            at: At::Done(number, chunk),
         };
-        let (found, _) = self.read(table.done(), &sought, sight);
+        let (found, _) = self.read(table.done(chunk), &sought, sight);
         found
     }
 
@@ -194,12 +202,13 @@ impl<K: Hash + Eq, V, S: BuildHasher> Book<K, V, S> {
         found
     }
 
-    /// One atomic exchange for a copy of the count of slots that were copied to a table: the count
-    /// found there.
+    /// One atomic exchange for a copy of the word that says whether a chunk was copied to a table:
+    /// the word found there.
     pub(crate) fn copy_done(
         &self,
         table: &Table<K, V, S>,
         number: u64,
+        chunk: usize,
         kind: Option<StepKind>,
         kept: &Option<Stored<K, V>>,
         words: (u64, u64),
@@ -207,21 +216,22 @@ impl<K: Hash + Eq, V, S: BuildHasher> Book<K, V, S> {
     ) -> u64
         requires book { sight.old.book ≡ self.now.begun.book }
         requires table { IsTable sight.old.log number table.now }
-        requires can { CanCopy ⟦<S as Keyed<K>>⟧.keys self.now (Done number) kind kept.now words
-            sight.old.log }
+        requires chunk { chunk < length table.now.done }
+        requires can { CanCopy ⟦<S as Keyed<K>>⟧.keys self.now (Done number chunk) kind kept.now
+            words sight.old.log }
         ensures book { sight.new.book ≡ sight.old.book }
         ensures seen { IsPrefix sight.old.log sight.new.log }
-        ensures tried { CopiesWord ⟦<S as Keyed<K>>⟧.keys self.now (Done number) kind kept.now
-            words sight.old.log result sight.new.log }
+        ensures tried { CopiesWord ⟦<S as Keyed<K>>⟧.keys self.now (Done number chunk) kind
+            kept.now words sight.old.log result sight.new.log }
     {
         sight.learn(&self.begun);
         let copy = Copy {
-            at: At::Done(number),
+            at: At::Done(number, chunk),
             kind,
             kept,
         };
         let (old, new) = words;
-        let (found, _) = self.copy(table.done(), &copy, old, new, sight);
+        let (found, _) = self.copy(table.done(chunk), &copy, old, new, sight);
         found
     }
 

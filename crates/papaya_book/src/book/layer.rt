@@ -22,7 +22,7 @@ use crate::rule::steps::Laying;
 use crate::rule::token::token;
 use crate::rule::trade;
 use crate::rule::trade::{Sight, Trade};
-use crate::slot::Slot;
+use crate::slot::{Cell, Slot};
 use crate::table::Table;
 use boxcar::Pushed;
 use logbook::{Pen, Word};
@@ -35,6 +35,30 @@ use std::hash::{BuildHasher, Hash};
 use std::sync::{Mutex, Wait};
 
 impl<K: Hash + Eq, V, S: BuildHasher> Book<K, V, S> {
+    /// The words of a new table's chunks.
+    fn words(
+        &self,
+        alloc: Global,
+        len: usize,
+        seal: &Pen,
+        sight: &mut Sight<K, V, S>,
+    ) -> Result<Vec<Cell<K, V, S>>, AllocError>
+        requires book { sight.old.book ≡ self.now.begun.book }
+        ensures book { sight.new.book ≡ sight.old.book }
+        ensures seen { IsPrefix sight.old.log sight.new.log }
+        ensures len { IfOk result (λ v. length v.items ≡ len) }
+        ensures words { IfOk result (λ v. AllOf self.now.begun.book v.items) }
+        ensures made { IfOk result (λ v. (least : ℕ) → least < 2 + length (seals_of sight.old.log)
+            → AreMade (map (λ w. w.key) v.items) least seal.now.nib.key sight.new.log) }
+    {
+        let mut words = Vec::with_capacity(alloc, len)?;
+        for _ in 0..len {
+            let word = self.word(seal, sight);
+            words.push(word)?;
+        }
+        Ok(words)
+    }
+
     /// The slots of a new table.
     fn row(
         &self,
@@ -68,7 +92,8 @@ impl<K: Hash + Eq, V, S: BuildHasher> Book<K, V, S> {
         Own::only(&number)
     }
 
-    /// A table of so many slots, all Empty, in the log of tables, with the pen of its seal.
+    /// A table of so many slots, all Empty, to which a table of so many chunks is copied, in the log
+    /// of tables, with the pen of its seal.
     ///
     /// `Refused::Memory` where a growth was refused, and `Refused::Capacity` where the number that
     /// the log gave it would pass [`MAX_TABLES`]: then `given` tells that number.
@@ -78,6 +103,7 @@ impl<K: Hash + Eq, V, S: BuildHasher> Book<K, V, S> {
         alloc: Global,
         len: usize,
         limit: usize,
+        chunks: usize,
         sight: &mut Sight<K, V, S>,
         given: &mut Own<Given>,
     ) -> Result<(Pushed<Table<K, V, S>>, Pen), Refused>
@@ -87,6 +113,7 @@ impl<K: Hash + Eq, V, S: BuildHasher> Book<K, V, S> {
         ensures seen { IsPrefix sight.old.log sight.new.log }
         ensures size { IfOk result (λ r. (length r.0.value.slots ≡ len)
             × (r.0.value.limit ≡ limit)) }
+        ensures chunks { IfOk result (λ r. length r.0.value.done ≡ chunks) }
         ensures made { IfOk result (λ r. IsMade r.0.value sight.new.log) }
         ensures err { IfErr result (λ e. (e ≡ Refused.Memory)
             ⊎ ((e ≡ Refused.Capacity) × IsFull given.new.done)) }
@@ -94,9 +121,11 @@ impl<K: Hash + Eq, V, S: BuildHasher> Book<K, V, S> {
         ensures placed { IfOk result (λ r. IsIn self.now (TableNamed r.0)) }
         ensures pen { IfOk result (λ r. Seals self.now r.1 r.0.value) }
     {
-        let (done, seal) = self.seal(sight);
+        let (aborted, seal) = self.seal(sight);
         let next = self.word(&seal, sight);
-        let aborted = self.word(&seal, sight);
+        let Ok(done) = self.words(alloc, chunks, &seal, sight) else {
+            return Err(Refused::Memory);
+        };
         let Ok(slots) = self.row(alloc, len, &seal, sight) else {
             return Err(Refused::Memory);
         };
@@ -200,6 +229,7 @@ impl<K: Hash + Eq, V, S: BuildHasher> Book<K, V, S> {
             alloc,
             len,
             limit(len),
+            0,
             &mut sight,
             &mut given,
         ) else {

@@ -1,9 +1,9 @@
 //! Making a book, and the words of its tables.
 //!
 //! A table's words enter the book before the table's number is written. Each is added by a step on
-//! the makers' word, is made, and is brought home by another. The first of a table is its seal: its
-//! pen is kept until the exchange that opens or links the table, and every other word is added for
-//! this seal. So no two tables that have come share a word.
+//! the makers' word, is made, and is brought home by another. The first of a table, which says
+//! whether it was given up, is its seal: its pen is kept until the exchange that opens or links the
+//! table, and every other word is added for this seal. So no two tables that have come share a word.
 ghost use Rattle.papaya_book.specs.Books.{Brings, CanBring, IsIn, IsLeft, Seals};
 ghost use Rattle.std.specs.Prelude.{◌≡◌, ◌≢◌, ◌+◌, ◌≤◌, ◌==◌, false, Some, IfOk, IfErr, length};
 ghost use mathlib.Core.List.{IsPrefix};

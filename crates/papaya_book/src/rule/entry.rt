@@ -24,8 +24,8 @@ pub struct Sheet {
     book: Name,
     limit: u64,
     next: u64,
-    aborted: u64,
     seal: u64,
+    done: LinkedList<u64>,
     slots: LinkedList<u64>,
 }
 
@@ -38,8 +38,8 @@ impl Model for Sheet {
       book = s.book;
       limit = s.limit;
       next = s.next;
-      aborted = s.aborted;
       seal = s.seal;
+      done = s.done;
       slots = s.slots;
     } };
 }
@@ -73,7 +73,7 @@ pub enum Step<K, V> {
     Close(u64, u64),
     Place(u64, u64, Stored<K, V>),
     Finish(u64, u64, Stored<K, V>),
-    Advance(u64, u64, u64),
+    Advance(u64, usize),
     Promote(u64, u64),
     Abort(u64),
 }

@@ -52,7 +52,6 @@ impl<T> Own<T> {
     pub(crate) fn only(x: &T) -> Own<T>
         ensures { result.done ≡ x.now ∷ [] }
     {
-        let _ = x;
         Own {
             marker: PhantomData,
         }
@@ -75,8 +74,6 @@ pub fn with_last<K: Hash + Eq, V, S: BuildHasher>(
 ) -> Own<Step<K, V>>
     ensures { result.done ≡ own.now.done ++ last_step sight.now.log }
 {
-    let _ = own;
-    let _ = sight;
     Own {
         marker: PhantomData,
     }

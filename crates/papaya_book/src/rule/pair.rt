@@ -115,7 +115,6 @@ impl<K: Drop, V: Drop> Pair<K, V> {
 fn tell_shown<K, V>(token: &Pushed<Pair<K, V>>) -> Known<Shown<K, V>>
     ensures { result.at ≡ token.now }
 {
-    let _ = token;
     Known {
         marker: PhantomData,
     }
@@ -125,7 +124,6 @@ fn tell_shown<K, V>(token: &Pushed<Pair<K, V>>) -> Known<Shown<K, V>>
 fn tell_pair<K, V>(token: &Pushed<Shown<K, V>>) -> Known<Pair<K, V>>
     ensures { result.at ≡ token.now }
 {
-    let _ = token;
     Known {
         marker: PhantomData,
     }

@@ -23,7 +23,6 @@ impl<T> Model for Known<T> {
 pub fn tell<T>(token: &Pushed<T>) -> Known<T>
     ensures { result.at ≡ token.now }
 {
-    let _ = token;
     Known {
         marker: PhantomData,
     }

@@ -33,8 +33,6 @@ pub fn bare<K: Hash + Eq, V, S: BuildHasher, X, M: Plain<X, Event<K, V, S>, Name
     ensures { (result.names ≡ seen.now.names) × (result.ask ≡ M.ask about.now) × (result.about ≡ [])
         × (result.state ≡ None) }
 {
-    let _ = seen;
-    let _ = about;
     Offer {
         marker: PhantomData,
     }
@@ -50,8 +48,6 @@ pub fn with_pair<K: Hash + Eq, V, S: BuildHasher, X, M: Plain<X, Event<K, V, S>,
     ensures { (result.names ≡ seen.now.names) × (result.ask ≡ M.ask about.now) × (result.about ≡ [])
         × (result.state ≡ None) }
 {
-    let _ = seen;
-    let _ = about;
     let KnownPair { marker: _ } = known;
     Offer {
         marker: PhantomData,
@@ -68,8 +64,6 @@ pub fn with_table<K: Hash + Eq, V, S: BuildHasher, X, M: Plain<X, Event<K, V, S>
     ensures { (result.names ≡ seen.now.names) × (result.ask ≡ M.ask about.now) × (result.about ≡ [])
         × (result.state ≡ None) }
 {
-    let _ = seen;
-    let _ = about;
     let Known { marker: _ } = known;
     Offer {
         marker: PhantomData,
@@ -108,7 +102,6 @@ pub fn begin<K: Hash + Eq, V, S: BuildHasher>(
 ) -> Start<Event<K, V, S>, Named<K, V>, Law<K, V, S>>
     ensures { (result.names ≡ []) × (result.shown ≡ Begin (begun_of begun.now) ∷ []) }
 {
-    let _ = begun;
     Start {
         marker: PhantomData,
     }

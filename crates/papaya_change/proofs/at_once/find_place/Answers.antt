@@ -16,7 +16,7 @@ seek-requires-clause-stands g c =
     let first : c.first-first.result ≡ first_place h root.result.0 size.result.0 size.result.1 = c.first-first.ensures.value ∙ ap (λ n. first_place n root.result.0 size.result.0 size.result.1) c.requires.hashed in
     let stands : IsInsertingAt root.new.self c.args.key.now log (Searching (Looking c.first-first.result)) c.in-Some.table.now =
     rw (root.ensures.sees.book, first)
-    (root_found g.K.PartialEq.eq g.K.Hash.hash_input g.S.BuildHasher.build_hasher g.S.Hasher.Hasher.write g.S.Hasher.Hasher.finish g.met.K.Eq.laws g.met.K.Hash.respects_eq (begun_of w.parts) w.begun.book c.args.key.now log root.new.self.sight.log root.ensures.sees.log c.requires.lawful w.chunked root.result.0 root.result.1 c.in-Some.table c.in-Some.is root.ensures.root size.result.0 size.result.1 size.ensures.len size.ensures.limit) in
+    (root_found g.K.PartialEq.eq g.K.Hash.hash_input g.S.BuildHasher.build_hasher g.S.Hasher.Hasher.write g.S.Hasher.Hasher.finish g.met.K.Eq.laws g.met.K.Hash.respects_eq (begun_of w.parts) w.begun.book c.args.key.now log root.new.self.sight.log root.ensures.sees.log c.requires.lawful root.result.0 root.result.1 c.in-Some.table c.in-Some.is root.ensures.root size.result.0 size.result.1 size.ensures.len size.ensures.limit) in
     (log, stands)
 
 pub returns-clause-found : goal.returns-clause-found
@@ -26,6 +26,6 @@ returns-clause-found g c = λ spot e.
     let first : c.first-first.result ≡ first_place h root.result.0 size.result.0 size.result.1 = c.first-first.ensures.value ∙ ap (λ n. first_place n root.result.0 size.result.0 size.result.1) c.requires.hashed in
     let stands : IsInsertingAt root.new.self c.args.key.now log (Searching (Looking c.first-first.result)) c.in-Some.table.now =
     rw (root.ensures.sees.book, first)
-    (root_found g.K.PartialEq.eq g.K.Hash.hash_input g.S.BuildHasher.build_hasher g.S.Hasher.Hasher.write g.S.Hasher.Hasher.finish g.met.K.Eq.laws g.met.K.Hash.respects_eq (begun_of w.parts) w.begun.book c.args.key.now log root.new.self.sight.log root.ensures.sees.log c.requires.lawful w.chunked root.result.0 root.result.1 c.in-Some.table c.in-Some.is root.ensures.root size.result.0 size.result.1 size.ensures.len size.ensures.limit) in
+    (root_found g.K.PartialEq.eq g.K.Hash.hash_input g.S.BuildHasher.build_hasher g.S.Hasher.Hasher.write g.S.Hasher.Hasher.finish g.met.K.Eq.laws g.met.K.Hash.respects_eq (begun_of w.parts) w.begun.book c.args.key.now log root.new.self.sight.log root.ensures.sees.log c.requires.lawful root.result.0 root.result.1 c.in-Some.table c.in-Some.is root.ensures.root size.result.0 size.result.1 size.ensures.len size.ensures.limit) in
     let is : record { table = c.in-Some.table; write = c.in-Some-seek.write } ≡ spot = cc e in
     subst (λ (z : Spot _ _ _ _). IsInsertingAt c.seek.new.window c.args.key.now log (Writing z.write) z.table.now) is (c.seek.ensures.seeks c.in-Some-seek.write c.in-Some-seek.is log stands)

@@ -27,7 +27,7 @@ drive-requires-clause-can g c =
       key_of q,
       q.value.value,
       log,
-      begins_logged g.K.PartialEq.eq hash (begun_of w.parts) w.begun.book q placed c.requires.brings log _ c.learn.ensures.lawful w.chunked c.args.means.now.initial (machine ∙ ap (λ h. insertion_at h w.parts.mode c.args.means.now.initial (Pair q.index) AtRoot) hashed) c.new-call.ensures.table c.new-call.ensures.pairs refl refl (ap (λ z. Some z) c.again.ensures) refl,
+      begins_logged g.K.PartialEq.eq hash (begun_of w.parts) w.begun.book q placed c.requires.brings log _ c.learn.ensures.lawful c.args.means.now.initial (machine ∙ ap (λ h. insertion_at h w.parts.mode c.args.means.now.initial (Pair q.index) AtRoot) hashed) c.new-call.ensures.table c.new-call.ensures.pairs refl refl (ap (λ z. Some z) c.again.ensures) refl,
     )
 
 pub returns-clause-put : goal.returns-clause-put
@@ -40,4 +40,4 @@ returns-clause-put g c =
     let machine : record c.new-call.result.machine { call = record c.new-call.result.machine.call { made = Pair c.index.result } } ≡ made = λ i. record (c.new-call.ensures.machine i) { call = record (c.new-call.ensures.machine i).call { made = Pair (c.index.ensures i) } } in
     if_ok _ _ c.drive.result c.drive.ensures.put (λ a h.
     put_since g.K.PartialEq.eq (key_of q) q.value.value c.args.window.now.sight.log log c.drive.new.window.sight.log a c.learn.ensures.sees.log
-    (h (key_of q) q.value.value log (begins_logged g.K.PartialEq.eq hash (begun_of w.parts) w.begun.book q placed c.requires.brings log _ c.learn.ensures.lawful w.chunked c.args.means.now.initial (machine ∙ ap (λ h'. insertion_at h' w.parts.mode c.args.means.now.initial (Pair q.index) AtRoot) hashed) c.new-call.ensures.table c.new-call.ensures.pairs refl refl (ap (λ z. Some z) c.again.ensures) refl)))
+    (h (key_of q) q.value.value log (begins_logged g.K.PartialEq.eq hash (begun_of w.parts) w.begun.book q placed c.requires.brings log _ c.learn.ensures.lawful c.args.means.now.initial (machine ∙ ap (λ h'. insertion_at h' w.parts.mode c.args.means.now.initial (Pair q.index) AtRoot) hashed) c.new-call.ensures.table c.new-call.ensures.pairs refl refl (ap (λ z. Some z) c.again.ensures) refl)))

@@ -35,11 +35,11 @@ pub loop-init : goal.loop-init
 loop-init g c =
     let w = c.learn.new.self.book.now in let log = c.learn.new.self.sight.log in
     let fed = hash_of g.Q.Hash.hash_input g.S.BuildHasher.build_hasher g.S.Hasher.Hasher.write g.S.Hasher.Hasher.finish w.parts.hasher c.args.key.now in
-    let machine = c.new.ensures.machine ∙ ap (λ h. started RemoveIf h w.parts.mode c.args.means.now.initial) c.hash.ensures in (
+    let machine = c.new.ensures.machine ∙ ap (λ h. started RemoveIf h w.parts.mode c.args.means.now.initial 0) c.hash.ensures in (
       (
         log,
         c.learn.ensures.sees.log,
-        begins g.K.PartialEq.eq (hash_of g.K.Hash.hash_input g.S.BuildHasher.build_hasher g.S.Hasher.Hasher.write g.S.Hasher.Hasher.finish) (begun_of w.parts) w.begun.book (g.Q.Equivalent.matches c.args.key.now) fed (Judges g.F.FnMut) c.args.agrees log _ c.learn.ensures.lawful w.chunked c.args.means.now.initial machine c.new.ensures.table c.new.ensures.pairs refl,
+        begins g.K.PartialEq.eq (hash_of g.K.Hash.hash_input g.S.BuildHasher.build_hasher g.S.Hasher.Hasher.write g.S.Hasher.Hasher.finish) (begun_of w.parts) w.begun.book (g.Q.Equivalent.matches c.args.key.now) fed (Judges g.F.FnMut) c.args.agrees log _ c.learn.ensures.lawful c.args.means.now.initial machine c.new.ensures.table c.new.ensures.pairs refl,
       ),
       c.new.ensures.standing,
       ap (λ (m : Machine). m.phase) machine,

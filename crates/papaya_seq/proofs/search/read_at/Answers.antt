@@ -1,4 +1,4 @@
-use Rattle.std.proofs.Common.{rules, ◌≡◌, ℕ, ◌+◌, ◌<◌, refl, sym, ◌∙◌, ap, subst, arith}
+use Rattle.std.proofs.Common.{rules, ◌≡◌, refl, sym, ◌∙◌, ap, subst}
 use Rattle.papaya_ask.specs.declared.search.Search.TheVariants.{Reading, Comparing}
 use Rattle.papaya_ask.specs.declared.search.Seen.TheVariants.{On}
 use Rattle.papaya_ask.specs.Search.{at_yes, look}

@@ -1,4 +1,4 @@
-use Rattle.std.proofs.Common.{rules, ◌≡◌, ℕ, false, refl, ◌∙◌, ap}
+use Rattle.std.proofs.Common.{rules, ◌≡◌, ℕ, false, refl}
 use Rattle.papaya_call.specs.Answers.{Says, first_or, rest_of}
 use Rattle.papaya_call.specs.declared.answers.Operation.TheVariants.{Abort}
 use Rattle.papaya_call.specs.declared.answers.Listed.{Listed}

@@ -1,4 +1,4 @@
-use Rattle.std.proofs.Common.{◌≡◌, [], ◌∷◌, sym, ap, ◌∙◌, subst}
+use Rattle.std.proofs.Common.{[], ◌∷◌, sym, ap, ◌∙◌, subst}
 use mathlib.Core.List.{IsPrefix}
 use Rattle.papaya_book.specs.Hashes.{hash_of}
 use Rattle.papaya_book.specs.Parts.{begun_of}

@@ -8,5 +8,5 @@ returns g c =
     let t = c.self.inside in let place = c.args.place in
     let within = subst (λ (s : Sheet). place < length s.slots) (sym c.self.view_is) c.requires in
     let named = subst (λ (s : Sheet). (k : ℕ) × (slice_get s.slots place ≡ Some k) × (c.index.result.now ≡ word_named s.book k)) c.self.view_is
-    (slot_word t.done.book t.slots.items place c.index.result.now c.self.invariant.3 within c.index.ensures) in
+    (slot_word t.aborted.book t.slots.items place c.index.result.now c.self.invariant.3 within c.index.ensures) in
     (named.0, named.1, c.word.ensures ∙ named.2)

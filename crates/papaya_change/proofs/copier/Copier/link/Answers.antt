@@ -17,7 +17,7 @@ link-requires-clause-made g c = made_since c.in-Some.table.value c.args.window.n
 pub link-requires-clause-can : goal.link-requires-clause-can
 link-requires-clause-can g c = let hash = hash_of g.K.Hash.hash_input g.S.BuildHasher.build_hasher g.S.Hasher.Hasher.write g.S.Hasher.Hasher.finish in let log = c.table-after.new.self.sight.log in
     subst (λ (b : _). CanExchange g.K.PartialEq.eq hash (begun_of b.now.parts) (Next c.args.number) (Some Link) 0 (c.in-Some.table.index + 1) None (Table c.in-Some.table) log) (sym c.table-after.ensures.sees.book)
-    (λ longer pre. c.requires.can.1.can c.in-Some.table (ready (begun_of c.args.window.now.book.now.parts) c.args.window.now.book.now.begun.book c.args.window.now.sight.log c.requires.can.0 c.args.self.now.fresh c.in-Some.table c.in-Some.seal (sym c.take.ensures.value ∙ c.in-Some.is) c.requires.can.1.fresh).number_is longer (prefix_trans c.args.window.now.sight.log log longer c.table-after.ensures.sees.log pre))
+    (λ longer pre. c.requires.can.1.can c.in-Some.table c.in-Some.seal (sym c.take.ensures.value ∙ c.in-Some.is) longer (prefix_trans c.args.window.now.sight.log log longer c.table-after.ensures.sees.log pre))
 
 pub returns-clause-joins : goal.returns-clause-joins
 returns-clause-joins g c = λ new can. let hash = hash_of g.K.Hash.hash_input g.S.BuildHasher.build_hasher g.S.Hasher.Hasher.write g.S.Hasher.Hasher.finish in

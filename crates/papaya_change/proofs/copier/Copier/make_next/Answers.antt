@@ -18,4 +18,5 @@ returns-clause-made g c = let one = c.make_table_after-made.new.self.sight.log i
     seal_book = new.pen.0 ∙ ap (λ b. b.now.begun.book) (sym book);
     seal_nib = new.pen.1;
   };
+  words = new.chunks;
 }

@@ -1,4 +1,4 @@
-use Rattle.std.proofs.Common.{◌≡◌, sym, ap, ◌∙◌, subst}
+use Rattle.std.proofs.Common.{◌≡◌, inl, inr, [], append-nil, refl, sym, ap, ◌∙◌, subst}
 use Rattle.papaya_chain.specs.declared.ask.Ask.TheVariants.{Copy}
 use Rattle.papaya_chain.specs.Machine.{IsStanding, ask_of}
 use Rattle.papaya_book.specs.Hashes.{hash_of}
@@ -7,12 +7,24 @@ use Rattle.papaya_book.specs.Parts.{begun_of}
 use Rattle.papaya_book.specs.Rule.{IsLawfulLog}
 use Rattle.papaya_book.proofs.Windows.{sees_trans}
 use Rattle.papaya_change.specs.declared.driver.Driver.{Driver}
-use Rattle.papaya_change.specs.Changing.{CanGoOn}
+use Rattle.papaya_change.specs.Changing.{CanGoOn, GoesOn}
 use Rattle.papaya_change.specs.Helping.{Copies}
-use Rattle.papaya_change.proofs.HelpingArrives.{helped}
+use Rattle.papaya_change.proofs.HelpingArrives.{HasReached, helped}
 use Rattle.papaya_change.proofs.HelpingGoes.{calls, come_now, goes_further, goes_now, lawful_now, reached_now}
-use Rattle.papaya_change.proofs.HelpingLeads.{busy}
+use Rattle.papaya_change.proofs.Numbered.{aside_numbered, goes_numbered, stands_numbered}
 use Rattle.papaya_change.proofs.driver.Driver.help_set_aside.Goals as goal
+
+pub loop-init : goal.loop-init
+loop-init g c =
+    let w = c.args.window.now in let d = c.args.self.now in let hash = hash_of g.K.Hash.hash_input g.S.BuildHasher.build_hasher g.S.Hasher.Hasher.write g.S.Hasher.Hasher.finish in
+    let is = c.copy_from.ensures in record {
+      sees = record { book = refl; log = ([], append-nil w.sight.log) };
+      own = refl;
+      standing = subst (λ (z : Driver _ _ _ _). IsStanding z.machine) (sym is) (stands_numbered d.machine c.start.result c.requires.standing);
+      goes_on = subst (λ (z : Driver _ _ _ _). GoesOn g.K.PartialEq.eq hash (begun_of w.book.now.parts) w.book.now.begun.book w.sight.log d w.sight.log z) (sym is) (goes_numbered g.K.PartialEq.eq hash (begun_of w.book.now.parts) w.book.now.begun.book w.sight.log d c.start.result);
+      reached = subst (λ (z : Driver _ _ _ _). HasReached d.machine z.machine (tables_of w.sight.log) z.given.done) (sym is) (inr (inl (aside_numbered g.K.PartialEq.eq hash (begun_of w.book.now.parts) w.book.now.begun.book w.sight.log d c.start.result c.requires.can c.requires.aside)));
+      rest = (ap (λ (z : Driver _ _ _ _). z.taken) is, ap (λ (z : Driver _ _ _ _). z.put) is);
+    }
 
 pub returns-in_default-clause-helped : goal.returns-in_default-clause-helped
 returns-in_default-clause-helped g c = helped c.args.self.now.machine c.loop.self.machine (tables_of c.loop.window.sight.log) c.loop.self.given.done c.loop.invariant.reached (calls c.loop.self.machine (λ ask asked. c.in_default.not-Copy ask (c.ask.ensures.value ∙ asked)))
@@ -52,5 +64,4 @@ loop-preserved g c =
         ap (λ (z : Driver _ _ _ _). z.taken) is ∙ (ap (λ (z : Driver _ _ _ _). z.taken) rest ∙ c.loop.invariant.rest.0),
         ap (λ (z : Driver _ _ _ _). z.put) is ∙ (ap (λ (z : Driver _ _ _ _). z.put) rest ∙ c.loop.invariant.rest.1),
       );
-      still = λ calling. absurd (busy c.loop.self.machine c.in-Copy.ask asked (ap (λ (z : Driver _ _ _ _). z.machine.phase) (c.loop.invariant.still calling).0 ∙ calling));
     }

@@ -1,6 +1,5 @@
 use Rattle.std.proofs.Common.{◌≡◌}
 use Rattle.papaya_chain.specs.Machine.{IsStanding}
-use Rattle.papaya_chain.specs.declared.machine.Phase.TheVariants.{Calling}
 use Rattle.papaya_book.specs.Limits.{tables_of}
 use Rattle.papaya_book.specs.Windows.{Sees}
 use Rattle.papaya_change.specs.Drivers.{GoesOn}
@@ -16,5 +15,4 @@ invariant-loop g l = record {
   goes_on : GoesOn l.fn.window l.fn.self l.window l.self;
   reached : HasReached l.fn.self.machine l.self.machine (tables_of l.window.sight.log) l.self.given.done;
   rest : (l.self.taken ≡ l.fn.self.taken) × (l.self.put ≡ l.fn.self.put);
-  still : l.fn.self.machine.phase ≡ Calling → (l.self ≡ l.fn.self) × (l.window ≡ l.fn.window);
 }

@@ -31,7 +31,7 @@ pub returns-in-MakeKey-clause-inserts : goal.returns-in-MakeKey-clause-inserts
 returns-in-MakeKey-clause-inserts g c = λ key value begun r. let asks : ask_of c.args.self.now.writer.call.machine ≡ Call MakeKey = search rules in goes_on g.K.PartialEq.eq g.K.Hash.hash_input g.S.BuildHasher.build_hasher g.S.Hasher.Hasher.write g.S.Hasher.Hasher.finish g.met.K.Eq.laws g.met.K.Hash.respects_eq (begun_of c.args.window.now.book.now.parts) c.args.window.now.book.now.begun.book key value begun c.args.window.now.sight.log c.args.self.now r c.args.window.now.sight.log c.args.self.now.writer c.make_key.result refl refl refl c.requires.standing c.requires.calling (λ reply h. let f = sym asks ∙ h in cc f) c.make_key.ensures.unsaid (c.make_key.ensures.makes c.args.window.now key (made_list c.args.self.now.made) begun r.writing)
 
 pub returns-in-MakeTable-clause-inserts : goal.returns-in-MakeTable-clause-inserts
-returns-in-MakeTable-clause-inserts g c = λ key value begun r. let asks : ask_of c.args.self.now.writer.call.machine ≡ Call (MakeTable c.in-MakeTable.len c.in-MakeTable.limit) = search rules in let on = c.make_table.ensures in goes_on g.K.PartialEq.eq g.K.Hash.hash_input g.S.BuildHasher.build_hasher g.S.Hasher.Hasher.write g.S.Hasher.Hasher.finish g.met.K.Eq.laws g.met.K.Hash.respects_eq (begun_of c.args.window.now.book.now.parts) c.args.window.now.book.now.begun.book key value begun c.args.window.now.sight.log c.args.self.now r c.make_table.new.window.sight.log c.make_table.new.self c.make_table.result on.machine on.value on.put c.requires.standing c.requires.calling (λ reply h. let f = sym asks ∙ h in cc f) on.unsaid (on.writes key (made_list c.args.self.now.made) begun r.writing)
+returns-in-MakeTable-clause-inserts g c = λ key value begun r. let asks : ask_of c.args.self.now.writer.call.machine ≡ Call (MakeTable c.in-MakeTable.len c.in-MakeTable.limit c.in-MakeTable.chunks) = search rules in let on = c.make_table.ensures in goes_on g.K.PartialEq.eq g.K.Hash.hash_input g.S.BuildHasher.build_hasher g.S.Hasher.Hasher.write g.S.Hasher.Hasher.finish g.met.K.Eq.laws g.met.K.Hash.respects_eq (begun_of c.args.window.now.book.now.parts) c.args.window.now.book.now.begun.book key value begun c.args.window.now.sight.log c.args.self.now r c.make_table.new.window.sight.log c.make_table.new.self c.make_table.result on.machine on.value on.put c.requires.standing c.requires.calling (λ reply h. let f = sym asks ∙ h in cc f) on.unsaid (on.writes key (made_list c.args.self.now.made) begun r.writing)
 
 pub returns-in-Exchange-Root-default-default-clause-inserts : goal.returns-in-Exchange-Root-default-default-clause-inserts
 returns-in-Exchange-Root-default-default-clause-inserts g c = λ key value begun r. let asks : ask_of c.args.self.now.writer.call.machine ≡ Call (Exchange Root c.in-Exchange-Root-default-default.field-1 c.in-Exchange-Root-default-default.field-2) = search rules in let on = c.open.ensures in goes_on g.K.PartialEq.eq g.K.Hash.hash_input g.S.BuildHasher.build_hasher g.S.Hasher.Hasher.write g.S.Hasher.Hasher.finish g.met.K.Eq.laws g.met.K.Hash.respects_eq (begun_of c.args.window.now.book.now.parts) c.args.window.now.book.now.begun.book key value begun c.args.window.now.sight.log c.args.self.now r c.open.new.window.sight.log c.open.new.self c.open.result on.machine on.value on.put c.requires.standing c.requires.calling (λ reply h. let f = sym asks ∙ h in cc f) on.unsaid (on.writes key (made_list c.args.self.now.made) begun r.writing)
@@ -61,7 +61,7 @@ pub returns-in-MakePair-clause-answers : goal.returns-in-MakePair-clause-answers
 returns-in-MakePair-clause-answers g c = let asks : ask_of c.args.self.now.writer.call.machine ≡ Call MakePair = search rules in idle (MakePair) _ (sym (call_asks c.args.self.now.writer.call.machine _ asks).1) tt (Some c.make_pair.result) c.args.window.now c.args.window.now refl
 
 pub returns-in-MakeTable-clause-answers : goal.returns-in-MakeTable-clause-answers
-returns-in-MakeTable-clause-answers g c = let asks : ask_of c.args.self.now.writer.call.machine ≡ Call (MakeTable c.in-MakeTable.len c.in-MakeTable.limit) = search rules in idle (MakeTable c.in-MakeTable.len c.in-MakeTable.limit) _ (sym (call_asks c.args.self.now.writer.call.machine _ asks).1) tt (Some c.make_table.result) c.args.window.now c.make_table.new.window c.make_table.ensures.own
+returns-in-MakeTable-clause-answers g c = let asks : ask_of c.args.self.now.writer.call.machine ≡ Call (MakeTable c.in-MakeTable.len c.in-MakeTable.limit c.in-MakeTable.chunks) = search rules in idle (MakeTable c.in-MakeTable.len c.in-MakeTable.limit c.in-MakeTable.chunks) _ (sym (call_asks c.args.self.now.writer.call.machine _ asks).1) tt (Some c.make_table.result) c.args.window.now c.make_table.new.window c.make_table.ensures.own
 
 pub returns-in-Exchange-Root-default-default-clause-answers : goal.returns-in-Exchange-Root-default-default-clause-answers
 returns-in-Exchange-Root-default-default-clause-answers g c = let asks : ask_of c.args.self.now.writer.call.machine ≡ Call (Exchange Root c.in-Exchange-Root-default-default.field-1 c.in-Exchange-Root-default-default.field-2) = search rules in idle (Exchange Root c.in-Exchange-Root-default-default.field-1 c.in-Exchange-Root-default-default.field-2) _ (sym (call_asks c.args.self.now.writer.call.machine _ asks).1) tt (Some c.open.result) c.args.window.now c.open.new.window c.open.ensures.own

@@ -65,7 +65,7 @@ pub loop-self-init : goal.loop-self-init
 loop-self-init g c =
     let view : MapState _ _ _ = record { store = c.self.inside.store; mode = c.self.inside.mode; initial = c.self.inside.initial } in
     subst (λ (m : MapState _ _ _). IsComputing g.K.PartialEq.eq (hash g) m c.args.key (post g) c.args.f c.self.inside.store (record { machine = c.new.result; key = Own c.args.key; value = None; answers = None }) (Some c.args.f) None None × (c.self.inside.mode ≡ m.mode) × (c.self.inside.initial ≡ m.initial)) c.self.view_is
-    (computing_begin g.K.PartialEq.eq (hash g) view c.args.key (post g) c.args.f c.new.result c.hash-hash.result None c.new.ensures.value c.hash-hash.ensures.value c.new.ensures.standing, refl, refl)
+    (computing_begin g.K.PartialEq.eq (hash g) view c.args.key (post g) c.args.f c.new.result c.hash-hash.result c.copies_from-number.result None c.new.ensures.value c.hash-hash.ensures.value c.new.ensures.standing, refl, refl)
 
 pub ask-ask-requires : goal.ask-ask-requires
 ask-ask-requires g c = c.loop-self.invariant.0.standing

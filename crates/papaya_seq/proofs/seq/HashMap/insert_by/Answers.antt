@@ -28,7 +28,7 @@ done g c =
     subst (λ (m : MapState g.row.K.Denot g.row.V.Denot g.row.S.Denot). InsertionDone g.K.PartialEq.eq (hash g) m c.args.replace c.args.key c.args.value c.in-Ok.done.0 c.in-Ok.done.1 (record { store = c.insert_at_once.new.store; mode = c.self.inside.mode; initial = c.self.inside.initial })) c.self.view_is
     (insertion_done g.K.PartialEq.eq g.K.Hash.hash_input g.S.BuildHasher.build_hasher g.S.Hasher.Hasher.write g.S.Hasher.Hasher.finish g.met.K.Eq.laws g.met.K.Hash.respects_eq view c.args.replace c.args.key c.args.value
     (keys_lawful g.K.PartialEq.eq g.K.Hash.hash_input g.S.BuildHasher.build_hasher g.S.Hasher.Hasher.write g.S.Hasher.Hasher.finish g.met.K.Eq.laws g.met.K.Hash.respects_eq view.store.hasher) c.self.invariant (subst (λ n. n < 2 ^ 64) c.hash-hash.ensures.value c.hash-hash.ensures.fits)
-    c.in-Ok.done.0 c.in-Ok.done.1 c.insert_at_once.new.store (started_stands (Insert c.args.replace) hashed view.mode view.initial c.self.invariant.lawful.core.chunked c.self.invariant.power)
+    c.in-Ok.done.0 c.in-Ok.done.1 c.insert_at_once.new.store (started_stands (Insert c.args.replace) hashed view.mode view.initial 0 c.self.invariant.lawful.core.chunked c.self.invariant.power)
     (subst (λ n. IsReplied g.K.PartialEq.eq (hash g) view.store (at_hand (started (Insert c.args.replace) n view.mode view.initial) c.args.key c.args.value) c.in-Ok.done.0 c.in-Ok.done.1 c.insert_at_once.new.store) c.hash-hash.ensures.value (c.in-Ok.ensures.ok view.mode view.initial)))
 
 pub invariant_of-self : goal.invariant_of-self

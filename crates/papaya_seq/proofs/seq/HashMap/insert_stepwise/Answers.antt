@@ -59,7 +59,7 @@ pub loop-reply-init : goal.loop-reply-init
 loop-reply-init g c =
     let view : MapState _ _ _ = record { store = c.self.inside.store; mode = c.self.inside.mode; initial = c.self.inside.initial } in
     subst (λ (m : MapState _ _ _). IsInserting g.K.PartialEq.eq (hash g) m c.args.replace c.args.key c.args.value c.self.inside.store (record { machine = c.new.result; key = Own c.args.key; value = Some c.args.value; answers = None }) × (c.self.inside.mode ≡ m.mode) × (c.self.inside.initial ≡ m.initial)) c.self.view_is
-    (inserting_begin g.K.PartialEq.eq (hash g) view c.args.replace c.args.key c.args.value c.new.result c.hash-hash.result c.new.ensures.value c.hash-hash.ensures.value c.new.ensures.standing, refl, refl)
+    (inserting_begin g.K.PartialEq.eq (hash g) view c.args.replace c.args.key c.args.value c.new.result c.hash-hash.result c.copies_from-number.result c.new.ensures.value c.hash-hash.ensures.value c.new.ensures.standing, refl, refl)
 
 -- the machine after the answer
 answered : (g : Over) (c : After-answer g) → after c.loop-reply.running.machine c.perform_ask-answer.result ≡ c.answer.new.self

@@ -1,7 +1,7 @@
-use Rattle.std.proofs.Common.{rules, ◌≡◌, ◌++◌, ◌∷◌, [], map, length, sym, ◌∙◌, ap, subst}
+use Rattle.std.proofs.Common.{rules, ◌≡◌, ◌++◌, ◌∷◌, [], map, ◌∙◌, ap, subst}
 use Rattle.papaya_timeline.specs.Content.{content}
 use Rattle.papaya_seq.specs.Walks.{IsNext, left_to}
-use Rattle.papaya_seq.proofs.Listed.{listed_all, listed_fewer, listed_more}
+use Rattle.papaya_seq.proofs.Listed.{listed_fewer, listed_more}
 use Rattle.papaya_seq.proofs.seq.HashMap.numbers.Goals as goal
 
 pub loop-pair-init : goal.loop-pair-init

@@ -71,7 +71,7 @@ loop-ask-init g c =
       ap (λ (m : MapState _ _ _). m.initial) c.self.view_is,
       subst (λ (m : MapState _ _ _). IsUnderWay g.F.FnMut g.K.PartialEq.eq (hashes g) matches c.hash-hash.result m c.args.agrees c.self.inside.store c.args.agrees c.new-machine.result) c.self.view_is
           (subst (λ m. IsUnderWay g.F.FnMut g.K.PartialEq.eq (hashes g) matches c.hash-hash.result view c.args.agrees c.self.inside.store c.args.agrees m) (sym c.new-machine.ensures.value)
-          (under_way g.F.FnMut g.K.PartialEq.eq (hashes g) matches c.hash-hash.result view c.args.agrees)),
+          (under_way g.F.FnMut g.K.PartialEq.eq (hashes g) matches c.hash-hash.result view c.args.agrees c.copies_from-number.result)),
     )
 
 pub answer_removal-requires : goal.answer_removal-requires

@@ -31,7 +31,7 @@ pub loop-ask-init : goal.loop-ask-init
 loop-ask-init g c =
     let view : MapState _ _ _ = record { store = c.self.inside.store; mode = c.self.inside.mode; initial = c.self.inside.initial } in
     subst (λ (m : MapState _ _ _). IsResizingTo g.K.PartialEq.eq (hash g) m c.args.resize c.self.inside.store c.new-resizer.result × (c.self.inside.mode ≡ m.mode) × (c.self.inside.initial ≡ m.initial)) c.self.view_is
-    (resizing_begun g.K.PartialEq.eq g.K.Hash.hash_input g.S.BuildHasher.build_hasher g.S.Hasher.Hasher.write g.S.Hasher.Hasher.finish g.met.K.Eq.laws g.met.K.Hash.respects_eq view c.args.resize c.self.invariant c.requires c.new-resizer.result c.new-resizer.ensures.value c.new-resizer.ensures.standing, refl, refl)
+    (resizing_begun g.K.PartialEq.eq g.K.Hash.hash_input g.S.BuildHasher.build_hasher g.S.Hasher.Hasher.write g.S.Hasher.Hasher.finish g.met.K.Eq.laws g.met.K.Hash.respects_eq view c.args.resize c.self.invariant c.requires c.new-resizer.result c.copies_from-number.result c.new-resizer.ensures.value c.new-resizer.ensures.standing, refl, refl)
 
 pub answer-requires-clause-fit : goal.answer-requires-clause-fit
 answer-requires-clause-fit g c =

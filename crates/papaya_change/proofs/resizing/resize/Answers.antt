@@ -1,0 +1,20 @@
+use Rattle.std.proofs.Common.{◌≡◌, ap, subst, sym}
+use Rattle.papaya_chain.specs.declared.resizer.Resizer.{Resizer}
+use Rattle.papaya_book.specs.Hashes.{hash_of}
+use Rattle.papaya_book.specs.Parts.{begun_of}
+use Rattle.papaya_change.specs.Resizing.{IsResizing}
+use Rattle.papaya_change.proofs.ResizingOpens.{begins}
+use Rattle.papaya_change.proofs.resizing.resize.Goals as goal
+
+pub loop-init : goal.loop-init
+loop-init g c =
+    let w = c.learn.new.self in let hash = hash_of g.K.Hash.hash_input g.S.BuildHasher.build_hasher g.S.Hasher.Hasher.write g.S.Hasher.Hasher.finish in
+    let is = c.new-machine.ensures.value in record {
+      sees = c.learn.ensures.sees;
+      own = c.learn.ensures.own;
+      standing = c.new-machine.ensures.standing;
+      can = subst (λ (m : Resizer). IsResizing g.K.PartialEq.eq hash (begun_of w.book.now.parts) w.book.now.begun.book w.sight.log m c.new.result) (sym is)
+          (begins g.K.PartialEq.eq g.K.Hash.hash_input g.S.BuildHasher.build_hasher g.S.Hasher.Hasher.write g.S.Hasher.Hasher.finish g.met.K.Eq.laws g.met.K.Hash.respects_eq (begun_of w.book.now.parts) w.book.now.begun.book w.sight.log c.learn.ensures.lawful c.args.resize c.args.initial c.start.result c.new.result c.new.ensures.0 c.new.ensures.1);
+      resize = ap (λ (m : Resizer). m.resize) is;
+      initial = ap (λ (m : Resizer). m.initial) is;
+    }
