@@ -8,12 +8,14 @@ folder="$(mktemp -d)"
 trap 'rm -rf "$folder"' EXIT
 source "$top/tests/same.sh"
 
-# A repository of three crates, whose program prints its arguments.
+# A repository of three crates and one that none needs, whose program prints its arguments.
 made="$folder/top"
-mkdir -p "$made"/crates/{papaya_low/src,papaya_mid/src,papaya_run/src} "$folder/bin"
+mkdir -p "$made"/crates/papaya_{low,mid,run,other}/src "$made/tools" "$folder/bin"
 cp "$top/papaya-run" "$made/papaya-run"
-printf '# crates\npapaya_low:\npapaya_mid: papaya_low\npapaya_run: papaya_mid\n' >"$made/crates.txt"
-touch "$made"/crates/papaya_{low,mid,run}/src/lib.rt
+cp "$top/tools/prove" "$made/tools/prove"
+cp "$top/HANDLES" "$made/HANDLES"
+printf '# crates\npapaya_low:\npapaya_mid: papaya_low\npapaya_run: papaya_mid\npapaya_other:\n' >"$made/crates.txt"
+touch "$made"/crates/papaya_{low,mid,other}/src/lib.rt "$made/crates/papaya_run/src/main.rt"
 
 cat >"$folder/bin/rt" <<'END'
 #!/usr/bin/env bash
@@ -24,22 +26,28 @@ if [[ "$1" == try ]]; then
     [[ "$*" != *inc:0* ]] || exit 1
     exit 0
 fi
-for name in papaya_low papaya_mid papaya_run; do
-    echo "rt: chose --jobs 2 for $name"
+program() {
+    printf '#!/usr/bin/env bash\necho "ran $*"\n' >"$1/papaya_run"
+    chmod +x "$1/papaya_run"
+}
+if [[ "$1" == run ]]; then
+    echo over >>"$BEGUN"
+    program out
+    exit
+fi
+for name in $(cut -d: -f1 crates.txt); do
+    mkdir -p "crates/$name/out"
     [[ -z "${SLOW-}" ]] || sleep 30
-    echo "crate $name: modules loaded=3 checked=3"
     if [[ "${BROKEN-}" == "$name" ]]; then
         echo "src/lib.rt:1:1: error: not proved"
         exit 1
     fi
-    echo "logic=proved functions=1 sum=0" >&2
+    echo "rt: $name ${SAID-proved}"
 done
-mkdir -p out
-printf '#!/usr/bin/env bash\necho "ran $*"\n' >out/papaya_run
-chmod +x out/papaya_run
+[[ ! -d crates/papaya_run ]] || program crates/papaya_run/out
 END
 chmod +x "$folder/bin/rt"
-export PATH="$folder/bin:$PATH"
+export PATH="$folder/bin:$PATH" BEGUN="$folder/begun"
 
 # Runs the script; its standard output and standard error stay in files.
 run() {
@@ -74,8 +82,9 @@ same 'its output is the program'\''s' 'tried core inc:18446744073709551615 id' "
 unproved='papaya-run: nothing is proved in this run: a first look, which takes one to two minutes'
 same 'it says that nothing is proved' "$unproved" "$(cat "$folder/errors")"
 same 'its errors are the program'\''s' 1 "$(run --unproved core inc:0 id)"
-same 'they are passed on' "$unproved
-papaya-run: refused 5 ZeroChunk" "$(cat "$folder/errors")"
+same 'they are passed on, with what to give' "$unproved
+papaya-run: refused 5 ZeroChunk
+papaya-run: a chunk has at least one slot: give inc:1 or more, or block" "$(cat "$folder/errors")"
 same 'it builds nothing' 'none' "$([[ -e "$made/crates/papaya_run/out" ]] && echo some || echo none)"
 
 # A failed build shows what rt printed, and leaves no program.
@@ -88,7 +97,10 @@ unset BROKEN
 # A build that is stopped leaves no program.
 SLOW=yes "$made/papaya-run" core block id >"$folder/output" 2>"$folder/errors" &
 script=$!
-sleep 1
+for _ in {1..300}; do
+    ! grep -q 'proving papaya_low' "$folder/errors" || break
+    sleep 0.1
+done
 kill -TERM "$script"
 status=0
 wait "$script" || status=$?
@@ -103,11 +115,11 @@ same 'a first build ends as the program' 0 "$(run core block id)"
 same 'standard output is the program'\''s' 'ran core block id' "$(cat "$folder/output")"
 same 'a first build names each crate, as it begins and as it ends' 'papaya-run: first run: proving and building 3 crates, about half an hour, once
 papaya-run: for a first look without the proof: papaya-run --unproved core block id
-papaya-run: proving papaya_low, 1 of 3
+papaya-run: proving papaya_low
 papaya-run: papaya_low proved, 1 of 3
-papaya-run: proving papaya_mid, 2 of 3
+papaya-run: proving papaya_mid
 papaya-run: papaya_mid proved, 2 of 3
-papaya-run: proving papaya_run, 3 of 3
+papaya-run: proving papaya_run
 papaya-run: papaya_run proved, 3 of 3' "$(cat "$folder/errors")"
 
 # A program that is fresh runs with no word.
@@ -115,11 +127,37 @@ same 'a fresh program runs' 0 "$(run seq inc:8 zero)"
 same 'a fresh program gets its arguments' 'ran seq inc:8 zero' "$(cat "$folder/output")"
 same 'a fresh program runs with no word' '' "$(cat "$folder/errors")"
 
+# Where the program refuses the chunk, the script says what to give.
+same 'a chunk of none ends as the program' 0 "$(run seq inc:00 zero)"
+same 'what to give is said' 'papaya-run: a chunk has at least one slot: give inc:1 or more, or block' \
+    "$(cat "$folder/errors")"
+
 # After a change it is built anew, and the script says so.
 touch -d '+1 minute' "$made/crates/papaya_low/src/lib.rt"
 same 'a stale program is built anew' 0 "$(run core block id)"
 same 'the script says so' \
     'papaya-run: a source is newer than the program: proving anew what it reaches, and building' \
     "$(head -1 "$folder/errors")"
+same 'nothing was built over kept work' none "$(cat "$BEGUN" 2>/dev/null || echo none)"
+
+# Where a check has kept its work here, it is used.
+mkdir "$made/crates/papaya_run/out/incremental"
+touch -d '+2 minutes' "$made/crates/papaya_low/src/lib.rt"
+same 'over kept work it is built too' 0 "$(run core block id)"
+same 'by rt run' over "$(cat "$BEGUN")"
+rm -r "$made/crates/papaya_run/out"
+
+# What an earlier run has passed is told apart, and of crates that are there only those that are needed are proved.
+status=0
+SAID='is kept: an earlier run' "$made/tools/prove" "$folder/proved" papaya_mid >"$folder/output" 2>"$folder/errors" ||
+    status=$?
+same 'crates are proved into a folder' 0 "$status"
+same 'what was proved before is said' $'papaya_low proved before, 1 of 2\npapaya_mid proved before, 2 of 2' \
+    "$(grep before "$folder/output")"
+same 'just those are there' $'papaya_low\npapaya_mid' "$(ls "$folder/proved/crates")"
+status=0
+"$made/tools/prove" "$folder/proved" papaya_mid 2>/dev/null || status=$?
+same 'a folder that is there is refused' 1 "$status"
+same 'nothing is left but the program' '' "$(find "$made" -name proved)"
 
 told papaya_run.sh

@@ -575,6 +575,24 @@ def growing_without_memory(runs):
         runs.is_so(refused == 3, f"{args}: {refused} steps of a growth make something")
 
 
+def two_copiers(runs):
+    """Each of two callers is stopped after each number of steps of an insertion that copies a chunk of the full
+    table, one from chunk 0 on and the other from chunk 5, and both go on: each cut of one of them with twelve of
+    the other's. Each key is found once then."""
+    for hasher, keys in [("id", FULL), ("zero", 26)]:
+        args = f"core inc:4 {hasher}"
+        last = keys + 2
+        begun = [*filled(keys), *whole(2, f"i {keys} {keys}"), f"begin 0 i {keys + 1} {keys + 1}"]
+        ends = ["finish 0", "finish 5", *looked_up(0, last + 1), *whole(2, "walk")]
+        printed = [*["0: none"] * keys, "2: none", "0: none", "5: none", *found(0, last + 1), walk_of(range(last + 1))]
+        steps = steps_of(runs, args, begun, 0)
+        for made in range(steps):
+            stopped = [*begun, *["step 0"] * made, f"begin 5 i {last} {last}"]
+            others = steps_of(runs, args, stopped, 5)
+            for other in range(others) if made in some_of(steps, 12) else some_of(others, 12):
+                runs.run(args, [*stopped, *["step 5"] * other, *ends], printed)
+
+
 def looking_up_beside_a_copy(runs):
     """An insertion copies a whole table of 64 keys on one path. A lookup finds its key after each step of it,
     and so does one that is stopped after each of its own steps, while the insertion is made whole."""
@@ -608,6 +626,7 @@ def main(program):
     growing(runs)
     walking(runs)
     growing_without_memory(runs)
+    two_copiers(runs)
     looking_up_beside_a_copy(runs)
     for rest in ["inc:64 id", "block zero"]:
         stopped(runs, rest)

@@ -1,0 +1,86 @@
+#!/usr/bin/env bash
+# Does what README.md tells a reader to type. In this checkout: the first run, and what rt says of itself.
+# With --all besides, in a fresh clone: a run without the proof, and one that proves and builds first; and
+# in two fresh repositories of a user: a program over papaya, taken by tools/take and by tools/kit, which
+# the user's own gate proves and runs. That takes hours where nothing was proved before.
+set -euo pipefail
+top="$(cd "$(dirname "${BASH_SOURCE[0]}")/.." && pwd)"
+room="$(mktemp -d)"
+trap 'rm -rf "$room"' EXIT
+source "$top/tests/same.sh"
+
+# The lines that are typed in, without what stands behind them.
+typed="$(sed -n 's/^    \(\.\/[^#]*[^# ]\) *#.*/\1/p' "$top/README.md")"
+same 'README has these lines' './papaya-run --unproved core inc:64 id < examples/first-run.txt
+./papaya-run core inc:64 id < examples/first-run.txt' "$typed"
+answers=$'1: none\n0: none\n1: some 10'
+same 'README says what they print' 1 "$(grep -cF "prints \`${answers//$'\n'/\`, \`}\`." "$top/README.md")"
+
+# The first run, and the kit.
+same 'the first run' "$answers" "$(cd "$top" && bash -c "$(tail -1 <<<"$typed")")"
+same 'the kit of README' 1 "$(grep -cF "\`$(rt version)\`" "$top/README.md")"
+
+# A program of a user's, whose two threads share a map: sessions say what was there.
+shop() {
+    git init -q "$1"
+    mkdir -p "$1/crates/shop/src"
+    cp "$top/HANDLES" "$1/HANDLES"
+    echo 'shop: papaya' >>"$1/crates.txt"
+    echo '1 7' >"$1/crates/shop/stdout"
+    cat >"$1/crates/shop/src/main.rt" <<'END'
+//! Two threads share settings.
+#![tactic(auto)]
+
+use papaya::{HashMap, Refused, Session};
+use std::hash::{BuildHasherDefault, FoldHasher};
+use std::io;
+use std::sync::Wait;
+use std::thread::join;
+
+/// The settings, by their numbers.
+type Settings = HashMap<u64, u64, BuildHasherDefault<FoldHasher>>;
+
+/// Gives a setting a value, by a session of this thread's own.
+fn set(rt: &impl Wait, settings: &Settings, setting: u64, value: u64) -> Result<(), Refused> {
+    let mut session = Session::new(settings);
+    session.insert(rt, setting, value)?;
+    Ok(())
+}
+
+/// The value of a setting, 0 where there is none.
+fn value_of(settings: &Settings, setting: u64) -> u64 {
+    Session::new(settings).get(&setting).copied().unwrap_or(0)
+}
+
+fn main(rt: HostRuntime) -> io::Result<()> {
+    let Ok(settings) = Settings::new(&rt, rt.alloc()) else {
+        return println!(rt; "no memory");
+    };
+    let both = join(
+        &rt,
+        || set(&rt, &settings, 1, 1),
+        || set(&rt, &settings, 2, 7),
+    );
+    if both.0.is_err() || both.1.is_err() {
+        return println!(rt; "refused");
+    }
+    let (first, second) = (value_of(&settings, 1), value_of(&settings, 2));
+    println!(rt; "{first} {second}")
+}
+END
+}
+
+if [[ "${1-}" == --all ]]; then
+    git clone -q "$top" "$room/clone"
+    while IFS= read -r line; do
+        same "in a fresh clone: $line" "$answers" "$(cd "$room/clone" && bash -c "$line")"
+    done <<<"$typed"
+    shop "$room/taken"
+    "$room/clone/tools/take" "$room/taken"
+    same 'a program over what was taken passes' 0 "$(cd "$room/taken" && rt ci >&2 && echo 0)"
+    "$room/clone/tools/kit" "$room/kit"
+    shop "$room/over"
+    same 'a program over the kit passes' 0 "$(cd "$room/over" && "$room/kit/bin/rt" ci >&2 && echo 0)"
+fi
+
+told readme_commands.sh
