@@ -46,7 +46,7 @@ carry_called carry mode _ = carried.On carry
 abbrev pub carry_after : Carry → ResizeMode → (initial : ℕ) → Answer → Carried
 carry_after carry mode initial (answers.Call answer) = carry_called carry mode answer
 carry_after carry mode initial (answers.Hash hash) = carried.On (carry_specs.at_hash carry hash)
-carry_after carry mode initial (answers.Count count) = carry_specs.at_count carry count initial
+carry_after carry mode initial (answers.Count count) = carry_specs.at_count carry mode count initial
 
 -- the copy of a slot
 abbrev pub settle_called : Settle → Slot → ResizeMode → Call_answer → Settled
@@ -66,25 +66,25 @@ settle_after settle slot mode initial (answers.Hash hash) = settled.On (settle_s
 settle_after settle slot mode initial (answers.Count count) = settle_specs.at_count settle mode count initial
 
 -- the copy of a chunk
-abbrev pub step_called : Step → ResizeMode → Call_answer → Stepped
-step_called step mode (Word_read word) = step_specs.at_word step mode word
+abbrev pub step_called : Step → ResizeMode → (number : ℕ) → Call_answer → Stepped
+step_called step mode number (Word_read word) = step_specs.at_word step mode word
 step_called step mode Exchanged = step_specs.at_exchanged step mode
-step_called step mode (Found_instead word) = step_specs.at_found step mode word
-step_called step mode (Yes same) = step_specs.at_yes step mode same
-step_called step mode (Size slots limit) = stepped.On (step_specs.at_size step slots limit)
-step_called step mode (Made_number n) = stepped.On (step_specs.at_made step n)
-step_called step mode (Was_refused refused) = step_specs.at_refused step mode refused
+step_called step mode number (Found_instead word) = step_specs.at_found step mode word
+step_called step mode number (Yes same) = step_specs.at_yes step mode same
+step_called step mode number (Size slots limit) = stepped.On (step_specs.at_size step mode number slots limit)
+step_called step mode number (Made_number n) = stepped.On (step_specs.at_made step n)
+step_called step mode number (Was_refused refused) = step_specs.at_refused step mode refused
 step_called step mode Ok_done = step_specs.at_ok step mode
-step_called step mode _ = stepped.On step
+step_called step mode number _ = stepped.On step
 
-abbrev pub step_after : Step → ResizeMode → (initial : ℕ) → Answer → Stepped
-step_after step mode initial (answers.Call answer) = step_called step mode answer
-step_after step mode initial (answers.Hash hash) = stepped.On (step_specs.at_hash step hash)
-step_after step mode initial (answers.Count count) = step_specs.at_count step mode count initial
+abbrev pub step_after : Step → ResizeMode → (initial number : ℕ) → Answer → Stepped
+step_after step mode initial number (answers.Call answer) = step_called step mode number answer
+step_after step mode initial number (answers.Hash hash) = stepped.On (step_specs.at_hash step hash)
+step_after step mode initial number (answers.Count count) = step_specs.at_count step mode count initial
 
 -- what leads the machine within leads the one around it
 module _ (mode : ResizeMode) (initial : ℕ) where
-  pub carry_links : (hash : ℕ) (link : Link) (answer : Answer) → carry_after (carries.Linking hash link) mode initial answer ≡ carried_on hash (link_after link initial answer)
+  pub carry_links : (hash : ℕ) (link : Link) (answer : Answer) → carry_after (carries.Linking hash link) mode initial answer ≡ carried_on hash (link_after link mode initial answer)
   carry_links hash link (answers.Call (Word_read word)) = refl
   carry_links hash link (answers.Call Exchanged) = refl
   carry_links hash link (answers.Call (Found_instead word)) = refl
@@ -110,54 +110,55 @@ module _ (mode : ResizeMode) (initial : ℕ) where
   settle_carries slot word carry (answers.Hash h) = refl
   settle_carries slot word carry (answers.Count count) = refl
 
-  pub step_links : (from : ℕ) (link : Link) (answer : Answer) → step_after (steps.Linking from link) mode initial answer ≡ linked_to from (link_after link initial answer)
-  step_links from link (answers.Call (Word_read w)) = refl
-  step_links from link (answers.Call Exchanged) = refl
-  step_links from link (answers.Call (Found_instead w)) = refl
-  step_links from link (answers.Call (Yes same)) = refl
-  step_links from link (answers.Call (Op kind)) = refl
-  step_links from link (answers.Call (Size slots limit)) = refl
-  step_links from link (answers.Call (Made_number n)) = refl
-  step_links from link (answers.Call Ok_done) = refl
-  step_links from link (answers.Call (Was_refused refused)) = refl
-  step_links from link (answers.Hash h) = refl
-  step_links from link (answers.Count count) = refl
+  module _ (number : ℕ) where
+    pub step_links : (from : ℕ) (link : Link) (answer : Answer) → step_after (steps.Linking from link) mode initial number answer ≡ linked_to from (link_after link mode initial answer)
+    step_links from link (answers.Call (Word_read w)) = refl
+    step_links from link (answers.Call Exchanged) = refl
+    step_links from link (answers.Call (Found_instead w)) = refl
+    step_links from link (answers.Call (Yes same)) = refl
+    step_links from link (answers.Call (Op kind)) = refl
+    step_links from link (answers.Call (Size slots limit)) = refl
+    step_links from link (answers.Call (Made_number n)) = refl
+    step_links from link (answers.Call Ok_done) = refl
+    step_links from link (answers.Call (Was_refused refused)) = refl
+    step_links from link (answers.Hash h) = refl
+    step_links from link (answers.Count count) = refl
 
-  pub step_settles : (chunk : Chunk) (settle : Settle) (answer : Answer) → step_after (steps.Settling chunk settle) mode initial answer ≡ settled_to chunk (settle_after settle (slot_of chunk) mode initial answer)
-  step_settles chunk settle (answers.Call (Word_read w)) = refl
-  step_settles chunk settle (answers.Call Exchanged) = refl
-  step_settles chunk settle (answers.Call (Found_instead w)) = refl
-  step_settles chunk settle (answers.Call (Yes same)) = refl
-  step_settles chunk settle (answers.Call (Op kind)) = refl
-  step_settles chunk settle (answers.Call (Size slots limit)) = refl
-  step_settles chunk settle (answers.Call (Made_number n)) = refl
-  step_settles chunk settle (answers.Call Ok_done) = refl
-  step_settles chunk settle (answers.Call (Was_refused refused)) = refl
-  step_settles chunk settle (answers.Hash h) = refl
-  step_settles chunk settle (answers.Count count) = refl
+    pub step_settles : (chunk : Chunk) (settle : Settle) (answer : Answer) → step_after (steps.Settling chunk settle) mode initial number answer ≡ settled_to chunk (settle_after settle (slot_of chunk) mode initial answer)
+    step_settles chunk settle (answers.Call (Word_read w)) = refl
+    step_settles chunk settle (answers.Call Exchanged) = refl
+    step_settles chunk settle (answers.Call (Found_instead w)) = refl
+    step_settles chunk settle (answers.Call (Yes same)) = refl
+    step_settles chunk settle (answers.Call (Op kind)) = refl
+    step_settles chunk settle (answers.Call (Size slots limit)) = refl
+    step_settles chunk settle (answers.Call (Made_number n)) = refl
+    step_settles chunk settle (answers.Call Ok_done) = refl
+    step_settles chunk settle (answers.Call (Was_refused refused)) = refl
+    step_settles chunk settle (answers.Hash h) = refl
+    step_settles chunk settle (answers.Count count) = refl
 
-  pub copying_steps : (aim : Aim) (step : Step) (answer : Answer) → copying_after (copyings.Stepping aim step) mode initial answer ≡ leads aim mode (step_after step mode initial answer)
-  copying_steps aim step (answers.Call (Word_read w)) = refl
-  copying_steps aim step (answers.Call Exchanged) = refl
-  copying_steps aim step (answers.Call (Found_instead w)) = refl
-  copying_steps aim step (answers.Call (Yes same)) = refl
-  copying_steps aim step (answers.Call (Op kind)) = refl
-  copying_steps aim step (answers.Call (Size slots limit)) = refl
-  copying_steps aim step (answers.Call (Made_number n)) = refl
-  copying_steps aim step (answers.Call Ok_done) = refl
-  copying_steps aim step (answers.Call (Was_refused refused)) = refl
-  copying_steps aim step (answers.Hash h) = refl
-  copying_steps aim step (answers.Count count) = refl
+    pub copying_steps : (aim : Aim) (step : Step) (answer : Answer) → copying_after (copyings.Stepping aim step) mode initial number answer ≡ leads aim mode (step_after step mode initial number answer)
+    copying_steps aim step (answers.Call (Word_read w)) = refl
+    copying_steps aim step (answers.Call Exchanged) = refl
+    copying_steps aim step (answers.Call (Found_instead w)) = refl
+    copying_steps aim step (answers.Call (Yes same)) = refl
+    copying_steps aim step (answers.Call (Op kind)) = refl
+    copying_steps aim step (answers.Call (Size slots limit)) = refl
+    copying_steps aim step (answers.Call (Made_number n)) = refl
+    copying_steps aim step (answers.Call Ok_done) = refl
+    copying_steps aim step (answers.Call (Was_refused refused)) = refl
+    copying_steps aim step (answers.Hash h) = refl
+    copying_steps aim step (answers.Count count) = refl
 
-  pub copying_settles : (slot : Slot) (settle : Settle) (answer : Answer) → copying_after (copyings.Lone slot settle) mode initial answer ≡ lone slot (settle_after settle slot mode initial answer)
-  copying_settles slot settle (answers.Call (Word_read w)) = refl
-  copying_settles slot settle (answers.Call Exchanged) = refl
-  copying_settles slot settle (answers.Call (Found_instead w)) = refl
-  copying_settles slot settle (answers.Call (Yes same)) = refl
-  copying_settles slot settle (answers.Call (Op kind)) = refl
-  copying_settles slot settle (answers.Call (Size slots limit)) = refl
-  copying_settles slot settle (answers.Call (Made_number n)) = refl
-  copying_settles slot settle (answers.Call Ok_done) = refl
-  copying_settles slot settle (answers.Call (Was_refused refused)) = refl
-  copying_settles slot settle (answers.Hash h) = refl
-  copying_settles slot settle (answers.Count count) = refl
+    pub copying_settles : (slot : Slot) (settle : Settle) (answer : Answer) → copying_after (copyings.Lone slot settle) mode initial number answer ≡ lone slot (settle_after settle slot mode initial answer)
+    copying_settles slot settle (answers.Call (Word_read w)) = refl
+    copying_settles slot settle (answers.Call Exchanged) = refl
+    copying_settles slot settle (answers.Call (Found_instead w)) = refl
+    copying_settles slot settle (answers.Call (Yes same)) = refl
+    copying_settles slot settle (answers.Call (Op kind)) = refl
+    copying_settles slot settle (answers.Call (Size slots limit)) = refl
+    copying_settles slot settle (answers.Call (Made_number n)) = refl
+    copying_settles slot settle (answers.Call Ok_done) = refl
+    copying_settles slot settle (answers.Call (Was_refused refused)) = refl
+    copying_settles slot settle (answers.Hash h) = refl
+    copying_settles slot settle (answers.Count count) = refl

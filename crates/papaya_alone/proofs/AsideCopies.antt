@@ -1,6 +1,6 @@
 -- What each answer leaves to a call that copies, with no other caller beside it.
-use Rattle.std.proofs.Common.{◌≡◌, ◌⊎◌, inl, inr, ⊎_elim, ℕ, ◌+◌, ◌*◌, ◌^◌, ◌<◌, ◌≤◌, ◌==◌, ◌||◌, nat_le, Bool, true, false, cond, Some, refl, sym, ap, ◌∙◌, subst, arith, eqb-true}
-use Rattle.std.proofs.lemmas.Bool.{cond_both}
+use Rattle.std.proofs.Common.{◌≡◌, ◌⊎◌, inl, inr, ⊎_elim, ℕ, ◌+◌, ◌*◌, ◌^◌, ◌<◌, ◌≤◌, ◌==◌, ◌||◌, not, Bool, true, false, cond, Some, refl, sym, ap, ◌∙◌, subst, arith, eqb-true}
+use Rattle.std.proofs.lemmas.Bool.{cases_Bool, cond_both}
 use Rattle.papaya_words.specs.declared.probe.ResizeMode.{ResizeMode}
 use Rattle.papaya_words.specs.declared.probe.ResizeMode.TheVariants.{Blocking}
 use Rattle.papaya_ask.specs.declared.ask.At.{At}
@@ -15,17 +15,19 @@ use Rattle.papaya_copy.specs.declared.copying.Copied.TheVariants as copied
 use Rattle.papaya_copy.specs.declared.copying.Copying.{Copying}
 use Rattle.papaya_copy.specs.declared.copying.Copying.TheVariants as copyings
 use Rattle.papaya_copy.specs.declared.settle.Settle.{Settle}
+use Rattle.papaya_copy.specs.declared.settle.Settle.TheVariants as settles
 use Rattle.papaya_copy.specs.declared.settle.Settled.{Settled}
 use Rattle.papaya_copy.specs.declared.settle.Settled.TheVariants as settled
 use Rattle.papaya_copy.specs.declared.settle.Slot.{Slot}
 use Rattle.papaya_copy.specs.declared.step.Chunk.{Chunk}
+use Rattle.papaya_copy.specs.declared.step.Scan.{Scan}
 use Rattle.papaya_copy.specs.declared.step.Step.{Step}
 use Rattle.papaya_copy.specs.declared.step.Step.TheVariants as steps
 use Rattle.papaya_copy.specs.declared.step.Stepped.{Stepped}
 use Rattle.papaya_copy.specs.declared.step.Stepped.TheVariants as stepped
 use Rattle.papaya_copy.specs.Settle.{settle_ask}
-use Rattle.papaya_copy.specs.Step.{step_ask}
-use Rattle.papaya_copy.specs.Copying.{all_of, copying_ask, leads, lone, over}
+use Rattle.papaya_copy.specs.Step.{chunk_at, next_scan, scanned, step_ask}
+use Rattle.papaya_copy.specs.Copying.{all_of, copying_ask, further as further_of, leads, lone, over}
 use Rattle.papaya_chain.specs.declared.ask.Answer.{Answer}
 use Rattle.papaya_chain.specs.declared.ask.Answer.TheVariants as answers
 use Rattle.papaya_chain.specs.declared.machine.Machine.{Machine}
@@ -37,15 +39,16 @@ use Rattle.papaya_rests.proofs.AloneCurrent.{machine_stays}
 use Rattle.papaya_rests.proofs.AloneSteps.{exchange_done}
 use Rattle.papaya_alone.specs.Ahead.{IsAsideAhead, IsCurrent}
 use Rattle.papaya_alone.specs.Budget.{Budget, IsSpent, SpendsCopy}
-use Rattle.papaya_alone.specs.Current.{IsCopiedRead, IsCopyingRead, IsIncremental, IsSettleRead}
-use Rattle.papaya_alone.specs.Measure.{further, left_of_copied, left_of_settle, left_of_step}
+use Rattle.papaya_alone.specs.Current.{IsCopiedRead, IsCopyingRead, IsIncremental, IsSettleRead, IsSteppedRead}
+use Rattle.papaya_alone.specs.Measure.{further, left_of_chunk, left_of_copied, left_of_settle, left_of_step, left_of_stepped}
 use Rattle.papaya_alone.specs.Prompt.{IsCopyPrompt}
-use Rattle.papaya_alone.specs.Rank.{rank, rank_at_root, rank_of_copying, rank_of_step}
+use Rattle.papaya_alone.specs.Rank.{rank, rank_at_root, rank_of, rank_of_copying, rank_of_step}
 use Rattle.papaya_alone.proofs.Afters.{copying_settles, copying_steps, settle_after, step_after}
-use Rattle.papaya_alone.proofs.AsideRanks.{GoesOn, HasNext, IsBegun, IsMidway, Lowers, begun_rank, step_goes, step_puts}
+use Rattle.papaya_alone.proofs.AsideRanks.{GoesOn, HasNext, IsBegun, IsMidway, Lowers, begun_rank, next_ranks, step_goes, step_puts}
 use Rattle.papaya_alone.proofs.CopyEnds.{any_alive, copying_ends, same_aim}
 use Rattle.papaya_alone.proofs.Onwards.{AimsAt, aim_read, anew_current, anew_rank, enters_current}
 use Rattle.papaya_alone.proofs.SettleEnds.{settle_puts}
+use Rattle.papaya_alone.proofs.StepEnds.{same_scan, scanned_within}
 use Rattle.papaya_alone.proofs.Telling.{copy_spends, stays_at}
 
 -- it copies for one table
@@ -95,17 +98,17 @@ module _ (words words' : At → ℕ) (bare : IsBare words) (bare' : IsBare words
 
   -- a chunk that is not over yet
   midway_lowers : (aim : Aim) (step : Step) (answer : Answer) → IsMidway step → IsBegun step → HasNext mode words step → IsBehind words → IsCopyingRead mode words (copyings.Stepping aim step) → IsCopyPrompt words (step_ask step) answer words' → SpendsCopy (step_ask step) answer before later
-      → Lowers words words' before later m (rank_of_step (words words_at.Root) aim step) (after_copied m (copying_after (copyings.Stepping aim step) mode m.call.initial answer))
+      → Lowers words words' before later m (rank_of_step (words words_at.Root) aim step) (after_copied m (copying_after (copyings.Stepping aim step) mode m.call.initial m.number answer))
   midway_lowers aim step answer midway begun next left read told spends =
       let initial : ℕ = m.call.initial in
-      let end : Stepped = step_after step mode initial answer in
-      let led = copying_steps mode initial aim step answer in
-      let e = copying_ends mode initial words words' bare' (copyings.Stepping aim step) answer read told in
+      let end : Stepped = step_after step mode initial m.number answer in
+      let led = copying_steps mode initial m.number aim step answer in
+      let e = copying_ends mode initial m.number words words' bare' (copyings.Stepping aim step) answer read told in
       let f = copy_spends words words' before later (step_ask step) answer told spends _ _ e.0 in
       let same : words' words_at.Root ≡ words words_at.Root = stays_at words words' answer (step_ask step) told words_at.Root (step_puts step midway) in
-      subst (λ r. Lowers words words' before later m r (after_copied m (copying_after (copyings.Stepping aim step) mode initial answer))) (sym (begun_rank (words words_at.Root) aim step begun))
+      subst (λ r. Lowers words words' before later m r (after_copied m (copying_after (copyings.Stepping aim step) mode initial m.number answer))) (sym (begun_rank (words words_at.Root) aim step begun))
       (subst (λ y. Lowers words words' before later m (rank 1 0 (left_of_step step)) (after_copied m y)) (sym led)
-      (led_lowers aim step (λ t how h. let l = left t how h in omega (arith, l, same)) end (step_goes mode initial words words' step answer midway next told)
+      (led_lowers aim step (λ t how h. let l = left t how h in omega (arith, l, same)) end (step_goes mode initial m.number words words' step answer midway next told)
       (subst (λ y. IsSpent before later ⊎ ((later ≡ before) × (left_of_copied y < left_of_step step))) led f) (subst (IsCopiedRead mode words') led e.1)))
 
   -- the copy of a slot of its own
@@ -118,12 +121,12 @@ module _ (words words' : At → ℕ) (bare : IsBare words) (bare' : IsBare words
 
   -- a slot of its own is copied
   lone_lowers : IsIncremental mode → (slot : Slot) (settle : Settle) (answer : Answer) → words words_at.Root ≤ slot.to → IsSettleRead mode words slot settle → IsCopyPrompt words (settle_ask settle slot) answer words' → SpendsCopy (settle_ask settle slot) answer before later
-      → Lowers words words' before later m (rank 2 (further slot.to + 1) (left_of_settle settle)) (after_copied m (copying_after (copyings.Lone slot settle) mode m.call.initial answer))
+      → Lowers words words' before later m (rank 2 (further slot.to + 1) (left_of_settle settle)) (after_copied m (copying_after (copyings.Lone slot settle) mode m.call.initial m.number answer))
   lone_lowers inc slot settle answer least read told spends =
       let initial : ℕ = m.call.initial in
       let end : Settled = settle_after settle slot mode initial answer in
-      let led = copying_settles mode initial slot settle answer in
-      let e = copying_ends mode initial words words' bare' (copyings.Lone slot settle) answer read told in
+      let led = copying_settles mode initial m.number slot settle answer in
+      let e = copying_ends mode initial m.number words words' bare' (copyings.Lone slot settle) answer read told in
       let f = copy_spends words words' before later (settle_ask settle slot) answer told spends _ _ e.0 in
       let same : words' words_at.Root ≡ words words_at.Root = stays_at words words' answer (settle_ask settle slot) told words_at.Root (settle_puts settle slot words_at.Root tt) in
       subst (λ y. Lowers words words' before later m (rank 2 (further slot.to + 1) (left_of_settle settle)) (after_copied m y)) (sym led)
@@ -142,32 +145,83 @@ module _ (words words' : At → ℕ) (bare : IsBare words) (bare' : IsBare words
   overs_current aim (inl (inc, (n, is, t))) least = over_current inc aim n is (least n is)
   overs_current aim (inr (blocks, (met, is))) least = subst (λ a. IsCurrent words' (after_copied m (over a))) (sym is) ((tt, tt), λ t how e. absurd (subst IsIncremental blocks how))
 
-  -- the chunk was copied, and is counted
-  advancing_lowers : (aim : Aim) (chunk : Chunk) (answer : Answer) → IsFor m aim → IsBehind words → IsCopyingRead mode words (copyings.Stepping aim (steps.Advancing chunk)) → IsCopyPrompt words (step_ask (steps.Advancing chunk)) answer words' → SpendsCopy (step_ask (steps.Advancing chunk)) answer before later
-      → Lowers words words' before later m (rank 1 0 1) (after_copied m (copying_after (copyings.Stepping aim (steps.Advancing chunk)) mode m.call.initial answer))
-  advancing_lowers aim chunk answer which left read told spends =
-      let here : At = words_at.Done chunk.to in
-      let done : (answer ≡ answers.Call Exchanged) × IsPut words here chunk.end words' = exchange_done _ _ (words here) chunk.begun read.1.1 told in
-      let same : words' words_at.Root ≡ words words_at.Root = done.1.others words_at.Root (λ e. cc) in (
-        inl (inr (subst (λ a. SpendsCopy (Ask_exchange here chunk.begun chunk.end) a before later) done.0 spends)),
-        subst (λ a. IsCurrent words' (after_copied m (copying_after (copyings.Stepping aim (steps.Advancing chunk)) mode m.call.initial a))) (sym done.0)
-            (cond_both (nat_le chunk.len chunk.end) (stepped.On (steps.Promoting chunk.from chunk.to)) stepped.Over (λ y. IsCurrent words' (after_copied m (leads aim mode y)))
-            (λ all. ((same_aim mode m.call.initial words words' bare' aim read.0, same ∙ read.1.0), λ t how e. let l = left t how e in omega (arith, l, same)))
-            (λ some. overs_current aim which (λ n is. least n is same which))),
+  -- the table for which it copies is behind the root
+  aim_least : (aim : Aim) → IsFor m aim → IsBehind words → words' words_at.Root ≡ words words_at.Root → (n : ℕ) → AimsAt aim n → words' words_at.Root ≤ n
+  aim_least aim (inl (inc, (n', is', (t, e, up)))) left same n is = let l = left t inc e in let q : n ≡ n' = aims_one aim n n' is is' in omega (arith, l, same, up, q)
+  aim_least aim (inr (blocks, (met, e))) left same n is = absurd (subst (λ a. AimsAt a n) e is)
+
+  -- the chunk was copied, and its word says so
+  advancing_lowers : (aim : Aim) (scan : Scan) (answer : Answer) → IsBehind words → IsCopyingRead mode words (copyings.Stepping aim (steps.Advancing scan)) → IsCopyPrompt words (step_ask (steps.Advancing scan)) answer words' → SpendsCopy (step_ask (steps.Advancing scan)) answer before later
+      → Lowers words words' before later m (rank 1 0 1) (after_copied m (copying_after (copyings.Stepping aim (steps.Advancing scan)) mode m.call.initial m.number answer))
+  advancing_lowers aim scan answer left read told spends =
+      let here : At = words_at.Done scan.to scan.at in
+      let done : (answer ≡ answers.Call Exchanged) × IsPut words here 1 words' = exchange_done _ _ (words here) 0 read.1.0.due told in
+      let same : words' words_at.Root ≡ words words_at.Root = done.1.others words_at.Root (λ e. cc) in
+      let e = copying_ends mode m.call.initial m.number words words' bare' (copyings.Stepping aim (steps.Advancing scan)) answer read told in (
+        inl (inr (subst (λ a. SpendsCopy (Ask_exchange here 0 1) a before later) done.0 spends)),
+        subst (λ a. IsCopiedRead mode words' (copying_after (copyings.Stepping aim (steps.Advancing scan)) mode m.call.initial m.number a) → IsCurrent words' (after_copied m (copying_after (copyings.Stepping aim (steps.Advancing scan)) mode m.call.initial m.number a))) (sym done.0)
+            (λ there. (there, λ t how e. let l = left t how e in omega (arith, l, same))) e.1,
       )
+
+  -- a chunk was copied before: no word is exchanged, so this is over at the next chunk that is not copied
+  further_lowers : (aim : Aim) (chunk : Chunk) (left : ℕ) → IsFor m aim → IsBehind words' → ((n : ℕ) → AimsAt aim n → words' words_at.Root ≤ n) → IsSteppedRead mode words' (stepped.Further chunk) → left_of_chunk chunk settles.Looking < left
+      → (rank_of (words' words_at.Root) (after_copied m (further_of aim chunk)) < rank 5 0 left) × IsCurrent words' (after_copied m (further_of aim chunk))
+  further_lowers (aims.Search t) chunk left which behind least read less = (omega arith, overs_current (aims.Search t) which least)
+  further_lowers (aims.Settle slot) chunk left which behind least read less = (omega arith, overs_current (aims.Settle slot) which least)
+  further_lowers aims.Chunk chunk left which behind least read less = absurd (⊎_elim (λ h. h.1.1.0) (λ h. let e = h.1.1 in absurd (cc e)) which)
+  further_lowers (aims.All met) chunk left which behind least read less = (omega (arith, less), ((tt, read), behind))
+
+  round_lowers : (aim : Aim) (scan : Scan) (answer : Answer) → scan.copied ≡ true → IsFor m aim → IsBehind words → IsCopyingRead mode words (copyings.Stepping aim (steps.Scanning scan)) → IsCopyPrompt words (step_ask (steps.Scanning scan)) answer words' → SpendsCopy (step_ask (steps.Scanning scan)) answer before later
+      → Lowers words words' before later m (rank 5 0 (left_of_step (steps.Scanning scan))) (after_copied m (copying_after (copyings.Stepping aim (steps.Scanning scan)) mode m.call.initial m.number answer))
+  round_lowers aim scan answer copied which left read told spends =
+      subst (λ a. SpendsCopy (step_ask (steps.Scanning scan)) a before later → Lowers words words' before later m most (after_copied m (copying_after (copyings.Stepping aim (steps.Scanning scan)) mode m.call.initial m.number a))) (sym told.0.0)
+      (λ kept. (inr (kept, led.0), led.1)) spends
     where
-      least : (n : ℕ) → AimsAt aim n → words' words_at.Root ≡ words words_at.Root → IsFor m aim → words' words_at.Root ≤ n
-      least n is same (inl (inc, (n', is', (t, e, up)))) = let l = left t inc e in let q : n ≡ n' = aims_one aim n n' is is' in omega (arith, l, same, up, q)
-      least n is same (inr (blocks, (met, e))) = absurd (subst (λ a. AimsAt a n) e is)
+      most : ℕ
+      most = rank 5 0 (left_of_step (steps.Scanning scan))
+
+      same : words' words_at.Root ≡ words words_at.Root
+      same = told.1 words_at.Root
+
+      behind : IsBehind words'
+      behind t how e = let l = left t how e in omega (arith, l, same)
+
+      done : ℕ
+      done = words (words_at.Done scan.to scan.at)
+
+      Fits : Stepped → Type 0
+      Fits end = (left_of_stepped end < left_of_step (steps.Scanning scan)) × IsSteppedRead mode words' end
+
+      Led : Stepped → Type 0
+      Led end = (rank_of (words' words_at.Root) (after_copied m (leads aim mode end)) < most) × IsCurrent words' (after_copied m (leads aim mode end))
+
+      led : Led (scanned scan done)
+      led =
+          cond_both (not (done == 0)) (stepped.On (next_scan scan)) (cond scan.copied (stepped.Further (chunk_at scan)) (stepped.On (steps.Settling (chunk_at scan) settles.Looking))) (λ y. Fits y → Led y)
+          (λ e h. (next_ranks (words' words_at.Root) aim scan h.0, ((same_aim mode m.call.initial m.number words words' bare' aim read.0, h.1), behind)))
+          (λ e.
+          cond_both scan.copied (stepped.Further (chunk_at scan)) (stepped.On (steps.Settling (chunk_at scan) settles.Looking)) (λ y. Fits y → Led y)
+          (λ _ h. further_lowers aim (chunk_at scan) (left_of_step (steps.Scanning scan)) which behind (aim_least aim which left same) h.1 h.0)
+          (λ first h. absurd (cc (first, copied))))
+          (scanned_within mode words' scan (same_scan mode m.call.initial m.number words words' bare' scan read.1 told.1) done (told.1 (words_at.Done scan.to scan.at)))
+
+  -- the word of a chunk is loaded
+  scanning_lowers : (aim : Aim) (scan : Scan) (answer : Answer) → IsFor m aim → IsBehind words → IsCopyingRead mode words (copyings.Stepping aim (steps.Scanning scan)) → IsCopyPrompt words (step_ask (steps.Scanning scan)) answer words' → SpendsCopy (step_ask (steps.Scanning scan)) answer before later
+      → Lowers words words' before later m (rank_of_step (words words_at.Root) aim (steps.Scanning scan)) (after_copied m (copying_after (copyings.Stepping aim (steps.Scanning scan)) mode m.call.initial m.number answer))
+  scanning_lowers aim scan answer which left read told spends =
+      ⊎_elim
+      (λ (e : scan.copied ≡ true). subst (λ b. Lowers words words' before later m (cond b (rank 5 0 (left_of_step (steps.Scanning scan))) (rank 1 0 (left_of_step (steps.Scanning scan)))) (after_copied m (copying_after (copyings.Stepping aim (steps.Scanning scan)) mode m.call.initial m.number answer))) (sym e) (round_lowers aim scan answer e which left read told spends))
+      (λ (e : scan.copied ≡ false). midway_lowers aim (steps.Scanning scan) answer e e tt left read told spends)
+      (cases_Bool scan.copied)
 
   -- all was copied, and the other table becomes the root
   promoting_lowers : (aim : Aim) (from to : ℕ) (answer : Answer) → IsFor m aim → ((n : ℕ) → AimsAt aim n → to ≤ n) → IsCopyingRead mode words (copyings.Stepping aim (steps.Promoting from to)) → IsCopyPrompt words (step_ask (steps.Promoting from to)) answer words' → SpendsCopy (step_ask (steps.Promoting from to)) answer before later
-      → Lowers words words' before later m (rank 1 0 1) (after_copied m (copying_after (copyings.Stepping aim (steps.Promoting from to)) mode m.call.initial answer))
+      → Lowers words words' before later m (rank 1 0 1) (after_copied m (copying_after (copyings.Stepping aim (steps.Promoting from to)) mode m.call.initial m.number answer))
   promoting_lowers aim from to answer which least read told spends =
       let done : (answer ≡ answers.Call Exchanged) × IsPut words words_at.Root to words' = exchange_done _ _ (words words_at.Root) from read.1 told in
       let root : words' words_at.Root ≡ to = done.1.here in (
         inl (inr (subst (λ a. SpendsCopy (Ask_exchange words_at.Root from to) a before later) done.0 spends)),
-        subst (λ a. IsCurrent words' (after_copied m (copying_after (copyings.Stepping aim (steps.Promoting from to)) mode m.call.initial a))) (sym done.0)
+        subst (λ a. IsCurrent words' (after_copied m (copying_after (copyings.Stepping aim (steps.Promoting from to)) mode m.call.initial m.number a))) (sym done.0)
             (overs_current aim which (λ n is. let l = least n is in omega (arith, l, root))),
       )
 
@@ -192,9 +246,9 @@ module _ (words words' : At → ℕ) (bare : IsBare words) (bare' : IsBare words
 
   -- a chunk begins at the root
   at_root_lowers : (aim : Aim) (answer : Answer) → IsFor m aim → 0 < words words_at.Root → IsBehind words → IsCopyPrompt words (Load words_at.Root) answer words' → SpendsCopy (Load words_at.Root) answer before later
-      → Lowers words words' before later m (rank_at_root (words words_at.Root) aim) (after_copied m (copying_after (copyings.Stepping aim steps.AtRoot) mode m.call.initial answer))
+      → Lowers words words' before later m (rank_at_root (words words_at.Root) aim) (after_copied m (copying_after (copyings.Stepping aim steps.AtRoot) mode m.call.initial m.number answer))
   at_root_lowers aim answer which some left told spends =
-      subst (λ a. SpendsCopy (Load words_at.Root) a before later → Lowers words words' before later m (rank_at_root (words words_at.Root) aim) (after_copied m (copying_after (copyings.Stepping aim steps.AtRoot) mode m.call.initial a))) (sym told.0.0)
+      subst (λ a. SpendsCopy (Load words_at.Root) a before later → Lowers words words' before later m (rank_at_root (words words_at.Root) aim) (after_copied m (copying_after (copyings.Stepping aim steps.AtRoot) mode m.call.initial m.number a))) (sym told.0.0)
       (λ kept. ⊎_elim
       (λ (h : IsIncremental mode × ((n : ℕ) × AimsAt aim n × ((t : ℕ) × (left_by m.call.state ≡ Some t) × (t < n)))). by_aim aim h.0 h.1.0 h.1.1 kept)
       (λ (h : (mode ≡ Blocking) × ((met : ℕ) × (aim ≡ aims.All met))). by_all aim h.1.0 h.1.1 h.0 kept)
@@ -204,31 +258,31 @@ module _ (words words' : At → ℕ) (bare : IsBare words) (bare' : IsBare words
       later_left : IsBehind words'
       later_left t how e = let l = left t how e in let s = told.1 words_at.Root in omega (arith, l, s)
 
-      by_aim : (aim : Aim) → IsIncremental mode → (n : ℕ) → AimsAt aim n → later ≡ before → Lowers words words' before later m (rank_at_root (words words_at.Root) aim) (after_copied m (copying_after (copyings.Stepping aim steps.AtRoot) mode m.call.initial (answers.Call (Word_read (words words_at.Root)))))
+      by_aim : (aim : Aim) → IsIncremental mode → (n : ℕ) → AimsAt aim n → later ≡ before → Lowers words words' before later m (rank_at_root (words words_at.Root) aim) (after_copied m (copying_after (copyings.Stepping aim steps.AtRoot) mode m.call.initial m.number (answers.Call (Word_read (words words_at.Root)))))
       by_aim (aims.Search t) inc n is kept = one_lowers inc (aims.Search t) (words words_at.Root) some (told.1 words_at.Root) later_left kept _ refl
       by_aim (aims.Settle slot) inc n is kept = one_lowers inc (aims.Settle slot) (words words_at.Root) some (told.1 words_at.Root) later_left kept _ refl
       by_aim aims.Chunk inc n is kept = absurd is
       by_aim (aims.All met) inc n is kept = absurd is
 
-      by_all : (aim : Aim) (met : ℕ) → aim ≡ aims.All met → mode ≡ Blocking → later ≡ before → Lowers words words' before later m (rank_at_root (words words_at.Root) aim) (after_copied m (copying_after (copyings.Stepping aim steps.AtRoot) mode m.call.initial (answers.Call (Word_read (words words_at.Root)))))
+      by_all : (aim : Aim) (met : ℕ) → aim ≡ aims.All met → mode ≡ Blocking → later ≡ before → Lowers words words' before later m (rank_at_root (words words_at.Root) aim) (after_copied m (copying_after (copyings.Stepping aim steps.AtRoot) mode m.call.initial m.number (answers.Call (Word_read (words words_at.Root)))))
       by_all aim met is blocks kept =
-          subst (λ a. Lowers words words' before later m (rank_at_root (words words_at.Root) a) (after_copied m (copying_after (copyings.Stepping a steps.AtRoot) mode m.call.initial (answers.Call (Word_read (words words_at.Root)))))) (sym is)
-          (subst (λ how. Lowers words words' before later m (rank_at_root (words words_at.Root) (aims.All met)) (after_copied m (copying_after (copyings.Stepping (aims.All met) steps.AtRoot) how m.call.initial (answers.Call (Word_read (words words_at.Root)))))) (sym blocks)
+          subst (λ a. Lowers words words' before later m (rank_at_root (words words_at.Root) a) (after_copied m (copying_after (copyings.Stepping a steps.AtRoot) mode m.call.initial m.number (answers.Call (Word_read (words words_at.Root)))))) (sym is)
+          (subst (λ how. Lowers words words' before later m (rank_at_root (words words_at.Root) (aims.All met)) (after_copied m (copying_after (copyings.Stepping (aims.All met) steps.AtRoot) how m.call.initial m.number (answers.Call (Word_read (words words_at.Root)))))) (sym blocks)
           (cond_both (words words_at.Root == 0) (copied.Root 0) (all_of met Blocking (words words_at.Root)) (λ y. Lowers words words' before later m (rank_at_root (words words_at.Root) (aims.All met)) (after_copied m y))
           (λ none. let z : words words_at.Root ≡ 0 = eqb-true (words words_at.Root) 0 none in absurd (omega (arith, z, some)))
           (λ _. met_lowers blocks met (words words_at.Root) (told.1 words_at.Root) told.1 refl kept (met == 0 || met == words words_at.Root))))
 
   -- in each state
   pub copying_lowers : (copying : Copying) (answer : Answer) → IsFor m (aim_of copying) → IsAsideAhead mode words m.call.state copying → IsCopyingRead mode words copying → IsKnown mode words copying → IsCopyPrompt words (copying_ask copying) answer words' → SpendsCopy (copying_ask copying) answer before later
-      → Lowers words words' before later m (rank_of_copying (words words_at.Root) copying) (after_copied m (copying_after copying mode m.call.initial answer))
+      → Lowers words words' before later m (rank_of_copying (words words_at.Root) copying) (after_copied m (copying_after copying mode m.call.initial m.number answer))
   copying_lowers (copyings.Stepping aim steps.AtRoot) answer which left read known told spends = at_root_lowers aim answer which known left told spends
   copying_lowers (copyings.Stepping aim (steps.Aiming from behind)) answer which left read known told spends = midway_lowers aim (steps.Aiming from behind) answer tt tt known left read told spends
   copying_lowers (copyings.Stepping aim (steps.Linking from link)) answer which left read known told spends = midway_lowers aim (steps.Linking from link) answer tt tt known left read told spends
   copying_lowers (copyings.Stepping aim (steps.Judging from to)) answer which left read known told spends = midway_lowers aim (steps.Judging from to) answer tt tt known left read told spends
   copying_lowers (copyings.Stepping aim (steps.Sizing from to)) answer which left read known told spends = midway_lowers aim (steps.Sizing from to) answer tt tt known left read told spends
-  copying_lowers (copyings.Stepping aim (steps.Counting from to len)) answer which left read known told spends = midway_lowers aim (steps.Counting from to len) answer tt tt known left read told spends
+  copying_lowers (copyings.Stepping aim (steps.Scanning scan)) answer which left read known told spends = scanning_lowers aim scan answer which left read told spends
   copying_lowers (copyings.Stepping aim (steps.Settling chunk settle)) answer which left read known told spends = midway_lowers aim (steps.Settling chunk settle) answer tt tt known left read told spends
-  copying_lowers (copyings.Stepping aim (steps.Advancing chunk)) answer which left read known told spends = advancing_lowers aim chunk answer which left read told spends
+  copying_lowers (copyings.Stepping aim (steps.Advancing scan)) answer which left read known told spends = advancing_lowers aim scan answer left read told spends
   copying_lowers (copyings.Stepping aim (steps.Promoting from to)) answer which left read known told spends = promoting_lowers aim from to answer which known read told spends
   copying_lowers (copyings.Lone slot settle) answer (inl which) left read known told spends = lone_lowers which.0 slot settle answer left read told spends
   copying_lowers (copyings.Lone slot settle) answer (inr which) left read known told spends = absurd (not_all which.1.0 which.1.1)

@@ -1,5 +1,5 @@
 -- What each answer leaves to a call that is set aside, with no other caller beside it.
-use Rattle.std.proofs.Common.{◌≡◌, ◌⊎◌, inl, inr, ⊎_elim, ℕ, ◌+◌, ◌*◌, ◌^◌, ◌<◌, ◌≤◌, ◌==◌, nat_lt, nat_le, not, Some, refl, sym, subst, arith, eqb-true}
+use Rattle.std.proofs.Common.{◌≡◌, ◌⊎◌, inl, inr, ⊎_elim, ℕ, ◌+◌, ◌*◌, ◌^◌, ◌<◌, ◌≤◌, ◌==◌, ◌&&◌, nat_lt, not, cond, false, Some, refl, sym, ap, subst, arith, eqb-true}
 use Rattle.std.proofs.lemmas.Bool.{cond_both}
 use Rattle.papaya_words.specs.declared.probe.ResizeMode.{ResizeMode}
 use Rattle.papaya_words.specs.declared.probe.ResizeMode.TheVariants.{Incremental, Blocking}
@@ -14,12 +14,13 @@ use Rattle.papaya_copy.specs.declared.settle.Settle.TheVariants as settles
 use Rattle.papaya_copy.specs.declared.settle.Settled.{Settled}
 use Rattle.papaya_copy.specs.declared.settle.Settled.TheVariants as settled
 use Rattle.papaya_copy.specs.declared.step.Chunk.{Chunk}
+use Rattle.papaya_copy.specs.declared.step.Scan.{Scan}
 use Rattle.papaya_copy.specs.declared.step.Step.{Step}
 use Rattle.papaya_copy.specs.declared.step.Step.TheVariants as steps
 use Rattle.papaya_copy.specs.declared.step.Stepped.{Stepped}
 use Rattle.papaya_copy.specs.declared.step.Stepped.TheVariants as stepped
 use Rattle.papaya_copy.specs.Link.{follows, link_ask}
-use Rattle.papaya_copy.specs.Step.{aimed, chunk_at, chunk_of, linked_to, next_slot, settled_to, slot_of, step_ask}
+use Rattle.papaya_copy.specs.Step.{aimed, chunk_at, first_chunk, is_further, linked_to, next_chunk, next_scan, next_slot, scanned, settled_to, slot_of, step_ask}
 use Rattle.papaya_chain.specs.declared.ask.Answer.{Answer}
 use Rattle.papaya_chain.specs.declared.machine.Machine.{Machine}
 use Rattle.papaya_chain.specs.Machine.{after_linked, link_after}
@@ -37,11 +38,12 @@ use Rattle.papaya_alone.proofs.Onwards.{onward_current}
 use Rattle.papaya_alone.proofs.Telling.{IsPutAt, copy_spends, stays_at}
 
 -- little is left to the making of a table
-pub link_most : (link : Link) → left_of_link link ≤ 4
-link_most (links.Sizing behind unfit) = omega arith
-link_most (links.Counting behind unfit len) = omega arith
-link_most (links.Making behind len limit) = omega arith
-link_most (links.Linking behind table) = omega arith
+pub link_most : (link : Link) → left_of_link link ≤ 5
+link_most (links.Sizing behind source unfit) = omega arith
+link_most (links.Measuring behind source unfit len) = omega arith
+link_most (links.Counting behind unfit len source) = omega arith
+link_most (links.Making behind len limit chunks) = omega arith
+link_most (links.Linking behind table chunks) = omega arith
 
 module _ (words words' : At → ℕ) (before later : Budget) (m : Machine) where
   -- the budget is spent, or less is left; and what was read stands there still
@@ -60,21 +62,23 @@ module _ (words words' : At → ℕ) (before later : Budget) (m : Machine) where
 
 -- the making of the next table
 pub linking_lowers : (words words' : At → ℕ) (before later : Budget) (m : Machine) → IsIncremental m.call.mode → (link : Link) → IsLinkRead words link → ((t : ℕ) → left_by m.call.state ≡ Some t → words words_at.Root ≤ t) → left_by m.call.state ≡ Some (follows link) → (answer : Answer) → IsCopyPrompt words (link_ask link) answer words' → SpendsCopy (link_ask link) answer before later
-    → ((table : ℕ) → link_after link m.call.initial answer ≡ linked.Table table → follows link < table) → Lowers words words' before later m (rank 1 0 (left_of_link link)) (after_linked m (link_after link m.call.initial answer))
+    → ((table : ℕ) → link_after link m.call.mode m.call.initial answer ≡ linked.Table table → follows link < table) → Lowers words words' before later m (rank 1 0 (left_of_link link)) (after_linked m (link_after link m.call.mode m.call.initial answer))
 linking_lowers words words' before later m inc link read left behind answer prompt spends up =
-    let e = link_ends words words' m.call.initial link answer read prompt in
+    let e = link_ends m.call.mode words words' m.call.initial link answer read prompt in
     let same : words' words_at.Root ≡ words words_at.Root = stays_at words words' answer (link_ask link) prompt words_at.Root (link_puts link words_at.Root tt) in
-    linked_lowers words words' before later m inc link (λ t h. let l = left t h in omega (arith, l, same)) behind (link_after link m.call.initial answer)
+    linked_lowers words words' before later m inc link (λ t h. let l = left t h in omega (arith, l, same)) behind (link_after link m.call.mode m.call.initial answer)
     (copy_spends words words' before later (link_ask link) answer prompt spends _ _ e.0) e.1 up
 
 -- a chunk that has begun, and one that is not over yet
 abbrev pub IsBegun : Step → Type 0
 IsBegun steps.AtRoot = ⊥
+IsBegun (steps.Scanning scan) = scan.copied ≡ false
 IsBegun _ = Unit {0}
 
 abbrev pub IsMidway : Step → Type 0
 IsMidway steps.AtRoot = ⊥
-IsMidway (steps.Advancing chunk) = ⊥
+IsMidway (steps.Scanning scan) = scan.copied ≡ false
+IsMidway (steps.Advancing scan) = ⊥
 IsMidway (steps.Promoting from to) = ⊥
 IsMidway _ = Unit {0}
 
@@ -90,9 +94,9 @@ begun_rank root aim (steps.Aiming from behind) h = refl
 begun_rank root aim (steps.Linking from link) h = refl
 begun_rank root aim (steps.Judging from to) h = refl
 begun_rank root aim (steps.Sizing from to) h = refl
-begun_rank root aim (steps.Counting from to len) h = refl
+begun_rank root aim (steps.Scanning scan) h = ap (λ b. cond b (rank 5 0 (left_of_step (steps.Scanning scan))) (rank 1 0 (left_of_step (steps.Scanning scan)))) h
 begun_rank root aim (steps.Settling chunk settle) h = refl
-begun_rank root aim (steps.Advancing chunk) h = refl
+begun_rank root aim (steps.Advancing scan) h = refl
 begun_rank root aim (steps.Promoting from to) h = refl
 
 -- while it is not over it exchanges no root
@@ -102,9 +106,9 @@ step_puts (steps.Aiming from behind) h e = e
 step_puts (steps.Linking from link) h e = link_puts link words_at.Root tt e
 step_puts (steps.Judging from to) h e = e
 step_puts (steps.Sizing from to) h e = e
-step_puts (steps.Counting from to len) h e = e
+step_puts (steps.Scanning scan) h e = e
 step_puts (steps.Settling chunk settle) h e = settle_puts settle (slot_of chunk) words_at.Root tt e
-step_puts (steps.Advancing chunk) h e = h
+step_puts (steps.Advancing scan) h e = h
 step_puts (steps.Promoting from to) h e = h
 
 -- the table behind has a next one, where none is made
@@ -120,9 +124,35 @@ linked_goes from (linked.Refused refused) = tt
 
 settled_goes : (chunk : Chunk) (end : Settled) → GoesOn (settled_to chunk end)
 settled_goes chunk (settled.On settle) = tt
-settled_goes chunk settled.Settled = cond_both (nat_lt (chunk.at + 1) chunk.end) (stepped.On (steps.Settling (next_slot chunk) settles.Looking)) (stepped.On (steps.Advancing (next_slot chunk))) GoesOn (λ _. tt) (λ _. tt)
+settled_goes chunk settled.Settled = cond_both (nat_lt (chunk.at + 1) chunk.end) (stepped.On (steps.Settling (next_slot chunk) settles.Looking)) (stepped.On (steps.Advancing chunk.scan)) GoesOn (λ _. tt) (λ _. tt)
 settled_goes chunk (settled.Unfit table) = tt
 settled_goes chunk (settled.Refused refused) = tt
+
+next_goes : (scan : Scan) → scan.copied ≡ false → IsBegun (next_scan scan)
+next_goes scan first =
+    cond_both (is_further scan) (steps.Scanning (next_chunk scan)) (cond (not scan.wrapped && nat_lt 0 scan.start) (steps.Scanning (first_chunk scan)) (steps.Promoting scan.from scan.to)) IsBegun (λ _. first)
+    (λ _. cond_both (not scan.wrapped && nat_lt 0 scan.start) (steps.Scanning (first_chunk scan)) (steps.Promoting scan.from scan.to) IsBegun (λ _. first) (λ _. tt))
+
+scanned_goes : (scan : Scan) (done : ℕ) → scan.copied ≡ false → GoesOn (scanned scan done)
+scanned_goes scan done first =
+    cond_both (not (done == 0)) (stepped.On (next_scan scan)) (cond scan.copied (stepped.Further (chunk_at scan)) (stepped.On (steps.Settling (chunk_at scan) settles.Looking))) GoesOn
+    (λ _. next_goes scan first)
+    (λ _. cond_both scan.copied (stepped.Further (chunk_at scan)) (stepped.On (steps.Settling (chunk_at scan) settles.Looking)) GoesOn (λ copied. absurd (cc (copied, first))) (λ _. tt))
+
+-- after a chunk that was copied the next word has a lower rank
+pub next_ranks : (root : ℕ) (aim : Aim) (scan : Scan) → left_of_step (next_scan scan) < left_of_step (steps.Scanning scan) → rank_of_step root aim (next_scan scan) < rank 5 0 (left_of_step (steps.Scanning scan))
+next_ranks root aim scan =
+    cond_both (is_further scan) (steps.Scanning (next_chunk scan)) (cond (not scan.wrapped && nat_lt 0 scan.start) (steps.Scanning (first_chunk scan)) (steps.Promoting scan.from scan.to)) Falls
+    (λ _. scan_falls (next_chunk scan))
+    (λ _. cond_both (not scan.wrapped && nat_lt 0 scan.start) (steps.Scanning (first_chunk scan)) (steps.Promoting scan.from scan.to) Falls (λ _. scan_falls (first_chunk scan)) (λ _ less. omega arith))
+  where
+    Falls : Step → Type 0
+    Falls step = left_of_step step < left_of_step (steps.Scanning scan) → rank_of_step root aim step < rank 5 0 (left_of_step (steps.Scanning scan))
+
+    scan_falls : (next : Scan) → Falls (steps.Scanning next)
+    scan_falls next less =
+        cond_both next.copied (rank 5 0 (left_of_step (steps.Scanning next))) (rank 1 0 (left_of_step (steps.Scanning next))) (λ r. r < rank 5 0 (left_of_step (steps.Scanning scan)))
+        (λ _. omega (arith, less)) (λ _. omega (arith, less))
 
 aimed_goes : (mode : ResizeMode) (words : At → ℕ) (from behind : ℕ) → HasNext mode words (steps.Aiming from behind) → GoesOn (aimed from behind mode (words (words_at.Next behind)))
 aimed_goes (Incremental chunk) words from behind some =
@@ -130,22 +160,20 @@ aimed_goes (Incremental chunk) words from behind some =
     (λ e. let none : words (words_at.Next behind) ≡ 0 = eqb-true (words (words_at.Next behind)) 0 e in absurd (omega (arith, none, some)))
     (λ _. tt)
 aimed_goes Blocking words from behind some =
-    cond_both (words (words_at.Next behind) == 0) (stepped.On (steps.Linking from (links.Sizing behind (not (behind == from))))) (stepped.On (steps.Judging from (words (words_at.Next behind)))) GoesOn (λ _. tt) (λ _. tt)
+    cond_both (words (words_at.Next behind) == 0) (stepped.On (steps.Linking from (links.Sizing behind from (not (behind == from))))) (stepped.On (steps.Judging from (words (words_at.Next behind)))) GoesOn (λ _. tt) (λ _. tt)
 
 -- so a chunk goes on until it is over
-pub step_goes : (mode : ResizeMode) (initial : ℕ) (words words' : At → ℕ) (step : Step) (answer : Answer) → IsMidway step → HasNext mode words step → IsCopyPrompt words (step_ask step) answer words' → GoesOn (step_after step mode initial answer)
-step_goes mode initial words words' steps.AtRoot answer h next told = absurd h
-step_goes mode initial words words' (steps.Aiming from behind) answer h next told = subst (λ a. GoesOn (step_after (steps.Aiming from behind) mode initial a)) (sym told.0.0) (aimed_goes mode words from behind next)
-step_goes mode initial words words' (steps.Linking from link) answer h next told = subst GoesOn (sym (step_links mode initial from link answer)) (linked_goes from (link_after link initial answer))
-step_goes mode initial words words' (steps.Judging from to) answer h next told =
-    subst (λ a. GoesOn (step_after (steps.Judging from to) mode initial a)) (sym told.0.0)
+pub step_goes : (mode : ResizeMode) (initial number : ℕ) (words words' : At → ℕ) (step : Step) (answer : Answer) → IsMidway step → HasNext mode words step → IsCopyPrompt words (step_ask step) answer words' → GoesOn (step_after step mode initial number answer)
+step_goes mode initial number words words' steps.AtRoot answer h next told = absurd h
+step_goes mode initial number words words' (steps.Aiming from behind) answer h next told = subst (λ a. GoesOn (step_after (steps.Aiming from behind) mode initial number a)) (sym told.0.0) (aimed_goes mode words from behind next)
+step_goes mode initial number words words' (steps.Linking from link) answer h next told = subst GoesOn (sym (step_links mode initial number from link answer)) (linked_goes from (link_after link mode initial answer))
+step_goes mode initial number words words' (steps.Judging from to) answer h next told =
+    subst (λ a. GoesOn (step_after (steps.Judging from to) mode initial number a)) (sym told.0.0)
     (cond_both (words (words_at.Aborted to) == 0) (steps.Sizing from to) (steps.Aiming from to) IsBegun (λ _. tt) (λ _. tt))
-step_goes mode initial words words' (steps.Sizing from to) answer h next told =
+step_goes mode initial number words words' (steps.Sizing from to) answer h next told =
     let (slots, limit, size, e) = told.0 in
-    subst (λ a. GoesOn (step_after (steps.Sizing from to) mode initial a)) (sym e) tt
-step_goes mode initial words words' (steps.Counting from to len) answer h next told =
-    subst (λ a. GoesOn (step_after (steps.Counting from to len) mode initial a)) (sym told.0.0)
-    (cond_both (nat_le len (words (words_at.Done to))) (steps.Promoting from to) (steps.Settling (chunk_at from to len (words (words_at.Done to)) (chunk_of mode)) settles.Looking) IsBegun (λ _. tt) (λ _. tt))
-step_goes mode initial words words' (steps.Settling chunk settle) answer h next told = subst GoesOn (sym (step_settles mode initial chunk settle answer)) (settled_goes chunk (settle_after settle (slot_of chunk) mode initial answer))
-step_goes mode initial words words' (steps.Advancing chunk) answer h next told = absurd h
-step_goes mode initial words words' (steps.Promoting from to) answer h next told = absurd h
+    subst (λ a. GoesOn (step_after (steps.Sizing from to) mode initial number a)) (sym e) refl
+step_goes mode initial number words words' (steps.Scanning scan) answer h next told = subst (λ a. GoesOn (step_after (steps.Scanning scan) mode initial number a)) (sym told.0.0) (scanned_goes scan (words (words_at.Done scan.to scan.at)) h)
+step_goes mode initial number words words' (steps.Settling chunk settle) answer h next told = subst GoesOn (sym (step_settles mode initial number chunk settle answer)) (settled_goes chunk (settle_after settle (slot_of chunk) mode initial answer))
+step_goes mode initial number words words' (steps.Advancing scan) answer h next told = absurd h
+step_goes mode initial number words words' (steps.Promoting from to) answer h next told = absurd h

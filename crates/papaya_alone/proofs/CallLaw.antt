@@ -40,14 +40,14 @@ module _ (before later : Budget) where
 
   -- an answer of a call spends, or leaves the budget
   call_spent : (kind : Option StepKind) (ask : Ask) (answer : Answer) → SpendsCall kind ask answer before later → IsSpent before later ⊎ (later ≡ before)
-  call_spent kind (call_asks.MakeTable slots limit) (Made_number n) h = inl (inl h)
+  call_spent kind (call_asks.MakeTable slots limit chunks) (Made_number n) h = inl (inl h)
   call_spent kind (call_asks.Exchange at old new) Exchanged h = exchange_spent kind h
   call_spent kind ask answer h = inr h
 
-module _ (words words' : At → ℕ) (bare : IsBare words) (before later : Budget) (helped : Bool) (call : Call_machine) where
+module _ (words words' : At → ℕ) (bare : IsBare words) (before later : Budget) (number : ℕ) (helped : Bool) (call : Call_machine) where
   -- the machine in a stage of its call
   abbrev in_stage : Stage → Machine
-  in_stage stage = record { call = record call { state = stage }; helped = helped; phase = Calling }
+  in_stage stage = record { call = record call { state = stage }; number = number; helped = helped; phase = Calling }
 
   -- the budget is spent, or less is left; and what was read stands there still
   abbrev pub Lowered : Stage → Machine → Type 0

@@ -49,7 +49,7 @@ module _ {K P : Type 0} (g : Setting K P) (c : Coding K P) (s : State P) (k : K)
   slots_alike t x v w e words_at.Root = refl
   slots_alike t x v w e (words_at.Next u) = refl
   slots_alike t x v w e (words_at.Aborted u) = refl
-  slots_alike t x v w e (words_at.Done u) = refl
+  slots_alike t x v w e (words_at.Done u chunk) = refl
   slots_alike t x v w e (words_at.Slot u y) = put_alike v w (s.slot u y) ((u == t) && (y == x)) e
 
   -- exchanges of which one is asked leave the same words
@@ -114,7 +114,7 @@ module _ {K P : Type 0} (g : Setting K P) (c : Coding K P) (hashed : IsHashed g 
     number_in (Load words_at.Root) named = tt
     number_in (Load (words_at.Next t)) named = number_there g c hashed now (map_left g (begun ++ since)) keeps bounded (record { call = hands; kept = None }) (words_at.Next t) named
     number_in (Load (words_at.Aborted t)) named = tt
-    number_in (Load (words_at.Done t)) named = tt
+    number_in (Load (words_at.Done t chunk)) named = tt
     number_in (Load (words_at.Slot t x)) named = tt
     number_in (Ask_exchange at old new) named = tt
     number_in (LoadHint t x) named = tt
@@ -125,7 +125,7 @@ module _ {K P : Type 0} (g : Setting K P) (c : Coding K P) (hashed : IsHashed g 
     number_in (SizeOf t) named = tt
     number_in MakeKey named = tt
     number_in MakePair named = tt
-    number_in (MakeTable slots limit) named = tt
+    number_in (MakeTable slots limit chunks) named = tt
     number_in (AddToShard by) named = tt
     number_in (Ask_done reply) named = tt
 
@@ -156,7 +156,7 @@ module _ {K P : Type 0} (g : Setting K P) (c : Coding K P) (hashed : IsHashed g 
         ((g.size t, limit, bounded.size t limit on most, e), same_none es told.1.0)
     prompt_of MakeKey is answer es hands' served told = (served, same_none es told.1.0)
     prompt_of MakePair is answer es hands' served told = (served, same_none es (⊎_elim (λ h. h.1.0) (λ h. h.3) told))
-    prompt_of (MakeTable slots limit) is answer es hands' served told = (served, same_none es told.1.0)
+    prompt_of (MakeTable slots limit chunks) is answer es hands' served told = (served, same_none es told.1.0)
     prompt_of (AddToShard by) is answer es hands' served told = (told.0, same_none es told.1.0)
     prompt_of (Ask_done reply) is answer es hands' served told = absurd served
 

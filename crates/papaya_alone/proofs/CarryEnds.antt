@@ -33,17 +33,17 @@ use Rattle.papaya_alone.proofs.Afters.{carry_after, carry_links}
 use Rattle.papaya_alone.proofs.LinkEnds.{IsNoNext, link_ends, link_puts}
 use Rattle.papaya_alone.proofs.Telling.{IsPutAt, Nears, nearer, stays_at}
 
--- the words of the root and of counted slots
+-- the words of the root and of chunks
 abbrev pub IsOfRoot : At → Type 0
 IsOfRoot words_at.Root = Unit {0}
-IsOfRoot (words_at.Done t) = Unit {0}
+IsOfRoot (words_at.Done t chunk) = Unit {0}
 IsOfRoot _ = ⊥
 
 -- the marked word isn't that of an empty slot
 marked_some : (word : ℕ) → kind_of word ≡ word_kinds.Marked → word ≡ 0 → ⊥
 marked_some word marked none = let empty : kind_of word ≡ word_kinds.Empty = ap kind_of none in cc (marked, empty)
 
--- it exchanges no root and counts no slots
+-- it exchanges neither
 pub carry_puts : (carry : Carry) (word : ℕ) (other : At) → IsOfRoot other → IsPutAt (carry_ask carry word) other → ⊥
 carry_puts (carries.Hashing table) word other h e = e
 carry_puts (carries.Sizing hash table) word other h e = e
@@ -59,7 +59,7 @@ carry_puts (carries.Linking hash link) word other h e = link_puts link other (no
     no_next words_at.Root h = tt
     no_next (words_at.Next t) h = h
     no_next (words_at.Aborted t) h = tt
-    no_next (words_at.Done t) h = tt
+    no_next (words_at.Done t chunk) h = tt
     no_next (words_at.Slot t i) h = tt
 carry_puts (carries.Aborting table) word other h e = subst IsOfRoot e h
 
@@ -82,26 +82,26 @@ module _ (mode : ResizeMode) (words : At → ℕ) (bare : IsBare words) (slot : 
   Within most end = (left_of_carried end ≤ most) × IsCarriedRead mode words slot word end
 
   -- no place is left
-  filled : (how : ResizeMode) (hash table : ℕ) → IsAtTarget how slot table → IsAlive how words slot.to → (left_of_carry (fills hash table how) ≤ further table * 2 ^ 34 + 5) × IsCarryRead how words slot (fills hash table how)
+  filled : (how : ResizeMode) (hash table : ℕ) → IsAtTarget how slot table → IsAlive how words slot.to → (left_of_carry (fills hash table how) ≤ further table * 2 ^ 34 + 6) × IsCarryRead how words slot (fills hash table how)
   filled (Incremental chunk) hash table here alive = (omega arith, tt)
   filled Blocking hash table here alive = (omega arith, ap (λ t. words (words_at.Aborted t)) here ∙ alive)
 
   -- the key is not at this place
-  goes_within : (hash : ℕ) (at : Place) → IsAtTarget mode slot at.table → Within (further at.table * 2 ^ 34 + 3 * (at.limit - at.probe.len) + 5) (goes_on hash at mode)
+  goes_within : (hash : ℕ) (at : Place) → IsAtTarget mode slot at.table → Within (further at.table * 2 ^ 34 + 3 * (at.limit - at.probe.len) + 6) (goes_on hash at mode)
   goes_within hash at here =
-      cond_both (nat_lt at.probe.len at.limit) (carried.On (carries.Looking hash (next_place at))) (carried.On (fills hash at.table mode)) (Within (further at.table * 2 ^ 34 + 3 * (at.limit - at.probe.len) + 5))
+      cond_both (nat_lt at.probe.len at.limit) (carried.On (carries.Looking hash (next_place at))) (carried.On (fills hash at.table mode)) (Within (further at.table * 2 ^ 34 + 3 * (at.limit - at.probe.len) + 6))
       (λ more. let l : at.probe.len < at.limit = ltb-true at.probe.len at.limit more in (omega arith, (h, here)))
       (λ over. let f = filled mode hash at.table here h.alive in let l = f.0 in (omega (arith, l), (h, f.1)))
 
   -- a hint spares the word, or the word is loaded next
-  hinted_within : (hash : ℕ) (at : Place) (hint : ℕ) → IsAtTarget mode slot at.table → Within (further at.table * 2 ^ 34 + 3 * (at.limit - at.probe.len) + 7) (hinted hash at mode hint)
+  hinted_within : (hash : ℕ) (at : Place) (hint : ℕ) → IsAtTarget mode slot at.table → Within (further at.table * 2 ^ 34 + 3 * (at.limit - at.probe.len) + 8) (hinted hash at mode hint)
   hinted_within hash at hint here =
-      cond_both (may_hold hint hash) (carried.On (carries.Reading hash at)) (goes_on hash at mode) (Within (further at.table * 2 ^ 34 + 3 * (at.limit - at.probe.len) + 7))
+      cond_both (may_hold hint hash) (carried.On (carries.Reading hash at)) (goes_on hash at mode) (Within (further at.table * 2 ^ 34 + 3 * (at.limit - at.probe.len) + 8))
       (λ same. (omega arith, (h, here)))
       (λ other. let f = goes_within hash at here in let l = f.0 in (omega (arith, l), f.1))
 
   -- what the word at a place tells
-  look_within : (kind : Kind) (hash : ℕ) (at : Place) (found : ℕ) → words (words_at.Slot at.table at.probe.i) ≡ found → (kind ≡ word_kinds.Empty → found ≡ 0) → IsAtTarget mode slot at.table → Within (further at.table * 2 ^ 34 + 3 * (at.limit - at.probe.len) + 6) (look_at kind hash at mode found)
+  look_within : (kind : Kind) (hash : ℕ) (at : Place) (found : ℕ) → words (words_at.Slot at.table at.probe.i) ≡ found → (kind ≡ word_kinds.Empty → found ≡ 0) → IsAtTarget mode slot at.table → Within (further at.table * 2 ^ 34 + 3 * (at.limit - at.probe.len) + 7) (look_at kind hash at mode found)
   look_within word_kinds.Empty hash at found stands none here = (omega arith, (h, stands ∙ none refl))
   look_within word_kinds.Live hash at found stands none here = (omega arith, (h, here))
   look_within word_kinds.Marked hash at found stands none here = (omega arith, (h, here))
@@ -110,7 +110,7 @@ module _ (mode : ResizeMode) (words : At → ℕ) (bare : IsBare words) (slot : 
   look_within word_kinds.Closed hash at found stands none here = let f = goes_within hash at here in let l = f.0 in (omega (arith, l), f.1)
 
   -- the keys match, or they do not
-  compared_within : (hash : ℕ) (at : Place) (same : Bool) → IsAtTarget mode slot at.table → Within (further at.table * 2 ^ 34 + 3 * (at.limit - at.probe.len) + 5) (compared hash at mode same)
+  compared_within : (hash : ℕ) (at : Place) (same : Bool) → IsAtTarget mode slot at.table → Within (further at.table * 2 ^ 34 + 3 * (at.limit - at.probe.len) + 6) (compared hash at mode same)
   compared_within hash at true here = (omega arith, h)
   compared_within hash at false here = goes_within hash at here
 
@@ -126,13 +126,13 @@ module _ (mode : ResizeMode) (words : At → ℕ) (bare : IsBare words) (slot : 
   linked_within hash (linked.Refused refused) inc read = (omega arith, tt)
 
   -- a next table is further on
-  passed_within : (hash table next : ℕ) → IsIncremental mode → words (words_at.Next table) ≡ next → IsNumber words (words_at.Next table) → Within (further table * 2 ^ 34 + 4) (carried.On (passed hash table next))
+  passed_within : (hash table next : ℕ) → IsIncremental mode → words (words_at.Next table) ≡ next → IsNumber words (words_at.Next table) → Within (further table * 2 ^ 34 + 5) (carried.On (passed hash table next))
   passed_within hash table next inc is number =
-      cond_both (next == 0) (carries.Linking hash (links.Sizing table true)) (carries.Sizing hash next) (λ y. Within (further table * 2 ^ 34 + 4) (carried.On y))
+      cond_both (next == 0) (carries.Linking hash (links.Sizing table table true)) (carries.Sizing hash next) (λ y. Within (further table * 2 ^ 34 + 5) (carried.On y))
       (λ none. (omega arith, (h, (inc, is ∙ eqb-true next 0 none))))
       (λ some. (lower number some, (h, any_target mode next inc)))
     where
-      lower : IsNumber words (words_at.Next table) → (next == 0) ≡ false → further next * 2 ^ 34 + 2 ^ 34 + 1 ≤ further table * 2 ^ 34 + 4
+      lower : IsNumber words (words_at.Next table) → (next == 0) ≡ false → further next * 2 ^ 34 + 2 ^ 34 + 1 ≤ further table * 2 ^ 34 + 5
       lower (inl none) some = absurd (let z : next ≡ 0 = sym is ∙ none in let y : (next == 0) ≡ true = ap (λ n. n == 0) z in cc (y, some))
       lower (inr more) some = let a = more.0 in let b = more.1 in omega (arith, a, b, is)
 
@@ -177,11 +177,11 @@ module _ (mode : ResizeMode) (initial : ℕ) (words words' : At → ℕ) (bare :
       let l = f.0 in
       subst (CarryEnds (carries.Passing hash table)) (sym told.0.0) (inr (omega (arith, l)), f.1)
   carry_ends (carries.Linking hash link) answer h read told =
-      let e = link_ends words words' initial link answer read.1 told in
+      let e = link_ends mode words words' initial link answer read.1 told in
       let other : (x : At) → (IsPutAt (link_ask link) x → ⊥) → words' x ≡ words x = stays_at words words' answer (link_ask link) told in
-      let f = linked_within mode words' bare slot word (still mode words words' slot word h (other (words_at.Aborted slot.to) (link_puts link (words_at.Aborted slot.to) tt)) (other (words_at.Slot slot.from slot.index) (link_puts link (words_at.Slot slot.from slot.index) tt))) hash (link_after link initial answer) read.0 e.1 in
+      let f = linked_within mode words' bare slot word (still mode words words' slot word h (other (words_at.Aborted slot.to) (link_puts link (words_at.Aborted slot.to) tt)) (other (words_at.Slot slot.from slot.index) (link_puts link (words_at.Slot slot.from slot.index) tt))) hash (link_after link mode initial answer) read.0 e.1 in
       subst (λ y. Nears answer (left_of_carried y) (left_of_link link) × IsCarriedRead mode words' slot word y) (sym (carry_links mode initial hash link answer))
-      (nearer answer (left_of_linked (link_after link initial answer)) (left_of_link link) _ _ e.0 (λ less. let l = f.0 in omega (arith, l, less)), f.1)
+      (nearer answer (left_of_linked (link_after link mode initial answer)) (left_of_link link) _ _ e.0 (λ less. let l = f.0 in omega (arith, l, less)), f.1)
   carry_ends (carries.Aborting table) answer h read told =
       let done : (answer ≡ answers.Call Exchanged) × IsPut words (words_at.Aborted table) 1 words' = exchange_done _ _ (words (words_at.Aborted table)) 0 read told in
       subst (CarryEnds (carries.Aborting table)) (sym done.0) (inl tt, tt)

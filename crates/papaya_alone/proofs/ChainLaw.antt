@@ -19,6 +19,8 @@ use Rattle.papaya_law.specs.Code.{Coding, IsHashed}
 use Rattle.papaya_law.specs.Exchange.{Setting, Exchange, run, start}
 use Rattle.papaya_law.proofs.Moments.{run-append}
 use Rattle.papaya_rests.specs.Told.{word_of}
+use Rattle.papaya_rests.specs.Copier.{HasWords}
+use Rattle.papaya_chain_rests.specs.Goes.{link_in}
 use Rattle.papaya_chain_rests.specs.Rests.{Rests}
 use Rattle.papaya_chain_rests.specs.Told.{Hands, IsTold}
 use Rattle.papaya_alone.specs.Ahead.{IsCurrent}
@@ -43,12 +45,12 @@ some_exchange (Some Replace) = (nothing_left, nothing_left, refl)
 some_exchange kind = (an_exchange, nothing_left, (refl, omega arith))
 
 some_call : (kind : Option StepKind) (ask : Call_ask) (answer : Call_answer) → (before : Budget) × (later : Budget) × SpendsCall kind ask answer before later
-some_call kind (call_asks.MakeTable slots limit) (Made_number n) = (a_table, nothing_left, omega arith)
+some_call kind (call_asks.MakeTable slots limit chunks) (Made_number n) = (a_table, nothing_left, omega arith)
 some_call kind (call_asks.Exchange at old new) Exchanged = some_exchange kind
 some_call kind ask answer = (nothing_left, nothing_left, refl)
 
 some_copy : (ask : CopyAsk) (answer : Answer) → (before : Budget) × (later : Budget) × SpendsCopy ask answer before later
-some_copy (copy_asks.MakeTable slots limit) (answers.Call (Made_number n)) = (a_table, nothing_left, omega arith)
+some_copy (copy_asks.MakeTable slots limit chunks) (answers.Call (Made_number n)) = (a_table, nothing_left, omega arith)
 some_copy (copy_asks.Exchange at old new) (answers.Call Exchanged) = (an_exchange, nothing_left, (refl, omega arith))
 some_copy ask answer = (nothing_left, nothing_left, refl)
 
@@ -59,7 +61,7 @@ some_budget kind (asks.Call ask) (answers.Hash hash) = (nothing_left, nothing_le
 some_budget kind (asks.Call ask) (answers.Count count) = (nothing_left, nothing_left, refl)
 some_budget kind (asks.Copy ask) answer = some_copy ask answer
 
-module _ {K P : Type 0} (g : Setting K P) (c : Coding K P) (hashed : IsHashed g c) (begun since : List (Exchange P)) (may : AllAllowed g start (begun ++ since)) (bounded : IsBounded g (run (begun ++ since) start)) (k : K) (m : Machine) (hands : Hands P) (r : Rests g c begun since k m hands) (current : IsCurrent (word_of g c (run (begun ++ since) start)) m) (answer : Answer) (es : List (Exchange P)) (hands' : Hands P) (told : IsTold g c k (run (begun ++ since) start) (kind_of_ask m) (follows_of m) hands (ask_of m) answer es hands') (served : IsServedAsk m.call.task (ask_of m) answer) where
+module _ {K P : Type 0} (g : Setting K P) (c : Coding K P) (hashed : IsHashed g c) (begun since : List (Exchange P)) (may : AllAllowed g start (begun ++ since)) (bounded : IsBounded g (run (begun ++ since) start)) (k : K) (m : Machine) (hands : Hands P) (r : Rests g c begun since k m hands) (made : HasWords g (link_in m.phase)) (current : IsCurrent (word_of g c (run (begun ++ since) start)) m) (answer : Answer) (es : List (Exchange P)) (hands' : Hands P) (told : IsTold g c k (run (begun ++ since) start) (kind_of_ask m) (follows_of m) hands (ask_of m) answer es hands') (served : IsServedAsk m.call.task (ask_of m) answer) where
   -- the state comes from all exchanges
   reaches : run es (run (begun ++ since) start) ≡ run (begun ++ (since ++ es)) start
   reaches = sym (run-append (begun ++ since) es start) ∙ ap (λ l. run l start) (append_assoc begun since es)
@@ -69,7 +71,7 @@ module _ {K P : Type 0} (g : Setting K P) (c : Coding K P) (hashed : IsHashed g 
       → (IsSpent before later ⊎ ((later ≡ before) × (rank_of (run (begun ++ (since ++ es)) start).root (after m answer) < rank_of (run (begun ++ since) start).root m))) × IsCurrent (word_of g c (run (begun ++ (since ++ es)) start)) (after m answer)
   falls before later spends =
       subst (λ s. (IsSpent before later ⊎ ((later ≡ before) × (rank_of s.root (after m answer) < rank_of (run (begun ++ since) start).root m))) × IsCurrent (word_of g c s) (after m answer)) reaches
-      (phase_falls g c hashed begun since may k bounded hands m.helped m.call r.call answer es hands' before later m.phase r.phase current told served spends)
+      (phase_falls g c hashed begun since may k bounded hands m.number m.helped m.call r.call r.cut answer es hands' before later m.phase made r.phase current told served spends)
 
   -- the measure falls
   pub call_nears : (before later : Budget) → Spends (kind_of_ask m) (ask_of m) answer before later → later.exchanges < 2 ^ 128 → IsStanding (after m answer) → measure later (run (begun ++ (since ++ es)) start).root (after m answer) < measure before (run (begun ++ since) start).root m

@@ -1,8 +1,10 @@
--- What each answer leaves to a copy of a chunk that is to count so many slots of a pending resize.
-use Rattle.std.proofs.Common.{◌≡◌, ◌⊎◌, inl, inr, ⊎_elim, ℕ, zero, suc, ◌+◌, ◌*◌, ◌-◌, ◌<◌, ◌≤◌, ◌==◌, nat_lt, nat_le, leb-false, eqb-true, Option, List, refl, sym, ap, ◌∙◌, subst, arith}
-use Rattle.std.proofs.lemmas.Bool.{cond_both}
-use Rattle.std.proofs.Math.Nat.{le-div_iff_mul-le}
+-- What each answer leaves to a copy of a chunk, of a resize that is pending.
+use Rattle.std.proofs.Common.{◌≡◌, ◌⊎◌, inl, inr, ⊎_elim, ℕ, zero, suc, ◌+◌, ◌<◌, ◌≤◌, ◌==◌, ◌&&◌, nat_lt, not, cond, Bool, true, false, Option, List, refl, sym, ap, ◌∙◌, subst, arith, eq-eqb, eqb-true}
+use Rattle.std.specs.Prelude.{MatchBool}
+use Rattle.std.proofs.lemmas.Bool.{cases_Bool, cases_lt, cond_both, not-false}
+use Rattle.papaya_words.specs.Chunks.{chunk_count, chunk_len, chunk_of}
 use Rattle.papaya_words.specs.declared.probe.ResizeMode.TheVariants.{Incremental}
+use Rattle.papaya_words.proofs.ChunkLemmas.{chunk_counted, chunk_first, chunk_some}
 use Rattle.papaya_ask.specs.declared.ask.At.{At}
 use Rattle.papaya_ask.specs.declared.ask.At.TheVariants as words_at
 use Rattle.papaya_ask.specs.declared.ask.Answer.TheVariants.{Exchanged}
@@ -13,13 +15,14 @@ use Rattle.papaya_copy.specs.declared.settle.Settle.TheVariants as settles
 use Rattle.papaya_copy.specs.declared.settle.Settled.{Settled}
 use Rattle.papaya_copy.specs.declared.settle.Settled.TheVariants as settled
 use Rattle.papaya_copy.specs.declared.step.Chunk.{Chunk as Slots}
+use Rattle.papaya_copy.specs.declared.step.Scan.{Scan}
 use Rattle.papaya_copy.specs.declared.step.Step.{Step}
 use Rattle.papaya_copy.specs.declared.step.Step.TheVariants as steps
 use Rattle.papaya_copy.specs.declared.step.Stepped.{Stepped}
 use Rattle.papaya_copy.specs.declared.step.Stepped.TheVariants as stepped
 use Rattle.papaya_copy.specs.Copying.{copying_ask, leads}
 use Rattle.papaya_copy.specs.Settle.{settle_ask}
-use Rattle.papaya_copy.specs.Step.{aimed, chunk_at, counted, end_of, next_slot, settled_to, slot_of, step_ask}
+use Rattle.papaya_copy.specs.Step.{aimed, chunk_at, first_chunk, is_further, next_chunk, next_scan, next_slot, scanned, settled_to, slot_of, step_ask}
 use Rattle.papaya_chain.specs.declared.ask.Answer.{Answer}
 use Rattle.papaya_chain.specs.declared.ask.Answer.TheVariants as answers
 use Rattle.papaya_chain.specs.declared.resizer.Resize.TheVariants.{Chunk}
@@ -32,14 +35,14 @@ use Rattle.papaya_law.specs.Invariant.{IsKeeping}
 use Rattle.papaya_law.proofs.Later.{later_run}
 use Rattle.papaya_law.proofs.OneMap.{keeping_sound}
 use Rattle.papaya_rests.specs.Alone.{IsPut}
-use Rattle.papaya_rests.specs.Copier.{RestsStep}
-use Rattle.papaya_rests.specs.Rests.{IsModeOf}
+use Rattle.papaya_rests.specs.Copier.{HasWords, IsScan, RestsStep}
+use Rattle.papaya_rests.specs.Rests.{IsCutAs, IsModeOf}
 use Rattle.papaya_rests.specs.Told.{word_of}
 use Rattle.papaya_rests.proofs.AloneSteps.{exchange_done}
-use Rattle.papaya_chain_rests.specs.Resizers.{IsStageTold, RestsStage}
+use Rattle.papaya_chain_rests.specs.Resizers.{IsStageTold, RestsStage, link_of}
 use Rattle.papaya_chain_rests.specs.Told.{Hands}
 use Rattle.papaya_chain_rests.proofs.ResizerRests.{stage_learns, told_of_ask}
-use Rattle.papaya_alone.specs.Chunks.{AllFallShort, AllLeaveRoot, CountsDue, IsDue, IsShort, WillCountStep, WillCountIn, chunks_of}
+use Rattle.papaya_alone.specs.Chunks.{AllFallShort, AllLeaveRoot, IsDue, IsFewer, WillCopyIn, WillCopyStep, chunks_of, due_of}
 use Rattle.papaya_alone.specs.Current.{IsStepRead}
 use Rattle.papaya_alone.specs.Prompt.{IsBounded, IsCopyPrompt}
 use Rattle.papaya_alone.specs.Resizers.{IsStageRead}
@@ -52,24 +55,96 @@ use Rattle.papaya_alone.proofs.Telling.{stays_at}
 behind_root : {K P : Type 0} (g : Setting K P) (c : Coding K P) (s : State P) (last kept : Option P) (slots t behind : ℕ) → IsModeOf (Incremental slots) g.blocking → RestsStep g c s last kept (steps.Aiming t behind) → behind ≡ t
 behind_root g c s last kept slots t behind moded r = ⊎_elim (λ (e : behind ≡ t). e) (λ h. let b = h.0 in absurd (cc (b, moded))) r.given_up
 
-module _ {K P : Type 0} (g : Setting K P) (c : Coding K P) (s : State P) (last kept : Option P) (words' : At → ℕ) (slots initial began from to due : ℕ) (moded : IsModeOf (Incremental slots) g.blocking) where
-  -- the words
+-- one chunk more is due, or not
+due_step : (before later : Bool) (a b : ℕ) → (later ≡ true → before ≡ true) → b ≤ a → cond later (b + 1) b ≤ cond before (a + 1) a
+due_step true true a b still le = omega (arith, le)
+due_step true false a b still le = omega (arith, le)
+due_step false true a b still le = let no = still refl in absurd (cc no)
+due_step false false a b still le = le
+
+due_lower : (before later : Bool) (a b : ℕ) → (later ≡ true → before ≡ true) → b < a → cond later (b + 1) b < cond before (a + 1) a
+due_lower true true a b still lt = omega (arith, lt)
+due_lower true false a b still lt = omega (arith, lt)
+due_lower false true a b still lt = let no = still refl in absurd (cc no)
+due_lower false false a b still lt = lt
+
+due_turned : (before later : Bool) (a b : ℕ) → before ≡ true → later ≡ false → b ≤ a → cond later (b + 1) b < cond before (a + 1) a
+due_turned true true a b e f le = absurd (cc f)
+due_turned true false a b e f le = omega (arith, le)
+due_turned false later a b e f le = absurd (cc e)
+
+-- no more chunks are due than there are
+pub due_most : (words : At → ℕ) (to chunks : ℕ) → due_of words to chunks ≤ chunks
+due_most words to zero = omega arith
+due_most words to (suc n) = let h = due_most words to n in cond_both (words (words_at.Done to n) == 0) (due_of words to n + 1) (due_of words to n) (λ y. y ≤ suc n) (λ _. omega (arith, h)) (λ _. omega (arith, h))
+
+-- where a chunk's word is 0, some are
+due_some : (words : At → ℕ) (to at : ℕ) → words (words_at.Done to at) ≡ 0 → (chunks : ℕ) → at < chunks → 0 < due_of words to chunks
+due_some words to at none zero lt = absurd (omega (arith, lt))
+due_some words to at none (suc n) lt =
+    ⊎_elim
+    (λ (less : at < n). let h = due_some words to at none n less in cond_both (words (words_at.Done to n) == 0) (due_of words to n + 1) (due_of words to n) (λ y. 0 < y) (λ _. omega (arith, h)) (λ _. h))
+    (λ (more : n ≤ at). let is : at ≡ n = omega (arith, lt, more) in
+    cond_both (words (words_at.Done to n) == 0) (due_of words to n + 1) (due_of words to n) (λ y. 0 < y) (λ _. omega arith)
+    (λ e. absurd (let z : (words (words_at.Done to n) == 0) ≡ true = eq-eqb (words (words_at.Done to n)) 0 (subst (λ i. words (words_at.Done to i) ≡ 0) is none) in cc (z, e))))
+    (cases_lt at n)
+
+module _ (words words' : At → ℕ) (to : ℕ) (still : (chunk : ℕ) → words' (words_at.Done to chunk) ≡ 0 → words (words_at.Done to chunk) ≡ 0) where
+  -- a word that is 0 was 0
+  zero_before : (n : ℕ) → (words' (words_at.Done to n) == 0) ≡ true → (words (words_at.Done to n) == 0) ≡ true
+  zero_before n e = eq-eqb (words (words_at.Done to n)) 0 (still n (eqb-true (words' (words_at.Done to n)) 0 e))
+
+  -- so no more are due
+  pub due_falls : (chunks : ℕ) → due_of words' to chunks ≤ due_of words to chunks
+  due_falls zero = omega arith
+  due_falls (suc n) = due_step (words (words_at.Done to n) == 0) (words' (words_at.Done to n) == 0) (due_of words to n) (due_of words' to n) (zero_before n) (due_falls n)
+
+  -- and fewer, where a word is 0 no more
+  pub due_less : (at : ℕ) → words (words_at.Done to at) ≡ 0 → words' (words_at.Done to at) ≡ 1 → (chunks : ℕ) → at < chunks → due_of words' to chunks < due_of words to chunks
+  due_less at none one zero lt = absurd (omega (arith, lt))
+  due_less at none one (suc n) lt =
+      ⊎_elim
+      (λ (less : at < n). due_lower (words (words_at.Done to n) == 0) (words' (words_at.Done to n) == 0) (due_of words to n) (due_of words' to n) (zero_before n) (due_less at none one n less))
+      (λ (more : n ≤ at). let is : at ≡ n = omega (arith, lt, more) in
+      due_turned (words (words_at.Done to n) == 0) (words' (words_at.Done to n) == 0) (due_of words to n) (due_of words' to n)
+      (eq-eqb (words (words_at.Done to n)) 0 (subst (λ i. words (words_at.Done to i) ≡ 0) is none))
+      (ap (λ w. w == 0) (subst (λ i. words' (words_at.Done to i) ≡ 1) is one)) (due_falls n))
+      (cases_lt at n)
+
+module _ {K P : Type 0} (g : Setting K P) (c : Coding K P) (s : State P) (last kept : Option P) (words' : At → ℕ) (slots initial number began from to due : ℕ) (moded : IsModeOf (Incremental slots) g.blocking) (cut : IsCutAs (Incremental slots) g.chunk_of) where
+  -- the words, and how many chunks the table has
   abbrev words : At → ℕ
   words = word_of g c s
 
-  -- where a step leads, the resize being one that was due
-  abbrev WillBe : Stepped → Type 0
-  WillBe end = WillCountIn words' g.size from to slots due (copied Chunk began (leads aims.Chunk (Incremental slots) end))
+  abbrev chunks : ℕ
+  chunks = chunks_of (g.size from) slots
 
-  module _ (d : IsDue words from to slots due) (rises : from < to) (next : words' (words_at.Next from) ≡ to) (grown : words (words_at.Done to) ≤ words' (words_at.Done to)) where
-    -- it is due still while the root is in its place
-    still_due : words' words_at.Root ≡ words words_at.Root → IsDue words' from to slots due
-    still_due root = record { pending = record { root = root ∙ d.pending.root; next = next; some = d.pending.some; more = d.pending.more }; within = let w = d.within in omega (arith, w, grown) }
+  -- where a step leads, the resize being one that is pending
+  abbrev WillBe : Stepped → Type 0
+  WillBe end = WillCopyIn words' from to chunks due (copied Chunk began (leads aims.Chunk (Incremental slots) end))
+
+  module _ (d : IsDue words from to chunks due) (rises : from < to) (next : words' (words_at.Next from) ≡ to) (still : (chunk : ℕ) → words' (words_at.Done to chunk) ≡ 0 → words (words_at.Done to chunk) ≡ 0) where
+    -- it is pending still while the root is in its place
+    still_due : words' words_at.Root ≡ words words_at.Root → IsDue words' from to chunks due
+    still_due root = record { pending = record { root = root ∙ d.pending.root; next = next; some = d.pending.some; more = d.pending.more }; within = let w = d.within in let f = due_falls words words' to still chunks in omega (arith, w, f) }
+
+    still_fewer : (copied_one : Bool) → MatchBool copied_one (due_of words to chunks < due) (Unit {0}) → MatchBool copied_one (due_of words' to chunks < due) (Unit {0})
+    still_fewer true less = let f = due_falls words words' to still chunks in omega (arith, less, f)
+    still_fewer false h = tt
+
+    -- the chunk at which a scan stands is one of the table's
+    at_counted : (scan : Scan) → IsScan g c s scan → words words_at.Root ≡ scan.from → scan.at < chunks
+    at_counted scan r root =
+        let is : g.chunk_of scan.begun ≡ scan.at = r.cut scan.begun ∙ ap (chunk_of scan.slots) r.begun ∙ chunk_first scan.slots r.some scan.at in
+        let size : scan.len ≡ g.size from = r.len ∙ ap g.size (sym root ∙ d.pending.root) in
+        let within = r.within in
+        let lt : scan.begun < g.size from = omega (arith, within, size) in
+        subst (λ y. y < chunks) (sym (cut scan.begun) ∙ is) (chunk_counted (chunk_len (Incremental slots)) (chunk_some (Incremental slots)) (g.size from) scan.begun lt)
 
     -- there is a root
     root_leads : (root : ℕ) → words words_at.Root ≡ root → words' words_at.Root ≡ root → WillBe (stepped.Root root)
     root_leads root is stays =
-        cond_both (root == 0) copied_to.Chunk (copied_to.On (copyings.Stepping aims.Chunk (steps.Aiming root root))) (λ y. WillCountIn words' g.size from to slots due (copied Chunk began y))
+        cond_both (root == 0) copied_to.Chunk (copied_to.On (copyings.Stepping aims.Chunk (steps.Aiming root root))) (λ y. WillCopyIn words' from to chunks due (copied Chunk began y))
         (λ none. let z = eqb-true root 0 none in let f = d.pending.root in let l = d.pending.some in absurd (omega (arith, z, f, l, is)))
         (λ some. (still_due (stays ∙ sym is), tt))
 
@@ -80,42 +155,46 @@ module _ {K P : Type 0} (g : Setting K P) (c : Coding K P) (s : State P) (last k
         (λ none. let z = eqb-true word 0 none in let l = d.pending.more in absurd (omega (arith, z, l, is)))
         (λ some. (still_due root, is))
 
-    -- a chunk ends after the slots that are due, or after all
-    end_enough : (len done : ℕ) → words (words_at.Done to) ≡ done → len ≡ g.size from → (due ≤ end_of len done slots) ⊎ (g.size from ≤ end_of len done slots)
-    end_enough len done is size =
-        cond_both (nat_lt slots (len - done)) (done + slots) len (λ y. (due ≤ y) ⊎ (g.size from ≤ y))
-        (λ _. let w = d.within in inl (omega (arith, w, is)))
-        (λ _. inr (omega (arith, size)))
+    -- the next word is loaded, or all were
+    next_leads : (scan : Scan) → scan.to ≡ to → MatchBool scan.copied (due_of words' to chunks < due) (Unit {0}) → words' words_at.Root ≡ words words_at.Root → WillBe (stepped.On (next_scan scan))
+    next_leads scan goes fewer root =
+        cond_both (is_further scan) (steps.Scanning (next_chunk scan)) (cond (not scan.wrapped && nat_lt 0 scan.start) (steps.Scanning (first_chunk scan)) (steps.Promoting scan.from scan.to)) (λ y. WillBe (stepped.On y))
+        (λ _. (still_due root, (goes, fewer)))
+        (λ _.
+        cond_both (not scan.wrapped && nat_lt 0 scan.start) (steps.Scanning (first_chunk scan)) (steps.Promoting scan.from scan.to) (λ y. WillBe (stepped.On y))
+        (λ _. (still_due root, (goes, fewer)))
+        (λ _. (still_due root, goes)))
 
-    counted_leads : (t n len done : ℕ) → words' words_at.Root ≡ words words_at.Root → n ≡ to → words (words_at.Done to) ≡ done → len ≡ g.size from → WillBe (stepped.On (counted t n len (Incremental slots) done))
-    counted_leads t n len done root goes is size =
-        cond_both (nat_le len done) (steps.Promoting t n) (steps.Settling (chunk_at t n len done slots) settles.Looking) (λ y. WillBe (stepped.On y))
-        (λ all. (still_due root, goes))
-        (λ some. (still_due root, record { to_next = goes; enough = end_enough len done is size }))
+    -- a chunk was copied, and this one was not
+    fewer_left : (scan : Scan) → scan.at < chunks → words' (words_at.Done to scan.at) ≡ 0 → words' words_at.Root ≡ words words_at.Root → (copied_one : Bool) → copied_one ≡ true → MatchBool copied_one (due_of words' to chunks < due) (Unit {0}) → IsFewer words' from to chunks due
+    fewer_left scan lt none root true e fewer = record { pending = (still_due root).pending; fewer = fewer; some = due_some words' to scan.at none chunks lt }
+    fewer_left scan lt none root false e fewer = absurd (cc e)
+
+    -- the word of a chunk was loaded
+    scanned_leads : (scan : Scan) (done : ℕ) → scan.to ≡ to → scan.at < chunks → words' (words_at.Done to scan.at) ≡ done → MatchBool scan.copied (due_of words' to chunks < due) (Unit {0}) → words' words_at.Root ≡ words words_at.Root → WillBe (scanned scan done)
+    scanned_leads scan done goes lt is fewer root =
+        cond_both (not (done == 0)) (stepped.On (next_scan scan)) (cond scan.copied (stepped.Further (chunk_at scan)) (stepped.On (steps.Settling (chunk_at scan) settles.Looking))) WillBe
+        (λ _. next_leads scan goes fewer root)
+        (λ e.
+        cond_both scan.copied (stepped.Further (chunk_at scan)) (stepped.On (steps.Settling (chunk_at scan) settles.Looking)) WillBe
+        (λ f. inr (fewer_left scan lt (is ∙ eqb-true done 0 (not-false (done == 0) e)) root scan.copied f fewer))
+        (λ _. (still_due root, goes)))
 
     -- the copy of a slot leads on in the chunk
-    settled_leads : (chunk : Slots) → CountsDue g.size from to due chunk → words' words_at.Root ≡ words words_at.Root → (end : Settled) → WillBe (settled_to chunk end)
-    settled_leads chunk ends root (settled.On settle) = (still_due root, record { to_next = ends.to_next; enough = ends.enough })
-    settled_leads chunk ends root settled.Settled =
-        cond_both (nat_lt (next_slot chunk).at chunk.end) (stepped.On (steps.Settling (next_slot chunk) settles.Looking)) (stepped.On (steps.Advancing (next_slot chunk))) WillBe
-        (λ _. (still_due root, record { to_next = ends.to_next; enough = ends.enough }))
-        (λ _. (still_due root, record { to_next = ends.to_next; enough = ends.enough }))
-    settled_leads chunk ends root (settled.Unfit table) = (still_due root, tt)
-    settled_leads chunk ends root (settled.Refused refused) = tt
-
-    -- fewer than all are counted, and those that are due
-    falls_short : (chunk : Slots) → CountsDue g.size from to due chunk → words' words_at.Root ≡ words words_at.Root → words' (words_at.Done to) ≡ chunk.end → chunk.end < g.size from → IsShort words' g.size from to due
-    falls_short chunk ends root is less = record {
-      pending = (still_due root).pending;
-      counted = ⊎_elim (λ (e : due ≤ chunk.end). omega (arith, e, is)) (λ (e : g.size from ≤ chunk.end). absurd (omega (arith, e, less))) ends.enough;
-      short = omega (arith, is, less);
-    }
+    settled_leads : (chunk : Slots) → chunk.scan.to ≡ to → words' words_at.Root ≡ words words_at.Root → (end : Settled) → WillBe (settled_to chunk end)
+    settled_leads chunk goes root (settled.On settle) = (still_due root, goes)
+    settled_leads chunk goes root settled.Settled =
+        cond_both (nat_lt (next_slot chunk).at chunk.end) (stepped.On (steps.Settling (next_slot chunk) settles.Looking)) (stepped.On (steps.Advancing chunk.scan)) WillBe
+        (λ _. (still_due root, goes))
+        (λ _. (still_due root, goes))
+    settled_leads chunk goes root (settled.Unfit table) = (still_due root, tt)
+    settled_leads chunk goes root (settled.Refused refused) = tt
 
     abbrev Leads : Step → Answer → Type 0
-    Leads step answer = WillBe (step_after step (Incremental slots) initial answer)
+    Leads step answer = WillBe (step_after step (Incremental slots) initial number answer)
 
     -- in each step
-    step_leads : (step : Step) (answer : Answer) → RestsStep g c s last kept step → IsStepRead (Incremental slots) words step → WillCountStep g.size from to due step → IsCopyPrompt words (step_ask step) answer words' → Leads step answer
+    step_leads : (step : Step) (answer : Answer) → RestsStep g c s last kept step → IsStepRead (Incremental slots) words step → WillCopyStep words to chunks due step → IsCopyPrompt words (step_ask step) answer words' → Leads step answer
     step_leads steps.AtRoot answer r read goes told = subst (Leads steps.AtRoot) (sym told.0.0) (root_leads (words words_at.Root) refl (told.1 words_at.Root))
     step_leads (steps.Aiming t behind) answer r read goes told =
         let there : behind ≡ from = behind_root g c s last kept slots t behind moded r ∙ sym read ∙ d.pending.root in
@@ -123,81 +202,81 @@ module _ {K P : Type 0} (g : Setting K P) (c : Coding K P) (s : State P) (last k
         (aimed_leads t behind (words (words_at.Next behind)) (told.1 words_at.Root) (ap (λ u. words (words_at.Next u)) there ∙ d.pending.next))
     step_leads (steps.Sizing t n) answer r read goes told =
         let (len, limit, size, e) = told.0 in
-        subst (Leads (steps.Sizing t n)) (sym e) (still_due (told.1 words_at.Root), goes)
-    step_leads (steps.Counting t n len) answer r read goes told =
-        subst (Leads (steps.Counting t n len)) (sym told.0.0)
-        (counted_leads t n len (words (words_at.Done n)) (told.1 words_at.Root) goes (ap (λ u. words (words_at.Done u)) (sym goes)) (r.1 ∙ ap g.size (sym read.0 ∙ d.pending.root)))
+        subst (Leads (steps.Sizing t n)) (sym e) (still_due (told.1 words_at.Root), (goes, tt))
+    step_leads (steps.Scanning scan) answer r read goes told =
+        let lt = at_counted scan r read.root in
+        subst (Leads (steps.Scanning scan)) (sym told.0.0)
+        (scanned_leads scan (words (words_at.Done scan.to scan.at)) goes.0 lt (told.1 (words_at.Done to scan.at) ∙ ap (λ u. words (words_at.Done u scan.at)) (sym goes.0)) (still_fewer scan.copied goes.1) (told.1 words_at.Root))
     step_leads (steps.Settling chunk settle) answer r read goes told =
-        subst WillBe (sym (step_settles (Incremental slots) initial chunk settle answer))
+        subst WillBe (sym (step_settles (Incremental slots) initial number chunk settle answer))
         (settled_leads chunk goes (stays_at words words' answer (settle_ask settle (slot_of chunk)) told words_at.Root (settle_puts settle (slot_of chunk) words_at.Root tt)) (settle_after settle (slot_of chunk) (Incremental slots) initial answer))
-    step_leads (steps.Advancing chunk) answer r read goes told =
-        let here : At = words_at.Done chunk.to in
-        let done : (answer ≡ answers.Call Exchanged) × IsPut words here chunk.end words' = exchange_done _ _ (words here) chunk.begun read.1 told in
+    step_leads (steps.Advancing scan) answer r read goes told =
+        let here : At = words_at.Done scan.to scan.at in
+        let done : (answer ≡ answers.Call Exchanged) × IsPut words here 1 words' = exchange_done _ _ (words here) 0 read.0.due told in
         let root = done.1.others words_at.Root (λ e. cc) in
-        subst (Leads (steps.Advancing chunk)) (sym done.0)
-        (cond_both (nat_le chunk.len chunk.end) (stepped.On (steps.Promoting chunk.from chunk.to)) stepped.Over WillBe
-        (λ all. (still_due root, goes.to_next))
-        (λ some.
-        let l : chunk.end < chunk.len = leb-false chunk.len chunk.end some in
-        let size : chunk.len ≡ g.size from = r.len ∙ ap g.size (sym read.0 ∙ d.pending.root) in
-        inr (falls_short chunk goes root (ap (λ u. words' (words_at.Done u)) (sym goes.to_next) ∙ done.1.here) (omega (arith, l, size)))))
+        let lt = at_counted scan r.scanned read.0.root in
+        let none : words (words_at.Done to scan.at) ≡ 0 = ap (λ u. words (words_at.Done u scan.at)) (sym goes) ∙ read.0.due in
+        let one : words' (words_at.Done to scan.at) ≡ 1 = ap (λ u. words' (words_at.Done u scan.at)) (sym goes) ∙ done.1.here in
+        let less = due_less words words' to still scan.at none one chunks lt in
+        let within = d.within in
+        subst (Leads (steps.Advancing scan)) (sym done.0) (next_leads (record scan { copied = true }) goes (omega (arith, less, within)) root)
     step_leads (steps.Promoting t n) answer r read goes told =
         let done : (answer ≡ answers.Call Exchanged) × IsPut words words_at.Root n words' = exchange_done _ _ (words words_at.Root) t read told in
         let here = done.1.here in
         subst (Leads (steps.Promoting t n)) (sym done.0) (inl (λ same. omega (arith, here, same, goes, rises)))
     step_leads _ answer r read goes told = absurd goes
 
-module _ {K P : Type 0} (g : Setting K P) (c : Coding K P) (hashed : IsHashed g c) (s : State P) (m : K → Option P) (keeps : IsKeeping g s m) (bounded : IsBounded g s) (slots initial : ℕ) (hands : Hands P) (moded : IsModeOf (Incremental slots) g.blocking) (chunked : 1 ≤ slots) (from to due : ℕ) where
+module _ {K P : Type 0} (g : Setting K P) (c : Coding K P) (hashed : IsHashed g c) (s : State P) (m : K → Option P) (keeps : IsKeeping g s m) (bounded : IsBounded g s) (slots initial number : ℕ) (hands : Hands P) (moded : IsModeOf (Incremental slots) g.blocking) (cut : IsCutAs (Incremental slots) g.chunk_of) (from to due : ℕ) where
   -- after each answer
-  pub stage_counts : (stage : Stage) → RestsStage g c s hands stage → IsStageRead (Incremental slots) (word_of g c s) Chunk stage → WillCountIn (word_of g c s) g.size from to slots due stage → (answer : Answer) (es : List (Exchange P)) (hands' : Hands P) → IsStageTold g c s stage hands answer es hands'
-      → WillCountIn (word_of g c (run es s)) g.size from to slots due (after_in Chunk (Incremental slots) initial answer stage)
-  stage_counts (Copying began (copyings.Stepping aims.Chunk step)) (own, r) read (d, goes) answer es hands' told =
+  pub stage_copies : (stage : Stage) → RestsStage g c s hands stage → HasWords g (link_of stage) → IsStageRead (Incremental slots) (word_of g c s) Chunk stage → WillCopyIn (word_of g c s) from to (chunks_of (g.size from) slots) due stage → (answer : Answer) (es : List (Exchange P)) (hands' : Hands P) → IsStageTold g c s stage hands answer es hands'
+      → WillCopyIn (word_of g c (run es s)) from to (chunks_of (g.size from) slots) due (after_in Chunk (Incremental slots) initial number answer stage)
+  stage_copies (Copying began (copyings.Stepping aims.Chunk step)) (own, r) made read (d, goes) answer es hands' told =
       let copying = copyings.Stepping aims.Chunk step in
       let h = told_of_ask g c s hands (Copying began copying) (copying_ask copying) refl answer es hands' told in
-      let answers_so = prompt g c hashed s m keeps bounded (Incremental slots) initial hands copying r read.0 answer es hands' h in
-      let may = (stage_learns g c hashed s m keeps Chunk (Incremental slots) initial hands moded chunked (Copying began copying) (own, r) answer es hands' told).0 in
+      let answers_so = prompt g c hashed s m keeps bounded (Incremental slots) initial number hands copying r made read.0 answer es hands' h in
+      let may = (stage_learns g c hashed s m keeps Chunk (Incremental slots) initial number hands moded cut (Copying began copying) (own, r) made answer es hands' told).0 in
       let later = later_run g hashed.lawful es s may in
       let is : s.next from ≡ to = d.pending.next in
       let some : 0 < to = d.pending.more in
       let rises : from < to = ⊎_elim (λ (e : s.next from ≡ 0). absurd (omega (arith, e, is, some))) (λ h. let l = h.1 in omega (arith, l, is)) ((keeping_sound g s m keeps).rises from) in
-      subst (λ y. WillCountIn (word_of g c (run es s)) g.size from to slots due (copied Chunk began y)) (sym (copying_steps (Incremental slots) initial aims.Chunk step answer))
-      (step_leads g c s hands.call.last hands.kept (word_of g c (run es s)) slots initial began from to due moded d rises (later.next from (omega (arith, is, some)) ∙ is) (later.done to) step answer r.1 read.0.1 goes answers_so)
-  stage_counts Done r read goes answer es hands' told = let asked = told.1 in absurd cc
-  stage_counts (Refused refused) r read goes answer es hands' told = let asked = told.1 in absurd cc
-  stage_counts _ r read goes answer es hands' told = absurd goes
+      subst (λ y. WillCopyIn (word_of g c (run es s)) from to (chunks_of (g.size from) slots) due (copied Chunk began y)) (sym (copying_steps (Incremental slots) initial number aims.Chunk step answer))
+      (step_leads g c s hands.call.last hands.kept (word_of g c (run es s)) slots initial number began from to due moded cut d rises (later.next from (omega (arith, is, some)) ∙ is) (λ chunk. undone (s.done to chunk) ((run es s).done to chunk) (later.done to chunk)) step answer r.1 read.0.1 goes answers_so)
+    where
+      undone : (before after : Bool) → (before ≡ true → after ≡ true) → cond after 1 0 ≡ 0 → cond before 1 0 ≡ 0
+      undone true true keeps e = e
+      undone true false keeps e = let no = keeps refl in absurd (cc no)
+      undone false after keeps e = refl
+  stage_copies Done r made read goes answer es hands' told = let asked = told.1 in absurd cc
+  stage_copies (Refused refused) r made read goes answer es hands' told = let asked = told.1 in absurd cc
+  stage_copies _ r made read goes answer es hands' told = absurd goes
 
--- so many slots are counted by so many chunks
-counts_up : (counted : ℕ → ℕ) (slots len chunks : ℕ) → AllFallShort counted slots len chunks → chunks * slots ≤ counted chunks
-counts_up counted slots len zero all = omega arith
-counts_up counted slots len (suc n) all =
-    let before = counts_up counted slots len n (λ i less. all i (omega (arith, less))) in
+-- so many copies leave so many chunks fewer
+left_falls : (left : ℕ → ℕ) (copies : ℕ) → AllFallShort left copies → left copies + copies ≤ left 0
+left_falls left zero all = omega arith
+left_falls left (suc n) all =
+    let before = left_falls left n (λ i less. all i (omega (arith, less))) in
     let one = (all n (omega arith)).0 in
-    let same : counted (n + 1) ≡ counted (suc n) = ap counted (omega arith) in
-    let more : suc n * slots ≡ n * slots + slots = omega arith in
-    omega (arith, before, one, same, more)
+    let same : left (n + 1) ≡ left (suc n) = ap left (omega arith) in
+    omega (arith, before, one, same)
 
--- so there are fewer chunks than the table has
-pub chunks_short : (counted : ℕ → ℕ) (slots len chunks : ℕ) → 0 < len → AllFallShort counted slots len chunks → chunks * slots < len
-chunks_short counted slots len zero some all = omega (arith, some)
-chunks_short counted slots len (suc n) some all =
-    let up = counts_up counted slots len (suc n) all in
-    let less = (all n (omega arith)).1 in
-    let same : counted (n + 1) ≡ counted (suc n) = ap counted (omega arith) in
-    omega (arith, up, less, same)
+-- so there are fewer copies than chunks were left
+pub copies_fewer : (left : ℕ → ℕ) (copies : ℕ) → 0 < left 0 → AllFallShort left copies → copies < left 0
+copies_fewer left zero some all = some
+copies_fewer left (suc n) some all =
+    let low = left_falls left (suc n) all in
+    let last = (all n (omega arith)).1 in
+    let same : left (n + 1) ≡ left (suc n) = ap left (omega arith) in
+    omega (arith, low, last, same)
 
-pub chunks_fewer : (counted : ℕ → ℕ) (slots len chunks : ℕ) → 0 < len → 0 < slots → AllFallShort counted slots len chunks → chunks < chunks_of len slots
-chunks_fewer counted slots len chunks some chunked all =
-    let short = chunks_short counted slots len chunks some all in
-    let more : suc chunks * slots ≡ chunks * slots + slots = omega arith in
-    let within : suc chunks * slots ≤ len + (slots - 1) = omega (arith, short, more, chunked) in
-    let least : suc chunks ≤ chunks_of len slots = (le-div_iff_mul-le {x = suc chunks} {y = len + (slots - 1)} chunked).1 within in
-    omega (arith, least)
-
--- also where the words tell what each chunk counted
-pub chunks_leave : (words : ℕ → At → ℕ) (size : ℕ → ℕ) (from to slots chunks : ℕ) → 0 < size from → 0 < slots → AllLeaveRoot words size from to slots chunks → chunks < chunks_of (size from) slots
-chunks_leave words size from to slots chunks some chunked all =
-    chunks_fewer (λ i. words i (words_at.Done to)) slots (size from) chunks some chunked
-    (λ i less.
+-- also where the words tell which chunks are left
+pub copies_leave : (words : ℕ → At → ℕ) (from to chunks copies : ℕ) → 0 < chunks → AllLeaveRoot words from to chunks copies → copies < chunks
+copies_leave words from to chunks zero some all = some
+copies_leave words from to chunks (suc n) some all =
+    let short : AllFallShort (λ i. due_of (words i) to chunks) (suc n) = (λ i less.
     let h = all i less in
     ⊎_elim (λ (other : words (i + 1) words_at.Root ≡ from → ⊥). absurd (other h.0))
-    (λ (short : IsShort (words (i + 1)) size from to (words i (words_at.Done to) + slots)). (short.counted, short.short)) h.1)
+    (λ (fewer : IsFewer (words (i + 1)) from to chunks (due_of (words i) to chunks)). (fewer.fewer, fewer.some)) h.1) in
+    let first = (short 0 (omega arith)).0 in
+    let less = copies_fewer (λ i. due_of (words i) to chunks) (suc n) (omega (arith, first)) short in
+    let most = due_most (words 0) to chunks in
+    omega (arith, less, most)

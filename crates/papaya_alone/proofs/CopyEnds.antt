@@ -14,15 +14,17 @@ use Rattle.papaya_copy.specs.declared.copying.Copying.TheVariants as copyings
 use Rattle.papaya_copy.specs.declared.settle.Settled.{Settled}
 use Rattle.papaya_copy.specs.declared.settle.Settled.TheVariants as settled
 use Rattle.papaya_copy.specs.declared.settle.Slot.{Slot}
+use Rattle.papaya_copy.specs.declared.settle.Settle.TheVariants as settles
+use Rattle.papaya_copy.specs.declared.step.Chunk.{Chunk}
 use Rattle.papaya_copy.specs.declared.step.Step.TheVariants as steps
 use Rattle.papaya_copy.specs.declared.step.Stepped.{Stepped}
 use Rattle.papaya_copy.specs.declared.step.Stepped.TheVariants as stepped
-use Rattle.papaya_copy.specs.Copying.{all_of, at_root, copying_ask, last, leads, lone, over}
+use Rattle.papaya_copy.specs.Copying.{all_of, at_root, copying_ask, further as further_of, last, leads, lone, over}
 use Rattle.papaya_chain.specs.declared.ask.Answer.{Answer}
 use Rattle.papaya_chain.specs.Machine.{copying_after}
 use Rattle.papaya_rests.specs.Alone.{IsBare}
 use Rattle.papaya_alone.specs.Prompt.{IsCopyPrompt}
-use Rattle.papaya_alone.specs.Measure.{left_of_copied, left_of_copying, left_of_settle, left_of_settled, left_of_step, left_of_stepped}
+use Rattle.papaya_alone.specs.Measure.{left_of_chunk, left_of_copied, left_of_copying, left_of_settle, left_of_settled, left_of_step, left_of_stepped}
 use Rattle.papaya_alone.specs.Current.{IsAimRead, IsAlive, IsCopiedRead, IsCopyingRead, IsIncremental, IsSettledRead, IsSteppedRead}
 use Rattle.papaya_alone.proofs.Afters.{copying_settles, copying_steps, settle_after, step_after}
 use Rattle.papaya_alone.proofs.SettleEnds.{settle_ends}
@@ -52,6 +54,13 @@ module _ (mode : ResizeMode) (words : At → ℕ) where
   last_within (aims.Settle slot) table read = (omega arith, any_alive mode slot.to read)
   last_within aims.Chunk table read = (omega arith, tt)
   last_within (aims.All met) table read = (omega arith, tt)
+
+  -- a chunk was copied, and this one was not
+  further_within : (aim : Aim) (chunk : Chunk) → IsAimRead mode words aim → IsSteppedRead mode words (stepped.Further chunk) → Within (left_of_chunk chunk settles.Looking) (further_of aim chunk)
+  further_within (aims.Search table) chunk read there = (omega arith, tt)
+  further_within (aims.Settle slot) chunk read there = (omega arith, any_alive mode slot.to read)
+  further_within aims.Chunk chunk read there = (omega arith, tt)
+  further_within (aims.All met) chunk read there = (omega arith, (tt, there))
 
   -- a root is to be copied, or there is none
   one_within : (aim : Aim) (root : ℕ) → IsAimRead mode words aim → words words_at.Root ≡ root → Within (2 ^ 102) (over aim) → Within (2 ^ 102 + 6 + 2 * 2 ^ 32) (cond (root == 0) (over aim) (copied.On (copyings.Stepping aim (steps.Aiming root root))))
@@ -83,6 +92,7 @@ module _ (mode : ResizeMode) (words : At → ℕ) where
   leads_within aim (stepped.On step) read there = (omega arith, (read, there))
   leads_within aim (stepped.Root root) read there = root_within mode aim root read there
   leads_within aim (stepped.Last table) read there = last_within aim table read
+  leads_within aim (stepped.Further chunk) read there = further_within aim chunk read there
   leads_within aim stepped.Over read there = over_within aim read
   leads_within aim (stepped.Refused refused) read there = (omega arith, tt)
 
@@ -93,10 +103,10 @@ module _ (mode : ResizeMode) (words : At → ℕ) where
   lone_within slot (settled.Unfit table) there = (omega arith, tt)
   lone_within slot (settled.Refused refused) there = (omega arith, tt)
 
-module _ (mode : ResizeMode) (initial : ℕ) (words words' : At → ℕ) (bare : IsBare words') where
+module _ (mode : ResizeMode) (initial number : ℕ) (words words' : At → ℕ) (bare : IsBare words') where
   -- after this answer
   abbrev pub CopyEnds : Copying → Answer → Type 0
-  CopyEnds copying answer = Nears answer (left_of_copied (copying_after copying mode initial answer)) (left_of_copying copying) × IsCopiedRead mode words' (copying_after copying mode initial answer)
+  CopyEnds copying answer = Nears answer (left_of_copied (copying_after copying mode initial number answer)) (left_of_copying copying) × IsCopiedRead mode words' (copying_after copying mode initial number answer)
 
   -- an aim is of a mode whatever the words are
   pub same_aim : (aim : Aim) → IsAimRead mode words aim → IsAimRead mode words' aim
@@ -108,14 +118,14 @@ module _ (mode : ResizeMode) (initial : ℕ) (words words' : At → ℕ) (bare :
   -- in each state
   pub copying_ends : (copying : Copying) (answer : Answer) → IsCopyingRead mode words copying → IsCopyPrompt words (copying_ask copying) answer words' → CopyEnds copying answer
   copying_ends (copyings.Stepping aim step) answer read told =
-      let e = step_ends mode initial words words' bare step answer read.1 told in
-      let end : Stepped = step_after step mode initial answer in
+      let e = step_ends mode initial number words words' bare step answer read.1 told in
+      let end : Stepped = step_after step mode initial number answer in
       let f = leads_within mode words' aim end (same_aim aim read.0) e.1 in
-      subst (λ y. Nears answer (left_of_copied y) (left_of_step step) × IsCopiedRead mode words' y) (sym (copying_steps mode initial aim step answer))
+      subst (λ y. Nears answer (left_of_copied y) (left_of_step step) × IsCopiedRead mode words' y) (sym (copying_steps mode initial number aim step answer))
       (nearer answer (left_of_stepped end) (left_of_step step) _ _ e.0 (λ less. let l = f.0 in omega (arith, l, less)), f.1)
   copying_ends (copyings.Lone slot settle) answer read told =
       let e = settle_ends mode initial words words' bare slot settle answer read told in
       let end : Settled = settle_after settle slot mode initial answer in
       let f = lone_within mode words' slot end e.1 in
-      subst (λ y. Nears answer (left_of_copied y) (left_of_settle settle) × IsCopiedRead mode words' y) (sym (copying_settles mode initial slot settle answer))
+      subst (λ y. Nears answer (left_of_copied y) (left_of_settle settle) × IsCopiedRead mode words' y) (sym (copying_settles mode initial number slot settle answer))
       (nearer answer (left_of_settled end) (left_of_settle settle) _ _ e.0 (λ less. let l = f.0 in omega (arith, l, less)), f.1)

@@ -8,7 +8,7 @@ use Rattle.papaya_chain.specs.Machine.{copying_after}
 use Rattle.papaya_law.specs.Code.{Coding, IsHashed}
 use Rattle.papaya_law.specs.Exchange.{Setting, State, Exchange, run}
 use Rattle.papaya_law.specs.Invariant.{IsKeeping}
-use Rattle.papaya_rests.specs.Copier.{RestsCopying}
+use Rattle.papaya_rests.specs.Copier.{HasWords, RestsCopying, link_in_copying}
 use Rattle.papaya_rests.specs.Told.{word_of}
 use Rattle.papaya_rests.proofs.CopierCopies.{copying_there}
 use Rattle.papaya_rests.proofs.CopierExchange.{copying_may}
@@ -21,20 +21,20 @@ use Rattle.papaya_alone.proofs.CopyEnds.{copying_ends}
 use Rattle.papaya_alone.proofs.CopyPrompts.{told_prompt, words_bare}
 use Rattle.papaya_alone.proofs.Telling.{copy_spends}
 
-module _ {K P : Type 0} (g : Setting K P) (c : Coding K P) (hashed : IsHashed g c) (s : State P) (m : K → Option P) (keeps : IsKeeping g s m) (bounded : IsBounded g s) (mode : ResizeMode) (initial : ℕ) (hands : Hands P) (copying : Copying) (r : RestsCopying g c s hands.call.last hands.kept copying) (read : IsCopyingRead mode (word_of g c s) copying) (answer : Answer) (es : List (Exchange P)) (hands' : Hands P) (told : IsCopyTold g c s (copying_kind copying) (copying_follows copying) hands (copying_ask copying) answer es hands') where
+module _ {K P : Type 0} (g : Setting K P) (c : Coding K P) (hashed : IsHashed g c) (s : State P) (m : K → Option P) (keeps : IsKeeping g s m) (bounded : IsBounded g s) (mode : ResizeMode) (initial number : ℕ) (hands : Hands P) (copying : Copying) (r : RestsCopying g c s hands.call.last hands.kept copying) (made : HasWords g (link_in_copying copying)) (read : IsCopyingRead mode (word_of g c s) copying) (answer : Answer) (es : List (Exchange P)) (hands' : Hands P) (told : IsCopyTold g c s (copying_kind copying) (copying_follows copying) hands (copying_ask copying) answer es hands') where
   -- what is told of the words is what they answer
   pub prompt : IsCopyPrompt (word_of g c s) (copying_ask copying) answer (word_of g c (run es s))
   prompt =
       told_prompt g c hashed s m keeps bounded hands (copying_kind copying) (copying_follows copying) (copying_ask copying)
       (copying_there g c hashed s m keeps hands.call.last hands.kept copying r)
-      (copying_may g c hashed s m keeps hands.call.last hands.kept copying r) answer es hands' told
+      (copying_may g c hashed s m keeps hands.call.last hands.kept copying r made) answer es hands' told
 
   -- the budget is spent, or less is left
-  pub copy_nears : (before later : Budget) → SpendsCopy (copying_ask copying) answer before later → IsSpent before later ⊎ ((later ≡ before) × (left_of_copied (copying_after copying mode initial answer) < left_of_copying copying))
+  pub copy_nears : (before later : Budget) → SpendsCopy (copying_ask copying) answer before later → IsSpent before later ⊎ ((later ≡ before) × (left_of_copied (copying_after copying mode initial number answer) < left_of_copying copying))
   copy_nears before later spends =
       copy_spends (word_of g c s) (word_of g c (run es s)) before later (copying_ask copying) answer prompt spends _ _
-      (copying_ends mode initial (word_of g c s) (word_of g c (run es s)) (words_bare g c (run es s)) copying answer read prompt).0
+      (copying_ends mode initial number (word_of g c s) (word_of g c (run es s)) (words_bare g c (run es s)) copying answer read prompt).0
 
   -- what was read stands there still
-  pub copy_current : IsCopiedRead mode (word_of g c (run es s)) (copying_after copying mode initial answer)
-  copy_current = (copying_ends mode initial (word_of g c s) (word_of g c (run es s)) (words_bare g c (run es s)) copying answer read prompt).1
+  pub copy_current : IsCopiedRead mode (word_of g c (run es s)) (copying_after copying mode initial number answer)
+  copy_current = (copying_ends mode initial number (word_of g c s) (word_of g c (run es s)) (words_bare g c (run es s)) copying answer read prompt).1

@@ -1,5 +1,5 @@
 -- Where a copy of all leads: it goes on copying all, until its root is the root no more, or has no next table.
-use Rattle.std.proofs.Common.{◌≡◌, ℕ, ◌<◌, ◌==◌, ◌||◌, nat_lt, nat_le, not, Bool, true, false, refl, sym, ap, ◌∙◌, subst, arith, eq-eqb, eqb-true}
+use Rattle.std.proofs.Common.{◌≡◌, cond, ℕ, ◌<◌, ◌==◌, ◌||◌, nat_lt, not, Bool, true, false, refl, sym, ap, ◌∙◌, subst, arith, eq-eqb, eqb-true}
 use Rattle.std.proofs.lemmas.Bool.{cond_both}
 use Rattle.papaya_words.specs.declared.probe.ResizeMode.{ResizeMode}
 use Rattle.papaya_words.specs.declared.probe.ResizeMode.TheVariants.{Incremental, Blocking}
@@ -18,12 +18,13 @@ use Rattle.papaya_copy.specs.declared.settle.Settle.TheVariants as settles
 use Rattle.papaya_copy.specs.declared.settle.Settled.{Settled}
 use Rattle.papaya_copy.specs.declared.settle.Settled.TheVariants as settled
 use Rattle.papaya_copy.specs.declared.step.Chunk.{Chunk}
+use Rattle.papaya_copy.specs.declared.step.Scan.{Scan}
 use Rattle.papaya_copy.specs.declared.step.Step.{Step}
 use Rattle.papaya_copy.specs.declared.step.Step.TheVariants as steps
 use Rattle.papaya_copy.specs.declared.step.Stepped.{Stepped}
 use Rattle.papaya_copy.specs.declared.step.Stepped.TheVariants as stepped
 use Rattle.papaya_copy.specs.Copying.{all_of, copying_ask, leads}
-use Rattle.papaya_copy.specs.Step.{aimed, linked_to, next_slot, settled_to, slot_of, step_ask}
+use Rattle.papaya_copy.specs.Step.{aimed, chunk_at, linked_to, next_scan, next_slot, scanned, settled_to, slot_of, step_ask}
 use Rattle.papaya_chain.specs.declared.ask.Answer.{Answer}
 use Rattle.papaya_chain.specs.declared.ask.Answer.TheVariants as answers
 use Rattle.papaya_chain.specs.Machine.{copying_after, link_after}
@@ -66,7 +67,7 @@ module _ (words : At → ℕ) where
 
   settled_last : (chunk : Chunk) (end : Settled) → IsLast (settled_to chunk end)
   settled_last chunk (settled.On settle) = tt
-  settled_last chunk settled.Settled = cond_both (nat_lt (next_slot chunk).at chunk.end) (stepped.On (steps.Settling (next_slot chunk) settles.Looking)) (stepped.On (steps.Advancing (next_slot chunk))) IsLast (λ _. tt) (λ _. tt)
+  settled_last chunk settled.Settled = cond_both (nat_lt (next_slot chunk).at chunk.end) (stepped.On (steps.Settling (next_slot chunk) settles.Looking)) (stepped.On (steps.Advancing chunk.scan)) IsLast (λ _. tt) (λ _. tt)
   settled_last chunk (settled.Unfit table) = tt
   settled_last chunk (settled.Refused refused) = tt
 
@@ -76,7 +77,12 @@ module _ (words : At → ℕ) where
       (λ none. ap (λ t. words (words_at.Next t)) (root ∙ sym (lined tt)) ∙ is ∙ eqb-true next 0 none)
       (λ _. tt)
   aimed_last Blocking from behind next lined root is =
-      cond_both (next == 0) (stepped.On (steps.Linking from (links.Sizing behind (not (behind == from))))) (stepped.On (steps.Judging from next)) IsLast (λ _. tt) (λ _. tt)
+      cond_both (next == 0) (stepped.On (steps.Linking from (links.Sizing behind from (not (behind == from))))) (stepped.On (steps.Judging from next)) IsLast (λ _. tt) (λ _. tt)
+
+  scanned_last : (scan : Scan) (done : ℕ) → IsLast (scanned scan done)
+  scanned_last scan done =
+      cond_both (not (done == 0)) (stepped.On (next_scan scan)) (cond scan.copied (stepped.Further (chunk_at scan)) (stepped.On (steps.Settling (chunk_at scan) settles.Looking))) IsLast (λ _. tt)
+      (λ _. cond_both scan.copied (stepped.Further (chunk_at scan)) (stepped.On (steps.Settling (chunk_at scan) settles.Looking)) IsLast (λ _. tt) (λ _. tt))
 
   module _ (mode : ResizeMode) (from : ℕ) (some : 0 < from) where
     -- it copies all still, or its root is the root no more, or has no next table
@@ -99,39 +105,40 @@ module _ (words : At → ℕ) where
         (λ none same. absurd (let zero : root ≡ 0 = eqb-true root 0 none in omega (arith, zero, some, same, there)))
         (λ _. all_of_leads mode root there)
     all_leads (stepped.Last table) there last = λ same. ap (λ t. words (words_at.Next t)) (sym same) ∙ last
+    all_leads (stepped.Further chunk) there last = refl
     all_leads stepped.Over there last = refl
     all_leads (stepped.Refused refused) there last = tt
 
-module _ (mode : ResizeMode) (initial : ℕ) (words words' : At → ℕ) (bare : IsBare words') where
+module _ (mode : ResizeMode) (initial number : ℕ) (words words' : At → ℕ) (bare : IsBare words') where
   -- after this answer
   abbrev StepLast : Step → Answer → Type 0
-  StepLast step answer = IsLast words' (step_after step mode initial answer)
+  StepLast step answer = IsLast words' (step_after step mode initial number answer)
 
   step_last : (step : Step) (answer : Answer) → IsLinedStep mode step → IsStepRead mode words step → IsCopyPrompt words (step_ask step) answer words' → StepLast step answer
   step_last steps.AtRoot answer lined read told = subst (StepLast steps.AtRoot) (sym told.0.0) tt
   step_last (steps.Aiming from behind) answer lined read told =
       subst (StepLast (steps.Aiming from behind)) (sym told.0.0)
       (aimed_last words' mode from behind (words (words_at.Next behind)) lined (told.1 words_at.Root ∙ read) (told.1 (words_at.Next behind)))
-  step_last (steps.Linking from link) answer lined read told = subst (IsLast words') (sym (step_links mode initial from link answer)) (linked_last words' from (link_after link initial answer))
+  step_last (steps.Linking from link) answer lined read told = subst (IsLast words') (sym (step_links mode initial number from link answer)) (linked_last words' from (link_after link mode initial answer))
   step_last (steps.Judging from to) answer lined read told = subst (StepLast (steps.Judging from to)) (sym told.0.0) tt
   step_last (steps.Sizing from to) answer lined read told =
       let (slots, limit, size, e) = told.0 in
       subst (StepLast (steps.Sizing from to)) (sym e) tt
-  step_last (steps.Counting from to len) answer lined read told = subst (StepLast (steps.Counting from to len)) (sym told.0.0) tt
-  step_last (steps.Settling chunk settle) answer lined read told = subst (IsLast words') (sym (step_settles mode initial chunk settle answer)) (settled_last words' chunk (settle_after settle (slot_of chunk) mode initial answer))
-  step_last (steps.Advancing chunk) answer lined read told =
-      let here : At = words_at.Done chunk.to in
-      let done : (answer ≡ answers.Call Exchanged) × IsPut words here chunk.end words' = exchange_done _ _ (words here) chunk.begun read.1 told in
-      subst (StepLast (steps.Advancing chunk)) (sym done.0) (cond_both (nat_le chunk.len chunk.end) (stepped.On (steps.Promoting chunk.from chunk.to)) stepped.Over (IsLast words') (λ _. tt) (λ _. tt))
+  step_last (steps.Scanning scan) answer lined read told = subst (StepLast (steps.Scanning scan)) (sym told.0.0) (scanned_last words' scan (words (words_at.Done scan.to scan.at)))
+  step_last (steps.Settling chunk settle) answer lined read told = subst (IsLast words') (sym (step_settles mode initial number chunk settle answer)) (settled_last words' chunk (settle_after settle (slot_of chunk) mode initial answer))
+  step_last (steps.Advancing scan) answer lined read told =
+      let here : At = words_at.Done scan.to scan.at in
+      let done : (answer ≡ answers.Call Exchanged) × IsPut words here 1 words' = exchange_done _ _ (words here) 0 read.0.due told in
+      subst (StepLast (steps.Advancing scan)) (sym done.0) tt
   step_last (steps.Promoting from to) answer lined read told =
       let done : (answer ≡ answers.Call Exchanged) × IsPut words words_at.Root to words' = exchange_done _ _ (words words_at.Root) from read told in
       subst (StepLast (steps.Promoting from to)) (sym done.0) tt
 
   -- of a copy of all
-  pub copy_leads : (from : ℕ) (some : 0 < from) (copying : Copying) (answer : Answer) → aim_of copying ≡ aims.All from → IsLined mode copying → IsCopyingRead mode words copying → IsCopyPrompt words (copying_ask copying) answer words' → LeadsAll words' mode from some (copying_after copying mode initial answer)
+  pub copy_leads : (from : ℕ) (some : 0 < from) (copying : Copying) (answer : Answer) → aim_of copying ≡ aims.All from → IsLined mode copying → IsCopyingRead mode words copying → IsCopyPrompt words (copying_ask copying) answer words' → LeadsAll words' mode from some (copying_after copying mode initial number answer)
   copy_leads from some (copyings.Stepping aim step) answer is lined read told =
-      let end : Stepped = step_after step mode initial answer in
-      subst (LeadsAll words' mode from some) (sym (copying_steps mode initial aim step answer))
+      let end : Stepped = step_after step mode initial number answer in
+      subst (LeadsAll words' mode from some) (sym (copying_steps mode initial number aim step answer))
       (subst (λ a. LeadsAll words' mode from some (leads a mode end)) (sym is)
-      (all_leads words' mode from some end (step_ends mode initial words words' bare step answer read.1 told).1 (step_last step answer lined read.1 told)))
+      (all_leads words' mode from some end (step_ends mode initial number words words' bare step answer read.1 told).1 (step_last step answer lined read.1 told)))
   copy_leads from some (copyings.Lone slot settle) answer is lined read told = absurd cc

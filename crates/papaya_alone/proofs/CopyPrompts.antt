@@ -62,7 +62,7 @@ module _ {K P : Type 0} (g : Setting K P) (c : Coding K P) (hashed : IsHashed g 
       (λ (h : (0 < t) × (t < s.next t)). let less = h.1 in inr (less, bounded.number (s.next t) (next_on s.next (keeping_sound g s m keeps).rises s.first t there (omega (arith, less)))))
       ((keeping_sound g s m keeps).rises t)
   number_there (words_at.Aborted t) there = tt
-  number_there (words_at.Done t) there = tt
+  number_there (words_at.Done t chunk) there = tt
   number_there (words_at.Slot t x) there = tt
 
   module _ (kind_asked : Option StepKind) (behind : ℕ) where
@@ -93,7 +93,7 @@ module _ {K P : Type 0} (g : Setting K P) (c : Coding K P) (hashed : IsHashed g 
         let (o, q, carried, is, first, second) = there in
         ((g.same (g.key o) (g.key q), told.0 o q carried first is second), same_none es told.1.0)
     told_prompt Count there may answer es hands' told = (told.0, same_none es told.1.0)
-    told_prompt (MakeTable slots limit) there may answer es hands' told = (
+    told_prompt (MakeTable slots limit chunks) there may answer es hands' told = (
       ⊎_elim (λ (u : (refused : Refused) × (answer ≡ answers.Call (Was_refused refused))). inr u)
           (λ (n : (n : ℕ) × (behind < n) × (answer ≡ answers.Call (Made_number n))). inl (n.0, n.2)) told.0,
       same_none es told.1.0,

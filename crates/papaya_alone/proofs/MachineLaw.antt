@@ -27,13 +27,14 @@ use Rattle.papaya_law.specs.Invariant.{IsKeeping, IsSound}
 use Rattle.papaya_law.specs.Meaning.{map_left}
 use Rattle.papaya_law.proofs.Chain.{has_next, none_between, pos_before}
 use Rattle.papaya_law.proofs.OneMap.{keeping, keeping_sound}
-use Rattle.papaya_rests.specs.Copier.{RestsCopying, RestsLinked, aim_of}
+use Rattle.papaya_rests.specs.Copier.{HasWords, RestsCopying, RestsLinked, aim_of, link_in_copying}
 use Rattle.papaya_rests.specs.Rests as calls
-use Rattle.papaya_rests.specs.Rests.{IsModeOf}
+use Rattle.papaya_rests.specs.Rests.{IsCutAs, IsModeOf}
 use Rattle.papaya_rests.specs.Told.{word_of}
 use Rattle.papaya_rests.proofs.CopierCopies.{copying_there, link_there}
 use Rattle.papaya_rests.proofs.CopierExchange.{copying_may, link_may}
 use Rattle.papaya_rests.proofs.RestsNames.{come_on}
+use Rattle.papaya_chain_rests.specs.Goes.{link_in}
 use Rattle.papaya_chain_rests.specs.Rests.{IsLinking, RestsPhase, left_by}
 use Rattle.papaya_chain_rests.specs.Told.{Hands, IsCopyTold, IsTold}
 use Rattle.papaya_chain_rests.proofs.Aside.{left_come}
@@ -89,7 +90,7 @@ pub blocks : (how : ResizeMode) (blocking : Bool) → IsModeOf how blocking → 
 blocks (Incremental chunk) blocking is e = absurd (cc (is, e))
 blocks Blocking blocking is e = refl
 
-module _ {K P : Type 0} (g : Setting K P) (c : Coding K P) (hashed : IsHashed g c) (begun since : List (Exchange P)) (may : AllAllowed g start (begun ++ since)) (k : K) (bounded : IsBounded g (run (begun ++ since) start)) (hands : Hands P) (helped : Bool) (call : Call_machine) (r : calls.Rests g c begun since k call hands.call) (answer : Answer) (es : List (Exchange P)) (hands' : Hands P) (before later : Budget) where
+module _ {K P : Type 0} (g : Setting K P) (c : Coding K P) (hashed : IsHashed g c) (begun since : List (Exchange P)) (may : AllAllowed g start (begun ++ since)) (k : K) (bounded : IsBounded g (run (begun ++ since) start)) (hands : Hands P) (number : ℕ) (helped : Bool) (call : Call_machine) (r : calls.Rests g c begun since k call hands.call) (cut : IsCutAs call.mode g.chunk_of) (answer : Answer) (es : List (Exchange P)) (hands' : Hands P) (before later : Budget) where
   -- the state, and the words before the answer and after it
   abbrev now : State P
   now = run (begun ++ since) start
@@ -110,7 +111,7 @@ module _ {K P : Type 0} (g : Setting K P) (c : Coding K P) (hashed : IsHashed g 
 
   -- the machine in a phase
   abbrev at_phase : Phase → Machine
-  at_phase phase = record { call = call; helped = helped; phase = phase }
+  at_phase phase = record { call = call; number = number; helped = helped; phase = phase }
 
   -- the budget is spent, or less is left; and what was read stands there still
   abbrev pub Falls : Phase → Type 0
@@ -125,19 +126,19 @@ module _ {K P : Type 0} (g : Setting K P) (c : Coding K P) (hashed : IsHashed g 
   calling_falls read told served spends =
       let is : answer ≡ answers.Call told.told = told.is in
       subst (λ a. IsServedAsk call.task (ask_of (at_phase Calling)) a → Spends (kind_of_ask (at_phase Calling)) (ask_of (at_phase Calling)) a before later → Lowers words words' before later (at_phase Calling) (rank_of_phase now.root call Calling) (after (at_phase Calling) a)) (sym is)
-      (λ serves spent. call_lowers words words' (words_bare g c now) before later helped call read.0 read.1 (asked_number g c hashed begun since may k bounded call hands.call r) told.told
+      (λ serves spent. call_lowers words words' (words_bare g c now) before later number helped call read.0 read.1 (asked_number g c hashed begun since may k bounded call hands.call r) told.told
       (call_prompt g c hashed begun since may k bounded call hands.call r told.told es told.call serves told.tells) spent)
       served spends
 
   -- its next table is made
-  linking_falls : (link : Link) → IsLinking g c begun since k (at_phase (Linking link)) link → IsPhaseRead call.mode words call.state (Linking link) → IsCopyTold g c now (link_kind link) (follows link) hands (link_ask link) answer es hands' → SpendsCopy (link_ask link) answer before later → Falls (Linking link)
-  linking_falls link at read told spends =
+  linking_falls : (link : Link) → HasWords g (Some link) → IsLinking g c begun since k (at_phase (Linking link)) link → IsPhaseRead call.mode words call.state (Linking link) → IsCopyTold g c now (link_kind link) (follows link) hands (link_ask link) answer es hands' → SpendsCopy (link_ask link) answer before later → Falls (Linking link)
+  linking_falls link made at read told spends =
       let prompt : IsCopyPrompt words (link_ask link) answer words' =
       told_prompt g c hashed now (map_left g (begun ++ since)) keeps bounded hands (link_kind link) (follows link) (link_ask link)
       (link_there g c hashed now (map_left g (begun ++ since)) keeps hands.call.last hands.kept link at.rests)
-      (link_may g c hashed now (map_left g (begun ++ since)) keeps hands.call.last hands.kept link at.rests) answer es hands' told
+      (link_may g c hashed now (map_left g (begun ++ since)) keeps hands.call.last hands.kept link at.rests made) answer es hands' told
       in
-      let out = link_learns_all g c hashed begun since may call.initial hands link at.rests answer es hands' told in
+      let out = link_learns_all g c hashed begun since may call.mode cut call.initial hands link at.rests made answer es hands' told in
       let later_sound : IsSound g (run (begun ++ (since ++ es)) start) = keeping_sound g (run (begun ++ (since ++ es)) start) (map_left g (begun ++ (since ++ es))) (keeping g hashed.lawful (begun ++ (since ++ es)) out.0) in
       linking_lowers words words' before later (at_phase (Linking link)) read.0 link read.1 read.2 at.left answer prompt spends
       (λ table e.
@@ -150,13 +151,13 @@ module _ {K P : Type 0} (g : Setting K P) (c : Coding K P) (hashed : IsHashed g 
       (later_sound.rises (follows link)))
 
   -- the root is copied
-  module _ (copying : Copying) (rests : RestsCopying g c now hands.call.last hands.kept copying) (told : IsCopyTold g c now (copying_kind copying) (copying_follows copying) hands (copying_ask copying) answer es hands') where
+  module _ (copying : Copying) (rests : RestsCopying g c now hands.call.last hands.kept copying) (made : HasWords g (link_in_copying copying)) (told : IsCopyTold g c now (copying_kind copying) (copying_follows copying) hands (copying_ask copying) answer es hands') where
     -- what is told of the words is what they answer
     copy_prompt : IsCopyPrompt words (copying_ask copying) answer words'
     copy_prompt =
         told_prompt g c hashed now (map_left g (begun ++ since)) keeps bounded hands (copying_kind copying) (copying_follows copying) (copying_ask copying)
         (copying_there g c hashed now (map_left g (begun ++ since)) keeps hands.call.last hands.kept copying rests)
-        (copying_may g c hashed now (map_left g (begun ++ since)) keeps hands.call.last hands.kept copying rests) answer es hands' told
+        (copying_may g c hashed now (map_left g (begun ++ since)) keeps hands.call.last hands.kept copying rests made) answer es hands' told
 
     -- what is known of the words then
     copying_falls : IsFor (at_phase (Copying_root copying)) (aim_of copying) → IsPhaseRead call.mode words call.state (Copying_root copying) → IsKnown call.mode words copying → SpendsCopy (copying_ask copying) answer before later → Falls (Copying_root copying)
@@ -181,9 +182,9 @@ module _ {K P : Type 0} (g : Setting K P) (c : Coding K P) (hashed : IsHashed g 
   known_helping (Incremental chunk) how inc (copyings.Stepping aim (steps.Linking from link)) rests read ahead t left some is = tt
   known_helping (Incremental chunk) how inc (copyings.Stepping aim (steps.Judging from to)) rests read ahead t left some is = tt
   known_helping (Incremental chunk) how inc (copyings.Stepping aim (steps.Sizing from to)) rests read ahead t left some is = tt
-  known_helping (Incremental chunk) how inc (copyings.Stepping aim (steps.Counting from to len)) rests read ahead t left some is = tt
+  known_helping (Incremental chunk) how inc (copyings.Stepping aim (steps.Scanning scan)) rests read ahead t left some is = tt
   known_helping (Incremental chunk) how inc (copyings.Stepping aim (steps.Settling slots settle)) rests read ahead t left some is = tt
-  known_helping (Incremental chunk) how inc (copyings.Stepping aim (steps.Advancing slots)) rests read ahead t left some is = tt
+  known_helping (Incremental chunk) how inc (copyings.Stepping aim (steps.Advancing scan)) rests read ahead t left some is = tt
   known_helping (Incremental chunk) how inc (copyings.Stepping aim (steps.Promoting from to)) rests read ahead t left some is = λ n aims.
       let one : n ≡ now.next t = aims_one aim n (now.next t) aims is in
       let to_is : now.next from ≡ to = target_next inc from to rests.1.0.target in
@@ -201,26 +202,26 @@ module _ {K P : Type 0} (g : Setting K P) (c : Coding K P) (hashed : IsHashed g 
   known_all Blocking e (copyings.Stepping aim (steps.Linking from link)) met is t left = tt
   known_all Blocking e (copyings.Stepping aim (steps.Judging from to)) met is t left = tt
   known_all Blocking e (copyings.Stepping aim (steps.Sizing from to)) met is t left = tt
-  known_all Blocking e (copyings.Stepping aim (steps.Counting from to len)) met is t left = tt
+  known_all Blocking e (copyings.Stepping aim (steps.Scanning scan)) met is t left = tt
   known_all Blocking e (copyings.Stepping aim (steps.Settling slots settle)) met is t left = tt
-  known_all Blocking e (copyings.Stepping aim (steps.Advancing slots)) met is t left = tt
+  known_all Blocking e (copyings.Stepping aim (steps.Advancing scan)) met is t left = tt
   known_all Blocking e (copyings.Stepping aim (steps.Promoting from to)) met is t left = λ n aims. absurd (subst (λ a. AimsAt a n) is aims)
   known_all Blocking e (copyings.Lone slot settle) met is t left = tt
 
   -- the root is copied for a call
-  helping_falls : (copying : Copying) → RestsPhase g c begun since k (at_phase (Copying_root copying)) hands (Copying_root copying) → IsPhaseRead call.mode words call.state (Copying_root copying) → IsCopyTold g c now (copying_kind copying) (copying_follows copying) hands (copying_ask copying) answer es hands' → SpendsCopy (copying_ask copying) answer before later → Falls (Copying_root copying)
-  helping_falls copying (inl at) read told spends =
+  helping_falls : (copying : Copying) → HasWords g (link_in_copying copying) → RestsPhase g c begun since k (at_phase (Copying_root copying)) hands (Copying_root copying) → IsPhaseRead call.mode words call.state (Copying_root copying) → IsCopyTold g c now (copying_kind copying) (copying_follows copying) hands (copying_ask copying) answer es hands' → SpendsCopy (copying_ask copying) answer before later → Falls (Copying_root copying)
+  helping_falls copying made (inl at) read told spends =
       let inc : IsIncremental call.mode = incremental call.mode g.blocking r.mode at.mode in
       let is : AimsAt (aim_of copying) (now.next at.table) = subst (λ a. AimsAt a (now.next at.table)) (sym at.aim) (aims_at call.state (now.next at.table)) in
       let some = at.next in
       let up : at.table < now.next at.table = ⊎_elim (λ (none : now.next at.table ≡ 0). absurd (omega (arith, none, some))) (λ (h : (0 < at.table) × (at.table < now.next at.table)). h.1) (sound.rises at.table) in
-      copying_falls copying at.rests told (inl (inc, (now.next at.table, is, (at.table, at.left, up)))) read (known_helping call.mode inc at.mode copying at.rests read.0 read.1 at.table at.left at.next is) spends
-  helping_falls copying (inr at) read told spends =
+      copying_falls copying at.rests made told (inl (inc, (now.next at.table, is, (at.table, at.left, up)))) read (known_helping call.mode inc at.mode copying at.rests read.0 read.1 at.table at.left at.next is) spends
+  helping_falls copying made (inr at) read told spends =
       let e : call.mode ≡ Blocking = blocks call.mode g.blocking r.mode at.mode in
-      copying_falls copying at.rests told (inr (e, (at.met, at.aim))) read (known_all call.mode e copying at.met at.aim at.table at.left) spends
+      copying_falls copying at.rests made told (inr (e, (at.met, at.aim))) read (known_all call.mode e copying at.met at.aim at.table at.left) spends
 
   -- in each phase
-  pub phase_falls : (phase : Phase) → RestsPhase g c begun since k (at_phase phase) hands phase → IsPhaseRead call.mode words call.state phase → IsTold g c k now (kind_of_ask (at_phase phase)) (follows_of (at_phase phase)) hands (ask_of (at_phase phase)) answer es hands' → IsServedAsk call.task (ask_of (at_phase phase)) answer → Spends (kind_of_ask (at_phase phase)) (ask_of (at_phase phase)) answer before later → Falls phase
-  phase_falls Calling at read told served spends = calling_falls read told served spends
-  phase_falls (Linking link) at read told served spends = linking_falls link at read told spends
-  phase_falls (Copying_root copying) at read told served spends = helping_falls copying at read told spends
+  pub phase_falls : (phase : Phase) → HasWords g (link_in phase) → RestsPhase g c begun since k (at_phase phase) hands phase → IsPhaseRead call.mode words call.state phase → IsTold g c k now (kind_of_ask (at_phase phase)) (follows_of (at_phase phase)) hands (ask_of (at_phase phase)) answer es hands' → IsServedAsk call.task (ask_of (at_phase phase)) answer → Spends (kind_of_ask (at_phase phase)) (ask_of (at_phase phase)) answer before later → Falls phase
+  phase_falls Calling made at read told served spends = calling_falls read told served spends
+  phase_falls (Linking link) made at read told served spends = linking_falls link made at read told spends
+  phase_falls (Copying_root copying) made at read told served spends = helping_falls copying made at read told spends

@@ -95,9 +95,12 @@ step_small (steps.Aiming from behind) h = omega arith
 step_small (steps.Linking from link) h = let l = link_most link in omega (arith, l)
 step_small (steps.Judging from to) h = omega arith
 step_small (steps.Sizing from to) h = omega arith
-step_small (steps.Counting from to len) h = omega (arith, h)
-step_small (steps.Settling chunk settle) h = let a = h.0.within in let b = h.0.most in let s = settle_small settle h.1 in omega (arith, a, b, s)
-step_small (steps.Advancing chunk) h = omega arith
+step_small (steps.Scanning scan) h =
+    let a = h.start in
+    let b = h.most in
+    cond_both scan.wrapped (scan.start - scan.at) (scan.len - scan.begun + scan.start + 1) (λ left. scan.len * 2 ^ 68 + 2 ^ 68 + left + 3 < 2 ^ 104) (λ _. omega (arith, a, b)) (λ _. omega (arith, a, b))
+step_small (steps.Settling chunk settle) h = let a = h.0.within in let b = h.0.scan.most in let s = settle_small settle h.1 in omega (arith, a, b, s)
+step_small (steps.Advancing scan) h = omega arith
 step_small (steps.Promoting from to) h = omega arith
 
 -- a copy within its tables has little left
@@ -119,9 +122,11 @@ phase_small root m (Copying_root (copyings.Stepping aim (steps.Aiming from behin
 phase_small root m (Copying_root (copyings.Stepping aim (steps.Linking from link))) h h' = let s = step_small (steps.Linking from link) h' in omega (arith, s)
 phase_small root m (Copying_root (copyings.Stepping aim (steps.Judging from to))) h h' = let s = step_small (steps.Judging from to) h' in omega (arith, s)
 phase_small root m (Copying_root (copyings.Stepping aim (steps.Sizing from to))) h h' = let s = step_small (steps.Sizing from to) h' in omega (arith, s)
-phase_small root m (Copying_root (copyings.Stepping aim (steps.Counting from to len))) h h' = let s = step_small (steps.Counting from to len) h' in omega (arith, s)
+phase_small root m (Copying_root (copyings.Stepping aim (steps.Scanning scan))) h h' =
+    let s = step_small (steps.Scanning scan) h' in
+    cond_both scan.copied (rank 5 0 (left_of_step (steps.Scanning scan))) (rank 1 0 (left_of_step (steps.Scanning scan))) (λ r. r < 2 ^ 190) (λ _. omega (arith, s)) (λ _. omega (arith, s))
 phase_small root m (Copying_root (copyings.Stepping aim (steps.Settling chunk settle))) h h' = let s = step_small (steps.Settling chunk settle) h' in omega (arith, s)
-phase_small root m (Copying_root (copyings.Stepping aim (steps.Advancing chunk))) h h' = omega arith
+phase_small root m (Copying_root (copyings.Stepping aim (steps.Advancing scan))) h h' = omega arith
 phase_small root m (Copying_root (copyings.Stepping aim (steps.Promoting from to))) h h' = omega arith
 phase_small root m (Copying_root (copyings.Lone slot settle)) h h' = let s = settle_small settle h' in omega (arith, s)
 

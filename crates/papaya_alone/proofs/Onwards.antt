@@ -126,6 +126,6 @@ module _ (words : At → ℕ) (m : Machine) where
   grows_lowers (Incremental chunk) moded need n left ahead is number =
       let inc : IsIncremental m.call.mode = subst IsIncremental (sym moded) tt in
       let least : (t : ℕ) → left_by m.call.state ≡ Some t → words words_at.Root ≤ t = λ t e. let same : t ≡ needed need = cc (left, e) in omega (arith, same, ahead) in
-      cond_both (n == 0) (record m { phase = Linking (links.Sizing (needed need) false) }) (onward m n) (λ m'. (rank_of (words words_at.Root) m' < rank 2 (further (needed need)) (2 ^ 68 + 3)) × IsCurrent words m')
+      cond_both (n == 0) (record m { phase = Linking (links.Sizing (needed need) (needed need) false) }) (onward m n) (λ m'. (rank_of (words words_at.Root) m' < rank 2 (further (needed need)) (2 ^ 68 + 3)) × IsCurrent words m')
       (λ none. (omega arith, (inc, is ∙ eqb-true n 0 none, least)))
       (λ some. goes_on_lowers words m inc n (needed need) (ahead_least words (Incremental chunk) (needed need) ahead) least some number)

@@ -1,7 +1,6 @@
 -- A call that resizes the map, with no other caller beside it, comes to an end.
 use Rattle.std.proofs.Common.{◌≡◌, ◌⊎◌, inl, inr, ⊎_elim, ℕ, ◌+◌, ◌*◌, ◌^◌, ◌<◌, ◌≤◌, ◌==◌, ◌||◌, nat_le, Bool, true, false, cond, Option, None, Some, List, [], ◌∷◌, refl, sym, ap, ◌∙◌, subst, arith, eq-eqb, eqb-true}
 use Rattle.std.proofs.lemmas.Bool.{cond_both, eqb-false}
-use Rattle.papaya_words.specs.Mode.{IsChunked}
 use Rattle.papaya_words.specs.declared.probe.Refused.{Refused}
 use Rattle.papaya_words.specs.declared.probe.ResizeMode.{ResizeMode}
 use Rattle.papaya_words.specs.declared.probe.ResizeMode.TheVariants.{Incremental, Blocking}
@@ -35,13 +34,13 @@ use Rattle.papaya_law.specs.Code.{Coding, IsHashed}
 use Rattle.papaya_law.specs.Exchange.{Setting, State, Exchange, Open, run}
 use Rattle.papaya_law.specs.Invariant.{IsKeeping}
 use Rattle.papaya_law.proofs.Later.{later_run}
-use Rattle.papaya_rests.specs.Copier.{IsAimed, IsCopyAsked, RestsCopying, RestsLinked, last_after, told_last}
-use Rattle.papaya_rests.specs.Rests.{IsModeOf}
+use Rattle.papaya_rests.specs.Copier.{HasWords, IsAimed, IsCopyAsked, RestsCopying, RestsLinked, last_after, told_last}
+use Rattle.papaya_rests.specs.Rests.{IsCutAs, IsModeOf}
 use Rattle.papaya_rests.specs.Told.{word_of}
 use Rattle.papaya_rests.proofs.CopierCopies.{link_there}
 use Rattle.papaya_rests.proofs.CopierExchange.{link_may}
 use Rattle.papaya_rests.proofs.RestsLearn.{by_test, more_than_none}
-use Rattle.papaya_chain_rests.specs.Resizers.{IsStageTold, RestsStage}
+use Rattle.papaya_chain_rests.specs.Resizers.{IsStageTold, RestsStage, link_of}
 use Rattle.papaya_chain_rests.specs.Told.{Hands, IsCopyTold, Quiet, told_of}
 use Rattle.papaya_chain_rests.proofs.Making.{link_learns}
 use Rattle.papaya_chain_rests.proofs.ResizerRests.{stage_learns, told_of_ask}
@@ -89,7 +88,7 @@ stage_small root (Making room) h = omega arith
 stage_small root (Opening table) h = omega arith
 stage_small root (Sizing table) h = omega arith
 stage_small root (Counting table len) h = omega arith
-stage_small root (Looking table room) h = omega arith
+stage_small root (Looking table len room) h = omega arith
 stage_small root (Linking link) h = let l = link_most link in omega (arith, l)
 stage_small root (Copying from copying) h = from_small from root (left_of_copying copying) (copying_small copying h)
 stage_small root Done h = omega arith
@@ -102,14 +101,14 @@ module _ (root : ℕ) where
   makes_less (Some room) = omega arith
 
   root_less : (at : ℕ) (resize : Resize) → left_of_stage root (at_root resize at) < 2 ^ 120 + 6
-  root_less at Chunk = cond_both (at == 0) Done (Looking at None) (λ y. left_of_stage root y < 2 ^ 120 + 6) (λ _. omega arith) (λ _. omega arith)
-  root_less at CopyAll = cond_both (at == 0) Done (Looking at None) (λ y. left_of_stage root y < 2 ^ 120 + 6) (λ _. omega arith) (λ _. omega arith)
+  root_less at Chunk = cond_both (at == 0) Done (Looking at 0 None) (λ y. left_of_stage root y < 2 ^ 120 + 6) (λ _. omega arith) (λ _. omega arith)
+  root_less at CopyAll = cond_both (at == 0) Done (Looking at 0 None) (λ y. left_of_stage root y < 2 ^ 120 + 6) (λ _. omega arith) (λ _. omega arith)
   root_less at (Reserve more) = cond_both (at == 0) (makes (room_of more)) (Sizing at) (λ y. left_of_stage root y < 2 ^ 120 + 6) (λ _. makes_less (room_of more)) (λ _. omega arith)
 
   -- and a count
   judges_less : (at len : ℕ) (room : Option Room) → left_of_stage root (judges at len room) < 2 ^ 120 + 4
   judges_less at len None = omega arith
-  judges_less at len (Some room) = cond_both (nat_le room.len len) Done (Looking at (Some room)) (λ y. left_of_stage root y < 2 ^ 120 + 4) (λ _. omega arith) (λ _. omega arith)
+  judges_less at len (Some room) = cond_both (nat_le room.len len) Done (Looking at len (Some room)) (λ y. left_of_stage root y < 2 ^ 120 + 4) (λ _. omega arith) (λ _. omega arith)
 
   count_less : (at len count : ℕ) (resize : Resize) → left_of_stage root (at_count resize at len count) < 2 ^ 120 + 4
   count_less at len count Chunk = omega arith
@@ -117,18 +116,18 @@ module _ (root : ℕ) where
   count_less at len count (Reserve more) = judges_less at len (room_of (count + more))
 
   -- and the next table
-  last_less : (at : ℕ) (room : Option Room) → left_of_stage root (at_last at room) < 2 ^ 120 + 3
-  last_less at None = omega arith
-  last_less at (Some room) = omega arith
+  last_less : (mode : ResizeMode) (at len : ℕ) (room : Option Room) → left_of_stage root (at_last mode at len room) < 2 ^ 120 + 3
+  last_less mode at len None = omega arith
+  last_less mode at len (Some room) = omega arith
 
-  next_less : (at : ℕ) → root ≡ at → (room : Option Room) (next : ℕ) → left_of_stage root (at_next at room next) < 2 ^ 120 + 3
-  next_less at same room next =
-      cond_both (next == 0) (at_last at room) (copies at) (λ y. left_of_stage root y < 2 ^ 120 + 3)
-      (λ _. last_less at room)
+  next_less : (mode : ResizeMode) (at len : ℕ) → root ≡ at → (room : Option Room) (next : ℕ) → left_of_stage root (at_next mode at len room next) < 2 ^ 120 + 3
+  next_less mode at len same room next =
+      cond_both (next == 0) (at_last mode at len room) (copies at) (λ y. left_of_stage root y < 2 ^ 120 + 3)
+      (λ _. last_less mode at len room)
       (λ _. let s = from_same at root (2 * 2 ^ 102) same in omega (arith, s))
 
   -- and the making of a table
-  linked_less : (at left : ℕ) → left ≤ 4 → (end : Linked) → left_of_linked end < left → left_of_stage root (linked at end) < left
+  linked_less : (at left : ℕ) → left ≤ 5 → (end : Linked) → left_of_linked end < left → left_of_stage root (linked at end) < left
   linked_less at left few (linked_to.On link) less = less
   linked_less at left few (linked_to.Table table) less = absurd (omega (arith, few, less))
   linked_less at left few (linked_to.Refused refused) less = less
@@ -186,8 +185,8 @@ module _ (mode : ResizeMode) (words : At → ℕ) where
   makes_read (Some room) none more = none
 
   root_read : (root : ℕ) → words words_at.Root ≡ root → (resize : Resize) → IsStageRead mode words resize (at_root resize root)
-  root_read root is Chunk = cond_both (root == 0) Done (Looking root None) (IsStageRead mode words Chunk) (λ _. tt) (λ some. ((is, more_than_none root some), tt))
-  root_read root is CopyAll = cond_both (root == 0) Done (Looking root None) (IsStageRead mode words CopyAll) (λ _. tt) (λ some. ((is, more_than_none root some), tt))
+  root_read root is Chunk = cond_both (root == 0) Done (Looking root 0 None) (IsStageRead mode words Chunk) (λ _. tt) (λ some. ((is, more_than_none root some), tt))
+  root_read root is CopyAll = cond_both (root == 0) Done (Looking root 0 None) (IsStageRead mode words CopyAll) (λ _. tt) (λ some. ((is, more_than_none root some), tt))
   root_read root is (Reserve more) =
       cond_both (root == 0) (makes (room_of more)) (Sizing root) (IsStageRead mode words (Reserve more))
       (λ none. makes_read (room_of more) (is ∙ eqb-true root 0 none) more)
@@ -196,7 +195,7 @@ module _ (mode : ResizeMode) (words : At → ℕ) where
   -- and a count
   judges_read : (root len : ℕ) → IsRoot words root → (room : Option Room) (more : ℕ) → IsStageRead mode words (Reserve more) (judges root len room)
   judges_read root len is None more = tt
-  judges_read root len is (Some room) more = cond_both (nat_le room.len len) Done (Looking root (Some room)) (IsStageRead mode words (Reserve more)) (λ _. tt) (λ _. (is, tt))
+  judges_read root len is (Some room) more = cond_both (nat_le room.len len) Done (Looking root len (Some room)) (IsStageRead mode words (Reserve more)) (λ _. tt) (λ _. (is, tt))
 
   count_read : (root len count : ℕ) → IsRoot words root → (resize : Resize) → IsStageRead mode words resize (at_count resize root len count)
   count_read root len count is Chunk = tt
@@ -207,14 +206,14 @@ module _ (mode : ResizeMode) (words : At → ℕ) where
   copies_read : (root : ℕ) → 0 < root → 0 < words (words_at.Next root) → (resize : Resize) → IsStageRead mode words resize (copies root)
   copies_read root some more resize = ((tt, tt), inr (record { some = some; aim = refl; next = more }))
 
-  last_read : (root : ℕ) → IsRoot words root → words (words_at.Next root) ≡ 0 → (resize : Resize) (room : Option Room) → IsStageRead mode words resize (at_last root room)
-  last_read root is none resize None = tt
-  last_read root is none resize (Some room) = (is, none)
+  last_read : (root len : ℕ) → IsRoot words root → words (words_at.Next root) ≡ 0 → (resize : Resize) (room : Option Room) → IsStageRead mode words resize (at_last mode root len room)
+  last_read root len is none resize None = tt
+  last_read root len is none resize (Some room) = (is, none)
 
-  next_read : (root next : ℕ) → IsRoot words root → words (words_at.Next root) ≡ next → (resize : Resize) (room : Option Room) → IsStageRead mode words resize (at_next root room next)
-  next_read root next is stands resize room =
-      cond_both (next == 0) (at_last root room) (copies root) (IsStageRead mode words resize)
-      (λ none. last_read root is (stands ∙ eqb-true next 0 none) resize room)
+  next_read : (root len next : ℕ) → IsRoot words root → words (words_at.Next root) ≡ next → (resize : Resize) (room : Option Room) → IsStageRead mode words resize (at_next mode root len room next)
+  next_read root len next is stands resize room =
+      cond_both (next == 0) (at_last mode root len room) (copies root) (IsStageRead mode words resize)
+      (λ none. last_read root len is (stands ∙ eqb-true next 0 none) resize room)
       (λ some. copies_read root is.1 (subst (λ n. 0 < n) (sym stands) (more_than_none next some)) resize)
 
   -- and a copy
@@ -253,9 +252,9 @@ module _ {K P : Type 0} (g : Setting K P) (c : Coding K P) (s : State P) (kind :
   told_none (HashOf n) answer es hands' told spends = told.1
   told_none (SamePair i n) answer es hands' told spends = told.1.0
   told_none Count answer es hands' told spends = told.1.0
-  told_none (MakeTable slots limit) answer es hands' told spends = told.1.0
+  told_none (MakeTable slots limit chunks) answer es hands' told spends = told.1.0
 
-module _ {K P : Type 0} (g : Setting K P) (c : Coding K P) (hashed : IsHashed g c) (s : State P) (m : K → Option P) (keeps : IsKeeping g s m) (bounded : IsBounded g s) (resize : Resize) (mode : ResizeMode) (initial : ℕ) (hands : Hands P) (moded : IsModeOf mode g.blocking) (chunked : IsChunked mode) where
+module _ {K P : Type 0} (g : Setting K P) (c : Coding K P) (hashed : IsHashed g c) (s : State P) (m : K → Option P) (keeps : IsKeeping g s m) (bounded : IsBounded g s) (resize : Resize) (mode : ResizeMode) (initial number : ℕ) (hands : Hands P) (moded : IsModeOf mode g.blocking) (cut : IsCutAs mode g.chunk_of) where
   -- the words
   abbrev words : At → ℕ
   words = word_of g c s
@@ -265,7 +264,7 @@ module _ {K P : Type 0} (g : Setting K P) (c : Coding K P) (hashed : IsHashed g 
 
   -- where a stage goes, after this answer
   abbrev goes : Answer → Stage → Stage
-  goes = after_in resize mode initial
+  goes = after_in resize mode initial number
 
   -- copies go from a root behind it at once
   aimed_lined : (from behind : ℕ) → IsAimed g c s from behind → (how : ResizeMode) → IsModeOf how g.blocking → IsIncremental how → behind ≡ from
@@ -278,17 +277,17 @@ module _ {K P : Type 0} (g : Setting K P) (c : Coding K P) (hashed : IsHashed g 
   lined last kept (copyings.Stepping aim (steps.Linking from link)) r = tt
   lined last kept (copyings.Stepping aim (steps.Judging from to)) r = tt
   lined last kept (copyings.Stepping aim (steps.Sizing from to)) r = tt
-  lined last kept (copyings.Stepping aim (steps.Counting from to len)) r = tt
+  lined last kept (copyings.Stepping aim (steps.Scanning scan)) r = tt
   lined last kept (copyings.Stepping aim (steps.Settling chunk settle)) r = tt
-  lined last kept (copyings.Stepping aim (steps.Advancing chunk)) r = tt
+  lined last kept (copyings.Stepping aim (steps.Advancing scan)) r = tt
   lined last kept (copyings.Stepping aim (steps.Promoting from to)) r = tt
   lined last kept (copyings.Lone slot settle) r = tt
 
   -- what the words answer to the making of a table
-  link_prompt : (link : Link) → RestsStage g c s hands (Linking link) → (answer : Answer) (es : List (Exchange P)) (hands' : Hands P) → IsCopyTold g c s (link_kind link) (follows link) hands (link_ask link) answer es hands' → IsCopyPrompt words (link_ask link) answer (words_after es)
-  link_prompt link r answer es hands' h =
+  link_prompt : (link : Link) → RestsStage g c s hands (Linking link) → HasWords g (Some link) → (answer : Answer) (es : List (Exchange P)) (hands' : Hands P) → IsCopyTold g c s (link_kind link) (follows link) hands (link_ask link) answer es hands' → IsCopyPrompt words (link_ask link) answer (words_after es)
+  link_prompt link r made answer es hands' h =
       told_prompt g c hashed s m keeps bounded hands (link_kind link) (follows link) (link_ask link) (link_there g c hashed s m keeps hands.call.last hands.kept link r)
-      (link_may g c hashed s m keeps hands.call.last hands.kept link r) answer es hands' h
+      (link_may g c hashed s m keeps hands.call.last hands.kept link r made) answer es hands' h
 
   module _ (before later : Budget) where
     -- the budget is spent, or less is left
@@ -304,14 +303,14 @@ module _ {K P : Type 0} (g : Setting K P) (c : Coding K P) (hashed : IsHashed g 
     spends_as : (ask ask' : CopyAsk) (answer answer' : Answer) → ask ≡ ask' → answer ≡ answer' → SpendsCopy ask answer before later → SpendsCopy ask' answer' before later
     spends_as ask ask' answer answer' q a spends = subst (λ y. SpendsCopy ask' y before later) a (subst (λ y. SpendsCopy y answer before later) q spends)
 
-    pub stage_nears : (stage : Stage) → RestsStage g c s hands stage → IsStageRead mode words resize stage → (answer : Answer) (es : List (Exchange P)) (hands' : Hands P) → IsStageTold g c s stage hands answer es hands' → (ask : CopyAsk) → asks_in stage ≡ Some ask → SpendsCopy ask answer before later
+    pub stage_nears : (stage : Stage) → RestsStage g c s hands stage → HasWords g (link_of stage) → IsStageRead mode words resize stage → (answer : Answer) (es : List (Exchange P)) (hands' : Hands P) → IsStageTold g c s stage hands answer es hands' → (ask : CopyAsk) → asks_in stage ≡ Some ask → SpendsCopy ask answer before later
         → HasNeared stage answer es
-    stage_nears AtRoot r read answer es hands' told ask asks spends =
+    stage_nears AtRoot r made read answer es hands' told ask asks spends =
         let h = told_of_ask g c s hands AtRoot (Load words_at.Root) refl answer es hands' told in
         let is : ask ≡ Load words_at.Root = cc asks in
         quiet_near AtRoot answer (answers.Call (Word_read s.root)) es h.0 h.1 (spends_as ask (Load words_at.Root) answer (answers.Call (Word_read s.root)) is h.0 spends) (root_less s.root s.root resize)
-    stage_nears (Making room) r read answer es hands' told ask asks spends =
-        let q : CopyAsk = MakeTable room.len room.limit in
+    stage_nears (Making room) r made read answer es hands' told ask asks spends =
+        let q : CopyAsk = MakeTable room.len room.limit 0 in
         let h = told_of_ask g c s hands (Making room) q refl answer es hands' told in
         let is : ask ≡ q = cc asks in
         ⊎_elim
@@ -319,7 +318,7 @@ module _ {K P : Type 0} (g : Setting K P) (c : Coding K P) (hashed : IsHashed g 
         quiet_near (Making room) answer (answers.Call (Was_refused u.0)) es u.1 h.1.0 (spends_as ask q answer (answers.Call (Was_refused u.0)) is u.1 spends) (omega arith))
         (λ (n : (n : ℕ) × (0 < n) × (answer ≡ answers.Call (Made_number n))). inl (inl (spends_as ask q answer (answers.Call (Made_number n.0)) is n.2 spends)))
         h.0
-    stage_nears (Opening table) r read answer es hands' told ask asks spends =
+    stage_nears (Opening table) r made read answer es hands' told ask asks spends =
         let q : CopyAsk = Ask_exchange words_at.Root 0 table in
         let is : ask ≡ q = cc asks in
         by_test (s.root == 0)
@@ -328,39 +327,39 @@ module _ {K P : Type 0} (g : Setting K P) (c : Coding K P) (hashed : IsHashed g 
         (HasNeared (Opening table) answer es) told
         (λ none (a, e, h). inl (inr (spends_as ask q answer (answers.Call Exchanged) is a spends)))
         (λ some (a, h). absurd (eqb-false s.root 0 some read))
-    stage_nears (Sizing root) r read answer es hands' told ask asks spends =
+    stage_nears (Sizing root) r made read answer es hands' told ask asks spends =
         let h = told_of_ask g c s hands (Sizing root) (SizeOf root) refl answer es hands' told in
         let is : ask ≡ SizeOf root = cc asks in
         let a : Answer = answers.Call (Size (g.size root) h.0.0) in
         quiet_near (Sizing root) answer a es h.0.2 h.1.0 (spends_as ask (SizeOf root) answer a is h.0.2 spends) (omega arith)
-    stage_nears (Counting root len) r read answer es hands' told ask asks spends =
+    stage_nears (Counting root len) r made read answer es hands' told ask asks spends =
         let h = told_of_ask g c s hands (Counting root len) Count refl answer es hands' told in
         let is : ask ≡ Count = cc asks in
         quiet_near (Counting root len) answer (answers.Count h.0.0) es h.0.1 h.1.0 (spends_as ask Count answer (answers.Count h.0.0) is h.0.1 spends) (count_less s.root root len h.0.0 resize)
-    stage_nears (Looking root room) r read answer es hands' told ask asks spends =
+    stage_nears (Looking root len room) r made read answer es hands' told ask asks spends =
         let q : CopyAsk = Load (words_at.Next root) in
-        let h = told_of_ask g c s hands (Looking root room) q refl answer es hands' told in
+        let h = told_of_ask g c s hands (Looking root len room) q refl answer es hands' told in
         let is : ask ≡ q = cc asks in
         let a : Answer = answers.Call (Word_read (s.next root)) in
-        quiet_near (Looking root room) answer a es h.0 h.1 (spends_as ask q answer a is h.0 spends) (next_less s.root root read.0.0 room (s.next root))
-    stage_nears (Linking link) r read answer es hands' told ask asks spends =
+        quiet_near (Looking root len room) answer a es h.0 h.1 (spends_as ask q answer a is h.0 spends) (next_less s.root mode root len read.0.0 room (s.next root))
+    stage_nears (Linking link) r made read answer es hands' told ask asks spends =
         let h = told_of_ask g c s hands (Linking link) (link_ask link) refl answer es hands' told in
         let is : ask ≡ link_ask link = cc asks in
-        let answers_so = link_prompt link r answer es hands' h in
-        let nears = (link_ends words (words_after es) initial link answer read.1 answers_so).0 in
+        let answers_so = link_prompt link r made answer es hands' h in
+        let nears = (link_ends mode words (words_after es) initial link answer read.1 answers_so).0 in
         ⊎_elim (λ (spent : IsSpent before later). inl spent)
         (λ (quiet : (later ≡ before) × (IsSpending answer → ⊥)).
-        let less : left_of_linked (link_after link initial answer) < left_of_link link = ⊎_elim (λ (x : IsSpending answer). absurd (quiet.1 x)) (λ (l : left_of_linked (link_after link initial answer) < left_of_link link). l) nears in
+        let less : left_of_linked (link_after link mode initial answer) < left_of_link link = ⊎_elim (λ (x : IsSpending answer). absurd (quiet.1 x)) (λ (l : left_of_linked (link_after link mode initial answer) < left_of_link link). l) nears in
         quiet_near (Linking link) answer answer es refl (told_none g c s (link_kind link) (follows link) hands (link_ask link) answer es hands' h quiet.1) quiet.0
-        (linked_less s.root (follows link) (left_of_link link) (link_most link) (link_after link initial answer) less))
+        (linked_less s.root (follows link) (left_of_link link) (link_most link) (link_after link mode initial answer) less))
         (spent_by words (words_after es) before later (link_ask link) answer answers_so (spends_as ask (link_ask link) answer answer is refl spends))
-    stage_nears (Copying from copying) (own, r) read answer es hands' told ask asks spends =
+    stage_nears (Copying from copying) (own, r) made read answer es hands' told ask asks spends =
         let h = told_of_ask g c s hands (Copying from copying) (copying_ask copying) refl answer es hands' told in
         let is : ask ≡ copying_ask copying = cc asks in
-        let answers_so = prompt g c hashed s m keeps bounded mode initial hands copying r read.0 answer es hands' h in
+        let answers_so = prompt g c hashed s m keeps bounded mode initial number hands copying r made read.0 answer es hands' h in
         let bare = words_bare g c (run es s) in
-        let end : Copied = copying_after copying mode initial answer in
-        let nears = (copying_ends mode initial words (words_after es) bare copying answer read.0 answers_so).0 in
+        let end : Copied = copying_after copying mode initial number answer in
+        let nears = (copying_ends mode initial number words (words_after es) bare copying answer read.0 answers_so).0 in
         ⊎_elim (λ (spent : IsSpent before later). inl spent)
         (λ (quiet : (later ≡ before) × (IsSpending answer → ⊥)).
         let none = told_none g c s _ _ hands (copying_ask copying) answer es hands' h quiet.1 in
@@ -369,13 +368,13 @@ module _ {K P : Type 0} (g : Setting K P) (c : Coding K P) (hashed : IsHashed g 
         ⊎_elim (λ (chunk : (resize ≡ Chunk) × (from ≡ 0)). chunk_ends s.root resize from end chunk.0)
         (λ (all : IsFrom words from copying).
         all_ends s.root (words_after es) mode resize from all.some (ap (λ l. (run l s).root) none) (subst (λ l. 0 < (run l s).next from) (sym none) all.next) end
-        (copy_leads mode initial words (words_after es) bare from all.some copying answer all.aim (lined hands.call.last hands.kept copying r) read.0 answers_so))
+        (copy_leads mode initial number words (words_after es) bare from all.some copying answer all.aim (lined hands.call.last hands.kept copying r) read.0 answers_so))
         read.1
         in
         quiet_near (Copying from copying) answer answer es refl none quiet.0 (copied_less s.root resize from (left_of_copying copying) end less ends))
         (spent_by words (words_after es) before later (copying_ask copying) answer answers_so (spends_as ask (copying_ask copying) answer answer is refl spends))
-    stage_nears Done r read answer es hands' told ask asks spends = absurd cc
-    stage_nears (Ended_refused refused) r read answer es hands' told ask asks spends = absurd cc
+    stage_nears Done r made read answer es hands' told ask asks spends = absurd cc
+    stage_nears (Ended_refused refused) r made read answer es hands' told ask asks spends = absurd cc
 
   -- what was read stands there still
   abbrev IsStill : Stage → Answer → List (Exchange P) → Type 0
@@ -389,49 +388,49 @@ module _ {K P : Type 0} (g : Setting K P) (c : Coding K P) (hashed : IsHashed g 
   linked_read es hands' root is some (linked_to.Table table) read rests = copies_read mode (words_after es) root some (subst (λ t. 0 < t) (sym rests.0) rests.1) resize
   linked_read es hands' root is some (linked_to.Refused refused) read rests = tt
 
-  pub stage_current : (stage : Stage) → RestsStage g c s hands stage → IsStageRead mode words resize stage → (answer : Answer) (es : List (Exchange P)) (hands' : Hands P) → IsStageTold g c s stage hands answer es hands' → IsStill stage answer es
-  stage_current AtRoot r read answer es hands' told =
+  pub stage_current : (stage : Stage) → RestsStage g c s hands stage → HasWords g (link_of stage) → IsStageRead mode words resize stage → (answer : Answer) (es : List (Exchange P)) (hands' : Hands P) → IsStageTold g c s stage hands answer es hands' → IsStill stage answer es
+  stage_current AtRoot r made read answer es hands' told =
       let h = told_of_ask g c s hands AtRoot (Load words_at.Root) refl answer es hands' told in
       quiet_read AtRoot answer (answers.Call (Word_read s.root)) es h.0 h.1 (root_read mode words s.root refl resize)
-  stage_current (Making room) r read answer es hands' told =
-      let h = told_of_ask g c s hands (Making room) (MakeTable room.len room.limit) refl answer es hands' told in
+  stage_current (Making room) r made read answer es hands' told =
+      let h = told_of_ask g c s hands (Making room) (MakeTable room.len room.limit 0) refl answer es hands' told in
       ⊎_elim
       (λ (u : (refused : Refused) × (answer ≡ answers.Call (Was_refused refused))). quiet_read (Making room) answer (answers.Call (Was_refused u.0)) es u.1 h.1.0 tt)
       (λ (n : (n : ℕ) × (0 < n) × (answer ≡ answers.Call (Made_number n))). quiet_read (Making room) answer (answers.Call (Made_number n.0)) es n.2 h.1.0 read)
       h.0
-  stage_current (Opening table) r read answer es hands' told =
+  stage_current (Opening table) r made read answer es hands' told =
       by_test (s.root == 0)
       ((answer ≡ answers.Call Exchanged) × (es ≡ Open table ∷ []) × (hands' ≡ hands))
       ((answer ≡ answers.Call (Found_instead s.root)) × Quiet g c hands es hands')
       (IsStill (Opening table) answer es) told
       (λ none (a, e, h). subst (λ y. IsStill (Opening table) y es) (sym a) tt)
       (λ some (a, h). subst (λ y. IsStill (Opening table) y es) (sym a) tt)
-  stage_current (Sizing root) r read answer es hands' told =
+  stage_current (Sizing root) r made read answer es hands' told =
       let h = told_of_ask g c s hands (Sizing root) (SizeOf root) refl answer es hands' told in
       quiet_read (Sizing root) answer (answers.Call (Size (g.size root) h.0.0)) es h.0.2 h.1.0 read
-  stage_current (Counting root len) r read answer es hands' told =
+  stage_current (Counting root len) r made read answer es hands' told =
       let h = told_of_ask g c s hands (Counting root len) Count refl answer es hands' told in
       quiet_read (Counting root len) answer (answers.Count h.0.0) es h.0.1 h.1.0 (count_read mode words root len h.0.0 read.0 resize)
-  stage_current (Looking root room) r read answer es hands' told =
-      let h = told_of_ask g c s hands (Looking root room) (Load (words_at.Next root)) refl answer es hands' told in
-      quiet_read (Looking root room) answer (answers.Call (Word_read (s.next root))) es h.0 h.1 (next_read mode words root (s.next root) read.0 refl resize room)
-  stage_current (Linking link) r read answer es hands' told =
+  stage_current (Looking root len room) r made read answer es hands' told =
+      let h = told_of_ask g c s hands (Looking root len room) (Load (words_at.Next root)) refl answer es hands' told in
+      quiet_read (Looking root len room) answer (answers.Call (Word_read (s.next root))) es h.0 h.1 (next_read mode words root len (s.next root) read.0 refl resize room)
+  stage_current (Linking link) r made read answer es hands' told =
       let h = told_of_ask g c s hands (Linking link) (link_ask link) refl answer es hands' told in
-      let answers_so = link_prompt link r answer es hands' h in
-      let out = link_learns g c s m keeps initial hands link r answer es hands' h in
-      linked_read es hands' (follows link) (stays_at words (words_after es) answer (link_ask link) answers_so words_at.Root (link_puts link words_at.Root tt) ∙ read.0.0) read.0.1 (link_after link initial answer) (link_ends words (words_after es) initial link answer read.1 answers_so).1 out.1
-  stage_current (Copying from copying) (own, r) read answer es hands' told =
+      let answers_so = link_prompt link r made answer es hands' h in
+      let out = link_learns g c s m keeps mode initial hands link r made answer es hands' h in
+      linked_read es hands' (follows link) (stays_at words (words_after es) answer (link_ask link) answers_so words_at.Root (link_puts link words_at.Root tt) ∙ read.0.0) read.0.1 (link_after link mode initial answer) (link_ends mode words (words_after es) initial link answer read.1 answers_so).1 out.1
+  stage_current (Copying from copying) (own, r) made read answer es hands' told =
       let h = told_of_ask g c s hands (Copying from copying) (copying_ask copying) refl answer es hands' told in
-      let answers_so = prompt g c hashed s m keeps bounded mode initial hands copying r read.0 answer es hands' h in
+      let answers_so = prompt g c hashed s m keeps bounded mode initial number hands copying r made read.0 answer es hands' h in
       let bare = words_bare g c (run es s) in
-      let end : Copied = copying_after copying mode initial answer in
-      let may = (stage_learns g c hashed s m keeps resize mode initial hands moded chunked (Copying from copying) (own, r) answer es hands' told).0 in
-      copied_read mode (words_after es) resize from end (copying_ends mode initial words (words_after es) bare copying answer read.0 answers_so).1
+      let end : Copied = copying_after copying mode initial number answer in
+      let may = (stage_learns g c hashed s m keeps resize mode initial number hands moded cut (Copying from copying) (own, r) made answer es hands' told).0 in
+      copied_read mode (words_after es) resize from end (copying_ends mode initial number words (words_after es) bare copying answer read.0 answers_so).1
       (⊎_elim (λ (chunk : (resize ≡ Chunk) × (from ≡ 0)). λ (goes_on : Root_copying) (is : end ≡ copied_to.On goes_on). inl chunk)
       (λ (all : IsFrom words from copying).
       let same = (later_run g hashed.lawful es s may).next from all.next in
       still_all mode (words_after es) from all.some (subst (λ n. 0 < n) (sym same) all.next) resize end
-      (copy_leads mode initial words (words_after es) bare from all.some copying answer all.aim (lined hands.call.last hands.kept copying r) read.0 answers_so))
+      (copy_leads mode initial number words (words_after es) bare from all.some copying answer all.aim (lined hands.call.last hands.kept copying r) read.0 answers_so))
       read.1)
-  stage_current Done r read answer es hands' told = let asked = told.1 in absurd cc
-  stage_current (Ended_refused refused) r read answer es hands' told = let asked = told.1 in absurd cc
+  stage_current Done r made read answer es hands' told = let asked = told.1 in absurd cc
+  stage_current (Ended_refused refused) r made read answer es hands' told = let asked = told.1 in absurd cc

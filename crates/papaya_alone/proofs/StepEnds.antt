@@ -1,8 +1,11 @@
 -- What each answer leaves to the copy of a chunk.
-use Rattle.std.proofs.Common.{◌≡◌, ◌⊎◌, inl, inr, ℕ, ◌+◌, ◌*◌, ◌-◌, ◌^◌, ◌<◌, ◌≤◌, ◌==◌, nat_lt, nat_le, not, ltb-true, leb-false, true, false, sym, ap, ◌∙◌, subst, arith, eqb-true}
-use Rattle.std.proofs.lemmas.Bool.{cond_both}
+use Rattle.std.proofs.Common.{◌≡◌, ◌⊎◌, inl, inr, ℕ, ◌+◌, ◌*◌, ◌-◌, ◌^◌, ◌%◌, ◌<◌, ◌≤◌, ◌==◌, ◌&&◌, nat_lt, nat_le, not, cond, Bool, ltb-true, leb-false, true, false, sym, ap, ◌∙◌, subst, arith, eqb-true}
+use Rattle.std.proofs.lemmas.Bool.{and_parts, cond_both, not-false, not-true}
+use Rattle.papaya_words.specs.Chunks.{chunk_count, chunk_len}
 use Rattle.papaya_words.specs.declared.probe.ResizeMode.{ResizeMode}
 use Rattle.papaya_words.specs.declared.probe.ResizeMode.TheVariants.{Incremental, Blocking}
+use Rattle.papaya_words.proofs.ChunkLemmas.{chunk_some}
+use Rattle.papaya_ask.specs.Search.{IsSize}
 use Rattle.papaya_ask.specs.declared.ask.At.{At}
 use Rattle.papaya_ask.specs.declared.ask.At.TheVariants as words_at
 use Rattle.papaya_ask.specs.declared.ask.Answer.TheVariants.{Exchanged}
@@ -13,21 +16,24 @@ use Rattle.papaya_copy.specs.declared.settle.Settle.TheVariants as settles
 use Rattle.papaya_copy.specs.declared.settle.Settled.{Settled}
 use Rattle.papaya_copy.specs.declared.settle.Settled.TheVariants as settled
 use Rattle.papaya_copy.specs.declared.step.Chunk.{Chunk}
+use Rattle.papaya_copy.specs.declared.step.Scan.{Scan}
 use Rattle.papaya_copy.specs.declared.step.Step.{Step}
 use Rattle.papaya_copy.specs.declared.step.Step.TheVariants as steps
 use Rattle.papaya_copy.specs.declared.step.Stepped.{Stepped}
 use Rattle.papaya_copy.specs.declared.step.Stepped.TheVariants as stepped
 use Rattle.papaya_copy.specs.Link.{link_ask}
 use Rattle.papaya_copy.specs.Settle.{settle_ask}
-use Rattle.papaya_copy.specs.Step.{aimed, chunk_at, chunk_of, counted, end_of, judged, linked_to, next_slot, settled_to, slot_of, step_ask}
+use Rattle.papaya_copy.specs.Step.{aimed, chunk_at, end_of, first_chunk, first_scan, is_further, judged, linked_to, next_chunk, next_scan, next_slot, scanned, settled_to, slot_of, step_ask}
+use Rattle.papaya_copy.proofs.Starts.{start_low, start_within}
 use Rattle.papaya_chain.specs.declared.ask.Answer.{Answer}
 use Rattle.papaya_chain.specs.declared.ask.Answer.TheVariants as answers
 use Rattle.papaya_chain.specs.Machine.{link_after}
-use Rattle.papaya_rests.specs.Alone.{IsBare, IsPut}
+use Rattle.papaya_rests.specs.Alone.{IsBare, IsPut, IsSame}
 use Rattle.papaya_rests.proofs.AloneSteps.{exchange_done}
+use Rattle.papaya_rests.proofs.CopierScans.{round_first}
 use Rattle.papaya_alone.specs.Prompt.{IsCopyPrompt, IsNumber}
-use Rattle.papaya_alone.specs.Measure.{further, left_of_link, left_of_linked, left_of_settle, left_of_settled, left_of_step, left_of_stepped}
-use Rattle.papaya_alone.specs.Current.{IsAlive, IsLinkedRead, IsSettledRead, IsStepRead, IsSteppedRead}
+use Rattle.papaya_alone.specs.Measure.{further, left_of_chunk, left_of_link, left_of_linked, left_of_settle, left_of_settled, left_of_step, left_of_stepped, words_left}
+use Rattle.papaya_alone.specs.Current.{IsAlive, IsDueRead, IsLinkedRead, IsScanRead, IsSettledRead, IsStepRead, IsSteppedRead}
 use Rattle.papaya_alone.proofs.Afters.{settle_after, step_after, step_links, step_settles}
 use Rattle.papaya_alone.proofs.LinkEnds.{link_ends, link_puts}
 use Rattle.papaya_alone.proofs.CarryEnds.{still_alive}
@@ -35,11 +41,24 @@ use Rattle.papaya_alone.proofs.SettleEnds.{settle_ends, settle_puts}
 use Rattle.papaya_alone.proofs.Telling.{Nears, nearer, stays_at}
 
 -- a chunk ends within its table
-end_most : (len done slots : ℕ) → end_of len done slots ≤ len
-end_most len done slots =
-    cond_both (nat_lt slots (len - done)) (done + slots) len (λ y. y ≤ len)
-    (λ less. let l : slots < len - done = ltb-true slots (len - done) less in omega arith)
+end_most : (scan : Scan) → end_of scan ≤ scan.len
+end_most scan =
+    cond_both (nat_lt scan.slots (scan.len - scan.begun)) (scan.begun + scan.slots) scan.len (λ y. y ≤ scan.len)
+    (λ less. let l : scan.slots < scan.len - scan.begun = ltb-true scan.slots (scan.len - scan.begun) less in omega (arith, l))
     (λ more. omega arith)
+
+-- fewer words are left where the scan goes on
+next_fewer : (wrapped : Bool) (start at len begun slots : ℕ) → 0 < slots → (nat_lt slots (len - begun) && not (wrapped && nat_le start (at + 1))) ≡ true
+    → cond wrapped (start - (at + 1)) (len - (begun + slots) + start + 1) < cond wrapped (start - at) (len - begun + start + 1)
+next_fewer true start at len begun slots some e =
+    let back : at + 1 < start = leb-false start (at + 1) (not-true (nat_le start (at + 1)) (and_parts (nat_lt slots (len - begun)) (not (nat_le start (at + 1))) e).1) in
+    omega (arith, back)
+next_fewer false start at len begun slots some e =
+    let less : slots < len - begun = ltb-true slots (len - begun) (and_parts (nat_lt slots (len - begun)) true e).0 in
+    omega (arith, less, some)
+
+first_fewer : (scan : Scan) → scan.wrapped ≡ false → words_left (first_chunk scan) < words_left scan
+first_fewer scan is = subst (λ w. scan.start - 0 < cond w (scan.start - scan.at) (scan.len - scan.begun + scan.start + 1)) (sym is) (omega arith)
 
 module _ (mode : ResizeMode) (words : At → ℕ) where
   -- no more is left than this, and what was read stands there
@@ -60,7 +79,7 @@ module _ (mode : ResizeMode) (words : At → ℕ) where
       (λ none. (omega arith, tt))
       (λ some. (omega arith, (root, tt)))
   aimed_within Blocking from behind next root is number =
-      cond_both (next == 0) (stepped.On (steps.Linking from (links.Sizing behind (not (behind == from))))) (stepped.On (steps.Judging from next)) (λ y. (left_of_stepped y ≤ 2 ^ 102 + 5 + 2 * further behind) × IsSteppedRead Blocking words y)
+      cond_both (next == 0) (stepped.On (steps.Linking from (links.Sizing behind from (not (behind == from))))) (stepped.On (steps.Judging from next)) (λ y. (left_of_stepped y ≤ 2 ^ 102 + 5 + 2 * further behind) × IsSteppedRead Blocking words y)
       (λ none. (omega arith, (root, is ∙ eqb-true next 0 none)))
       (λ some. (lower number some, root))
     where
@@ -80,35 +99,75 @@ module _ (mode : ResizeMode) (words : At → ℕ) where
       (λ none. (omega arith, (root, judged_alive mode to word is (eqb-true word 0 none))))
       (λ some. (omega arith, root))
 
-  -- so many slots are copied at a time
-  counted_within : (from to len done : ℕ) → words words_at.Root ≡ from → IsAlive mode words to → words (words_at.Done to) ≡ done → Within (len * 2 ^ 68 + 2) (stepped.On (counted from to len mode done))
-  counted_within from to len done root alive is =
-      cond_both (nat_le len done) (steps.Promoting from to) (steps.Settling (chunk_at from to len done (chunk_of mode)) settles.Looking) (λ y. Within (len * 2 ^ 68 + 2) (stepped.On y))
-      (λ over. (omega arith, root))
-      (λ some.
-      let l : done < len = leb-false len done some in
-      let e : end_of len done (chunk_of mode) ≤ len = end_most len done (chunk_of mode) in
-      (omega (arith, l, e), (root, is, alive)))
+  module _ (scan : Scan) (read : IsScanRead mode words scan) where
+    -- less is left, and what was read stands there
+    abbrev Goes : Step → Type 0
+    Goes step = (left_of_step step < left_of_step (steps.Scanning scan)) × IsStepRead mode words step
+
+    -- the next word is loaded, or all were
+    next_goes : Goes (next_scan scan)
+    next_goes =
+        cond_both (is_further scan) (steps.Scanning (next_chunk scan)) (cond (not scan.wrapped && nat_lt 0 scan.start) (steps.Scanning (first_chunk scan)) (steps.Promoting scan.from scan.to)) Goes
+        (λ e. let l = next_fewer scan.wrapped scan.start scan.at scan.len scan.begun scan.slots read.some e in (omega (arith, l), record { some = read.some; root = read.root; alive = read.alive }))
+        (λ e.
+        cond_both (not scan.wrapped && nat_lt 0 scan.start) (steps.Scanning (first_chunk scan)) (steps.Promoting scan.from scan.to) Goes
+        (λ f. let l = first_fewer scan (round_first scan.wrapped (nat_lt 0 scan.start) f) in (omega (arith, l), record { some = read.some; root = read.root; alive = read.alive }))
+        (λ f. (omega arith, read.root)))
+
+    -- the word of a chunk was loaded
+    pub scanned_within : (done : ℕ) → words (words_at.Done scan.to scan.at) ≡ done → (left_of_stepped (scanned scan done) < left_of_step (steps.Scanning scan)) × IsSteppedRead mode words (scanned scan done)
+    scanned_within done is =
+        cond_both (not (done == 0)) (stepped.On (next_scan scan)) (cond scan.copied (stepped.Further (chunk_at scan)) (stepped.On (steps.Settling (chunk_at scan) settles.Looking))) Goes_on
+        (λ _. next_goes)
+        (λ e.
+        cond_both scan.copied (stepped.Further (chunk_at scan)) (stepped.On (steps.Settling (chunk_at scan) settles.Looking)) Goes_on
+        (λ _. (chunk_less, (due e, read.alive)))
+        (λ _. (chunk_less, (due e, read.alive))))
+      where
+        Goes_on : Stepped → Type 0
+        Goes_on y = (left_of_stepped y < left_of_step (steps.Scanning scan)) × IsSteppedRead mode words y
+
+        due : not (done == 0) ≡ false → IsDueRead mode words scan
+        due e = record { some = read.some; root = read.root; due = is ∙ eqb-true done 0 (not-false (done == 0) e) }
+
+        chunk_less : left_of_chunk (chunk_at scan) settles.Looking < left_of_step (steps.Scanning scan)
+        chunk_less = let l = end_most scan in omega (arith, l)
+
+  -- the words are loaded from a chunk of the table on
+  first_within : (from to len limit number : ℕ) → IsSize len limit → words words_at.Root ≡ from → IsAlive mode words to → Within (2 ^ 102 + 1) (stepped.On (steps.Scanning (first_scan from to len mode number)))
+  first_within from to len limit number size root alive =
+      let within = start_within len number mode size.power in
+      let low = start_low (number % chunk_count len (chunk_len mode)) mode in
+      let most = size.most in
+      (omega (arith, within, low, most), record { some = chunk_some mode; root = root; alive = alive })
 
   -- the copy of a slot leads on
-  settled_within : (chunk : Chunk) (end : Settled) → words words_at.Root ≡ chunk.from → words (words_at.Done chunk.to) ≡ chunk.begun → IsSettledRead mode words (slot_of chunk) end
+  settled_within : (chunk : Chunk) (end : Settled) → IsDueRead mode words chunk.scan → IsSettledRead mode words (slot_of chunk) end
       → Within ((chunk.end - chunk.at - 1) * 2 ^ 68 + left_of_settled end + 2) (settled_to chunk end)
-  settled_within chunk (settled.On settle) root done read = (omega arith, (root, done, read))
-  settled_within chunk settled.Settled root done read =
-      cond_both (nat_lt (chunk.at + 1) chunk.end) (stepped.On (steps.Settling (next_slot chunk) settles.Looking)) (stepped.On (steps.Advancing (next_slot chunk))) (Within ((chunk.end - chunk.at - 1) * 2 ^ 68 + 0 + 2))
-      (λ more. let l : chunk.at + 1 < chunk.end = ltb-true (chunk.at + 1) chunk.end more in (omega (arith, l), (root, done, read)))
-      (λ over. (omega arith, (root, done)))
-  settled_within chunk (settled.Unfit table) root done read = (omega arith, root)
-  settled_within chunk (settled.Refused refused) root done read = (omega arith, tt)
+  settled_within chunk (settled.On settle) due read = (omega arith, (due, read))
+  settled_within chunk settled.Settled due read =
+      cond_both (nat_lt (chunk.at + 1) chunk.end) (stepped.On (steps.Settling (next_slot chunk) settles.Looking)) (stepped.On (steps.Advancing chunk.scan)) (Within ((chunk.end - chunk.at - 1) * 2 ^ 68 + 0 + 2))
+      (λ more. let l : chunk.at + 1 < chunk.end = ltb-true (chunk.at + 1) chunk.end more in (omega (arith, l), (due, read)))
+      (λ over. (omega arith, (due, read)))
+  settled_within chunk (settled.Unfit table) due read = (omega arith, due.root)
+  settled_within chunk (settled.Refused refused) due read = (omega arith, tt)
 
-module _ (mode : ResizeMode) (initial : ℕ) (words words' : At → ℕ) (bare : IsBare words') where
+module _ (mode : ResizeMode) (initial number : ℕ) (words words' : At → ℕ) (bare : IsBare words') where
   -- after this answer
   abbrev pub StepEnds : Step → Answer → Type 0
-  StepEnds step answer = Nears answer (left_of_stepped (step_after step mode initial answer)) (left_of_step step) × IsSteppedRead mode words' (step_after step mode initial answer)
+  StepEnds step answer = Nears answer (left_of_stepped (step_after step mode initial number answer)) (left_of_step step) × IsSteppedRead mode words' (step_after step mode initial number answer)
 
   -- a number stays one
   same_number : (t : ℕ) → words' (words_at.Next t) ≡ words (words_at.Next t) → IsNumber words (words_at.Next t) → IsNumber words' (words_at.Next t)
   same_number t same number = subst (λ n. (n ≡ 0) ⊎ ((t < n) × (n ≤ 2 ^ 32))) (sym same) number
+
+  -- a table that was not given up still is not
+  alive_after : (from to : ℕ) → IsAlive mode words to → words' (words_at.Aborted to) ≡ words (words_at.Aborted to) → IsAlive mode words' to
+  alive_after from to alive same = still_alive mode words words' (record { from = from; index = 0; to = to }) 0 mode alive same
+
+  -- a scan has read what stands there still
+  pub same_scan : (scan : Scan) → IsScanRead mode words scan → IsSame words words' → IsScanRead mode words' scan
+  same_scan scan read same = record { some = read.some; root = same words_at.Root ∙ read.root; alive = alive_after scan.from scan.to read.alive (same (words_at.Aborted scan.to)) }
 
   -- in each state
   pub step_ends : (step : Step) (answer : Answer) → IsStepRead mode words step → IsCopyPrompt words (step_ask step) answer words' → StepEnds step answer
@@ -118,10 +177,10 @@ module _ (mode : ResizeMode) (initial : ℕ) (words words' : At → ℕ) (bare :
       let l = f.0 in
       subst (StepEnds (steps.Aiming from behind)) (sym told.0.0) (inr (omega (arith, l)), f.1)
   step_ends (steps.Linking from link) answer read told =
-      let e = link_ends words words' initial link answer read.1 told in
-      let end : Linked = link_after link initial answer in
+      let e = link_ends mode words words' initial link answer read.1 told in
+      let end : Linked = link_after link mode initial answer in
       let f = linked_within mode words' from end (stays_at words words' answer (link_ask link) told words_at.Root (link_puts link words_at.Root tt) ∙ read.0) e.1 in
-      subst (λ y. Nears answer (left_of_stepped y) (left_of_link link) × IsSteppedRead mode words' y) (sym (step_links mode initial from link answer))
+      subst (λ y. Nears answer (left_of_stepped y) (left_of_link link) × IsSteppedRead mode words' y) (sym (step_links mode initial number from link answer))
       (nearer answer (left_of_linked end) (left_of_link link) _ _ e.0 (λ less. let l = f.0 in omega (arith, l, less)), f.1)
   step_ends (steps.Judging from to) answer read told =
       let f = judged_within mode words' from to (words (words_at.Aborted to)) (told.1 words_at.Root ∙ read) (told.1 (words_at.Aborted to)) in
@@ -129,28 +188,32 @@ module _ (mode : ResizeMode) (initial : ℕ) (words words' : At → ℕ) (bare :
       subst (StepEnds (steps.Judging from to)) (sym told.0.0) (inr (omega (arith, l)), f.1)
   step_ends (steps.Sizing from to) answer read told =
       let (slots, limit, size, e) = told.0 in
-      subst (StepEnds (steps.Sizing from to)) (sym e) (inr (let most = size.most in omega (arith, most)), (told.1 words_at.Root ∙ read.0, still_alive mode words words' (record { from = from; index = 0; to = to }) 0 mode read.1 (told.1 (words_at.Aborted to))))
-  step_ends (steps.Counting from to len) answer read told =
-      let f = counted_within mode words' from to len (words (words_at.Done to)) (told.1 words_at.Root ∙ read.0) (still_alive mode words words' (record { from = from; index = 0; to = to }) 0 mode read.1 (told.1 (words_at.Aborted to))) (told.1 (words_at.Done to)) in
+      let f = first_within mode words' from to slots limit number size (told.1 words_at.Root ∙ read.0) (alive_after from to read.1 (told.1 (words_at.Aborted to))) in
       let l = f.0 in
-      subst (StepEnds (steps.Counting from to len)) (sym told.0.0) (inr (omega (arith, l)), f.1)
+      subst (StepEnds (steps.Sizing from to)) (sym e) (inr (omega (arith, l)), f.1)
+  step_ends (steps.Scanning scan) answer read told =
+      let here : At = words_at.Done scan.to scan.at in
+      let f = scanned_within mode words' scan (same_scan scan read told.1) (words here) (told.1 here) in
+      let l = f.0 in
+      subst (StepEnds (steps.Scanning scan)) (sym told.0.0) (inr (omega (arith, l)), f.1)
   step_ends (steps.Settling chunk settle) answer read told =
-      let e = settle_ends mode initial words words' bare (slot_of chunk) settle answer read.2 told in
+      let e = settle_ends mode initial words words' bare (slot_of chunk) settle answer read.1 told in
       let end : Settled = settle_after settle (slot_of chunk) mode initial answer in
       let ask = settle_ask settle (slot_of chunk) in
-      let f = settled_within mode words' chunk end
-      (stays_at words words' answer ask told words_at.Root (settle_puts settle (slot_of chunk) words_at.Root tt) ∙ read.0)
-      (stays_at words words' answer ask told (words_at.Done chunk.to) (settle_puts settle (slot_of chunk) (words_at.Done chunk.to) tt) ∙ read.1) e.1 in
-      subst (λ y. Nears answer (left_of_stepped y) ((chunk.end - chunk.at - 1) * 2 ^ 68 + left_of_settle settle + 2) × IsSteppedRead mode words' y) (sym (step_settles mode initial chunk settle answer))
+      let here : At = words_at.Done chunk.scan.to chunk.scan.at in
+      let due : IsDueRead mode words' chunk.scan = record {
+        some = read.0.some;
+        root = stays_at words words' answer ask told words_at.Root (settle_puts settle (slot_of chunk) words_at.Root tt) ∙ read.0.root;
+        due = stays_at words words' answer ask told here (settle_puts settle (slot_of chunk) here tt) ∙ read.0.due;
+      } in
+      let f = settled_within mode words' chunk end due e.1 in
+      subst (λ y. Nears answer (left_of_stepped y) ((chunk.end - chunk.at - 1) * 2 ^ 68 + left_of_settle settle + 2) × IsSteppedRead mode words' y) (sym (step_settles mode initial number chunk settle answer))
       (nearer answer (left_of_settled end) (left_of_settle settle) _ _ e.0 (λ less. let l = f.0 in omega (arith, l, less)), f.1)
-  step_ends (steps.Advancing chunk) answer read told =
-      let here : At = words_at.Done chunk.to in
-      let done : (answer ≡ answers.Call Exchanged) × IsPut words here chunk.end words' = exchange_done _ _ (words here) chunk.begun read.1 told in
-      subst (StepEnds (steps.Advancing chunk)) (sym done.0) (
-        inl tt,
-        cond_both (nat_le chunk.len chunk.end) (stepped.On (steps.Promoting chunk.from chunk.to)) stepped.Over (IsSteppedRead mode words')
-            (λ all. done.1.others words_at.Root (λ e. cc) ∙ read.0) (λ some. tt),
-      )
+  step_ends (steps.Advancing scan) answer read told =
+      let here : At = words_at.Done scan.to scan.at in
+      let done : (answer ≡ answers.Call Exchanged) × IsPut words here 1 words' = exchange_done _ _ (words here) 0 read.0.due told in
+      let still : IsScanRead mode words' (record scan { copied = true }) = record { some = read.0.some; root = done.1.others words_at.Root (λ e. cc) ∙ read.0.root; alive = alive_after scan.from scan.to read.1 (done.1.others (words_at.Aborted scan.to) (λ e. cc)) } in
+      subst (StepEnds (steps.Advancing scan)) (sym done.0) (inl tt, (next_goes mode words' (record scan { copied = true }) still).1)
   step_ends (steps.Promoting from to) answer read told =
       let done : (answer ≡ answers.Call Exchanged) × IsPut words words_at.Root to words' = exchange_done _ _ (words words_at.Root) from read told in
       subst (StepEnds (steps.Promoting from to)) (sym done.0) (inl tt, tt)

@@ -45,7 +45,7 @@ module _ (words words' : At → ℕ) (answer : Answer) where
   stays_at (HashOf n) told other else = told.1 other
   stays_at (SamePair m n) told other else = told.1 other
   stays_at Count told other else = told.1 other
-  stays_at (MakeTable slots limit) told other else = told.1 other
+  stays_at (MakeTable slots limit chunks) told other else = told.1 other
 
 -- what was to be made was made or refused
 pub by_making : (Q : Answer → Type 0) (answer : Answer) → IsMaking answer → ((n : ℕ) → Q (answers.Call (Made_number n))) → ((refused : Refused) → Q (answers.Call (Was_refused refused))) → Q answer
@@ -75,7 +75,7 @@ module _ (words words' : At → ℕ) (before later : Budget) where
   spent_by (HashOf n) answer told = subst (Spent (HashOf n)) (sym told.0.1) (λ same. inr (same, λ h. h))
   spent_by (SamePair m n) answer told = subst (Spent (SamePair m n)) (sym told.0.1) (λ same. inr (same, λ h. h))
   spent_by Count answer told = subst (Spent Count) (sym told.0.1) (λ same. inr (same, λ h. h))
-  spent_by (MakeTable slots limit) answer told = by_making (Spent (MakeTable slots limit)) answer told.0 (λ n less. inl (inl less)) (λ refused same. inr (same, λ h. h))
+  spent_by (MakeTable slots limit chunks) answer told = by_making (Spent (MakeTable slots limit chunks)) answer told.0 (λ n less. inl (inl less)) (λ refused same. inr (same, λ h. h))
 
   -- so the budget is spent, or less is left
   pub copy_spends : (ask : CopyAsk) (answer : Answer) → IsCopyPrompt words ask answer words' → SpendsCopy ask answer before later → (a b : ℕ) → Nears answer a b → IsSpent before later ⊎ ((later ≡ before) × (a < b))

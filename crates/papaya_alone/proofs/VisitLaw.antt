@@ -1,7 +1,6 @@
 -- A visit, with no other caller beside it, comes to an end.
 use Rattle.std.proofs.Common.{◌≡◌, ◌⊎◌, inl, inr, ⊎_elim, ℕ, ◌+◌, ◌<◌, ◌==◌, nat_lt, Bool, true, false, Option, None, Some, List, [], ◌∷◌, ◌++◌, append-nil, refl, sym, ap, ◌∙◌, subst, arith, eqb-true, eq-eqb}
 use Rattle.std.proofs.lemmas.Bool.{cond_both}
-use Rattle.papaya_words.specs.Mode.{IsChunked}
 use Rattle.papaya_words.specs.Word.{kind_of}
 use Rattle.papaya_words.specs.declared.probe.ResizeMode.{ResizeMode}
 use Rattle.papaya_ask.specs.declared.ask.Answer.TheVariants.{Word as Word_read, Yes, Size, Ok}
@@ -27,9 +26,11 @@ use Rattle.papaya_law.specs.Meaning.{map_of}
 use Rattle.papaya_law.proofs.Codes.{code_kind}
 use Rattle.papaya_law.proofs.Moments.{run-append}
 use Rattle.papaya_law.proofs.OneMap.{keeping_sound}
-use Rattle.papaya_rests.specs.Rests.{IsModeOf}
+use Rattle.papaya_rests.specs.Copier.{HasWords}
+use Rattle.papaya_rests.specs.Rests.{IsCutAs, IsModeOf}
 use Rattle.papaya_rests.specs.Told.{word_of}
 use Rattle.papaya_rests.proofs.RestsLearn.{by_test, more_than_none}
+use Rattle.papaya_chain_rests.specs.Resizers.{link_of}
 use Rattle.papaya_chain_rests.proofs.ResizerRests.{told_of_ask}
 use Rattle.papaya_alone.specs.Budget.{Budget, IsSpent}
 use Rattle.papaya_alone.specs.Prompt.{IsBounded}
@@ -45,7 +46,7 @@ use Rattle.papaya_chain.specs.declared.visitor.Visit.TheVariants.{Clear, Retain,
 use Rattle.papaya_chain.specs.declared.visitor.Visitor.{Visitor}
 use Rattle.papaya_chain.specs.Visitor.{after_in, asks_in, buries, copied, copy_asks, first_in, meets, next, shown}
 use Rattle.papaya_chain_rests.specs.VisitTold.{Hands, IsBuried, IsCopyAnswer, IsFoundThere, IsVisitTold}
-use Rattle.papaya_chain_rests.specs.Visits.{IsOfAll, RestsState}
+use Rattle.papaya_chain_rests.specs.Visits.{IsOfAll, RestsState, link_in_visit}
 use Rattle.papaya_chain_rests.proofs.VisitAsks.{keeps_since}
 use Rattle.papaya_chain_rests.proofs.VisitOutcomes.{asked}
 use Rattle.papaya_alone.specs.Visitors.{IsSpotRead, IsVisitRead, SpendsVisit, left_of_spot, left_of_visit}
@@ -100,7 +101,7 @@ module _ (mode : ResizeMode) (words : At → ℕ) where
     met (Buried p) more Walk = next_leads spot 4 (omega arith) read
 
 module _ {K P : Type 0} (g : Setting K P) (c : Coding K P) (hashed : IsHashed g c) (s : Words P) (m : K → Option P) (keeps : IsKeeping g s m) (since : List (Exchange P)) (may : AllAllowed g s since) (bounded : IsBounded g (run since s))
-    (visitor : Visitor) (moded : IsModeOf visitor.mode g.blocking) (chunked : IsChunked visitor.mode) (hands : Hands P) (answer : Answer) (es : List (Exchange P)) (hands' : Hands P) where
+    (visitor : Visitor) (moded : IsModeOf visitor.mode g.blocking) (cut : IsCutAs visitor.mode g.chunk_of) (hands : Hands P) (answer : Answer) (es : List (Exchange P)) (hands' : Hands P) where
   -- the words after all exchanges, before the answer and after it
   abbrev now : Words P
   now = run since s
@@ -113,7 +114,7 @@ module _ {K P : Type 0} (g : Setting K P) (c : Coding K P) (hashed : IsHashed g 
 
   -- where a state goes, after an answer
   abbrev Goes : Answer → State → State
-  Goes = after_in visitor.visit visitor.mode visitor.initial
+  Goes = after_in visitor.visit visitor.mode visitor.initial visitor.number
 
   keeps_now : IsKeeping g now (map_of g m since)
   keeps_now = keeps_since g c hashed s m keeps since may
@@ -156,19 +157,19 @@ module _ {K P : Type 0} (g : Setting K P) (c : Coding K P) (hashed : IsHashed g 
 
   -- the copy of all finds a root without a next table, at its end
   copy_found : (stage : Stage) → IsOfAll g c s m since stage → IsVisitRead visitor.mode words (Copying stage) → (t : IsCopyAnswer g c now since stage hands answer es hands')
-      → IsLastFound (word_of g c (run es now)) stage (resizers.after_in CopyAll visitor.mode visitor.initial answer stage)
+      → IsLastFound (word_of g c (run es now)) stage (resizers.after_in CopyAll visitor.mode visitor.initial visitor.number answer stage)
   copy_found stages.AtRoot all read t =
       let h = told_of_ask g c now hands.copy stages.AtRoot (Load words_at.Root) refl answer es t.copy t.told in
-      subst (λ a. IsLastFound (word_of g c (run es now)) stages.AtRoot (resizers.after_in CopyAll visitor.mode visitor.initial a stages.AtRoot)) (sym h.0)
-      (cond_both (now.root == 0) stages.Done (stages.Looking now.root None) (IsLastFound (word_of g c (run es now)) stages.AtRoot) (λ _. inl refl) (λ _. tt))
-  copy_found (stages.Looking root None) all read t =
-      let from : Stage = stages.Looking root None in
+      subst (λ a. IsLastFound (word_of g c (run es now)) stages.AtRoot (resizers.after_in CopyAll visitor.mode visitor.initial visitor.number a stages.AtRoot)) (sym h.0)
+      (cond_both (now.root == 0) stages.Done (stages.Looking now.root 0 None) (IsLastFound (word_of g c (run es now)) stages.AtRoot) (λ _. inl refl) (λ _. tt))
+  copy_found (stages.Looking root len None) all read t =
+      let from : Stage = stages.Looking root len None in
       let h = told_of_ask g c now hands.copy from (Load (words_at.Next root)) refl answer es t.copy t.told in
-      subst (λ a. IsLastFound (word_of g c (run es now)) from (resizers.after_in CopyAll visitor.mode visitor.initial a from)) (sym h.0)
-      (subst (λ l. IsLastFound (word_of g c (run l now)) from (resizers.at_next root None (now.next root))) (sym h.1)
+      subst (λ a. IsLastFound (word_of g c (run es now)) from (resizers.after_in CopyAll visitor.mode visitor.initial visitor.number a from)) (sym h.0)
+      (subst (λ l. IsLastFound (word_of g c (run l now)) from (resizers.at_next visitor.mode root len None (now.next root))) (sym h.1)
       (cond_both (now.next root == 0) stages.Done (resizers.copies root) (IsLastFound words from) (λ none. inr (read.0, eqb-true (now.next root) 0 none)) (λ _. tt)))
-  copy_found (stages.Looking root (Some room)) all read t = let no = all.1 in absurd (cc no)
-  copy_found (stages.Copying from copying) all read t = copy_goes_on (word_of g c (run es now)) from from copying (copying_after copying visitor.mode visitor.initial answer)
+  copy_found (stages.Looking root len (Some room)) all read t = let no = all.1 in absurd (cc no)
+  copy_found (stages.Copying from copying) all read t = copy_goes_on (word_of g c (run es now)) from from copying (copying_after copying visitor.mode visitor.initial visitor.number answer)
   copy_found (stages.Making room) all read t = absurd all
   copy_found (stages.Opening table) all read t = absurd all
   copy_found (stages.Sizing root) all read t = absurd all
@@ -177,15 +178,15 @@ module _ {K P : Type 0} (g : Setting K P) (c : Coding K P) (hashed : IsHashed g 
   copy_found stages.Done all read t = absurd all
   copy_found (stages.Refused refused) all read t = absurd all
 
-  copy_nearer : (stage : Stage) → RestsState g c s m since visitor.visit hands (Copying stage) → IsVisitRead visitor.mode words (Copying stage) → IsCopyAnswer g c now since stage hands answer es hands' → IsNearer (Copying stage)
-  copy_nearer stage r read t =
-      let to : Stage = resizers.after_in CopyAll visitor.mode visitor.initial answer stage in
+  copy_nearer : (stage : Stage) → RestsState g c s m since visitor.visit hands (Copying stage) → HasWords g (link_of stage) → IsVisitRead visitor.mode words (Copying stage) → IsCopyAnswer g c now since stage hands answer es hands' → IsNearer (Copying stage)
+  copy_nearer stage r made read t =
+      let to : Stage = resizers.after_in CopyAll visitor.mode visitor.initial visitor.number answer stage in
       let found = copy_found stage r.1 read t in
       let same : run es now ≡ run (since ++ es) s = sym (run-append since es s) in
       record {
         read = subst (λ w. IsVisitRead visitor.mode (word_of g c w) (copied stage to)) same
             (copied_read (word_of g c (run es now)) visitor.mode stage to found
-            (stage_current g c hashed now (map_of g m since) keeps_now bounded CopyAll visitor.mode visitor.initial hands.copy moded chunked stage r.2 read answer es t.copy t.told));
+            (stage_current g c hashed now (map_of g m since) keeps_now bounded CopyAll visitor.mode visitor.initial visitor.number hands.copy moded cut stage r.2 made read answer es t.copy t.told));
         less = λ ask asks before later spends.
             let (a, is, one) = copy_asked (resizers.asks_in stage) ask asks in
             ⊎_elim (λ (spent : IsSpent before later). inl spent)
@@ -195,7 +196,7 @@ module _ {K P : Type 0} (g : Setting K P) (c : Coding K P) (hashed : IsHashed g 
               subst (λ w. left_of_visit (word_of g c w) (copied stage to) < left_of_visit words (Copying stage)) same
                   (copied_less (word_of g c (run es now)) stage to (left_of_stage now.root stage) found kept.1),
             ))
-            (stage_nears g c hashed now (map_of g m since) keeps_now bounded CopyAll visitor.mode visitor.initial hands.copy moded chunked before later stage r.2 read answer es t.copy t.told a is
+            (stage_nears g c hashed now (map_of g m since) keeps_now bounded CopyAll visitor.mode visitor.initial visitor.number hands.copy moded cut before later stage r.2 made read answer es t.copy t.told a is
             (subst (λ q. SpendsVisit q answer before later) one spends));
       }
 
@@ -213,28 +214,28 @@ module _ {K P : Type 0} (g : Setting K P) (c : Coding K P) (hashed : IsHashed g 
       }
 
   -- in each state
-  pub state_nearer : (state : State) → RestsState g c s m since visitor.visit hands state → IsVisitRead visitor.mode words state → IsVisitTold g c now since state hands answer es hands' → IsNearer state
-  state_nearer (Copying stage) r read told = copy_nearer stage r read told
-  state_nearer AtRoot r read told =
+  pub state_nearer : (state : State) → RestsState g c s m since visitor.visit hands state → HasWords g (link_in_visit state) → IsVisitRead visitor.mode words state → IsVisitTold g c now since state hands answer es hands' → IsNearer state
+  state_nearer (Copying stage) r made read told = copy_nearer stage r made read told
+  state_nearer AtRoot r made read told =
       let h = asked g c s m since visitor hands answer es hands' AtRoot (since ++ es) (Load words_at.Root) refl told in
       quiet AtRoot (answers.Call (Word_read now.root)) h.0 h.1 (Copy (Load words_at.Root)) refl (λ before later e. e)
       (cond_both (now.root == 0) Done (Sizing now.root) (IsVisitRead visitor.mode words) (λ _. tt) (λ some. (refl, more_than_none now.root some)), root_less words now.root)
-  state_nearer (Sizing table) r read told =
+  state_nearer (Sizing table) r made read told =
       let h = asked g c s m since visitor hands answer es hands' (Sizing table) hands.before (SizeOf table) refl told in
       let size = bounded.size table h.0.0 (root_on table read.0 read.1) h.0.1 in
       quiet (Sizing table) (answers.Call (Size (g.size table) h.0.0)) h.0.2 h.1.0 (Copy (SizeOf table)) refl (λ before later e. e) (
         cond_both (nat_lt 0 (g.size table)) (Looking (first_in table (g.size table))) Done (IsVisitRead visitor.mode words) (λ _. record { root = read; most = size.most }) (λ _. tt),
         first_less words (first_in table (g.size table)) size.most,
       )
-  state_nearer (Looking spot) r read told =
+  state_nearer (Looking spot) r made read told =
       let h = asked g c s m since visitor hands answer es hands' (Looking spot) hands.before (Load (words_at.Slot spot.table spot.slot)) refl told in
       quiet (Looking spot) (answers.Call (Word_read (code g c (now.slot spot.table spot.slot)))) h.0 h.1 (Copy (Load (words_at.Slot spot.table spot.slot))) refl (λ before later e. e) (word_leads spot read)
-  state_nearer (Giving spot word) r read told = quiet (Giving spot word) (answers.Call Ok) told.is told.none _ refl (λ before later e. e) (next_leads visitor.mode words spot 3 (omega arith) read)
-  state_nearer (Showing spot word) r read told = quiet (Showing spot word) (answers.Call (Yes told.stays)) told.is told.none _ refl (λ before later e. e) (shown_leads visitor.mode words spot word read.0 read.1 told.stays)
-  state_nearer (Burying spot word) r read told =
+  state_nearer (Giving spot word) r made read told = quiet (Giving spot word) (answers.Call Ok) told.is told.none _ refl (λ before later e. e) (next_leads visitor.mode words spot 3 (omega arith) read)
+  state_nearer (Showing spot word) r made read told = quiet (Showing spot word) (answers.Call (Yes told.stays)) told.is told.none _ refl (λ before later e. e) (shown_leads visitor.mode words spot word read.0 read.1 told.stays)
+  state_nearer (Burying spot word) r made read told =
       by_test (code g c (now.slot spot.table spot.slot) == word) (IsBuried g c now since spot hands answer es hands') (IsFoundThere g c now since spot hands answer es hands') (IsNearer (Burying spot word)) told
       (λ _ t. bury_nearer spot word read.0 t)
       (λ other t. absurd (let same = eq-eqb (code g c (now.slot spot.table spot.slot)) word read.1 in cc (other, same)))
-  state_nearer (Uncounting spot) r read told = quiet (Uncounting spot) (answers.Call Ok) told.0 told.1 _ refl (λ before later e. e) (next_leads visitor.mode words spot 1 (omega arith) read)
-  state_nearer Done r read told = let no = told.asks in absurd (cc no)
-  state_nearer (Refused refused) r read told = let no = told.asks in absurd (cc no)
+  state_nearer (Uncounting spot) r made read told = quiet (Uncounting spot) (answers.Call Ok) told.0 told.1 _ refl (λ before later e. e) (next_leads visitor.mode words spot 1 (omega arith) read)
+  state_nearer Done r made read told = let no = told.asks in absurd (cc no)
+  state_nearer (Refused refused) r made read told = let no = told.asks in absurd (cc no)

@@ -28,7 +28,7 @@ stage_little root (stages.Making room) h = omega arith
 stage_little root (stages.Opening table) h = omega arith
 stage_little root (stages.Sizing table) h = omega arith
 stage_little root (stages.Counting table len) h = omega arith
-stage_little root (stages.Looking table room) h = omega arith
+stage_little root (stages.Looking table len room) h = omega arith
 stage_little root (stages.Linking link) h = let l = link_most link in omega (arith, l)
 stage_little root (stages.Copying from copying) h = from_little from root (left_of_copying copying) (copying_small copying h)
 stage_little root stages.Done h = omega arith
@@ -129,7 +129,7 @@ module _ (words : At → ℕ) where
   copied_less from (stages.Opening table) left last less = omega (arith, less)
   copied_less from (stages.Sizing table) left last less = omega (arith, less)
   copied_less from (stages.Counting table len) left last less = omega (arith, less)
-  copied_less from (stages.Looking table room) left last less = omega (arith, less)
+  copied_less from (stages.Looking table len room) left last less = omega (arith, less)
   copied_less from (stages.Linking link) left last less = omega (arith, less)
   copied_less from (stages.Copying root copying) left last less = omega (arith, less)
 
@@ -146,6 +146,6 @@ module _ (words : At → ℕ) where
   copied_read mode from (stages.Opening table) last read = read
   copied_read mode from (stages.Sizing table) last read = read
   copied_read mode from (stages.Counting table len) last read = read
-  copied_read mode from (stages.Looking table room) last read = read
+  copied_read mode from (stages.Looking table len room) last read = read
   copied_read mode from (stages.Linking link) last read = read
   copied_read mode from (stages.Copying root copying) last read = read

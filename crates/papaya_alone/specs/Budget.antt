@@ -24,7 +24,7 @@ IsSpent before later = (later.tables < before.tables)
 
 -- a table that is made for a copy spends a table, and an exchange of a copy an exchange
 abbrev pub SpendsCopy : CopyAsk → Answer → Budget → Budget → Type 0
-SpendsCopy (MakeTable slots limit) (answers.Call (Made_number n)) before later =
+SpendsCopy (MakeTable slots limit chunks) (answers.Call (Made_number n)) before later =
     later.tables < before.tables
 SpendsCopy (Exchange at old new) (answers.Call Exchanged) before later =
     (later.tables ≡ before.tables) × (later.exchanges < before.exchanges)
@@ -37,7 +37,7 @@ SpendsExchange _ before later = (later.tables ≡ before.tables)
     × (later.exchanges < before.exchanges)
 
 abbrev pub SpendsCall : Option StepKind → Call_ask → Call_answer → Budget → Budget → Type 0
-SpendsCall kind (call_asks.MakeTable slots limit) (Made_number n) before later =
+SpendsCall kind (call_asks.MakeTable slots limit chunks) (Made_number n) before later =
     later.tables < before.tables
 SpendsCall kind (call_asks.Exchange at old new) Exchanged before later =
     SpendsExchange kind before later

@@ -1,6 +1,6 @@
 -- What a copy has read stands there still, where nobody else changes the words: so each exchange
 -- finds the word that it looks for.
-use Rattle.std.specs.Prelude.{◌≡◌, ℕ}
+use Rattle.std.specs.Prelude.{◌≡◌, ℕ, ◌<◌}
 use Rattle.papaya_words.specs.Word.{kind_of}
 use Rattle.papaya_words.specs.declared.probe.ResizeMode.{ResizeMode}
 use Rattle.papaya_words.specs.declared.probe.ResizeMode.TheVariants.{Incremental, Blocking}
@@ -25,6 +25,7 @@ use Rattle.papaya_copy.specs.declared.settle.Settle.TheVariants as settles
 use Rattle.papaya_copy.specs.declared.settle.Settled.{Settled}
 use Rattle.papaya_copy.specs.declared.settle.Settled.TheVariants as settled
 use Rattle.papaya_copy.specs.declared.settle.Slot.{Slot}
+use Rattle.papaya_copy.specs.declared.step.Scan.{Scan}
 use Rattle.papaya_copy.specs.declared.step.Step.{Step}
 use Rattle.papaya_copy.specs.declared.step.Step.TheVariants as steps
 use Rattle.papaya_copy.specs.declared.step.Stepped.{Stepped}
@@ -97,23 +98,35 @@ module _ (mode : ResizeMode) (words : At → ℕ) where
   IsSettledRead slot settled.Settled = IsAlive mode words slot.to
   IsSettledRead slot _ = Unit {0}
 
-  -- the table that is copied is the root, and so much of it was counted as copied
+  -- the table whose chunks' words are loaded is the root
+  pub record IsScanRead (scan : Scan) : Type 0 where
+    pub some : 0 < scan.slots
+    pub root : words words_at.Root ≡ scan.from
+    pub alive : IsAlive mode words scan.to
+
+  -- and the word of this chunk says that it is not copied
+  pub record IsDueRead (scan : Scan) : Type 0 where
+    pub some : 0 < scan.slots
+    pub root : words words_at.Root ≡ scan.from
+    pub due : words (words_at.Done scan.to scan.at) ≡ 0
+
+  -- the table that is copied is the root, and the chunk that is copied was not copied before
   abbrev pub IsStepRead : Step → Type 0
   IsStepRead steps.AtRoot = Unit {0}
   IsStepRead (steps.Aiming from behind) = words words_at.Root ≡ from
   IsStepRead (steps.Linking from link) = (words words_at.Root ≡ from) × IsLinkRead words link
   IsStepRead (steps.Judging from to) = words words_at.Root ≡ from
   IsStepRead (steps.Sizing from to) = (words words_at.Root ≡ from) × IsAlive mode words to
-  IsStepRead (steps.Counting from to len) = (words words_at.Root ≡ from) × IsAlive mode words to
-  IsStepRead (steps.Settling chunk settle) = (words words_at.Root ≡ chunk.from)
-      × (words (words_at.Done chunk.to) ≡ chunk.begun) × IsSettleRead (slot_of chunk) settle
-  IsStepRead (steps.Advancing chunk) = (words words_at.Root ≡ chunk.from)
-      × (words (words_at.Done chunk.to) ≡ chunk.begun)
+  IsStepRead (steps.Scanning scan) = IsScanRead scan
+  IsStepRead (steps.Settling chunk settle) = IsDueRead chunk.scan
+      × IsSettleRead (slot_of chunk) settle
+  IsStepRead (steps.Advancing scan) = IsDueRead scan × IsAlive mode words scan.to
   IsStepRead (steps.Promoting from to) = words words_at.Root ≡ from
 
   abbrev pub IsSteppedRead : Stepped → Type 0
   IsSteppedRead (stepped.On step) = IsStepRead step
   IsSteppedRead (stepped.Root root) = words words_at.Root ≡ root
+  IsSteppedRead (stepped.Further chunk) = IsDueRead chunk.scan × IsAlive mode words chunk.scan.to
   IsSteppedRead _ = Unit {0}
 
   -- a slot of its own is copied without blocking alone

@@ -1,8 +1,9 @@
 -- How much is left to a copy, at most, until it has made a table, exchanged a word or ended. Each
 -- place costs a little, each table that may come after this one more than all places of a table,
--- each slot more than all tables, and a chunk more than all slots. Where a table was linked or given
--- up, or a chunk is over, a copy may begin anew, so as much is left then as at its beginning.
-use Rattle.std.specs.Prelude.{ℕ, ◌+◌, ◌*◌, ◌-◌, ◌^◌}
+-- each slot more than all tables, and all words of chunks still to be loaded as much as the slots of
+-- a table. Where a table was linked or given up a copy may begin anew, so as much is left then as at
+-- its beginning.
+use Rattle.std.specs.Prelude.{ℕ, ◌+◌, ◌*◌, ◌-◌, ◌^◌, if◌then◌else◌}
 use Rattle.papaya_copy.specs.declared.carry.Carried.{Carried}
 use Rattle.papaya_copy.specs.declared.carry.Carried.TheVariants as carried
 use Rattle.papaya_copy.specs.declared.carry.Carry.{Carry}
@@ -19,6 +20,8 @@ use Rattle.papaya_copy.specs.declared.settle.Settle.{Settle}
 use Rattle.papaya_copy.specs.declared.settle.Settle.TheVariants as settles
 use Rattle.papaya_copy.specs.declared.settle.Settled.{Settled}
 use Rattle.papaya_copy.specs.declared.settle.Settled.TheVariants as settled
+use Rattle.papaya_copy.specs.declared.step.Chunk.{Chunk}
+use Rattle.papaya_copy.specs.declared.step.Scan.{Scan}
 use Rattle.papaya_copy.specs.declared.step.Step.{Step}
 use Rattle.papaya_copy.specs.declared.step.Step.TheVariants as steps
 use Rattle.papaya_copy.specs.declared.step.Stepped.{Stepped}
@@ -30,10 +33,11 @@ further t = 2 ^ 32 - t
 
 -- the making of a table
 abbrev pub left_of_link : Link → ℕ
-left_of_link (links.Sizing behind unfit) = 4
-left_of_link (links.Counting behind unfit len) = 3
-left_of_link (links.Making behind len limit) = 2
-left_of_link (links.Linking behind table) = 1
+left_of_link (links.Sizing behind source unfit) = 5
+left_of_link (links.Measuring behind source unfit len) = 4
+left_of_link (links.Counting behind unfit len source) = 3
+left_of_link (links.Making behind len limit chunks) = 2
+left_of_link (links.Linking behind table chunks) = 1
 
 abbrev pub left_of_linked : Linked → ℕ
 left_of_linked (linked.On link) = left_of_link link
@@ -45,14 +49,14 @@ abbrev pub left_of_carry : Carry → ℕ
 left_of_carry (carries.Hashing table) = further table * 2 ^ 34 + 2 ^ 34 + 2
 left_of_carry (carries.Sizing hash table) = further table * 2 ^ 34 + 2 ^ 34 + 1
 left_of_carry (carries.Looking hash at) = further at.table * 2 ^ 34
-    + 3 * (at.limit - at.probe.len) + 8
+    + 3 * (at.limit - at.probe.len) + 9
 left_of_carry (carries.Reading hash at) = further at.table * 2 ^ 34
-    + 3 * (at.limit - at.probe.len) + 7
+    + 3 * (at.limit - at.probe.len) + 8
 left_of_carry (carries.Comparing hash at word) = further at.table * 2 ^ 34
-    + 3 * (at.limit - at.probe.len) + 6
+    + 3 * (at.limit - at.probe.len) + 7
 left_of_carry (carries.Placing hash at) = 1
 left_of_carry (carries.Placed hash at) = 1
-left_of_carry (carries.Passing hash table) = further table * 2 ^ 34 + 5
+left_of_carry (carries.Passing hash table) = further table * 2 ^ 34 + 6
 left_of_carry (carries.Linking hash link) = left_of_link link
 left_of_carry (carries.Aborting table) = 1
 
@@ -72,6 +76,15 @@ left_of_settled (settled.On settle) = left_of_settle settle
 left_of_settled (settled.Unfit table) = 2 * 2 ^ 102
 left_of_settled _ = 0
 
+-- the words of chunks that a scan may load after this one
+abbrev pub words_left : Scan → ℕ
+words_left scan = if scan.wrapped then scan.start - scan.at
+    else scan.len - scan.begun + scan.start + 1
+
+-- the slots of a chunk from this one on
+abbrev pub left_of_chunk : Chunk → Settle → ℕ
+left_of_chunk chunk settle = (chunk.end - chunk.at - 1) * 2 ^ 68 + left_of_settle settle + 2
+
 -- the copy of a chunk, of as many slots as a table may have
 abbrev pub left_of_step : Step → ℕ
 left_of_step steps.AtRoot = 2 * 2 ^ 102
@@ -79,16 +92,16 @@ left_of_step (steps.Aiming from behind) = 2 ^ 102 + 6 + 2 * further behind
 left_of_step (steps.Linking from link) = left_of_link link
 left_of_step (steps.Judging from to) = 2 ^ 102 + 7 + 2 * further to
 left_of_step (steps.Sizing from to) = 2 ^ 102 + 2
-left_of_step (steps.Counting from to len) = len * 2 ^ 68 + 3
-left_of_step (steps.Settling chunk settle) = (chunk.end - chunk.at - 1) * 2 ^ 68
-    + left_of_settle settle + 2
-left_of_step (steps.Advancing chunk) = 1
+left_of_step (steps.Scanning scan) = scan.len * 2 ^ 68 + 2 ^ 68 + words_left scan + 3
+left_of_step (steps.Settling chunk settle) = left_of_chunk chunk settle
+left_of_step (steps.Advancing scan) = 1
 left_of_step (steps.Promoting from to) = 1
 
 abbrev pub left_of_stepped : Stepped → ℕ
 left_of_stepped (stepped.On step) = left_of_step step
 left_of_stepped (stepped.Root root) = 2 ^ 102 + 6 + 2 * 2 ^ 32
 left_of_stepped (stepped.Last table) = 2 ^ 102
+left_of_stepped (stepped.Further chunk) = left_of_chunk chunk settles.Looking
 left_of_stepped stepped.Over = 2 * 2 ^ 102
 left_of_stepped (stepped.Refused refused) = 0
 

@@ -58,7 +58,7 @@ IsCopyPrompt words (SamePair m n) answer words' =
     ((same : Bool) × (answer ≡ answers.Call (Yes same))) × IsSame words words'
 IsCopyPrompt words Count answer words' = ((count : ℕ) × (answer ≡ answers.Count count))
     × IsSame words words'
-IsCopyPrompt words (MakeTable slots limit) answer words' = IsMaking answer × IsSame words words'
+IsCopyPrompt words (MakeTable slots limit chunks) answer words' = IsMaking answer × IsSame words words'
 
 -- What a call asks to be made is made or refused, its closure answers as it was asked, and a call
 -- that has replied asks nothing more.
@@ -67,7 +67,7 @@ IsServed task call_asks.ShowNone answer = IsSaying Compute answer
 IsServed task (call_asks.ShowPair n) answer = IsSaying task answer
 IsServed task call_asks.MakeKey answer = calls.IsMaking answer
 IsServed task call_asks.MakePair answer = calls.IsMaking answer
-IsServed task (call_asks.MakeTable slots limit) answer = calls.IsMaking answer
+IsServed task (call_asks.MakeTable slots limit chunks) answer = calls.IsMaking answer
 IsServed task (call_asks.Done reply) answer = ⊥
 IsServed task ask answer = Unit {0}
 

@@ -85,8 +85,13 @@ rank_at_root root (aims.All met) = if met == 0 || met == root then rank 1 0 (2 *
     else rank 3 0 0
 rank_at_root root _ = rank 1 0 (2 * 2 ^ 102)
 
+-- where a chunk was copied the next one is looked for, and no word is exchanged before the copy is
+-- over
 abbrev pub rank_of_step : (root : ℕ) → Aim → Step → ℕ
 rank_of_step root aim steps.AtRoot = rank_at_root root aim
+rank_of_step root aim (steps.Scanning scan) = if scan.copied
+    then rank 5 0 (left_of_step (steps.Scanning scan))
+    else rank 1 0 (left_of_step (steps.Scanning scan))
 rank_of_step root aim step = rank 1 0 (left_of_step step)
 
 abbrev pub rank_of_copying : (root : ℕ) → Copying → ℕ

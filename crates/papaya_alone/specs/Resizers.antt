@@ -32,7 +32,7 @@ left_of_stage root (stages.Making room) = 2
 left_of_stage root (stages.Opening table) = 1
 left_of_stage root (stages.Sizing table) = 2 ^ 120 + 5
 left_of_stage root (stages.Counting table len) = 2 ^ 120 + 4
-left_of_stage root (stages.Looking table room) = 2 ^ 120 + 3
+left_of_stage root (stages.Looking table len room) = 2 ^ 120 + 3
 left_of_stage root (stages.Linking link) = left_of_link link
 left_of_stage root (stages.Copying from copying) =
     left_of_from from root (left_of_copying copying)
@@ -74,7 +74,7 @@ module _ (mode : ResizeMode) (words : At → ℕ) where
   IsStageRead resize (stages.Opening table) = words words_at.Root ≡ 0
   IsStageRead resize (stages.Sizing root) = IsRoot words root × IsReserve resize
   IsStageRead resize (stages.Counting root len) = IsRoot words root × IsReserve resize
-  IsStageRead resize (stages.Looking root room) = IsRoot words root × IsRoomFor resize room
+  IsStageRead resize (stages.Looking root len room) = IsRoot words root × IsRoomFor resize room
   IsStageRead resize (stages.Linking link) = IsRoot words (follows link) × IsLinkRead words link
   IsStageRead resize (stages.Copying from copying) = IsCopyingRead mode words copying
       × IsBegunFrom words resize from copying

@@ -9,12 +9,13 @@ ghost use Rattle.papaya_law.specs.Allows.{AllAllowed};
 ghost use Rattle.papaya_law.specs.Code.{Coding, IsHashed};
 ghost use Rattle.papaya_law.specs.Exchange.{Setting, State, Exchange, run, start};
 ghost use Rattle.papaya_law.specs.Invariant.{IsKeeping};
-ghost use Rattle.papaya_rests.specs.Copier.{RestsCopying};
+ghost use Rattle.papaya_rests.specs.Copier.{HasWords, RestsCopying, link_in_copying};
 ghost use Rattle.papaya_rests.specs.Told.{word_of};
 ghost use Rattle.papaya_chain.specs.Resizer.{IsStandingResizer, after as resizer_after};
 ghost use Rattle.papaya_chain.specs.Resizer.{ask_of as resizer_ask, begun, reply_of};
 ghost use Rattle.papaya_chain.specs.Machine.{IsStanding, after, ask_of, copying_after, follows_of, kind_of_ask, started};
-ghost use Rattle.papaya_chain_rests.specs.Resizers.{IsStageTold, RestsResizer};
+ghost use Rattle.papaya_chain_rests.specs.Goes.{link_in};
+ghost use Rattle.papaya_chain_rests.specs.Resizers.{IsStageTold, RestsResizer, link_of};
 ghost use Rattle.papaya_chain_rests.specs.Rests.{Rests};
 ghost use Rattle.papaya_chain_rests.specs.Told.{Hands, IsCopyTold, IsTold};
 ghost use Rattle.papaya_alone.specs.Ahead.{IsCurrent};
@@ -37,36 +38,39 @@ use papaya_chain::resizer::{Resize, Resizer};
 pub fn alone_copiers<K, P>()
     ensures nearer { (g : Setting K P) (c : Coding K P) → IsHashed g c
         → (s : State P) (m : K → Option P) → IsKeeping g s m → IsBounded g s
-        → (mode : ResizeMode) (initial : ℕ) (hands : Hands P) (copying : Copying)
+        → (mode : ResizeMode) (initial number : ℕ) (hands : Hands P) (copying : Copying)
         → RestsCopying g c s hands.call.last hands.kept copying
+        → HasWords g (link_in_copying copying)
         → IsCopyingRead mode (word_of g c s) copying
         → (answer : Answer) (es : List (Exchange P)) (hands' : Hands P)
         → IsCopyTold g c s (copying_kind copying) (copying_follows copying) hands
         (copying_ask copying) answer es hands' → (before later : Budget)
         → SpendsCopy (copying_ask copying) answer before later
         → IsSpent before later ⊎ ((later ≡ before)
-        × (left_of_copied (copying_after copying mode initial answer) < left_of_copying copying)) }
+        × (left_of_copied (copying_after copying mode initial number answer) < left_of_copying copying)) }
     ensures current { (g : Setting K P) (c : Coding K P) → IsHashed g c
         → (s : State P) (m : K → Option P) → IsKeeping g s m → IsBounded g s
-        → (mode : ResizeMode) (initial : ℕ) (hands : Hands P) (copying : Copying)
+        → (mode : ResizeMode) (initial number : ℕ) (hands : Hands P) (copying : Copying)
         → RestsCopying g c s hands.call.last hands.kept copying
+        → HasWords g (link_in_copying copying)
         → IsCopyingRead mode (word_of g c s) copying
         → (answer : Answer) (es : List (Exchange P)) (hands' : Hands P)
         → IsCopyTold g c s (copying_kind copying) (copying_follows copying) hands
         (copying_ask copying) answer es hands' → IsCopiedRead mode (word_of g c (run es s))
-        (copying_after copying mode initial answer) }
+        (copying_after copying mode initial number answer) }
 {}
 
 /// Each answer brings a call over a chain nearer its end: its measure falls. What the call has read
 /// stands there still, so no exchange is lost. A budget counts how many tables may be made and words
 /// exchanged yet; what is to be made for the call is made or refused, and its closure answers.
 pub fn alone_calls<K, P>()
-    ensures begins { (words : At → ℕ) (task : Task) (hash : ℕ) (mode : ResizeMode) (initial : ℕ)
-        → IsCurrent words (started task hash mode initial) }
+    ensures begins { (words : At → ℕ) (task : Task) (hash : ℕ) (mode : ResizeMode)
+        (initial number : ℕ) → IsCurrent words (started task hash mode initial number) }
     ensures nearer { (g : Setting K P) (c : Coding K P) → IsHashed g c
         → (begun since : List (Exchange P)) → AllAllowed g start (begun ++ since)
         → IsBounded g (run (begun ++ since) start) → (k : K) (m : Machine) (hands : Hands P)
-        → Rests g c begun since k m hands → IsCurrent (word_of g c (run (begun ++ since) start)) m
+        → Rests g c begun since k m hands → HasWords g (link_in m.phase)
+        → IsCurrent (word_of g c (run (begun ++ since) start)) m
         → (answer : Answer) (es : List (Exchange P)) (hands' : Hands P)
         → IsTold g c k (run (begun ++ since) start) (kind_of_ask m) (follows_of m) hands (ask_of m)
         answer es hands' → IsServedAsk m.call.task (ask_of m) answer → (before later : Budget)
@@ -77,7 +81,8 @@ pub fn alone_calls<K, P>()
     ensures current { (g : Setting K P) (c : Coding K P) → IsHashed g c
         → (begun since : List (Exchange P)) → AllAllowed g start (begun ++ since)
         → IsBounded g (run (begun ++ since) start) → (k : K) (m : Machine) (hands : Hands P)
-        → Rests g c begun since k m hands → IsCurrent (word_of g c (run (begun ++ since) start)) m
+        → Rests g c begun since k m hands → HasWords g (link_in m.phase)
+        → IsCurrent (word_of g c (run (begun ++ since) start)) m
         → (answer : Answer) (es : List (Exchange P)) (hands' : Hands P)
         → IsTold g c k (run (begun ++ since) start) (kind_of_ask m) (follows_of m) hands (ask_of m)
         answer es hands' → IsServedAsk m.call.task (ask_of m) answer
@@ -87,11 +92,12 @@ pub fn alone_calls<K, P>()
 /// Each answer brings a resizer nearer its end: its measure falls, and what it has read stands there
 /// still. When it has ended, what was wanted is done.
 pub fn alone_resizers<K, P>()
-    ensures begins { (words : At → ℕ) (resize : Resize) (mode : ResizeMode) (initial : ℕ)
-        → IsResizerRead words (begun resize mode initial) }
+    ensures begins { (words : At → ℕ) (resize : Resize) (mode : ResizeMode)
+        (initial number : ℕ) → IsResizerRead words (begun resize mode initial number) }
     ensures nearer { (g : Setting K P) (c : Coding K P) → IsHashed g c
         → (s : State P) (m : K → Option P) → IsKeeping g s m → IsBounded g s
         → (resizer : Resizer) (hands : Hands P) → RestsResizer g c s resizer hands
+        → HasWords g (link_of resizer.state)
         → IsResizerRead (word_of g c s) resizer
         → (answer : Answer) (es : List (Exchange P)) (hands' : Hands P)
         → IsStageTold g c s resizer.state hands answer es hands' → (ask : CopyAsk)
@@ -103,6 +109,7 @@ pub fn alone_resizers<K, P>()
     ensures current { (g : Setting K P) (c : Coding K P) → IsHashed g c
         → (s : State P) (m : K → Option P) → IsKeeping g s m → IsBounded g s
         → (resizer : Resizer) (hands : Hands P) → RestsResizer g c s resizer hands
+        → HasWords g (link_of resizer.state)
         → IsResizerRead (word_of g c s) resizer
         → (answer : Answer) (es : List (Exchange P)) (hands' : Hands P)
         → IsStageTold g c s resizer.state hands answer es hands'

@@ -1,5 +1,5 @@
 -- The search of one table for a key: what it asks, and where each answer leads it.
-use Rattle.std.specs.Prelude.{ℕ, ◌+◌, ◌%◌, ◌^◌, ◌<◌, ◌≤◌, ◌==◌, nat_lt, Bool, true, false, if◌then◌else◌}
+use Rattle.std.specs.Prelude.{ℕ, ◌+◌, ◌%◌, ◌^◌, ◌<◌, ◌≤◌, nat_lt, Bool, true, false, if◌then◌else◌}
 use Rattle.std.specs.Int.{IsPowerOfTwo}
 use Rattle.papaya_words.specs.Word.{kind_of, pair_of, may_hold}
 use Rattle.papaya_words.specs.Probe.{place}

@@ -13,8 +13,9 @@ pub enum At {
     Next(u64),
     /// 1 where this table was given up before it became the root.
     Aborted(u64),
-    /// How many slots of the table before were copied to this one.
-    Done(u64),
+    /// 1 where this chunk of the table before was copied to this table: the table, and the chunk
+    /// from 0.
+    Done(u64, usize),
     /// A slot of a table: the table, and the slot's place in it from 0.
     Slot(u64, usize),
 }
@@ -47,8 +48,13 @@ pub enum Ask {
     /// Log a pair of the call's key and its value, or the value that its closure answered last.
     /// Only then does a word name it.
     MakePair,
-    /// Make a table of so many slots, all empty, which a search looks at in `limit + 1` places.
-    MakeTable { len: usize, limit: usize },
+    /// Make a table of so many slots, all empty, which a search looks at in `limit + 1` places, and
+    /// to which a table of so many chunks is copied.
+    MakeTable {
+        len: usize,
+        limit: usize,
+        chunks: usize,
+    },
     /// Add to the count of pairs, in the caller's shard. Answered by `Ok`.
     AddToShard(i64),
     /// Nothing more: the call replies this.
@@ -111,7 +117,7 @@ pub enum StepKind {
     Place,
     /// A pair was copied.
     Finish,
-    /// Slots were copied.
+    /// A chunk was copied.
     Advance,
     /// The table that all was copied to becomes the root.
     Promote,

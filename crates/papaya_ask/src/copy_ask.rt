@@ -22,6 +22,11 @@ pub enum CopyAsk {
     SamePair(u64, u64),
     /// How many pairs the map counts.
     Count,
-    /// Make a table of so many slots, all empty, which a search looks at in `limit + 1` places.
-    MakeTable { len: usize, limit: usize },
+    /// Make a table of so many slots, all empty, which a search looks at in `limit + 1` places, and
+    /// to which a table of so many chunks is copied.
+    MakeTable {
+        len: usize,
+        limit: usize,
+        chunks: usize,
+    },
 }

@@ -69,7 +69,7 @@ needed (Pair_at table x) = table
 -- what a machine asks
 abbrev pub asks : Made → ℕ → State → Ask
 asks made hash AtRoot = Load Root
-asks made hash Making = MakeTable FIRST_TABLE_LEN FIRST_TABLE_LIMIT
+asks made hash Making = MakeTable FIRST_TABLE_LEN FIRST_TABLE_LIMIT 0
 asks made hash (Opening table) = Exchange Root 0 table
 asks made hash (Searching search) = search_ask search
 asks made hash (Writing write) = write_ask write made
@@ -404,7 +404,7 @@ IsFit _ = Unit {0}
 
 -- a table that is asked for has a size of tables
 abbrev pub IsFitAsk : Ask → Type 0
-IsFitAsk (MakeTable slots limit) = IsSize slots limit
+IsFitAsk (MakeTable slots limit chunks) = IsSize slots limit
 IsFitAsk _ = Unit {0}
 
 -- what a lookup asks: it changes nothing and makes nothing

@@ -106,6 +106,7 @@ impl Machine {
             State::Making => Ask::MakeTable {
                 len: FIRST_TABLE_LEN,
                 limit: FIRST_TABLE_LIMIT,
+                chunks: 0,
             },
             State::Opening(table) => Ask::Exchange(At::Root, 0, table),
             State::Searching(search) => search.ask(),

@@ -44,9 +44,10 @@ use Rattle.papaya_chain.specs.declared.machine.Phase.{Phase}
 use Rattle.papaya_chain.specs.declared.machine.Phase.TheVariants.{Calling, Linking, Copying as Copying_root}
 
 -- a call that begins
-abbrev pub started : Task → ℕ → ResizeMode → ℕ → Machine
-started task hash mode initial = record {
+abbrev pub started : Task → (hash : ℕ) → ResizeMode → (initial number : ℕ) → Machine
+started task hash mode initial number = record {
   call = calls.started task hash mode initial;
+  number = number;
   helped = false;
   phase = Calling;
 }
@@ -128,7 +129,7 @@ grows_as m Blocking need next = record m {
   phase = Copying_root (Stepping (aims.All (needed need)) AtRoot);
 }
 grows_as m (Incremental chunk) need next = if next == 0
-    then record m { phase = Linking (links.Sizing (needed need) false) }
+    then record m { phase = Linking (links.Sizing (needed need) (needed need) false) }
     else onward m next
 
 abbrev pub grows : Machine → Need → (next : ℕ) → Machine
@@ -158,29 +159,30 @@ link_called link Exchanged = making.at_exchanged link
 link_called link (Found_instead word) = making.at_found link word
 link_called link _ = linked_to.On link
 
-abbrev pub link_after : Link → (initial : ℕ) → Answer → Linked
-link_after link initial (answers.Call answer) = link_called link answer
-link_after link initial (answers.Hash hash) = linked_to.On link
-link_after link initial (answers.Count count) = making.at_count link count initial
+abbrev pub link_after : Link → ResizeMode → (initial : ℕ) → Answer → Linked
+link_after link mode initial (answers.Call answer) = link_called link answer
+link_after link mode initial (answers.Hash hash) = linked_to.On link
+link_after link mode initial (answers.Count count) = making.at_count link mode count initial
 
 -- the copy of the root, after an answer
-abbrev pub copying_called : Copying → ResizeMode → Call_answer → Copied
-copying_called copying mode (Word_read word) = copyings.at_word copying mode word
-copying_called copying mode Exchanged = copyings.at_exchanged copying mode
-copying_called copying mode (Found_instead word) = copyings.at_found copying mode word
-copying_called copying mode (Yes same) = copyings.at_yes copying mode same
-copying_called copying mode (Size slots limit) =
-    copied_to.On (copyings.at_size copying slots limit)
-copying_called copying mode (Made_number n) = copied_to.On (copyings.at_made copying n)
-copying_called copying mode (Was_refused refused) = copyings.at_refused copying mode refused
-copying_called copying mode Ok_done = copyings.at_ok copying mode
-copying_called copying mode _ = copied_to.On copying
+abbrev pub copying_called : Copying → ResizeMode → (number : ℕ) → Call_answer → Copied
+copying_called copying mode number (Word_read word) = copyings.at_word copying mode word
+copying_called copying mode number Exchanged = copyings.at_exchanged copying mode
+copying_called copying mode number (Found_instead word) = copyings.at_found copying mode word
+copying_called copying mode number (Yes same) = copyings.at_yes copying mode same
+copying_called copying mode number (Size slots limit) =
+    copied_to.On (copyings.at_size copying mode number slots limit)
+copying_called copying mode number (Made_number n) = copied_to.On (copyings.at_made copying n)
+copying_called copying mode number (Was_refused refused) = copyings.at_refused copying mode refused
+copying_called copying mode number Ok_done = copyings.at_ok copying mode
+copying_called copying mode number _ = copied_to.On copying
 
-abbrev pub copying_after : Copying → ResizeMode → (initial : ℕ) → Answer → Copied
-copying_after copying mode initial (answers.Call answer) = copying_called copying mode answer
-copying_after copying mode initial (answers.Hash hash) =
+abbrev pub copying_after : Copying → ResizeMode → (initial number : ℕ) → Answer → Copied
+copying_after copying mode initial number (answers.Call answer) =
+    copying_called copying mode number answer
+copying_after copying mode initial number (answers.Hash hash) =
     copied_to.On (copyings.at_hash copying hash)
-copying_after copying mode initial (answers.Count count) =
+copying_after copying mode initial number (answers.Count count) =
     copyings.at_count copying mode count initial
 
 -- the making of the next table leads here
@@ -205,9 +207,10 @@ answered m (answers.Count count) = m
 
 abbrev pub after_in : Machine → Answer → Phase → Machine
 after_in m answer Calling = answered m answer
-after_in m answer (Linking link) = after_linked m (link_after link m.call.initial answer)
+after_in m answer (Linking link) =
+    after_linked m (link_after link m.call.mode m.call.initial answer)
 after_in m answer (Copying_root copying) =
-    after_copied m (copying_after copying m.call.mode m.call.initial answer)
+    after_copied m (copying_after copying m.call.mode m.call.initial m.number answer)
 
 abbrev pub after : Machine → Answer → Machine
 after m answer = after_in m answer m.phase

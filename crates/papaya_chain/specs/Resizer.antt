@@ -1,6 +1,7 @@
 -- A call that resizes the map: what it asks, and where each answer leads it.
 use Rattle.std.specs.Prelude.{ℕ, ◌+◌, ◌==◌, nat_le, if◌then◌else◌, Option, None, Some}
 use Rattle.std.specs.Int.{IsPowerOfTwo}
+use Rattle.papaya_words.specs.Chunks.{chunk_count, chunk_len}
 use Rattle.papaya_words.specs.Mode.{IsChunked}
 use Rattle.papaya_words.specs.declared.probe.Refused.TheVariants.{Capacity}
 use Rattle.papaya_words.specs.declared.probe.ResizeMode.{ResizeMode}
@@ -40,22 +41,23 @@ abbrev pub begun_in : Resize → State
 begun_in Chunk = Copying 0 (Stepping aims.Chunk steps.AtRoot)
 begun_in _ = AtRoot
 
-abbrev pub begun : Resize → ResizeMode → (initial : ℕ) → Resizer
-begun resize mode initial = record {
+abbrev pub begun : Resize → ResizeMode → (initial number : ℕ) → Resizer
+begun resize mode initial number = record {
   mode = mode;
   initial = initial;
   resize = resize;
+  number = number;
   state = begun_in resize;
 }
 
 -- what is asked, if anything
 abbrev pub asks_in : State → Option CopyAsk
 asks_in AtRoot = Some (Load Root)
-asks_in (Making room) = Some (MakeTable room.len room.limit)
+asks_in (Making room) = Some (MakeTable room.len room.limit 0)
 asks_in (Opening table) = Some (Exchange Root 0 table)
 asks_in (Sizing root) = Some (SizeOf root)
 asks_in (Counting root len) = Some Count
-asks_in (Looking root room) = Some (Load (Next root))
+asks_in (Looking root len room) = Some (Load (Next root))
 asks_in (Linking link) = Some (link_ask link)
 asks_in (Copying from copying) = Some (copying_ask copying)
 asks_in _ = None
@@ -103,44 +105,46 @@ copies root = Copying root (Stepping (aims.All root) steps.AtRoot)
 -- the root is this table, or there is none
 abbrev pub at_root : Resize → (root : ℕ) → State
 at_root (Reserve more) root = if root == 0 then makes (room_of more) else Sizing root
-at_root _ root = if root == 0 then Done else Looking root None
+at_root _ root = if root == 0 then Done else Looking root 0 None
 
 -- the root has so many slots, and this room is wanted
 abbrev pub judges : (root len : ℕ) → Option Room → State
 judges root len None = Refused Capacity
-judges root len (Some room) = if nat_le room.len len then Done else Looking root (Some room)
+judges root len (Some room) = if nat_le room.len len then Done
+    else Looking root len (Some room)
 
 abbrev pub at_count : Resize → (root len count : ℕ) → State
 at_count (Reserve more) root len count = judges root len (room_of (count + more))
 at_count _ root len count = Done
 
--- the root has no next table: one of this size is made, where one is wanted
-abbrev pub at_last : (root : ℕ) → Option Room → State
-at_last root None = Done
-at_last root (Some room) = Linking (links.Making root room.len room.limit)
+-- the root has so many slots and no next table: one of this size is made, where one is wanted
+abbrev pub at_last : ResizeMode → (root len : ℕ) → Option Room → State
+at_last mode root len None = Done
+at_last mode root len (Some room) =
+    Linking (links.Making root room.len room.limit (chunk_count len (chunk_len mode)))
 
-abbrev pub at_next : (root : ℕ) → Option Room → (next : ℕ) → State
-at_next root room next = if next == 0 then at_last root room else copies root
+abbrev pub at_next : ResizeMode → (root len : ℕ) → Option Room → (next : ℕ) → State
+at_next mode root len room next = if next == 0 then at_last mode root len room else copies root
 
 -- an answer to what is asked while nothing is linked or copied
-abbrev pub told_root : Resize → State → Call_answer → State
-told_root resize AtRoot (Word root) = at_root resize root
-told_root resize (Making room) (Made table) = Opening table
-told_root resize (Making room) (Was_refused refused) = Refused refused
-told_root resize (Opening table) Exchanged = AtRoot
-told_root resize (Opening table) (Found word) = AtRoot
-told_root resize (Sizing root) (Size slots limit) = Counting root slots
-told_root resize (Looking root room) (Word next) = at_next root room next
-told_root resize state answer = state
+abbrev pub told_root : Resize → ResizeMode → State → Call_answer → State
+told_root resize mode AtRoot (Word root) = at_root resize root
+told_root resize mode (Making room) (Made table) = Opening table
+told_root resize mode (Making room) (Was_refused refused) = Refused refused
+told_root resize mode (Opening table) Exchanged = AtRoot
+told_root resize mode (Opening table) (Found word) = AtRoot
+told_root resize mode (Sizing root) (Size slots limit) = Counting root slots
+told_root resize mode (Looking root len room) (Word next) = at_next mode root len room next
+told_root resize mode state answer = state
 
 abbrev pub counted : Resize → State → (count : ℕ) → State
 counted resize (Counting root len) count = at_count resize root len count
 counted resize state count = state
 
-abbrev pub called : Resize → State → Answer → State
-called resize state (answers.Call answer) = told_root resize state answer
-called resize state (answers.Count count) = counted resize state count
-called resize state (answers.Hash hash) = state
+abbrev pub called : Resize → ResizeMode → State → Answer → State
+called resize mode state (answers.Call answer) = told_root resize mode state answer
+called resize mode state (answers.Count count) = counted resize state count
+called resize mode state (answers.Hash hash) = state
 
 -- the making of the table after this root leads here
 abbrev pub linked : (root : ℕ) → Linked → State
@@ -159,23 +163,24 @@ copied resize from (copied_to.On copying) = Copying from copying
 copied resize from (copied_to.Refused refused) = Refused refused
 copied resize from _ = over resize
 
-abbrev pub after_in : Resize → ResizeMode → (initial : ℕ) → Answer → State → State
-after_in resize mode initial answer (Linking link) =
-    linked (follows link) (link_after link initial answer)
-after_in resize mode initial answer (Copying from copying) =
-    copied resize from (copying_after copying mode initial answer)
-after_in resize mode initial answer state = called resize state answer
+abbrev pub after_in : Resize → ResizeMode → (initial number : ℕ) → Answer → State → State
+after_in resize mode initial number answer (Linking link) =
+    linked (follows link) (link_after link mode initial answer)
+after_in resize mode initial number answer (Copying from copying) =
+    copied resize from (copying_after copying mode initial number answer)
+after_in resize mode initial number answer state = called resize mode state answer
 
 -- the resizer after an answer
 abbrev pub after : Resizer → Answer → Resizer
 after resizer answer = record resizer {
-  state = after_in resizer.resize resizer.mode resizer.initial answer resizer.state;
+  state = after_in resizer.resize resizer.mode resizer.initial resizer.number answer
+      resizer.state;
 }
 
 -- it stands within its tables
 abbrev pub IsStandingIn : State → Type 0
 IsStandingIn (Making room) = IsSize room.len room.limit
-IsStandingIn (Looking root room) = IsStandingRoom room
+IsStandingIn (Looking root len room) = IsStandingRoom room
 IsStandingIn (Linking link) = IsStandingLink link
 IsStandingIn (Copying from copying) = IsStandingCopying copying
 IsStandingIn _ = Unit {0}

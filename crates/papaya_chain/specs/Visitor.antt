@@ -38,11 +38,12 @@ abbrev pub begun_in : ResizeMode → State
 begun_in (Incremental chunk) = Copying stages.AtRoot
 begun_in Blocking = AtRoot
 
-abbrev pub begun : Visit → ResizeMode → (initial : ℕ) → Visitor
-begun visit mode initial = record {
+abbrev pub begun : Visit → ResizeMode → (initial number : ℕ) → Visitor
+begun visit mode initial number = record {
   mode = mode;
   initial = initial;
   visit = visit;
+  number = number;
   state = begun_in mode;
 }
 
@@ -52,6 +53,7 @@ resizer_of visitor stage = record {
   mode = visitor.mode;
   initial = visitor.initial;
   resize = CopyAll;
+  number = visitor.number;
   state = stage;
 }
 
@@ -154,7 +156,7 @@ visited visit state _ = state
 
 -- the root that the copy of all found in this state, if an answer ended it
 abbrev pub found_by : Stage → ℕ
-found_by (stages.Looking root room) = root
+found_by (stages.Looking root len room) = root
 found_by _ = 0
 
 -- the copy of all went from one state to the other
@@ -163,15 +165,16 @@ copied from stages.Done = at_root (found_by from)
 copied from (stages.Refused refused) = Refused refused
 copied from stage = Copying stage
 
-abbrev pub after_in : Visit → ResizeMode → (initial : ℕ) → Answer → State → State
-after_in visit mode initial answer (Copying stage) =
-    copied stage (resizers.after_in CopyAll mode initial answer stage)
-after_in visit mode initial answer state = visited visit state answer
+abbrev pub after_in : Visit → ResizeMode → (initial number : ℕ) → Answer → State → State
+after_in visit mode initial number answer (Copying stage) =
+    copied stage (resizers.after_in CopyAll mode initial number answer stage)
+after_in visit mode initial number answer state = visited visit state answer
 
 -- the visitor after an answer
 abbrev pub after : Visitor → Answer → Visitor
 after visitor answer = record visitor {
-  state = after_in visitor.visit visitor.mode visitor.initial answer visitor.state;
+  state = after_in visitor.visit visitor.mode visitor.initial visitor.number answer
+      visitor.state;
 }
 
 -- the slot is one of its table

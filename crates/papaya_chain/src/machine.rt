@@ -34,11 +34,11 @@ pub enum Phase {
 
 /// What follows an answer while a table is made. One that was not asked for leads nowhere.
 #[inline]
-pub(crate) fn link_after(link: Link, answer: Answer, initial: usize) -> Linked
+pub(crate) fn link_after(link: Link, answer: Answer, mode: ResizeMode, initial: usize) -> Linked
     requires standing { IsStandingLink link }
     requires initial { IsPowerOfTwo initial }
     requires fit { IsFit answer }
-    ensures value { result ≡ link_after link initial answer }
+    ensures value { result ≡ link_after link mode initial answer }
     ensures standing { IsStandingLinked result }
 {
     match answer {
@@ -47,7 +47,7 @@ pub(crate) fn link_after(link: Link, answer: Answer, initial: usize) -> Linked
         Answer::Call(CallAnswer::Refused(refused)) => link.at_refused(refused),
         Answer::Call(CallAnswer::Exchanged) => link.at_exchanged(),
         Answer::Call(CallAnswer::Found(word)) => link.at_found(word),
-        Answer::Count(count) => link.at_count(count, initial),
+        Answer::Count(count) => link.at_count(mode, count, initial),
         _ => Linked::On(link),
     }
 }
@@ -59,12 +59,12 @@ pub(crate) fn copying_after(
     answer: Answer,
     mode: ResizeMode,
     initial: usize,
+    number: u64,
 ) -> Copied
     requires standing { IsStandingCopying copying }
-    requires chunked { IsChunked mode }
     requires initial { IsPowerOfTwo initial }
     requires fit { IsFit answer }
-    ensures value { result ≡ copying_after copying mode initial answer }
+    ensures value { result ≡ copying_after copying mode initial number answer }
     ensures standing { IsStandingCopied result }
 {
     match answer {
@@ -72,7 +72,9 @@ pub(crate) fn copying_after(
         Answer::Call(CallAnswer::Exchanged) => copying.at_exchanged(mode),
         Answer::Call(CallAnswer::Found(word)) => copying.at_found(mode, word),
         Answer::Call(CallAnswer::Yes(yes)) => copying.at_yes(mode, yes),
-        Answer::Call(CallAnswer::Size { len, limit }) => Copied::On(copying.at_size(len, limit)),
+        Answer::Call(CallAnswer::Size { len, limit }) => {
+            Copied::On(copying.at_size(mode, number, len, limit))
+        }
         Answer::Call(CallAnswer::Made(number)) => Copied::On(copying.at_made(number)),
         Answer::Call(CallAnswer::Ok) => copying.at_ok(mode),
         Answer::Call(CallAnswer::Refused(refused)) => copying.at_refused(mode, refused),
@@ -91,22 +93,25 @@ pub(crate) fn copying_after(
 pub struct Machine {
     /// The call, set aside while the next table is made or the root is copied.
     pub call: CallMachine,
+    /// From which chunk on it copies a table, of as many as there are.
+    pub number: u64,
     /// A call copies one chunk of slots, and was about to.
     pub helped: bool,
     pub phase: Phase,
 }
 
 impl Machine {
-    /// A call that begins.
+    /// A call that begins. Calls with different numbers copy a table from different chunks on.
     #[inline(always)]
-    pub fn new(task: Task, hash: u64, mode: ResizeMode, initial: usize) -> Machine
+    pub fn new(task: Task, hash: u64, mode: ResizeMode, initial: usize, number: u64) -> Machine
         requires chunked { IsChunked mode }
         requires initial { IsPowerOfTwo initial }
-        ensures value { result ≡ started task hash mode initial }
+        ensures value { result ≡ started task hash mode initial number }
         ensures standing { IsStanding result }
     {
         Machine {
             call: CallMachine::new(task, hash, mode, initial),
+            number,
             helped: false,
             phase: Phase::Calling,
         }
@@ -165,11 +170,17 @@ impl Machine {
                 }
             }
             Phase::Linking(link) => {
-                let linked = link_after(link, answer, self.call.initial);
+                let linked = link_after(link, answer, self.call.mode, self.call.initial);
                 self.linked(linked);
             }
             Phase::Copying(copying) => {
-                let copied = copying_after(copying, answer, self.call.mode, self.call.initial);
+                let copied = copying_after(
+                    copying,
+                    answer,
+                    self.call.mode,
+                    self.call.initial,
+                    self.number,
+                );
                 self.copied(copied);
             }
         }
@@ -224,8 +235,10 @@ impl Machine {
                 self.phase = Phase::Copying(Copying::Stepping(aim, Step::AtRoot));
             }
             ResizeMode::Incremental(_) if next == 0 => {
+                let after = need.table();
                 self.phase = Phase::Linking(Link::Sizing {
-                    after: need.table(),
+                    after,
+                    copied: after,
                     unfit: false,
                 });
             }

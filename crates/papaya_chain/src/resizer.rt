@@ -20,6 +20,7 @@ use papaya_ask::copy_ask::CopyAsk;
 use papaya_copy::copying::{Aim, Copied, Copying};
 use papaya_copy::link::{Link, Linked};
 use papaya_copy::step::Step;
+use papaya_words::chunks::chunk_count;
 use papaya_words::limits::MAX_TABLE_LEN;
 use papaya_words::probe::{Refused, ResizeMode, entries_for, limit};
 use papaya_words::table::table_len;
@@ -64,6 +65,8 @@ pub enum State {
     /// It looks for the table after this root.
     Looking {
         root: u64,
+        /// How many slots the root has; 0 where no table is to be made.
+        len: usize,
         /// The size of the next table, where one is to be made if there is none.
         room: Option<Room>,
     },
@@ -134,7 +137,11 @@ impl Resize {
             Resize::Reserve(more) if root == 0 => State::making(more),
             Resize::Reserve(_) => State::Sizing(root),
             Resize::Chunk | Resize::CopyAll if root == 0 => State::Done,
-            Resize::Chunk | Resize::CopyAll => State::Looking { root, room: None },
+            Resize::Chunk | Resize::CopyAll => State::Looking {
+                root,
+                len: 0,
+                room: None,
+            },
         }
     }
 
@@ -147,7 +154,7 @@ impl Resize {
             Resize::Reserve(more) => match room_for(count, more) {
                 None => State::Refused(Refused::Capacity),
                 Some(room) if room.len <= len => State::Done,
-                room => State::Looking { root, room },
+                room => State::Looking { root, len, room },
             },
             Resize::Chunk | Resize::CopyAll => State::Done,
         }
@@ -178,10 +185,10 @@ impl Resize {
     }
 }
 
-/// The table after the root is this one, or there is none.
-fn at_next(root: u64, room: Option<Room>, next: u64) -> State
+/// The table after the root, which has so many slots, is this one, or there is none.
+fn at_next(mode: ResizeMode, root: u64, before: usize, room: Option<Room>, next: u64) -> State
     requires { IsStandingRoom room }
-    ensures value { result ≡ at_next root room next }
+    ensures value { result ≡ at_next mode root before room next }
     ensures standing { IsStandingIn result }
 {
     if next != 0 {
@@ -193,6 +200,7 @@ fn at_next(root: u64, room: Option<Room>, next: u64) -> State
             after: root,
             len,
             limit,
+            chunks: chunk_count(before, mode),
         }),
     }
 }
@@ -220,15 +228,17 @@ pub struct Resizer {
     /// The initial capacity of the map in slots: no table is made shorter.
     pub initial: usize,
     pub resize: Resize,
+    /// From which chunk on it copies a table, of as many as there are.
+    pub number: u64,
     pub state: State,
 }
 
 impl Resizer {
-    /// One that begins.
-    pub fn new(resize: Resize, mode: ResizeMode, initial: usize) -> Resizer
+    /// One that begins. Calls with different numbers copy a table from different chunks on.
+    pub fn new(resize: Resize, mode: ResizeMode, initial: usize, number: u64) -> Resizer
         requires chunked { IsChunked mode }
         requires initial { IsPowerOfTwo initial }
-        ensures value { result ≡ begun resize mode initial }
+        ensures value { result ≡ begun resize mode initial number }
         ensures standing { IsStandingResizer result }
     {
         let state = match resize {
@@ -242,6 +252,7 @@ impl Resizer {
             mode,
             initial,
             resize,
+            number,
             state,
         }
     }
@@ -253,7 +264,11 @@ impl Resizer {
     {
         match self.state {
             State::AtRoot => Some(CopyAsk::Load(At::Root)),
-            State::Making(Room { len, limit }) => Some(CopyAsk::MakeTable { len, limit }),
+            State::Making(Room { len, limit }) => Some(CopyAsk::MakeTable {
+                len,
+                limit,
+                chunks: 0,
+            }),
             State::Opening(table) => Some(CopyAsk::Exchange(At::Root, 0, table)),
             State::Sizing(root) => Some(CopyAsk::SizeOf(root)),
             State::Counting { .. } => Some(CopyAsk::Count),
@@ -303,7 +318,7 @@ impl Resizer {
     fn called(&self, answer: Answer) -> State
         requires standing { IsStandingIn self.now.state }
         requires fit { IsFit answer }
-        ensures value { result ≡ called self.now.resize self.now.state answer }
+        ensures value { result ≡ called self.now.resize self.now.mode self.now.state answer }
         ensures standing { IsStandingIn result }
     {
         match (self.state, answer) {
@@ -321,8 +336,8 @@ impl Resizer {
             (State::Counting { root, len }, Answer::Count(count)) => {
                 self.resize.at_count(root, len, count)
             }
-            (State::Looking { root, room }, Answer::Call(CallAnswer::Word(next))) => {
-                at_next(root, room, next)
+            (State::Looking { root, len, room }, Answer::Call(CallAnswer::Word(next))) => {
+                at_next(self.mode, root, len, room, next)
             }
             (state, _) => state,
         }
@@ -337,10 +352,11 @@ impl Resizer {
     {
         self.state = match self.state {
             State::Linking(link) => {
-                linked(link.follows(), link_after(link, answer, self.initial))
+                let linked_to = link_after(link, answer, self.mode, self.initial);
+                linked(link.follows(), linked_to)
             }
             State::Copying { from, copying } => {
-                let copied = copying_after(copying, answer, self.mode, self.initial);
+                let copied = copying_after(copying, answer, self.mode, self.initial, self.number);
                 self.resize.copied(from, copied)
             }
             State::AtRoot

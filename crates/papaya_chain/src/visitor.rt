@@ -164,15 +164,17 @@ pub struct Visitor {
     /// The initial capacity of the map in slots: no table is made shorter.
     pub initial: usize,
     pub visit: Visit,
+    /// From which chunk on it copies a table, of as many as there are.
+    pub number: u64,
     pub state: State,
 }
 
 impl Visitor {
-    /// One that begins.
-    pub fn new(visit: Visit, mode: ResizeMode, initial: usize) -> Visitor
+    /// One that begins. Calls with different numbers copy a table from different chunks on.
+    pub fn new(visit: Visit, mode: ResizeMode, initial: usize, number: u64) -> Visitor
         requires chunked { IsChunked mode }
         requires initial { IsPowerOfTwo initial }
-        ensures value { result ≡ begun visit mode initial }
+        ensures value { result ≡ begun visit mode initial number }
         ensures standing { IsStandingVisitor result }
     {
         let state = match mode {
@@ -183,6 +185,7 @@ impl Visitor {
             mode,
             initial,
             visit,
+            number,
             state,
         }
     }
@@ -198,6 +201,7 @@ impl Visitor {
             mode: self.mode,
             initial: self.initial,
             resize: Resize::CopyAll,
+            number: self.number,
             state: stage,
         }
     }

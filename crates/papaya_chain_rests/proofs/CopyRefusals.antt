@@ -1,5 +1,5 @@
 -- A copy ends refused only where a table that it makes is, or would be too long.
-use Rattle.std.proofs.Common.{◌≡◌, ℕ, ◌==◌, ◌||◌, nat_lt, nat_le, not, Bool, true, false, Option, None, Some, refl, ap, ◌∙◌}
+use Rattle.std.proofs.Common.{◌≡◌, ℕ, ◌==◌, ◌||◌, nat_lt, not, cond, Bool, true, false, Option, None, Some, refl, ap, ◌∙◌}
 use Rattle.std.proofs.lemmas.Bool.{cond_both}
 use Rattle.papaya_words.specs.Word.{kind_of, top_byte, may_hold}
 use Rattle.papaya_words.specs.declared.probe.Refused.{Refused}
@@ -29,6 +29,7 @@ use Rattle.papaya_copy.specs.declared.settle.Settled.{Settled}
 use Rattle.papaya_copy.specs.declared.settle.Settled.TheVariants as settled
 use Rattle.papaya_copy.specs.declared.settle.Slot.{Slot}
 use Rattle.papaya_copy.specs.declared.step.Chunk.{Chunk}
+use Rattle.papaya_copy.specs.declared.step.Scan.{Scan}
 use Rattle.papaya_copy.specs.declared.step.Step.{Step}
 use Rattle.papaya_copy.specs.declared.step.Step.TheVariants as steps
 use Rattle.papaya_copy.specs.declared.step.Stepped.{Stepped}
@@ -38,7 +39,7 @@ use Rattle.papaya_copy.specs.Copying as copying
 use Rattle.papaya_copy.specs.Link as link
 use Rattle.papaya_copy.specs.Settle as settle
 use Rattle.papaya_copy.specs.Step as step
-use Rattle.papaya_chain_rests.specs.Goes.{link_in_carry, link_in_copying, link_in_settle, link_in_step}
+use Rattle.papaya_rests.specs.Copier.{link_in_carry, link_in_copying, link_in_settle, link_in_step}
 
 -- the refusal that each ends with
 abbrev pub of_linked : Linked → Option Refused
@@ -80,7 +81,7 @@ settled_by_as marked mode (carried.Unfit table) = refl
 settled_by_as marked mode (carried.Refused refused) = refl
 
 next_in_none : (chunk : Chunk) → of_stepped (step.next_in chunk) ≡ None
-next_in_none chunk = cond_both (nat_lt chunk.at chunk.end) (stepped.On (steps.Settling chunk settles.Looking)) (stepped.On (steps.Advancing chunk)) (λ y. of_stepped y ≡ None) (λ _. refl) (λ _. refl)
+next_in_none chunk = cond_both (nat_lt chunk.at chunk.end) (stepped.On (steps.Settling chunk settles.Looking)) (stepped.On (steps.Advancing chunk.scan)) (λ y. of_stepped y ≡ None) (λ _. refl) (λ _. refl)
 
 settled_to_as : (chunk : Chunk) (end : Settled) → of_stepped (step.settled_to chunk end) ≡ of_settled end
 settled_to_as chunk (settled.On goes) = refl
@@ -115,10 +116,17 @@ root_none (aims.Search table) mode root = cond_both (root == 0) (copying.over (a
 root_none (aims.Settle slot) mode root = cond_both (root == 0) (copying.over (aims.Settle slot)) (copied.On (Stepping (aims.Settle slot) (steps.Aiming root root))) (λ y. of_copied y ≡ None) (λ _. refl) (λ _. refl)
 root_none aims.Chunk mode root = cond_both (root == 0) (copying.over aims.Chunk) (copied.On (Stepping aims.Chunk (steps.Aiming root root))) (λ y. of_copied y ≡ None) (λ _. refl) (λ _. refl)
 
+further_none : (aim : Aim) (chunk : Chunk) → of_copied (copying.further aim chunk) ≡ None
+further_none (aims.Search table) chunk = refl
+further_none (aims.Settle slot) chunk = refl
+further_none aims.Chunk chunk = refl
+further_none (aims.All met) chunk = refl
+
 leads_as : (aim : Aim) (mode : ResizeMode) (end : Stepped) → of_copied (copying.leads aim mode end) ≡ of_stepped end
 leads_as aim mode (stepped.On goes) = refl
 leads_as aim mode (stepped.Root root) = root_none aim mode root
 leads_as aim mode (stepped.Last table) = last_none aim table
+leads_as aim mode (stepped.Further chunk) = further_none aim chunk
 leads_as aim mode stepped.Over = over_none aim
 leads_as aim mode (stepped.Refused refused) = refl
 
@@ -130,16 +138,18 @@ lone_as slot (settled.Refused refused) = refl
 
 -- no word ends the making of a table refused
 link_exchanged_none : (made : Link) → of_linked (link.at_exchanged made) ≡ None
-link_exchanged_none (links.Linking behind table) = refl
-link_exchanged_none (links.Sizing behind unfit) = refl
-link_exchanged_none (links.Counting behind unfit slots) = refl
-link_exchanged_none (links.Making behind slots limit) = refl
+link_exchanged_none (links.Linking behind table chunks) = refl
+link_exchanged_none (links.Sizing behind copied unfit) = refl
+link_exchanged_none (links.Measuring behind copied unfit len) = refl
+link_exchanged_none (links.Counting behind unfit slots copied) = refl
+link_exchanged_none (links.Making behind slots limit chunks) = refl
 
 link_found_none : (made : Link) (word : ℕ) → of_linked (link.at_found made word) ≡ None
-link_found_none (links.Linking behind table) word = refl
-link_found_none (links.Sizing behind unfit) word = refl
-link_found_none (links.Counting behind unfit slots) word = refl
-link_found_none (links.Making behind slots limit) word = refl
+link_found_none (links.Linking behind table chunks) word = refl
+link_found_none (links.Sizing behind copied unfit) word = refl
+link_found_none (links.Measuring behind copied unfit len) word = refl
+link_found_none (links.Counting behind unfit slots copied) word = refl
+link_found_none (links.Making behind slots limit chunks) word = refl
 
 -- nor a carry
 goes_on_none : (hash : ℕ) (at : Place) (mode : ResizeMode) → of_carried (carry.goes_on hash at mode) ≡ None
@@ -184,9 +194,9 @@ carry_found_none (carries.Linking hash made) mode word = carried_on_as hash (lin
 carry_found_none (carries.Aborting table) mode word = refl
 carry_found_none goes mode word = refl
 
-carry_count_as : (goes : Carry) (count initial : ℕ) → of_carried (carry.at_count goes count initial) ≡ of_link (λ made. link.at_count made count initial) (link_in_carry goes)
-carry_count_as (carries.Linking hash made) count initial = carried_on_as hash (link.at_count made count initial)
-carry_count_as goes count initial = refl
+carry_count_as : (goes : Carry) (mode : ResizeMode) (count initial : ℕ) → of_carried (carry.at_count goes mode count initial) ≡ of_link (λ made. link.at_count made mode count initial) (link_in_carry goes)
+carry_count_as (carries.Linking hash made) mode count initial = carried_on_as hash (link.at_count made mode count initial)
+carry_count_as goes mode count initial = refl
 
 carry_refused_as : (goes : Carry) (refused : Refused) → of_carried (carry.at_refused goes refused) ≡ of_link (λ made. link.at_refused made refused) (link_in_carry goes)
 carry_refused_as (carries.Linking hash made) refused = carried_on_as hash (link.at_refused made refused)
@@ -231,8 +241,8 @@ settle_found_none (settles.Marking old) slot mode word = seen_none (kind_of word
 settle_found_none (settles.Carrying marked goes) slot mode word = settled_by_as marked mode (carry.at_found goes mode word) ∙ carry_found_none goes mode word
 settle_found_none (settles.Finishing old) slot mode word = refl
 
-settle_count_as : (goes : Settle) (mode : ResizeMode) (count initial : ℕ) → of_settled (settle.at_count goes mode count initial) ≡ of_link (λ made. link.at_count made count initial) (link_in_settle goes)
-settle_count_as (settles.Carrying marked goes) mode count initial = settled_by_as marked mode (carry.at_count goes count initial) ∙ carry_count_as goes count initial
+settle_count_as : (goes : Settle) (mode : ResizeMode) (count initial : ℕ) → of_settled (settle.at_count goes mode count initial) ≡ of_link (λ made. link.at_count made mode count initial) (link_in_settle goes)
+settle_count_as (settles.Carrying marked goes) mode count initial = settled_by_as marked mode (carry.at_count goes mode count initial) ∙ carry_count_as goes mode count initial
 settle_count_as goes mode count initial = refl
 
 settle_refused_as : (goes : Settle) (mode : ResizeMode) (refused : Refused) → of_settled (settle.at_refused goes mode refused) ≡ of_link (λ made. link.at_refused made refused) (link_in_settle goes)
@@ -242,14 +252,17 @@ settle_refused_as goes mode refused = refl
 -- nor that of a chunk
 aimed_none : (from behind : ℕ) (mode : ResizeMode) (next : ℕ) → of_stepped (step.aimed from behind mode next) ≡ None
 aimed_none from behind (Incremental chunk) next = cond_both (next == 0) (stepped.Last from) (stepped.On (steps.Sizing from next)) (λ y. of_stepped y ≡ None) (λ _. refl) (λ _. refl)
-aimed_none from behind Blocking next = cond_both (next == 0) (stepped.On (steps.Linking from (links.Sizing behind (not (behind == from))))) (stepped.On (steps.Judging from next)) (λ y. of_stepped y ≡ None) (λ _. refl) (λ _. refl)
+aimed_none from behind Blocking next = cond_both (next == 0) (stepped.On (steps.Linking from (links.Sizing behind from (not (behind == from))))) (stepped.On (steps.Judging from next)) (λ y. of_stepped y ≡ None) (λ _. refl) (λ _. refl)
 
-advanced_none : (chunk : Chunk) (done : ℕ) → of_stepped (step.advanced chunk done) ≡ None
-advanced_none chunk done = cond_both (nat_le chunk.len done) (stepped.On (steps.Promoting chunk.from chunk.to)) stepped.Over (λ y. of_stepped y ≡ None) (λ _. refl) (λ _. refl)
+scanned_none : (scan : Scan) (done : ℕ) → of_stepped (step.scanned scan done) ≡ None
+scanned_none scan done =
+    cond_both (not (done == 0)) (stepped.On (step.next_scan scan)) (cond scan.copied (stepped.Further (step.chunk_at scan)) (stepped.On (steps.Settling (step.chunk_at scan) settles.Looking))) (λ y. of_stepped y ≡ None) (λ _. refl)
+    (λ _. cond_both scan.copied (stepped.Further (step.chunk_at scan)) (stepped.On (steps.Settling (step.chunk_at scan) settles.Looking)) (λ y. of_stepped y ≡ None) (λ _. refl) (λ _. refl))
 
 step_word_none : (goes : Step) (mode : ResizeMode) (word : ℕ) → of_stepped (step.at_word goes mode word) ≡ None
 step_word_none steps.AtRoot mode word = refl
 step_word_none (steps.Aiming from behind) mode word = aimed_none from behind mode word
+step_word_none (steps.Scanning scan) mode word = scanned_none scan word
 step_word_none (steps.Settling chunk goes) mode word = settled_to_as chunk (settle.at_word goes (step.slot_of chunk) mode word) ∙ settle_word_none goes (step.slot_of chunk) mode word
 step_word_none goes mode word = refl
 
@@ -260,7 +273,7 @@ step_yes_none goes mode same = refl
 step_exchanged_none : (goes : Step) (mode : ResizeMode) → of_stepped (step.at_exchanged goes mode) ≡ None
 step_exchanged_none (steps.Linking from made) mode = linked_to_as from (link.at_exchanged made) ∙ link_exchanged_none made
 step_exchanged_none (steps.Settling chunk goes) mode = settled_to_as chunk (settle.at_exchanged goes (step.slot_of chunk) mode) ∙ settle_exchanged_none goes (step.slot_of chunk) mode
-step_exchanged_none (steps.Advancing chunk) mode = advanced_none chunk chunk.end
+step_exchanged_none (steps.Advancing scan) mode = refl
 step_exchanged_none goes mode = refl
 
 step_ok_none : (goes : Step) (mode : ResizeMode) → of_stepped (step.at_ok goes mode) ≡ None
@@ -270,11 +283,11 @@ step_ok_none goes mode = refl
 step_found_none : (goes : Step) (mode : ResizeMode) (word : ℕ) → of_stepped (step.at_found goes mode word) ≡ None
 step_found_none (steps.Linking from made) mode word = linked_to_as from (link.at_found made word) ∙ link_found_none made word
 step_found_none (steps.Settling chunk goes) mode word = settled_to_as chunk (settle.at_found goes (step.slot_of chunk) mode word) ∙ settle_found_none goes (step.slot_of chunk) mode word
-step_found_none (steps.Advancing chunk) mode word = advanced_none chunk word
+step_found_none (steps.Advancing scan) mode word = refl
 step_found_none goes mode word = refl
 
-step_count_as : (goes : Step) (mode : ResizeMode) (count initial : ℕ) → of_stepped (step.at_count goes mode count initial) ≡ of_link (λ made. link.at_count made count initial) (link_in_step goes)
-step_count_as (steps.Linking from made) mode count initial = linked_to_as from (link.at_count made count initial)
+step_count_as : (goes : Step) (mode : ResizeMode) (count initial : ℕ) → of_stepped (step.at_count goes mode count initial) ≡ of_link (λ made. link.at_count made mode count initial) (link_in_step goes)
+step_count_as (steps.Linking from made) mode count initial = linked_to_as from (link.at_count made mode count initial)
 step_count_as (steps.Settling chunk goes) mode count initial = settled_to_as chunk (settle.at_count goes mode count initial) ∙ settle_count_as goes mode count initial
 step_count_as goes mode count initial = refl
 
@@ -305,7 +318,7 @@ copying_found_none (Stepping aim goes) mode word = leads_as aim mode (step.at_fo
 copying_found_none (Lone slot goes) mode word = lone_as slot (settle.at_found goes slot mode word) ∙ settle_found_none goes slot mode word
 
 -- after a count or a refusal it ends as the making of its table does
-pub copying_count_as : (goes : Copying) (mode : ResizeMode) (count initial : ℕ) → of_copied (copying.at_count goes mode count initial) ≡ of_link (λ made. link.at_count made count initial) (link_in_copying goes)
+pub copying_count_as : (goes : Copying) (mode : ResizeMode) (count initial : ℕ) → of_copied (copying.at_count goes mode count initial) ≡ of_link (λ made. link.at_count made mode count initial) (link_in_copying goes)
 copying_count_as (Stepping aim goes) mode count initial = leads_as aim mode (step.at_count goes mode count initial) ∙ step_count_as goes mode count initial
 copying_count_as (Lone slot goes) mode count initial = lone_as slot (settle.at_count goes mode count initial) ∙ settle_count_as goes mode count initial
 

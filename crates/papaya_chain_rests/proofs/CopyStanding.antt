@@ -1,9 +1,9 @@
 -- What is made or copied stands within its tables after each answer within the limits, and asks for tables of sizes of tables.
-use Rattle.std.proofs.Common.{ℕ, zero, suc, ◌+◌, ◌-◌, ◌==◌, ◌<◌, ◌≤◌, ◌^◌, nat_lt, nat_le, ◌||◌, not, Bool, true, false, max, leb-false, arith}
+use Rattle.std.proofs.Common.{ℕ, zero, suc, ◌+◌, ◌-◌, ◌%◌, ◌==◌, ◌<◌, ◌≤◌, ◌^◌, nat_lt, nat_le, ◌&&◌, ◌||◌, not, cond, Bool, true, false, max, arith}
 use Rattle.std.proofs.Math.Nat.{mod-lt}
-use Rattle.std.proofs.lemmas.Bool.{cond_both, leb-true, ltb-true}
+use Rattle.std.proofs.lemmas.Bool.{and_parts, cond_both, leb-true, ltb-true}
 use Rattle.std.specs.Int.{IsPowerOfTwo}
-use Rattle.papaya_words.specs.Mode.{IsChunked}
+use Rattle.papaya_words.specs.Chunks.{chunk_count, chunk_len}
 use Rattle.papaya_words.specs.Probe.{limit_of, log_upto, triangular}
 use Rattle.papaya_words.specs.Table.{length_after, limit_after}
 use Rattle.papaya_words.specs.Word.{kind_of, top_byte, may_hold}
@@ -13,6 +13,7 @@ use Rattle.papaya_words.specs.declared.probe.ResizeMode.{ResizeMode}
 use Rattle.papaya_words.specs.declared.probe.ResizeMode.TheVariants.{Incremental, Blocking}
 use Rattle.papaya_words.specs.declared.word.Kind.{Kind}
 use Rattle.papaya_words.specs.declared.word.Kind.TheVariants as word_kinds
+use Rattle.papaya_words.proofs.ChunkLemmas.{chunk_some}
 use Rattle.papaya_words.proofs.Lengths.{table_power}
 use Rattle.papaya_ask.specs.declared.ask.Answer.TheVariants.{Word as Word_read, Exchanged, Found as Found_instead, Yes, Size, Made as Made_number, Refused as Was_refused, Ok as Ok_done}
 use Rattle.papaya_ask.specs.declared.search.Place.{Place}
@@ -36,6 +37,7 @@ use Rattle.papaya_copy.specs.declared.settle.Settled.{Settled}
 use Rattle.papaya_copy.specs.declared.settle.Settled.TheVariants as settled
 use Rattle.papaya_copy.specs.declared.settle.Slot.{Slot}
 use Rattle.papaya_copy.specs.declared.step.Chunk.{Chunk}
+use Rattle.papaya_copy.specs.declared.step.Scan.{Scan}
 use Rattle.papaya_copy.specs.declared.step.Step.{Step}
 use Rattle.papaya_copy.specs.declared.step.Step.TheVariants as step_states
 use Rattle.papaya_copy.specs.declared.step.Stepped.{Stepped}
@@ -49,7 +51,8 @@ use Rattle.papaya_copy.specs.Link.{IsFitCopyAsk, IsStandingLink, IsStandingLinke
 use Rattle.papaya_copy.specs.Settle as settles
 use Rattle.papaya_copy.specs.Settle.{IsStandingSettle, IsStandingSettled, settle_ask}
 use Rattle.papaya_copy.specs.Step as steps
-use Rattle.papaya_copy.specs.Step.{IsStandingChunk, IsStandingStep, IsStandingStepped, step_ask}
+use Rattle.papaya_copy.specs.Step.{IsStandingChunk, IsStandingScan, IsStandingStep, IsStandingStepped, step_ask}
+use Rattle.papaya_copy.proofs.Starts.{start_low, start_within}
 use Rattle.papaya_chain.specs.declared.ask.Answer.{Answer}
 use Rattle.papaya_chain.specs.declared.ask.Answer.TheVariants as answers
 use Rattle.papaya_chain.specs.Machine.{IsFit, copying_after, link_after}
@@ -65,46 +68,49 @@ limit_few : (len before : ℕ) (unfit : Bool) → 1 ≤ len → len ≤ 2 ^ 32 �
 limit_few len before unfit some most = let few = log_few 63 len in cond_both (unfit || nat_le len before) (len - 1) (limit_of len) (λ n. n < 2 ^ 32) (λ _. omega (arith, some, most)) (λ _. omega (arith, few))
 
 -- the table after one of a power of two of slots is one of tables
-counted_stands : (after before : ℕ) (unfit : Bool) (asked : ℕ) → IsPowerOfTwo (max asked 8) → IsStandingLinked (links.counted after before unfit asked)
-counted_stands after before unfit asked power =
-    cond_both (nat_le asked (2 ^ 32)) (linked.On (links.making after before unfit asked)) (linked.Refused Capacity) IsStandingLinked
+counted_stands : (after before : ℕ) (unfit : Bool) (chunks asked : ℕ) → IsPowerOfTwo (max asked 8) → IsStandingLinked (links.counted after before unfit chunks asked)
+counted_stands after before unfit chunks asked power =
+    cond_both (nat_le asked (2 ^ 32)) (linked.On (links.making after before unfit chunks asked)) (linked.Refused Capacity) IsStandingLinked
     (λ fits. let few = leb-true asked (2 ^ 32) fits in let most : max asked 8 ≤ 2 ^ 32 = omega (arith, few) in record { power = power; most = most; few = limit_few (max asked 8) before unfit (omega arith) most })
     (λ _. tt)
 
 -- the making of a table
 link_size : (link : Link) (slots limit : ℕ) → IsSize slots limit → IsStandingLink link → IsStandingLink (links.at_size link slots)
-link_size (link_states.Sizing after unfit) slots limit size stands = (size.power, size.most)
+link_size (link_states.Sizing after copied unfit) slots limit size stands =
+    cond_both (copied == after) (link_states.Counting after unfit slots slots) (link_states.Measuring after copied unfit slots) IsStandingLink (λ _. (size.power, size.most)) (λ _. (size.power, size.most))
+link_size (link_states.Measuring after copied unfit len) slots limit size stands = stands
 link_size link slots limit size stands = stands
 
-link_count : (link : Link) (count initial : ℕ) → IsPowerOfTwo initial → IsStandingLink link → IsStandingLinked (links.at_count link count initial)
-link_count (link_states.Counting after unfit len) count initial power stands = counted_stands after len unfit (length_after len count initial unfit) (table_power len count initial unfit stands.0 power)
-link_count link count initial power stands = stands
+link_count : (link : Link) (mode : ResizeMode) (count initial : ℕ) → IsPowerOfTwo initial → IsStandingLink link → IsStandingLinked (links.at_count link mode count initial)
+link_count (link_states.Counting after unfit len copied) mode count initial power stands =
+    counted_stands after len unfit (chunk_count copied (chunk_len mode)) (length_after len count initial unfit) (table_power len count initial unfit stands.0 power)
+link_count link mode count initial power stands = stands
 
 link_made : (link : Link) (n : ℕ) → IsStandingLink link → IsStandingLink (links.at_made link n)
-link_made (link_states.Making after len limit) n stands = tt
+link_made (link_states.Making after len limit chunks) n stands = tt
 link_made link n stands = stands
 
 link_refused : (link : Link) (refused : Refused) → IsStandingLink link → IsStandingLinked (links.at_refused link refused)
-link_refused (link_states.Making after len limit) refused stands = tt
+link_refused (link_states.Making after len limit chunks) refused stands = tt
 link_refused link refused stands = stands
 
 link_exchanged : (link : Link) → IsStandingLink link → IsStandingLinked (links.at_exchanged link)
-link_exchanged (link_states.Linking after table) stands = tt
+link_exchanged (link_states.Linking after table chunks) stands = tt
 link_exchanged link stands = stands
 
 link_found : (link : Link) (word : ℕ) → IsStandingLink link → IsStandingLinked (links.at_found link word)
-link_found (link_states.Linking after table) word stands = tt
+link_found (link_states.Linking after table chunks) word stands = tt
 link_found link word stands = stands
 
-pub link_stands : (link : Link) (initial : ℕ) (answer : Answer) → IsPowerOfTwo initial → IsFit answer → IsStandingLink link → IsStandingLinked (link_after link initial answer)
-link_stands link initial (answers.Call (Size slots limit)) power fit stands = link_size link slots limit fit stands
-link_stands link initial (answers.Call (Made_number n)) power fit stands = link_made link n stands
-link_stands link initial (answers.Call (Was_refused refused)) power fit stands = link_refused link refused stands
-link_stands link initial (answers.Call Exchanged) power fit stands = link_exchanged link stands
-link_stands link initial (answers.Call (Found_instead word)) power fit stands = link_found link word stands
-link_stands link initial (answers.Call other) power fit stands = stands
-link_stands link initial (answers.Hash hash) power fit stands = stands
-link_stands link initial (answers.Count count) power fit stands = link_count link count initial power stands
+pub link_stands : (link : Link) (mode : ResizeMode) (initial : ℕ) (answer : Answer) → IsPowerOfTwo initial → IsFit answer → IsStandingLink link → IsStandingLinked (link_after link mode initial answer)
+link_stands link mode initial (answers.Call (Size slots limit)) power fit stands = link_size link slots limit fit stands
+link_stands link mode initial (answers.Call (Made_number n)) power fit stands = link_made link n stands
+link_stands link mode initial (answers.Call (Was_refused refused)) power fit stands = link_refused link refused stands
+link_stands link mode initial (answers.Call Exchanged) power fit stands = link_exchanged link stands
+link_stands link mode initial (answers.Call (Found_instead word)) power fit stands = link_found link word stands
+link_stands link mode initial (answers.Call other) power fit stands = stands
+link_stands link mode initial (answers.Hash hash) power fit stands = stands
+link_stands link mode initial (answers.Count count) power fit stands = link_count link mode count initial power stands
 
 -- the carry of a pair: the place after one, and what a word at one tells
 fills_stands : (hash table : ℕ) (mode : ResizeMode) → IsStandingCarry (carries.fills hash table mode)
@@ -169,9 +175,9 @@ carry_found (carry_states.Linking hash link) mode word stands = carry_links hash
 carry_found (carry_states.Aborting table) mode word stands = tt
 carry_found carry mode word stands = stands
 
-carry_count : (carry : Carry) (count initial : ℕ) → IsPowerOfTwo initial → IsStandingCarry carry → IsStandingCarried (carries.at_count carry count initial)
-carry_count (carry_states.Linking hash link) count initial power stands = carry_links hash (links.at_count link count initial) (link_count link count initial power stands)
-carry_count carry count initial power stands = stands
+carry_count : (carry : Carry) (mode : ResizeMode) (count initial : ℕ) → IsPowerOfTwo initial → IsStandingCarry carry → IsStandingCarried (carries.at_count carry mode count initial)
+carry_count (carry_states.Linking hash link) mode count initial power stands = carry_links hash (links.at_count link mode count initial) (link_count link mode count initial power stands)
+carry_count carry mode count initial power stands = stands
 
 carry_made : (carry : Carry) (n : ℕ) → IsStandingCarry carry → IsStandingCarry (carries.at_made carry n)
 carry_made (carry_states.Linking hash link) n stands = link_made link n stands
@@ -235,7 +241,7 @@ settle_found (settle_states.Carrying marked carry) slot mode word stands = settl
 settle_found (settle_states.Finishing old) slot mode word stands = tt
 
 settle_count : (settle : Settle) (mode : ResizeMode) (count initial : ℕ) → IsPowerOfTwo initial → IsStandingSettle settle → IsStandingSettled (settles.at_count settle mode count initial)
-settle_count (settle_states.Carrying marked carry) mode count initial power stands = settle_by marked mode (carries.at_count carry count initial) (carry_count carry count initial power stands)
+settle_count (settle_states.Carrying marked carry) mode count initial power stands = settle_by marked mode (carries.at_count carry mode count initial) (carry_count carry mode count initial power stands)
 settle_count settle mode count initial power stands = stands
 
 settle_made : (settle : Settle) (n : ℕ) → IsStandingSettle settle → IsStandingSettle (settles.at_made settle n)
@@ -247,28 +253,45 @@ settle_refused (settle_states.Carrying marked carry) mode refused stands = settl
 settle_refused settle mode refused stands = stands
 
 -- the copy of a chunk
-some_chunk : (mode : ResizeMode) → IsChunked mode → 1 ≤ steps.chunk_of mode
-some_chunk (Incremental chunk) chunked = chunked
-some_chunk Blocking chunked = omega arith
-
-chunk_stands : (from to len done slots : ℕ) → 1 ≤ slots → done < len → len ≤ 2 ^ 32 → IsStandingChunk (steps.chunk_at from to len done slots)
-chunk_stands from to len done slots some more most = record {
-  at = cond_both (nat_lt slots (len - done)) (done + slots) len (λ end. done < end) (λ _. omega (arith, some)) (λ _. more);
-  within = cond_both (nat_lt slots (len - done)) (done + slots) len (λ end. end ≤ len) (λ fits. let few = ltb-true slots (len - done) fits in omega (arith, few, more)) (λ _. omega arith);
-  most = most;
+chunk_stands : (scan : Scan) → IsStandingScan scan → IsStandingChunk (steps.chunk_at scan)
+chunk_stands scan stands = record {
+  scan = stands;
+  at = cond_both (nat_lt scan.slots (scan.len - scan.begun)) (scan.begun + scan.slots) scan.len (λ end. scan.begun < end) (λ _. let some = stands.some in omega (arith, some)) (λ _. stands.begun);
+  within = cond_both (nat_lt scan.slots (scan.len - scan.begun)) (scan.begun + scan.slots) scan.len (λ end. end ≤ scan.len) (λ fits. let few = ltb-true scan.slots (scan.len - scan.begun) fits in let more = stands.begun in omega (arith, few, more)) (λ _. omega arith);
 }
 
-step_counts : (from to len : ℕ) (mode : ResizeMode) (done : ℕ) → IsChunked mode → len ≤ 2 ^ 32 → IsStandingStep (steps.counted from to len mode done)
-step_counts from to len mode done chunked most =
-    cond_both (nat_le len done) (step_states.Promoting from to) (step_states.Settling (steps.chunk_at from to len done (steps.chunk_of mode)) settle_states.Looking) IsStandingStep
-    (λ _. tt)
-    (λ more. (chunk_stands from to len done (steps.chunk_of mode) (some_chunk mode chunked) (leb-false len done more) most, tt))
+-- the first chunk whose word is loaded
+first_stands : (from to len : ℕ) (mode : ResizeMode) (number : ℕ) → IsPowerOfTwo len → len ≤ 2 ^ 32 → IsStandingScan (steps.first_scan from to len mode number)
+first_stands from to len mode number power most =
+    let low = start_low (number % chunk_count len (chunk_len mode)) mode in
+    let within = start_within len number mode power in
+    record { some = chunk_some mode; start = omega (arith, low, within); at = low; begun = within; most = most }
+
+-- and the next one
+scan_next : (scan : Scan) → IsStandingScan scan → IsStandingStep (steps.next_scan scan)
+scan_next scan stands =
+    cond_both (steps.is_further scan) (step_states.Scanning (steps.next_chunk scan)) (cond (not scan.wrapped && nat_lt 0 scan.start) (step_states.Scanning (steps.first_chunk scan)) (step_states.Promoting scan.from scan.to)) IsStandingStep
+    (λ e.
+    let lt = ltb-true scan.slots (scan.len - scan.begun) (and_parts (nat_lt scan.slots (scan.len - scan.begun)) (not (scan.wrapped && nat_le scan.start (scan.at + 1))) e).0 in
+    record { some = stands.some; start = stands.start; at = let low = stands.at in let some = stands.some in omega (arith, low, some); begun = omega (arith, lt); most = stands.most })
+    (λ _. cond_both (not scan.wrapped && nat_lt 0 scan.start) (step_states.Scanning (steps.first_chunk scan)) (step_states.Promoting scan.from scan.to) IsStandingStep
+    (λ _. record { some = stands.some; start = stands.start; at = omega arith; begun = let more = stands.begun in omega (arith, more); most = stands.most })
+    (λ _. tt))
+
+scan_word : (scan : Scan) (done : ℕ) → IsStandingScan scan → IsStandingStepped (steps.scanned scan done)
+scan_word scan done stands =
+    cond_both (not (done == 0)) (stepped.On (steps.next_scan scan)) (cond scan.copied (stepped.Further (steps.chunk_at scan)) (stepped.On (step_states.Settling (steps.chunk_at scan) settle_states.Looking))) IsStandingStepped
+    (λ _. scan_next scan stands)
+    (λ _. cond_both scan.copied (stepped.Further (steps.chunk_at scan)) (stepped.On (step_states.Settling (steps.chunk_at scan) settle_states.Looking)) IsStandingStepped (λ _. chunk_stands scan stands) (λ _. (chunk_stands scan stands, tt)))
+
+step_advances : (scan : Scan) → IsStandingScan scan → IsStandingStepped (steps.advanced scan)
+step_advances scan stands = scan_next (record scan { copied = true }) (record { some = stands.some; start = stands.start; at = stands.at; begun = stands.begun; most = stands.most })
 
 step_next : (chunk : Chunk) → IsStandingChunk chunk → IsStandingStepped (steps.next_in (steps.next_slot chunk))
 step_next chunk stands =
-    cond_both (nat_lt (chunk.at + 1) chunk.end) (stepped.On (step_states.Settling (steps.next_slot chunk) settle_states.Looking)) (stepped.On (step_states.Advancing (steps.next_slot chunk))) IsStandingStepped
-    (λ more. (record { at = ltb-true (chunk.at + 1) chunk.end more; within = stands.within; most = stands.most }, tt))
-    (λ _. tt)
+    cond_both (nat_lt (chunk.at + 1) chunk.end) (stepped.On (step_states.Settling (steps.next_slot chunk) settle_states.Looking)) (stepped.On (step_states.Advancing chunk.scan)) IsStandingStepped
+    (λ more. (record { scan = stands.scan; at = ltb-true (chunk.at + 1) chunk.end more; within = stands.within }, tt))
+    (λ _. stands.scan)
 
 step_settles : (chunk : Chunk) (end : Settled) → IsStandingChunk chunk → IsStandingSettled end → IsStandingStepped (steps.settled_to chunk end)
 step_settles chunk (settled.On settle) stands settles_so = (stands, settles_so)
@@ -278,10 +301,7 @@ step_settles chunk (settled.Refused refused) stands settles_so = tt
 
 step_aims : (from behind : ℕ) (mode : ResizeMode) (next : ℕ) → IsStandingStepped (steps.aimed from behind mode next)
 step_aims from behind (Incremental chunk) next = cond_both (next == 0) (stepped.Last from) (stepped.On (step_states.Sizing from next)) IsStandingStepped (λ _. tt) (λ _. tt)
-step_aims from behind Blocking next = cond_both (next == 0) (stepped.On (step_states.Linking from (link_states.Sizing behind (not (behind == from))))) (stepped.On (step_states.Judging from next)) IsStandingStepped (λ _. tt) (λ _. tt)
-
-step_advances : (chunk : Chunk) (done : ℕ) → IsStandingStepped (steps.advanced chunk done)
-step_advances chunk done = cond_both (nat_le chunk.len done) (stepped.On (step_states.Promoting chunk.from chunk.to)) stepped.Over IsStandingStepped (λ _. tt) (λ _. tt)
+step_aims from behind Blocking next = cond_both (next == 0) (stepped.On (step_states.Linking from (link_states.Sizing behind from (not (behind == from))))) (stepped.On (step_states.Judging from next)) IsStandingStepped (λ _. tt) (λ _. tt)
 
 step_links : (from : ℕ) (end : Linked) → IsStandingLinked end → IsStandingStepped (steps.linked_to from end)
 step_links from (linked.On link) stands = stands
@@ -292,19 +312,19 @@ step_hash : (step : Step) (hash : ℕ) → IsStandingStep step → IsStandingSte
 step_hash (step_states.Settling chunk settle) hash stands = (stands.0, settle_hash settle hash stands.1)
 step_hash step hash stands = stands
 
-step_size : (step : Step) (slots limit : ℕ) → IsSize slots limit → IsStandingStep step → IsStandingStep (steps.at_size step slots limit)
-step_size (step_states.Linking from link) slots limit size stands = link_size link slots limit size stands
-step_size (step_states.Sizing from to) slots limit size stands = size.most
-step_size (step_states.Settling chunk settle) slots limit size stands = (stands.0, settle_size settle slots limit size stands.1)
-step_size step slots limit size stands = stands
+step_size : (step : Step) (mode : ResizeMode) (number slots limit : ℕ) → IsSize slots limit → IsStandingStep step → IsStandingStep (steps.at_size step mode number slots limit)
+step_size (step_states.Linking from link) mode number slots limit size stands = link_size link slots limit size stands
+step_size (step_states.Sizing from to) mode number slots limit size stands = first_stands from to slots mode number size.power size.most
+step_size (step_states.Settling chunk settle) mode number slots limit size stands = (stands.0, settle_size settle slots limit size stands.1)
+step_size step mode number slots limit size stands = stands
 
-step_word : (step : Step) (mode : ResizeMode) (word : ℕ) → IsChunked mode → IsStandingStep step → IsStandingStepped (steps.at_word step mode word)
-step_word step_states.AtRoot mode word chunked stands = tt
-step_word (step_states.Aiming from behind) mode word chunked stands = step_aims from behind mode word
-step_word (step_states.Judging from to) mode word chunked stands = cond_both (word == 0) (step_states.Sizing from to) (step_states.Aiming from to) IsStandingStep (λ _. tt) (λ _. tt)
-step_word (step_states.Counting from to len) mode word chunked stands = step_counts from to len mode word chunked stands
-step_word (step_states.Settling chunk settle) mode word chunked stands = step_settles chunk (settles.at_word settle (steps.slot_of chunk) mode word) stands.0 (settle_word settle (steps.slot_of chunk) mode word stands.1)
-step_word step mode word chunked stands = stands
+step_word : (step : Step) (mode : ResizeMode) (word : ℕ) → IsStandingStep step → IsStandingStepped (steps.at_word step mode word)
+step_word step_states.AtRoot mode word stands = tt
+step_word (step_states.Aiming from behind) mode word stands = step_aims from behind mode word
+step_word (step_states.Judging from to) mode word stands = cond_both (word == 0) (step_states.Sizing from to) (step_states.Aiming from to) IsStandingStep (λ _. tt) (λ _. tt)
+step_word (step_states.Scanning scan) mode word stands = scan_word scan word stands
+step_word (step_states.Settling chunk settle) mode word stands = step_settles chunk (settles.at_word settle (steps.slot_of chunk) mode word) stands.0 (settle_word settle (steps.slot_of chunk) mode word stands.1)
+step_word step mode word stands = stands
 
 step_yes : (step : Step) (mode : ResizeMode) (same : Bool) → IsStandingStep step → IsStandingStepped (steps.at_yes step mode same)
 step_yes (step_states.Settling chunk settle) mode same stands = step_settles chunk (settles.at_yes settle mode same) stands.0 (settle_yes settle mode same stands.1)
@@ -313,7 +333,7 @@ step_yes step mode same stands = stands
 step_exchanged : (step : Step) (mode : ResizeMode) → IsStandingStep step → IsStandingStepped (steps.at_exchanged step mode)
 step_exchanged (step_states.Linking from link) mode stands = step_links from (links.at_exchanged link) (link_exchanged link stands)
 step_exchanged (step_states.Settling chunk settle) mode stands = step_settles chunk (settles.at_exchanged settle (steps.slot_of chunk) mode) stands.0 (settle_exchanged settle (steps.slot_of chunk) mode stands.1)
-step_exchanged (step_states.Advancing chunk) mode stands = step_advances chunk chunk.end
+step_exchanged (step_states.Advancing scan) mode stands = step_advances scan stands
 step_exchanged (step_states.Promoting from to) mode stands = tt
 step_exchanged step mode stands = stands
 
@@ -324,12 +344,12 @@ step_ok step mode stands = stands
 step_found : (step : Step) (mode : ResizeMode) (word : ℕ) → IsStandingStep step → IsStandingStepped (steps.at_found step mode word)
 step_found (step_states.Linking from link) mode word stands = step_links from (links.at_found link word) (link_found link word stands)
 step_found (step_states.Settling chunk settle) mode word stands = step_settles chunk (settles.at_found settle (steps.slot_of chunk) mode word) stands.0 (settle_found settle (steps.slot_of chunk) mode word stands.1)
-step_found (step_states.Advancing chunk) mode word stands = step_advances chunk word
+step_found (step_states.Advancing scan) mode word stands = step_advances scan stands
 step_found (step_states.Promoting from to) mode word stands = tt
 step_found step mode word stands = stands
 
 step_count : (step : Step) (mode : ResizeMode) (count initial : ℕ) → IsPowerOfTwo initial → IsStandingStep step → IsStandingStepped (steps.at_count step mode count initial)
-step_count (step_states.Linking from link) mode count initial power stands = step_links from (links.at_count link count initial) (link_count link count initial power stands)
+step_count (step_states.Linking from link) mode count initial power stands = step_links from (links.at_count link mode count initial) (link_count link mode count initial power stands)
 step_count (step_states.Settling chunk settle) mode count initial power stands = step_settles chunk (settles.at_count settle mode count initial) stands.0 (settle_count settle mode count initial power stands.1)
 step_count step mode count initial power stands = stands
 
@@ -350,6 +370,12 @@ over_stands (aims.Settle slot) = tt
 over_stands aims.Chunk = tt
 over_stands (aims.All met) = tt
 
+further_stands : (aim : Aim) (chunk : Chunk) → IsStandingChunk chunk → IsStandingCopied (copyings.further aim chunk)
+further_stands (aims.Search table) chunk stands = tt
+further_stands (aims.Settle slot) chunk stands = tt
+further_stands aims.Chunk chunk stands = tt
+further_stands (aims.All met) chunk stands = (stands, tt)
+
 last_stands : (aim : Aim) (table : ℕ) → IsStandingCopied (copyings.last aim table)
 last_stands (aims.Search met) table = tt
 last_stands (aims.Settle slot) table = tt
@@ -368,6 +394,7 @@ leads_stands : (aim : Aim) (mode : ResizeMode) (end : Stepped) → IsStandingSte
 leads_stands aim mode (stepped.On step) stands = stands
 leads_stands aim mode (stepped.Root root) stands = root_stands aim mode root
 leads_stands aim mode (stepped.Last table) stands = last_stands aim table
+leads_stands aim mode (stepped.Further chunk) stands = further_stands aim chunk stands
 leads_stands aim mode stepped.Over stands = over_stands aim
 leads_stands aim mode (stepped.Refused refused) stands = tt
 
@@ -377,36 +404,37 @@ lone_stands slot settled.Settled stands = tt
 lone_stands slot (settled.Unfit table) stands = tt
 lone_stands slot (settled.Refused refused) stands = tt
 
-pub copying_stands : (copying : Copying) (mode : ResizeMode) (initial : ℕ) (answer : Answer) → IsChunked mode → IsPowerOfTwo initial → IsFit answer → IsStandingCopying copying → IsStandingCopied (copying_after copying mode initial answer)
-copying_stands (Stepping aim step) mode initial (answers.Call (Word_read word)) chunked power fit stands = leads_stands aim mode (steps.at_word step mode word) (step_word step mode word chunked stands)
-copying_stands (Stepping aim step) mode initial (answers.Call Exchanged) chunked power fit stands = leads_stands aim mode (steps.at_exchanged step mode) (step_exchanged step mode stands)
-copying_stands (Stepping aim step) mode initial (answers.Call (Found_instead word)) chunked power fit stands = leads_stands aim mode (steps.at_found step mode word) (step_found step mode word stands)
-copying_stands (Stepping aim step) mode initial (answers.Call (Yes same)) chunked power fit stands = leads_stands aim mode (steps.at_yes step mode same) (step_yes step mode same stands)
-copying_stands (Stepping aim step) mode initial (answers.Call (Size slots limit)) chunked power fit stands = step_size step slots limit fit stands
-copying_stands (Stepping aim step) mode initial (answers.Call (Made_number n)) chunked power fit stands = step_made step n stands
-copying_stands (Stepping aim step) mode initial (answers.Call (Was_refused refused)) chunked power fit stands = leads_stands aim mode (steps.at_refused step mode refused) (step_refused step mode refused stands)
-copying_stands (Stepping aim step) mode initial (answers.Call Ok_done) chunked power fit stands = leads_stands aim mode (steps.at_ok step mode) (step_ok step mode stands)
-copying_stands (Stepping aim step) mode initial (answers.Call other) chunked power fit stands = stands
-copying_stands (Stepping aim step) mode initial (answers.Hash hash) chunked power fit stands = step_hash step hash stands
-copying_stands (Stepping aim step) mode initial (answers.Count count) chunked power fit stands = leads_stands aim mode (steps.at_count step mode count initial) (step_count step mode count initial power stands)
-copying_stands (Lone slot settle) mode initial (answers.Call (Word_read word)) chunked power fit stands = lone_stands slot (settles.at_word settle slot mode word) (settle_word settle slot mode word stands)
-copying_stands (Lone slot settle) mode initial (answers.Call Exchanged) chunked power fit stands = lone_stands slot (settles.at_exchanged settle slot mode) (settle_exchanged settle slot mode stands)
-copying_stands (Lone slot settle) mode initial (answers.Call (Found_instead word)) chunked power fit stands = lone_stands slot (settles.at_found settle slot mode word) (settle_found settle slot mode word stands)
-copying_stands (Lone slot settle) mode initial (answers.Call (Yes same)) chunked power fit stands = lone_stands slot (settles.at_yes settle mode same) (settle_yes settle mode same stands)
-copying_stands (Lone slot settle) mode initial (answers.Call (Size slots limit)) chunked power fit stands = settle_size settle slots limit fit stands
-copying_stands (Lone slot settle) mode initial (answers.Call (Made_number n)) chunked power fit stands = settle_made settle n stands
-copying_stands (Lone slot settle) mode initial (answers.Call (Was_refused refused)) chunked power fit stands = lone_stands slot (settles.at_refused settle mode refused) (settle_refused settle mode refused stands)
-copying_stands (Lone slot settle) mode initial (answers.Call Ok_done) chunked power fit stands = lone_stands slot (settles.at_ok settle mode) (settle_ok settle mode stands)
-copying_stands (Lone slot settle) mode initial (answers.Call other) chunked power fit stands = stands
-copying_stands (Lone slot settle) mode initial (answers.Hash hash) chunked power fit stands = settle_hash settle hash stands
-copying_stands (Lone slot settle) mode initial (answers.Count count) chunked power fit stands = lone_stands slot (settles.at_count settle mode count initial) (settle_count settle mode count initial power stands)
+pub copying_stands : (copying : Copying) (mode : ResizeMode) (initial number : ℕ) (answer : Answer) → IsPowerOfTwo initial → IsFit answer → IsStandingCopying copying → IsStandingCopied (copying_after copying mode initial number answer)
+copying_stands (Stepping aim step) mode initial number (answers.Call (Word_read word)) power fit stands = leads_stands aim mode (steps.at_word step mode word) (step_word step mode word stands)
+copying_stands (Stepping aim step) mode initial number (answers.Call Exchanged) power fit stands = leads_stands aim mode (steps.at_exchanged step mode) (step_exchanged step mode stands)
+copying_stands (Stepping aim step) mode initial number (answers.Call (Found_instead word)) power fit stands = leads_stands aim mode (steps.at_found step mode word) (step_found step mode word stands)
+copying_stands (Stepping aim step) mode initial number (answers.Call (Yes same)) power fit stands = leads_stands aim mode (steps.at_yes step mode same) (step_yes step mode same stands)
+copying_stands (Stepping aim step) mode initial number (answers.Call (Size slots limit)) power fit stands = step_size step mode number slots limit fit stands
+copying_stands (Stepping aim step) mode initial number (answers.Call (Made_number n)) power fit stands = step_made step n stands
+copying_stands (Stepping aim step) mode initial number (answers.Call (Was_refused refused)) power fit stands = leads_stands aim mode (steps.at_refused step mode refused) (step_refused step mode refused stands)
+copying_stands (Stepping aim step) mode initial number (answers.Call Ok_done) power fit stands = leads_stands aim mode (steps.at_ok step mode) (step_ok step mode stands)
+copying_stands (Stepping aim step) mode initial number (answers.Call other) power fit stands = stands
+copying_stands (Stepping aim step) mode initial number (answers.Hash hash) power fit stands = step_hash step hash stands
+copying_stands (Stepping aim step) mode initial number (answers.Count count) power fit stands = leads_stands aim mode (steps.at_count step mode count initial) (step_count step mode count initial power stands)
+copying_stands (Lone slot settle) mode initial number (answers.Call (Word_read word)) power fit stands = lone_stands slot (settles.at_word settle slot mode word) (settle_word settle slot mode word stands)
+copying_stands (Lone slot settle) mode initial number (answers.Call Exchanged) power fit stands = lone_stands slot (settles.at_exchanged settle slot mode) (settle_exchanged settle slot mode stands)
+copying_stands (Lone slot settle) mode initial number (answers.Call (Found_instead word)) power fit stands = lone_stands slot (settles.at_found settle slot mode word) (settle_found settle slot mode word stands)
+copying_stands (Lone slot settle) mode initial number (answers.Call (Yes same)) power fit stands = lone_stands slot (settles.at_yes settle mode same) (settle_yes settle mode same stands)
+copying_stands (Lone slot settle) mode initial number (answers.Call (Size slots limit)) power fit stands = settle_size settle slots limit fit stands
+copying_stands (Lone slot settle) mode initial number (answers.Call (Made_number n)) power fit stands = settle_made settle n stands
+copying_stands (Lone slot settle) mode initial number (answers.Call (Was_refused refused)) power fit stands = lone_stands slot (settles.at_refused settle mode refused) (settle_refused settle mode refused stands)
+copying_stands (Lone slot settle) mode initial number (answers.Call Ok_done) power fit stands = lone_stands slot (settles.at_ok settle mode) (settle_ok settle mode stands)
+copying_stands (Lone slot settle) mode initial number (answers.Call other) power fit stands = stands
+copying_stands (Lone slot settle) mode initial number (answers.Hash hash) power fit stands = settle_hash settle hash stands
+copying_stands (Lone slot settle) mode initial number (answers.Count count) power fit stands = lone_stands slot (settles.at_count settle mode count initial) (settle_count settle mode count initial power stands)
 
 -- a table that is asked for has a size of tables
 pub link_fits : (link : Link) → IsStandingLink link → IsFitCopyAsk (link_ask link)
-link_fits (link_states.Sizing after unfit) stands = tt
-link_fits (link_states.Counting after unfit len) stands = tt
-link_fits (link_states.Making after len limit) stands = stands
-link_fits (link_states.Linking after table) stands = tt
+link_fits (link_states.Sizing after copied unfit) stands = tt
+link_fits (link_states.Measuring after copied unfit len) stands = tt
+link_fits (link_states.Counting after unfit len copied) stands = tt
+link_fits (link_states.Making after len limit chunks) stands = stands
+link_fits (link_states.Linking after table chunks) stands = tt
 
 carry_fits : (carry : Carry) (marked : ℕ) → IsStandingCarry carry → IsFitCopyAsk (carries.carry_ask carry marked)
 carry_fits (carry_states.Linking hash link) marked stands = link_fits link stands

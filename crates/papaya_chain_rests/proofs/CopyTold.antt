@@ -1,7 +1,6 @@
 -- What the copy of the root learns from an answer.
 use Rattle.std.proofs.Common.{◌≡◌, ⊎_elim, ℕ, ◌<◌, ◌==◌, eqb-true, Option, List, [], ◌∷◌, refl, sym, subst}
 use Rattle.std.proofs.lemmas.Bool.{eqb-false}
-use Rattle.papaya_words.specs.Mode.{IsChunked}
 use Rattle.papaya_words.specs.declared.probe.Refused.{Refused}
 use Rattle.papaya_words.specs.declared.probe.ResizeMode.{ResizeMode}
 use Rattle.papaya_ask.specs.declared.ask.Answer.TheVariants.{Word as Word_read, Exchanged, Found as Found_instead, Yes, Size, Made as Made_number, Ok as Ok_done, Refused as Was_refused}
@@ -19,8 +18,8 @@ use Rattle.papaya_law.specs.Allows.{AllAllowed, Allows}
 use Rattle.papaya_law.specs.Code.{Coding, IsHashed}
 use Rattle.papaya_law.specs.Exchange.{Setting, State, Exchange, run}
 use Rattle.papaya_law.specs.Invariant.{IsKeeping}
-use Rattle.papaya_rests.specs.Copier.{AreThere, IsCopyAsked, IsStillAimed, RestsCopied, RestsCopying, aim_of, last_after, told_last}
-use Rattle.papaya_rests.specs.Rests.{IsModeOf}
+use Rattle.papaya_rests.specs.Copier.{AreThere, HasWords, IsCopyAsked, IsStillAimed, RestsCopied, RestsCopying, aim_of, last_after, link_in_copying, told_last}
+use Rattle.papaya_rests.specs.Rests.{IsCutAs, IsModeOf}
 use Rattle.papaya_rests.specs.Told.{word_of}
 use Rattle.papaya_rests.proofs.CopierCopies.{copying_compared, copying_counted, copying_exchanged, copying_found, copying_hashed, copying_hinted, copying_loaded, copying_made, copying_noted, copying_refused, copying_sized, copying_there}
 use Rattle.papaya_rests.proofs.CopierExchange.{asked_allowed}
@@ -34,7 +33,7 @@ same_still (aims.Search table) aim' e = e
 same_still (aims.Settle slot) aim' e = e
 same_still aims.Chunk aim' e = e
 
-module _ {K P : Type 0} (g : Setting K P) (c : Coding K P) (hashed : IsHashed g c) (s : State P) (m : K → Option P) (keeps : IsKeeping g s m) (mode : ResizeMode) (moded : IsModeOf mode g.blocking) (chunked : IsChunked mode) (initial : ℕ) (hands : Hands P) where
+module _ {K P : Type 0} (g : Setting K P) (c : Coding K P) (hashed : IsHashed g c) (s : State P) (m : K → Option P) (keeps : IsKeeping g s m) (mode : ResizeMode) (moded : IsModeOf mode g.blocking) (cut : IsCutAs mode g.chunk_of) (initial number : ℕ) (hands : Hands P) where
   -- the pair last told of, and the one that is carried
   abbrev last : Option P
   last = hands.call.last
@@ -44,7 +43,7 @@ module _ {K P : Type 0} (g : Setting K P) (c : Coding K P) (hashed : IsHashed g 
 
   -- what was exchanged was allowed, and the copy rests where the answer led it
   abbrev pub HasCopied : Copying → Answer → List (Exchange P) → Hands P → Type 0
-  HasCopied copying answer es hands' = AllAllowed g s es × RestsCopied g c (run es s) hands'.call.last hands'.kept (aim_of copying) (copying_after copying mode initial answer)
+  HasCopied copying answer es hands' = AllAllowed g s es × RestsCopied g c (run es s) hands'.call.last hands'.kept (aim_of copying) (copying_after copying mode initial number answer)
 
   -- by what the answer is
   answered : (copying : Copying) (answer answer' : Answer) (es es' : List (Exchange P)) (hands' hands'' : Hands P) → answer ≡ answer' → es ≡ es' → hands' ≡ hands'' → HasCopied copying answer' es' hands'' → HasCopied copying answer es hands'
@@ -53,10 +52,10 @@ module _ {K P : Type 0} (g : Setting K P) (c : Coding K P) (hashed : IsHashed g 
 
   -- where nothing was exchanged
   quiet : (copying : Copying) (answer answer' : Answer) (es : List (Exchange P)) (hands' hands'' : Hands P) → answer ≡ answer' → es ≡ [] → hands' ≡ hands''
-      → RestsCopied g c s hands''.call.last hands''.kept (aim_of copying) (copying_after copying mode initial answer') → HasCopied copying answer es hands'
+      → RestsCopied g c s hands''.call.last hands''.kept (aim_of copying) (copying_after copying mode initial number answer') → HasCopied copying answer es hands'
   quiet copying answer answer' es hands' hands'' a e h r = answered copying answer answer' es [] hands' hands'' a e h (tt, r)
 
-  module _ (copying : Copying) (r : RestsCopying g c s last kept copying) where
+  module _ (copying : Copying) (r : RestsCopying g c s last kept copying) (words : HasWords g (link_in_copying copying)) where
     -- what it names is there
     there : (ask : CopyAsk) → copying_ask copying ≡ ask → AreThere g c s last kept ask
     there ask is = subst (AreThere g c s last kept) is (copying_there g c hashed s m keeps last kept copying r)
@@ -65,14 +64,14 @@ module _ {K P : Type 0} (g : Setting K P) (c : Coding K P) (hashed : IsHashed g 
     put_there : (at : At) (old new : ℕ) → copying_ask copying ≡ Ask_exchange at old new → word_of g c s at ≡ old → (e : Exchange P) → IsCopyAsked c (copying_kind copying) at new s kept e
         → HasCopied copying (answers.Call Exchanged) (e ∷ []) (told_of (last_after e last) hands)
     put_there at old new is stands e asked =
-        let allows : Allows g s e = asked_allowed g c hashed s m keeps last kept copying r at old new is stands e asked in
+        let allows : Allows g s e = asked_allowed g c hashed s m keeps last kept copying r words at old new is stands e asked in
         ((allows, tt), copying_exchanged g c hashed s m keeps mode moded last kept e allows copying r at old new is stands asked)
 
     -- after each answer
     learns_of : (answer : Answer) (es : List (Exchange P)) (hands' : Hands P) (ask : CopyAsk) → copying_ask copying ≡ ask → IsCopyTold g c s (copying_kind copying) (copying_follows copying) hands ask answer es hands' → HasCopied copying answer es hands'
     learns_of answer es hands' (Load at) is h =
         quiet copying answer (answers.Call (Word_read (word_of g c s at))) es hands' (told_of (told_last s at last) hands) h.0 h.1 h.2
-        (copying_loaded g c hashed s m keeps mode moded last kept chunked copying r at is)
+        (copying_loaded g c hashed s m keeps mode moded last kept copying r at is)
     learns_of answer es hands' (Ask_exchange at old new) is h =
         by_test (word_of g c s at == old)
         ((answer ≡ answers.Call Exchanged) × ((e : Exchange P) × IsCopyAsked c (copying_kind copying) at new s kept e × (es ≡ e ∷ []) × (hands' ≡ told_of (last_after e last) hands)))
@@ -92,9 +91,9 @@ module _ {K P : Type 0} (g : Setting K P) (c : Coding K P) (hashed : IsHashed g 
         (copying_noted g c hashed s m keeps mode moded last kept copying r t x n is).1
     learns_of answer es hands' (SizeOf t) is h =
         let size = h.0 in
-        let sized = copying_sized g c hashed s m keeps mode moded last kept copying r t size.0 is size.1 in
+        let sized = copying_sized g c hashed s m keeps mode moded last kept cut number copying r t size.0 is size.1 in
         quiet copying answer (answers.Call (Size (g.size t) size.0)) es hands' hands size.2 h.1.0 h.1.1
-        (same_still (aim_of copying) (aim_of (at_size copying (g.size t) size.0)) sized.0, sized.1)
+        (same_still (aim_of copying) (aim_of (at_size copying mode number (g.size t) size.0)) sized.0, sized.1)
     learns_of answer es hands' (HashOf n) is h =
         let (p, told, number) = there (HashOf n) is in
         let hashed_as = copying_hashed g c hashed s m keeps mode moded last kept copying r n is p told in
@@ -106,8 +105,8 @@ module _ {K P : Type 0} (g : Setting K P) (c : Coding K P) (hashed : IsHashed g 
         (copying_compared g c hashed s m keeps mode moded last kept copying r i n is o q carried told)
     learns_of answer es hands' Count is h =
         quiet copying answer (answers.Count h.0.0) es hands' hands h.0.1 h.1.0 h.1.1
-        (copying_counted g c hashed s m keeps mode moded last kept copying r h.0.0 initial)
-    learns_of answer es hands' (MakeTable slots limit) is h =
+        (copying_counted g c hashed s m keeps mode moded last kept cut copying r h.0.0 initial)
+    learns_of answer es hands' (MakeTable slots limit chunks) is h =
         ⊎_elim
         (λ (u : (refused : Refused) × (answer ≡ answers.Call (Was_refused refused))).
         quiet copying answer (answers.Call (Was_refused u.0)) es hands' hands u.1 h.1.0 h.1.1

@@ -81,7 +81,7 @@ module _ (m : Machine) (answer : Answer) where
     grows_leaves : (mode : ResizeMode) (need : Need) → left_by m.call.state ≡ Some (needed need) → Leaves m answer (grows_as m mode need word)
     grows_leaves Blocking need left = inl (needed need, left, refl)
     grows_leaves (Incremental chunk) need left =
-        cond_both (word == 0) (record m { phase = Linking (links.Sizing (needed need) false) }) (onward m word) (Leaves m answer) (λ _. inl (needed need, left, refl)) (λ _. onward_leaves (needed need) left word)
+        cond_both (word == 0) (record m { phase = Linking (links.Sizing (needed need) (needed need) false) }) (onward m word) (Leaves m answer) (λ _. inl (needed need, left, refl)) (λ _. onward_leaves (needed need) left word)
 
     next_leaves : (stage : Stage) → m.call.state ≡ stage → Leaves m answer (told_next m stage word)
     next_leaves (Leaving t) e = leaves_leaves m.call.task t (ap left_by e)
@@ -106,8 +106,8 @@ module _ (m : Machine) (answer : Answer) where
   -- in each phase
   phase_leaves : (phase : Phase) → m.phase ≡ phase → IsInOrder m answer phase → Leaves m answer (after_in m answer phase)
   phase_leaves Calling e aside = own_leaves e aside.0 aside.1
-  phase_leaves (Linking link) e aside = linked_leaves aside.0 aside.1 (link_after link m.call.initial answer)
-  phase_leaves (Copying_root copying) e aside = copied_leaves aside.0 aside.1 (copying_after copying m.call.mode m.call.initial answer)
+  phase_leaves (Linking link) e aside = linked_leaves aside.0 aside.1 (link_after link m.call.mode m.call.initial answer)
+  phase_leaves (Copying_root copying) e aside = copied_leaves aside.0 aside.1 (copying_after copying m.call.mode m.call.initial m.number answer)
 
   -- of the machine
   pub machine_goes : IsInOrder m answer m.phase → Goes m answer

@@ -1,7 +1,6 @@
 -- After an answer that is true of the words a call over a chain rests again.
 use Rattle.std.proofs.Common.{◌≡◌, inl, inr, ℕ, ◌<◌, ◌==◌, Bool, false, cond, Option, Some, List, [], ◌∷◌, ◌++◌, append-nil, refl, sym, ap, ◌∙◌, subst, append_assoc}
 use Rattle.std.proofs.lemmas.Bool.{cond_both}
-use Rattle.papaya_words.specs.Mode.{IsChunked}
 use Rattle.papaya_words.specs.declared.probe.ResizeMode.{ResizeMode}
 use Rattle.papaya_words.specs.declared.probe.ResizeMode.TheVariants.{Incremental, Blocking}
 use Rattle.papaya_ask.specs.declared.ask.Answer.{Answer as Call_answer}
@@ -37,7 +36,7 @@ use Rattle.papaya_law.specs.Meaning.{map_left}
 use Rattle.papaya_law.proofs.Moments.{allowed_append, run-append}
 use Rattle.papaya_law.proofs.OneMap.{keeping}
 use Rattle.papaya_law.specs.Exchange.{Setting, State, Exchange, run, start}
-use Rattle.papaya_rests.specs.Copier.{IsCopyAsked, RestsCopied, RestsCopying, aim_of, last_after, told_last}
+use Rattle.papaya_rests.specs.Copier.{HasWords, IsCopyAsked, RestsCopied, RestsCopying, aim_of, last_after, link_in_copying, told_last}
 use Rattle.papaya_rests.specs.Rests as calls
 use Rattle.papaya_rests.specs.Told.{word_of}
 use Rattle.papaya_rests.specs.Told as call_told
@@ -46,6 +45,7 @@ use Rattle.papaya_rests.proofs.RestsLearnHands.{hands_told}
 use Rattle.papaya_rests.proofs.RestsNames.{come_on}
 use Rattle.papaya_rests.proofs.RestsStay.{rests_stays}
 use Rattle.papaya_chain.proofs.Settings.{settings_stay}
+use Rattle.papaya_chain_rests.specs.Goes.{link_in}
 use Rattle.papaya_chain_rests.specs.Rests.{IsCopyingAll, IsHelping, IsLinking, Rests, RestsPhase, left_by}
 use Rattle.papaya_chain_rests.specs.Told.{Hands, IsCopyTold, IsTold, told_of}
 use Rattle.papaya_chain_rests.proofs.Aside.{left_come}
@@ -78,7 +78,7 @@ copy_hands g c s kind n hands (SizeOf t) answer es hands' h = (hands.call.last, 
 copy_hands g c s kind n hands (HashOf i) answer es hands' h = (hands.call.last, ap (λ y. y.call) h.2)
 copy_hands g c s kind n hands (SamePair i j) answer es hands' h = (hands.call.last, ap (λ y. y.call) h.1.1)
 copy_hands g c s kind n hands Count answer es hands' h = (hands.call.last, ap (λ y. y.call) h.1.1)
-copy_hands g c s kind n hands (MakeTable slots limit) answer es hands' h = (hands.call.last, ap (λ y. y.call) h.1.1)
+copy_hands g c s kind n hands (MakeTable slots limit chunks) answer es hands' h = (hands.call.last, ap (λ y. y.call) h.1.1)
 
 -- a call that needs a further table may change the map
 needing_changes : (task : Task) (need : Need) → calls.MayNeed task need → IsChanger task
@@ -87,7 +87,7 @@ needing_changes (Insert replace) need r = tt
 needing_changes RemoveIf need r = tt
 needing_changes Compute need r = tt
 
-module _ {K P : Type 0} (g : Setting K P) (c : Coding K P) (hashed : IsHashed g c) (begun since : List (Exchange P)) (may : AllAllowed g start (begun ++ since)) (k : K) (hands : Hands P) (helped : Bool) where
+module _ {K P : Type 0} (g : Setting K P) (c : Coding K P) (hashed : IsHashed g c) (begun since : List (Exchange P)) (may : AllAllowed g start (begun ++ since)) (k : K) (hands : Hands P) (number : ℕ) (helped : Bool) where
   -- the state after all exchanges
   abbrev now : State P
   now = run (begun ++ since) start
@@ -111,9 +111,9 @@ module _ {K P : Type 0} (g : Setting K P) (c : Coding K P) (hashed : IsHashed g 
 
   -- the machine in a phase
   abbrev at_phase : Call_machine → Phase → Machine
-  at_phase call phase = record { call = call; helped = helped; phase = phase }
+  at_phase call phase = record { call = call; number = number; helped = helped; phase = phase }
 
-  module _ (call : Call_machine) (chunked : IsChunked call.mode) where
+  module _ (call : Call_machine) (cut : calls.IsCutAs call.mode g.chunk_of) where
     -- its call in a stage
     abbrev in_stage : Stage → Machine
     in_stage stage = at_phase (record call { state = stage }) Calling
@@ -124,7 +124,7 @@ module _ {K P : Type 0} (g : Setting K P) (c : Coding K P) (hashed : IsHashed g 
     steps_on stage told es call' hands' handed (allowed, r) = (
       allowed,
       subst (λ h. Rests g c begun (since ++ es) k (stepped (in_stage stage) told) h) (sym handed)
-          (record { chunked = subst IsChunked (sym (settings_stay (record call { state = stage }) told).0) chunked; call = r; phase = tt }),
+          (record { cut = subst (λ mode. calls.IsCutAs mode g.chunk_of) (sym (settings_stay (record call { state = stage }) told).0) cut; call = r; phase = tt }),
     )
 
     module _ (stage : Stage) (r : calls.Rests g c begun since k (record call { state = stage }) hands.call) (es : List (Exchange P)) (call' : call_told.Hands P) (hands' : Hands P) (handed : hands' ≡ record hands { call = call' }) (none : es ≡ []) (same : call' ≡ hands.call) (word : ℕ) (inner : Learned (stepped (in_stage stage) (Word_read word)) es hands') where
@@ -137,7 +137,7 @@ module _ {K P : Type 0} (g : Setting K P) (c : Coding K P) (hashed : IsHashed g 
       goes_next inc changes t left is some =
           quiet (onward (in_stage stage) word) es hands' none as_before
           (subst (λ n. Rests g c begun since k (onward (in_stage stage) n) hands) (sym is)
-          (onward_rests g c hashed begun since may k inc (in_stage stage) hands chunked r changes t left (subst (λ n. 0 < n) is some)))
+          (onward_rests g c hashed begun since may k inc (in_stage stage) hands cut r changes t left (subst (λ n. 0 < n) is some)))
 
       -- there is none, or the call goes on to it
       either : g.blocking ≡ false → IsChanger call.task → (t : ℕ) → left_by stage ≡ Some t → word ≡ now.next t → Learned (cond (word == 0) (stepped (in_stage stage) (Word_read word)) (onward (in_stage stage) word)) es hands'
@@ -158,21 +158,21 @@ module _ {K P : Type 0} (g : Setting K P) (c : Coding K P) (hashed : IsHashed g 
       grows_rests Blocking blocks changes need left is =
           quiet (record (in_stage stage) { phase = Copying_root (Stepping (aims.All (needed need)) AtRoot) }) es hands' none as_before
           (record {
-            chunked = chunked;
+            cut = cut;
             call = r;
             phase = inr (record { mode = blocks; changes = changes; table = needed need; left = left; met = needed need; aim = refl; rests = (tt, tt) });
           })
       grows_rests (Incremental chunk) inc changes need left is =
-          cond_both (word == 0) (record (in_stage stage) { phase = Linking (links.Sizing (needed need) false) }) (onward (in_stage stage) word) (λ m. Learned m es hands')
-          (λ _. quiet (record (in_stage stage) { phase = Linking (links.Sizing (needed need) false) }) es hands' none as_before
+          cond_both (word == 0) (record (in_stage stage) { phase = Linking (links.Sizing (needed need) (needed need) false) }) (onward (in_stage stage) word) (λ m. Learned m es hands')
+          (λ _. quiet (record (in_stage stage) { phase = Linking (links.Sizing (needed need) (needed need) false) }) es hands' none as_before
           (record {
-            chunked = chunked;
+            cut = cut;
             call = r;
             phase = record {
               mode = inc;
               changes = changes;
               left = left;
-              rests = record { on = come_on g c hashed begun since may k (needed need) (left_come g c hashed begun since may k hands.call call.task stage r.stage (needed need) left); rises = tt };
+              rests = record { on = come_on g c hashed begun since may k (needed need) (left_come g c hashed begun since may k hands.call call.task stage r.stage (needed need) left); rises = tt; from = needed need; linking = inl (refl, λ b. absurd (cc (b, inc))); measures = refl };
             };
           }))
           (λ more. goes_next inc changes (needed need) left is (more_than_none word more))
@@ -206,62 +206,62 @@ module _ {K P : Type 0} (g : Setting K P) (c : Coding K P) (hashed : IsHashed g 
           subst (λ h. calls.Rests g c begun (since ++ es) k call h) (sym told)
           (record { hash = later.hash; mode = later.mode; made = hands_told g c begun (since ++ es) k hands.call call.made call.remembered later.made last; stage = aside_stage g c begun (since ++ es) k hands.call (record hands.call { last = last }) call.task call.state t left later.stage })
 
-      link_rests : (link : Link) → IsLinking g c begun since k (at_phase call (Linking link)) link → (answer : Answer) → IsCopyTold g c now (link_kind link) (follows link) hands (link_ask link) answer es hands'
+      link_rests : (link : Link) → IsLinking g c begun since k (at_phase call (Linking link)) link → HasWords g (Some link) → (answer : Answer) → IsCopyTold g c now (link_kind link) (follows link) hands (link_ask link) answer es hands'
           → Learned (after (at_phase call (Linking link)) answer) es hands'
-      link_rests link at answer h =
-          let out = link_learns_all g c hashed begun since may call.initial hands link at.rests answer es hands' h in
+      link_rests link at words answer h =
+          let out = link_learns_all g c hashed begun since may call.mode cut call.initial hands link at.rests words answer es hands' h in
           let told = copy_hands g c now (link_kind link) (follows link) hands (link_ask link) answer es hands' h in (
             out.0,
-            linked_rests g c hashed begun (since ++ es) out.0 k at.mode (at_phase call (Linking link)) hands' chunked (aside_later out.0 (follows link) at.left told.0 told.1) at.changes (follows link) at.left (link_after link call.initial answer) out.1,
+            linked_rests g c hashed begun (since ++ es) out.0 k at.mode (at_phase call (Linking link)) hands' cut (aside_later out.0 (follows link) at.left told.0 told.1) at.changes (follows link) at.left (link_after link call.mode call.initial answer) out.1,
           )
 
       -- what a copier learns, after all exchanges
-      copied_in_all : (copying : Copying) → RestsCopying g c now hands.call.last hands.kept copying → (answer : Answer) → IsCopyTold g c now (copying_kind copying) (copying_follows copying) hands (copying_ask copying) answer es hands'
-          → AllAllowed g start (begun ++ (since ++ es)) × RestsCopied g c (run (begun ++ (since ++ es)) start) hands'.call.last hands'.kept (aim_of copying) (copying_after copying call.mode call.initial answer)
-      copied_in_all copying rests answer h =
-          let out = copying_learns g c hashed now (map_left g (begun ++ since)) (keeping g hashed.lawful (begun ++ since) may) call.mode r.mode chunked call.initial hands copying rests answer es hands' h in
+      copied_in_all : (copying : Copying) → RestsCopying g c now hands.call.last hands.kept copying → HasWords g (link_in_copying copying) → (answer : Answer) → IsCopyTold g c now (copying_kind copying) (copying_follows copying) hands (copying_ask copying) answer es hands'
+          → AllAllowed g start (begun ++ (since ++ es)) × RestsCopied g c (run (begun ++ (since ++ es)) start) hands'.call.last hands'.kept (aim_of copying) (copying_after copying call.mode call.initial number answer)
+      copied_in_all copying rests words answer h =
+          let out = copying_learns g c hashed now (map_left g (begun ++ since)) (keeping g hashed.lawful (begun ++ since) may) call.mode r.mode cut call.initial number hands copying rests words answer es hands' h in
           let reaches : run es now ≡ run (begun ++ (since ++ es)) start = sym (run-append (begun ++ since) es start) ∙ ap (λ l. run l start) (append_assoc begun since es) in (
             subst (AllAllowed g start) (append_assoc begun since es) (allowed_append g (begun ++ since) es start may out.0),
-            subst (λ s. RestsCopied g c s hands'.call.last hands'.kept (aim_of copying) (copying_after copying call.mode call.initial answer)) reaches out.1,
+            subst (λ s. RestsCopied g c s hands'.call.last hands'.kept (aim_of copying) (copying_after copying call.mode call.initial number answer)) reaches out.1,
           )
 
-      helping_rests : (copying : Copying) → IsHelping g c begun since k (at_phase call (Copying_root copying)) hands copying → (answer : Answer)
+      helping_rests : (copying : Copying) → IsHelping g c begun since k (at_phase call (Copying_root copying)) hands copying → HasWords g (link_in_copying copying) → (answer : Answer)
           → IsCopyTold g c now (copying_kind copying) (copying_follows copying) hands (copying_ask copying) answer es hands' → Learned (after (at_phase call (Copying_root copying)) answer) es hands'
-      helping_rests copying at answer h =
-          let out = copied_in_all copying at.rests answer h in
+      helping_rests copying at words answer h =
+          let out = copied_in_all copying at.rests words answer h in
           let told = copy_hands g c now (copying_kind copying) (copying_follows copying) hands (copying_ask copying) answer es hands' h in
           let same : (run (begun ++ (since ++ es)) start).next at.table ≡ now.next at.table = next_stays g c hashed begun since es out.0 k at.table at.next in (
             out.0,
-            copied_rests g c hashed begun (since ++ es) out.0 k at.mode (at_phase call (Copying_root copying)) hands' chunked (aside_later out.0 at.table at.left told.0 told.1) at.changes at.table at.left (subst (λ n. 0 < n) (sym same) at.next)
-                (copying_after copying call.mode call.initial answer)
-                (subst (λ aim. RestsCopied g c (run (begun ++ (since ++ es)) start) hands'.call.last hands'.kept aim (copying_after copying call.mode call.initial answer)) (at.aim ∙ ap (aim_for call.state) (sym same)) out.1),
+            copied_rests g c hashed begun (since ++ es) out.0 k at.mode (at_phase call (Copying_root copying)) hands' cut (aside_later out.0 at.table at.left told.0 told.1) at.changes at.table at.left (subst (λ n. 0 < n) (sym same) at.next)
+                (copying_after copying call.mode call.initial number answer)
+                (subst (λ aim. RestsCopied g c (run (begun ++ (since ++ es)) start) hands'.call.last hands'.kept aim (copying_after copying call.mode call.initial number answer)) (at.aim ∙ ap (aim_for call.state) (sym same)) out.1),
           )
 
-      copying_all_rests : (copying : Copying) → IsCopyingAll g c begun since k (at_phase call (Copying_root copying)) hands copying → (answer : Answer)
+      copying_all_rests : (copying : Copying) → IsCopyingAll g c begun since k (at_phase call (Copying_root copying)) hands copying → HasWords g (link_in_copying copying) → (answer : Answer)
           → IsCopyTold g c now (copying_kind copying) (copying_follows copying) hands (copying_ask copying) answer es hands' → Learned (after (at_phase call (Copying_root copying)) answer) es hands'
-      copying_all_rests copying at answer h =
-          let out = copied_in_all copying at.rests answer h in
+      copying_all_rests copying at words answer h =
+          let out = copied_in_all copying at.rests words answer h in
           let told = copy_hands g c now (copying_kind copying) (copying_follows copying) hands (copying_ask copying) answer es hands' h in (
             out.0,
-            all_rests g c hashed begun (since ++ es) out.0 k (at_phase call (Copying_root copying)) hands' chunked (aside_later out.0 at.table at.left told.0 told.1) at.changes at.mode at.table at.left at.met
-                (copying_after copying call.mode call.initial answer)
-                (subst (λ aim. RestsCopied g c (run (begun ++ (since ++ es)) start) hands'.call.last hands'.kept aim (copying_after copying call.mode call.initial answer)) at.aim out.1),
+            all_rests g c hashed begun (since ++ es) out.0 k (at_phase call (Copying_root copying)) hands' cut (aside_later out.0 at.table at.left told.0 told.1) at.changes at.mode at.table at.left at.met
+                (copying_after copying call.mode call.initial number answer)
+                (subst (λ aim. RestsCopied g c (run (begun ++ (since ++ es)) start) hands'.call.last hands'.kept aim (copying_after copying call.mode call.initial number answer)) at.aim out.1),
           )
 
   -- in each phase
-  learns_in : (call : Call_machine) → IsChunked call.mode → calls.Rests g c begun since k call hands.call → (phase : Phase) → RestsPhase g c begun since k (at_phase call phase) hands phase → (answer : Answer) (es : List (Exchange P)) (hands' : Hands P)
+  learns_in : (call : Call_machine) → calls.IsCutAs call.mode g.chunk_of → calls.Rests g c begun since k call hands.call → (phase : Phase) → RestsPhase g c begun since k (at_phase call phase) hands phase → HasWords g (link_in phase) → (answer : Answer) (es : List (Exchange P)) (hands' : Hands P)
       → IsTold g c k now (kind_in call phase) (follows_in phase) hands (asks_in call phase) answer es hands' → Learned (after (at_phase call phase) answer) es hands'
-  learns_in call chunked r Calling at answer es hands' h =
+  learns_in call cut r Calling at words answer es hands' h =
       subst (λ a. Learned (answered (at_phase call Calling) a) es hands') (sym h.is)
-      (called_learns call chunked call.state r h.told es h.call hands' h.handed h.tells
-      (λ told is. steps_on call chunked call.state told es h.call hands' h.handed
+      (called_learns call cut call.state r h.told es h.call hands' h.handed h.tells
+      (λ told is. steps_on call cut call.state told es h.call hands' h.handed
       (machine_learns g c hashed begun since may k call hands.call r told es h.call (subst (λ a. call_told.IsTold g c k now (call_machine.kind_of_ask call) hands.call (call_machine.ask_of call) a es h.call) is h.tells))))
-  learns_in call chunked r (Linking link) at answer es hands' h = link_rests call chunked r es hands' link at answer h
-  learns_in call chunked r (Copying_root copying) (inl at) answer es hands' h = helping_rests call chunked r es hands' copying at answer h
-  learns_in call chunked r (Copying_root copying) (inr at) answer es hands' h = copying_all_rests call chunked r es hands' copying at answer h
+  learns_in call cut r (Linking link) at words answer es hands' h = link_rests call cut r es hands' link at words answer h
+  learns_in call cut r (Copying_root copying) (inl at) words answer es hands' h = helping_rests call cut r es hands' copying at words answer h
+  learns_in call cut r (Copying_root copying) (inr at) words answer es hands' h = copying_all_rests call cut r es hands' copying at words answer h
 
 module _ {K P : Type 0} (g : Setting K P) (c : Coding K P) (hashed : IsHashed g c) (begun since : List (Exchange P)) (may : AllAllowed g start (begun ++ since)) (k : K) where
   -- of the machine
-  pub all_learns : (m : Machine) (hands : Hands P) → Rests g c begun since k m hands → (answer : Answer) (es : List (Exchange P)) (hands' : Hands P)
+  pub all_learns : (m : Machine) (hands : Hands P) → Rests g c begun since k m hands → HasWords g (link_in m.phase) → (answer : Answer) (es : List (Exchange P)) (hands' : Hands P)
       → IsTold g c k (run (begun ++ since) start) (kind_of_ask m) (follows_of m) hands (ask_of m) answer es hands' → AllAllowed g start (begun ++ (since ++ es)) × Rests g c begun (since ++ es) k (after m answer) hands'
-  all_learns m hands r answer es hands' h = learns_in g c hashed begun since may k hands m.helped m.call r.chunked r.call m.phase r.phase answer es hands' h
+  all_learns m hands r words answer es hands' h = learns_in g c hashed begun since may k hands m.number m.helped m.call r.cut r.call m.phase r.phase words answer es hands' h

@@ -1,5 +1,5 @@
 -- What is said of a table that is made for a copy, from one answer to the next.
-use Rattle.std.proofs.Common.{sym, ◌∙◌, ◌≡◌, ℕ, ◌==◌, ◌||◌, nat_lt, nat_le, not, Bool, true, false, Option, None, Some, refl, ap}
+use Rattle.std.proofs.Common.{sym, ◌∙◌, ◌≡◌, ℕ, ◌==◌, ◌&&◌, ◌||◌, nat_lt, nat_le, not, cond, Bool, true, false, Option, None, Some, refl, ap}
 use Rattle.std.proofs.lemmas.Bool.{cond_both}
 use Rattle.papaya_words.specs.Word.{kind_of, top_byte, may_hold}
 use Rattle.papaya_words.specs.declared.probe.Refused.{Refused}
@@ -33,6 +33,7 @@ use Rattle.papaya_copy.specs.declared.settle.Settled.{Settled}
 use Rattle.papaya_copy.specs.declared.settle.Settled.TheVariants as settled
 use Rattle.papaya_copy.specs.declared.settle.Slot.{Slot}
 use Rattle.papaya_copy.specs.declared.step.Chunk.{Chunk}
+use Rattle.papaya_copy.specs.declared.step.Scan.{Scan}
 use Rattle.papaya_copy.specs.declared.step.Step.{Step}
 use Rattle.papaya_copy.specs.declared.step.Step.TheVariants as steps
 use Rattle.papaya_copy.specs.declared.step.Stepped.{Stepped}
@@ -52,7 +53,8 @@ use Rattle.papaya_chain.specs.declared.machine.Machine.{Machine}
 use Rattle.papaya_chain.specs.declared.machine.Phase.{Phase}
 use Rattle.papaya_chain.specs.declared.machine.Phase.TheVariants.{Calling, Linking, Copying as Copying_root}
 use Rattle.papaya_chain.specs.Machine as machine
-use Rattle.papaya_chain_rests.specs.Goes.{link_in, link_in_carry, link_in_copying, link_in_settle, link_in_step}
+use Rattle.papaya_rests.specs.Copier.{link_in_carry, link_in_copying, link_in_settle, link_in_step}
+use Rattle.papaya_chain_rests.specs.Goes.{link_in}
 
 -- the same of where an answer leads
 abbrev pub Linked_in : (Link → Type 0) → Linked → Type 0
@@ -62,10 +64,10 @@ Linked_in Holds _ = Unit {0}
 -- It holds as the making begins, and stays so with each answer: of a size where that is told so, and of a table that was made where
 -- that is new.
 pub record IsStable (Holds : Link → Type 0) (Told New : Link → ℕ → Type 0) : Type 0 where
-  pub fresh : (behind : ℕ) (unfit : Bool) → Holds (links.Sizing behind unfit)
+  pub fresh : (behind copied : ℕ) (unfit : Bool) → Holds (links.Sizing behind copied unfit)
   pub sizes : (made : Link) (slots : ℕ) → Told made slots → Holds made → Holds (link.at_size made slots)
   pub makes : (made : Link) (n : ℕ) → New made n → Holds made → Holds (link.at_made made n)
-  pub counts : (made : Link) (count initial : ℕ) → Holds made → Linked_in Holds (link.at_count made count initial)
+  pub counts : (made : Link) (mode : ResizeMode) (count initial : ℕ) → Holds made → Linked_in Holds (link.at_count made mode count initial)
   pub refuses : (made : Link) (refused : Refused) → Holds made → Linked_in Holds (link.at_refused made refused)
   pub exchanges : (made : Link) → Holds made → Linked_in Holds (link.at_exchanged made)
   pub finds : (made : Link) (word : ℕ) → Holds made → Linked_in Holds (link.at_found made word)
@@ -134,7 +136,7 @@ module _ (Holds : Link → Type 0) (Told New : Link → ℕ → Type 0) (stable 
   looked word_kinds.Copied hash at mode word = tt
 
   passed : (hash table next : ℕ) → HoldsIn (link_in_carry (carry.passed hash table next))
-  passed hash table next = cond_both (next == 0) (carries.Linking hash (links.Sizing table true)) (carries.Sizing hash next) (λ goes. HoldsIn (link_in_carry goes)) (λ _. stable.fresh table true) (λ _. tt)
+  passed hash table next = cond_both (next == 0) (carries.Linking hash (links.Sizing table table true)) (carries.Sizing hash next) (λ goes. HoldsIn (link_in_carry goes)) (λ _. stable.fresh table table true) (λ _. tt)
 
   carry_hash : (goes : Carry) (hash : ℕ) → HoldsIn (link_in_carry goes) → HoldsIn (link_in_carry (carry.at_hash goes hash))
   carry_hash (carries.Hashing table) hash h = tt
@@ -173,9 +175,9 @@ module _ (Holds : Link → Type 0) (Told New : Link → ℕ → Type 0) (stable 
   carry_found (carries.Aborting table) mode word h = tt
   carry_found other mode word h = h
 
-  carry_count : (goes : Carry) (count initial : ℕ) → HoldsIn (link_in_carry goes) → Carried_holds (carry.at_count goes count initial)
-  carry_count (carries.Linking hash made) count initial h = carried_on hash (link.at_count made count initial) (stable.counts made count initial h)
-  carry_count other count initial h = h
+  carry_count : (goes : Carry) (mode : ResizeMode) (count initial : ℕ) → HoldsIn (link_in_carry goes) → Carried_holds (carry.at_count goes mode count initial)
+  carry_count (carries.Linking hash made) mode count initial h = carried_on hash (link.at_count made mode count initial) (stable.counts made mode count initial h)
+  carry_count other mode count initial h = h
 
   carry_made : (goes : Carry) (n : ℕ) → NewIn (link_in_carry goes) n → HoldsIn (link_in_carry goes) → HoldsIn (link_in_carry (carry.at_made goes n))
   carry_made (carries.Linking hash made) n new h = stable.makes made n new h
@@ -240,7 +242,7 @@ module _ (Holds : Link → Type 0) (Told New : Link → ℕ → Type 0) (stable 
   settle_found (settles.Finishing old) slot mode word h = tt
 
   settle_count : (goes : Settle) (mode : ResizeMode) (count initial : ℕ) → HoldsIn (link_in_settle goes) → Settled_holds (settle.at_count goes mode count initial)
-  settle_count (settles.Carrying marked goes) mode count initial h = settled_by marked mode (carry.at_count goes count initial) (carry_count goes count initial h)
+  settle_count (settles.Carrying marked goes) mode count initial h = settled_by marked mode (carry.at_count goes mode count initial) (carry_count goes mode count initial h)
   settle_count other mode count initial h = h
 
   settle_made : (goes : Settle) (n : ℕ) → NewIn (link_in_settle goes) n → HoldsIn (link_in_settle goes) → HoldsIn (link_in_settle (settle.at_made goes n))
@@ -253,7 +255,7 @@ module _ (Holds : Link → Type 0) (Told New : Link → ℕ → Type 0) (stable 
 
   -- the copy of a chunk
   next_in : (chunk : Chunk) → Stepped_holds (step.next_in chunk)
-  next_in chunk = cond_both (nat_lt chunk.at chunk.end) (stepped.On (steps.Settling chunk settles.Looking)) (stepped.On (steps.Advancing chunk)) Stepped_holds (λ _. tt) (λ _. tt)
+  next_in chunk = cond_both (nat_lt chunk.at chunk.end) (stepped.On (steps.Settling chunk settles.Looking)) (stepped.On (steps.Advancing chunk.scan)) Stepped_holds (λ _. tt) (λ _. tt)
 
   settled_to : (chunk : Chunk) (end : Settled) → Settled_holds end → Stepped_holds (step.settled_to chunk end)
   settled_to chunk (settled.On goes) h = h
@@ -268,32 +270,39 @@ module _ (Holds : Link → Type 0) (Told New : Link → ℕ → Type 0) (stable 
 
   aimed : (from behind : ℕ) (mode : ResizeMode) (next : ℕ) → Stepped_holds (step.aimed from behind mode next)
   aimed from behind (Incremental chunk) next = cond_both (next == 0) (stepped.Last from) (stepped.On (steps.Sizing from next)) Stepped_holds (λ _. tt) (λ _. tt)
-  aimed from behind Blocking next = cond_both (next == 0) (stepped.On (steps.Linking from (links.Sizing behind (not (behind == from))))) (stepped.On (steps.Judging from next)) Stepped_holds (λ _. stable.fresh behind (not (behind == from))) (λ _. tt)
+  aimed from behind Blocking next = cond_both (next == 0) (stepped.On (steps.Linking from (links.Sizing behind from (not (behind == from))))) (stepped.On (steps.Judging from next)) Stepped_holds (λ _. stable.fresh behind from (not (behind == from))) (λ _. tt)
 
   judged : (from to word : ℕ) → HoldsIn (link_in_step (step.judged from to word))
   judged from to word = cond_both (word == 0) (steps.Sizing from to) (steps.Aiming from to) (λ goes. HoldsIn (link_in_step goes)) (λ _. tt) (λ _. tt)
 
-  counted_to : (from to len : ℕ) (mode : ResizeMode) (done : ℕ) → HoldsIn (link_in_step (step.counted from to len mode done))
-  counted_to from to len mode done = cond_both (nat_le len done) (steps.Promoting from to) (steps.Settling (step.chunk_at from to len done (step.chunk_of mode)) settles.Looking) (λ goes. HoldsIn (link_in_step goes)) (λ _. tt) (λ _. tt)
+  next_scan : (scan : Scan) → HoldsIn (link_in_step (step.next_scan scan))
+  next_scan scan =
+      cond_both (step.is_further scan) (steps.Scanning (step.next_chunk scan)) (cond (not scan.wrapped && nat_lt 0 scan.start) (steps.Scanning (step.first_chunk scan)) (steps.Promoting scan.from scan.to)) (λ goes. HoldsIn (link_in_step goes)) (λ _. tt)
+      (λ _. cond_both (not scan.wrapped && nat_lt 0 scan.start) (steps.Scanning (step.first_chunk scan)) (steps.Promoting scan.from scan.to) (λ goes. HoldsIn (link_in_step goes)) (λ _. tt) (λ _. tt))
 
-  advanced : (chunk : Chunk) (done : ℕ) → Stepped_holds (step.advanced chunk done)
-  advanced chunk done = cond_both (nat_le chunk.len done) (stepped.On (steps.Promoting chunk.from chunk.to)) stepped.Over Stepped_holds (λ _. tt) (λ _. tt)
+  scanned : (scan : Scan) (done : ℕ) → Stepped_holds (step.scanned scan done)
+  scanned scan done =
+      cond_both (not (done == 0)) (stepped.On (step.next_scan scan)) (cond scan.copied (stepped.Further (step.chunk_at scan)) (stepped.On (steps.Settling (step.chunk_at scan) settles.Looking))) Stepped_holds (λ _. next_scan scan)
+      (λ _. cond_both scan.copied (stepped.Further (step.chunk_at scan)) (stepped.On (steps.Settling (step.chunk_at scan) settles.Looking)) Stepped_holds (λ _. tt) (λ _. tt))
+
+  advanced : (scan : Scan) → Stepped_holds (step.advanced scan)
+  advanced scan = next_scan (record scan { copied = true })
 
   step_hash : (goes : Step) (hash : ℕ) → HoldsIn (link_in_step goes) → HoldsIn (link_in_step (step.at_hash goes hash))
   step_hash (steps.Settling chunk goes) hash h = settle_hash goes hash h
   step_hash other hash h = h
 
-  step_size : (goes : Step) (slots limit : ℕ) → ToldIn (link_in_step goes) slots → HoldsIn (link_in_step goes) → HoldsIn (link_in_step (step.at_size goes slots limit))
-  step_size (steps.Linking from made) slots limit new h = stable.sizes made slots new h
-  step_size (steps.Sizing from to) slots limit new h = tt
-  step_size (steps.Settling chunk goes) slots limit new h = settle_size goes slots limit new h
-  step_size other slots limit new h = h
+  step_size : (goes : Step) (mode : ResizeMode) (number slots limit : ℕ) → ToldIn (link_in_step goes) slots → HoldsIn (link_in_step goes) → HoldsIn (link_in_step (step.at_size goes mode number slots limit))
+  step_size (steps.Linking from made) mode number slots limit new h = stable.sizes made slots new h
+  step_size (steps.Sizing from to) mode number slots limit new h = tt
+  step_size (steps.Settling chunk goes) mode number slots limit new h = settle_size goes slots limit new h
+  step_size other mode number slots limit new h = h
 
   step_word : (goes : Step) (mode : ResizeMode) (word : ℕ) → HoldsIn (link_in_step goes) → Stepped_holds (step.at_word goes mode word)
   step_word steps.AtRoot mode word h = tt
   step_word (steps.Aiming from behind) mode word h = aimed from behind mode word
   step_word (steps.Judging from to) mode word h = judged from to word
-  step_word (steps.Counting from to len) mode word h = counted_to from to len mode word
+  step_word (steps.Scanning scan) mode word h = scanned scan word
   step_word (steps.Settling chunk goes) mode word h = settled_to chunk (settle.at_word goes (step.slot_of chunk) mode word) (settle_word goes (step.slot_of chunk) mode word h)
   step_word other mode word h = h
 
@@ -304,7 +313,7 @@ module _ (Holds : Link → Type 0) (Told New : Link → ℕ → Type 0) (stable 
   step_exchanged : (goes : Step) (mode : ResizeMode) → HoldsIn (link_in_step goes) → Stepped_holds (step.at_exchanged goes mode)
   step_exchanged (steps.Linking from made) mode h = linked_to from (link.at_exchanged made) (stable.exchanges made h)
   step_exchanged (steps.Settling chunk goes) mode h = settled_to chunk (settle.at_exchanged goes (step.slot_of chunk) mode) (settle_exchanged goes (step.slot_of chunk) mode h)
-  step_exchanged (steps.Advancing chunk) mode h = advanced chunk chunk.end
+  step_exchanged (steps.Advancing scan) mode h = advanced scan
   step_exchanged (steps.Promoting from to) mode h = tt
   step_exchanged other mode h = h
 
@@ -315,12 +324,12 @@ module _ (Holds : Link → Type 0) (Told New : Link → ℕ → Type 0) (stable 
   step_found : (goes : Step) (mode : ResizeMode) (word : ℕ) → HoldsIn (link_in_step goes) → Stepped_holds (step.at_found goes mode word)
   step_found (steps.Linking from made) mode word h = linked_to from (link.at_found made word) (stable.finds made word h)
   step_found (steps.Settling chunk goes) mode word h = settled_to chunk (settle.at_found goes (step.slot_of chunk) mode word) (settle_found goes (step.slot_of chunk) mode word h)
-  step_found (steps.Advancing chunk) mode word h = advanced chunk word
+  step_found (steps.Advancing scan) mode word h = advanced scan
   step_found (steps.Promoting from to) mode word h = tt
   step_found other mode word h = h
 
   step_count : (goes : Step) (mode : ResizeMode) (count initial : ℕ) → HoldsIn (link_in_step goes) → Stepped_holds (step.at_count goes mode count initial)
-  step_count (steps.Linking from made) mode count initial h = linked_to from (link.at_count made count initial) (stable.counts made count initial h)
+  step_count (steps.Linking from made) mode count initial h = linked_to from (link.at_count made mode count initial) (stable.counts made mode count initial h)
   step_count (steps.Settling chunk goes) mode count initial h = settled_to chunk (settle.at_count goes mode count initial) (settle_count goes mode count initial h)
   step_count other mode count initial h = h
 
@@ -340,6 +349,12 @@ module _ (Holds : Link → Type 0) (Told New : Link → ℕ → Type 0) (stable 
   over (aims.Settle slot) = tt
   over aims.Chunk = tt
   over (aims.All met) = tt
+
+  further : (aim : Aim) (chunk : Chunk) → Copied_holds (copying.further aim chunk)
+  further (aims.Search table) chunk = tt
+  further (aims.Settle slot) chunk = tt
+  further aims.Chunk chunk = tt
+  further (aims.All met) chunk = tt
 
   last : (aim : Aim) (table : ℕ) → Copied_holds (copying.last aim table)
   last (aims.All met) table = tt
@@ -361,6 +376,7 @@ module _ (Holds : Link → Type 0) (Told New : Link → ℕ → Type 0) (stable 
   leads aim mode (stepped.On goes) h = h
   leads aim mode (stepped.Root root) h = at_root aim mode root
   leads aim mode (stepped.Last table) h = last aim table
+  leads aim mode (stepped.Further chunk) h = further aim chunk
   leads aim mode stepped.Over h = over aim
   leads aim mode (stepped.Refused refused) h = tt
 
@@ -371,31 +387,31 @@ module _ (Holds : Link → Type 0) (Told New : Link → ℕ → Type 0) (stable 
   lone slot (settled.Refused refused) h = tt
 
   -- what an answer leads to
-  copying_called : (goes : Copying) (mode : ResizeMode) (answer : Call_answer) → ((slots limit : ℕ) → answer ≡ Size slots limit → ToldIn (link_in_copying goes) slots) → ((n : ℕ) → answer ≡ Made_number n → NewIn (link_in_copying goes) n) → HoldsIn (link_in_copying goes) → Copied_holds (machine.copying_called goes mode answer)
-  copying_called (Stepping aim goes) mode (Word_read word) told new h = leads aim mode (step.at_word goes mode word) (step_word goes mode word h)
-  copying_called (Lone slot goes) mode (Word_read word) told new h = lone slot (settle.at_word goes slot mode word) (settle_word goes slot mode word h)
-  copying_called (Stepping aim goes) mode Exchanged told new h = leads aim mode (step.at_exchanged goes mode) (step_exchanged goes mode h)
-  copying_called (Lone slot goes) mode Exchanged told new h = lone slot (settle.at_exchanged goes slot mode) (settle_exchanged goes slot mode h)
-  copying_called (Stepping aim goes) mode (Found_instead word) told new h = leads aim mode (step.at_found goes mode word) (step_found goes mode word h)
-  copying_called (Lone slot goes) mode (Found_instead word) told new h = lone slot (settle.at_found goes slot mode word) (settle_found goes slot mode word h)
-  copying_called (Stepping aim goes) mode (Yes same) told new h = leads aim mode (step.at_yes goes mode same) (step_yes goes mode same h)
-  copying_called (Lone slot goes) mode (Yes same) told new h = lone slot (settle.at_yes goes mode same) (settle_yes goes mode same h)
-  copying_called (Stepping aim goes) mode (Size slots limit) told new h = step_size goes slots limit (told slots limit refl) h
-  copying_called (Lone slot goes) mode (Size slots limit) told new h = settle_size goes slots limit (told slots limit refl) h
-  copying_called (Stepping aim goes) mode (Made_number n) told new h = step_made goes n (new n refl) h
-  copying_called (Lone slot goes) mode (Made_number n) told new h = settle_made goes n (new n refl) h
-  copying_called (Stepping aim goes) mode (Was_refused refused) told new h = leads aim mode (step.at_refused goes mode refused) (step_refused goes mode refused h)
-  copying_called (Lone slot goes) mode (Was_refused refused) told new h = lone slot (settle.at_refused goes mode refused) (settle_refused goes mode refused h)
-  copying_called goes mode (Op kind) told new h = h
-  copying_called (Stepping aim goes) mode Ok_done told new h = leads aim mode (step.at_ok goes mode) (step_ok goes mode h)
-  copying_called (Lone slot goes) mode Ok_done told new h = lone slot (settle.at_ok goes mode) (settle_ok goes mode h)
+  copying_called : (goes : Copying) (mode : ResizeMode) (number : ℕ) (answer : Call_answer) → ((slots limit : ℕ) → answer ≡ Size slots limit → ToldIn (link_in_copying goes) slots) → ((n : ℕ) → answer ≡ Made_number n → NewIn (link_in_copying goes) n) → HoldsIn (link_in_copying goes) → Copied_holds (machine.copying_called goes mode number answer)
+  copying_called (Stepping aim goes) mode number (Word_read word) told new h = leads aim mode (step.at_word goes mode word) (step_word goes mode word h)
+  copying_called (Lone slot goes) mode number (Word_read word) told new h = lone slot (settle.at_word goes slot mode word) (settle_word goes slot mode word h)
+  copying_called (Stepping aim goes) mode number Exchanged told new h = leads aim mode (step.at_exchanged goes mode) (step_exchanged goes mode h)
+  copying_called (Lone slot goes) mode number Exchanged told new h = lone slot (settle.at_exchanged goes slot mode) (settle_exchanged goes slot mode h)
+  copying_called (Stepping aim goes) mode number (Found_instead word) told new h = leads aim mode (step.at_found goes mode word) (step_found goes mode word h)
+  copying_called (Lone slot goes) mode number (Found_instead word) told new h = lone slot (settle.at_found goes slot mode word) (settle_found goes slot mode word h)
+  copying_called (Stepping aim goes) mode number (Yes same) told new h = leads aim mode (step.at_yes goes mode same) (step_yes goes mode same h)
+  copying_called (Lone slot goes) mode number (Yes same) told new h = lone slot (settle.at_yes goes mode same) (settle_yes goes mode same h)
+  copying_called (Stepping aim goes) mode number (Size slots limit) told new h = step_size goes mode number slots limit (told slots limit refl) h
+  copying_called (Lone slot goes) mode number (Size slots limit) told new h = settle_size goes slots limit (told slots limit refl) h
+  copying_called (Stepping aim goes) mode number (Made_number n) told new h = step_made goes n (new n refl) h
+  copying_called (Lone slot goes) mode number (Made_number n) told new h = settle_made goes n (new n refl) h
+  copying_called (Stepping aim goes) mode number (Was_refused refused) told new h = leads aim mode (step.at_refused goes mode refused) (step_refused goes mode refused h)
+  copying_called (Lone slot goes) mode number (Was_refused refused) told new h = lone slot (settle.at_refused goes mode refused) (settle_refused goes mode refused h)
+  copying_called goes mode number (Op kind) told new h = h
+  copying_called (Stepping aim goes) mode number Ok_done told new h = leads aim mode (step.at_ok goes mode) (step_ok goes mode h)
+  copying_called (Lone slot goes) mode number Ok_done told new h = lone slot (settle.at_ok goes mode) (settle_ok goes mode h)
 
-  pub copying_after : (goes : Copying) (mode : ResizeMode) (initial : ℕ) (answer : Answer) → ((slots limit : ℕ) → answer ≡ answers.Call (Size slots limit) → ToldIn (link_in_copying goes) slots) → ((n : ℕ) → answer ≡ answers.Call (Made_number n) → NewIn (link_in_copying goes) n) → HoldsIn (link_in_copying goes) → Copied_holds (machine.copying_after goes mode initial answer)
-  copying_after goes mode initial (answers.Call answer) told new h = copying_called goes mode answer (λ slots limit e. told slots limit (ap answers.Call e)) (λ n e. new n (ap answers.Call e)) h
-  copying_after (Stepping aim goes) mode initial (answers.Hash hash) told new h = step_hash goes hash h
-  copying_after (Lone slot goes) mode initial (answers.Hash hash) told new h = settle_hash goes hash h
-  copying_after (Stepping aim goes) mode initial (answers.Count count) told new h = leads aim mode (step.at_count goes mode count initial) (step_count goes mode count initial h)
-  copying_after (Lone slot goes) mode initial (answers.Count count) told new h = lone slot (settle.at_count goes mode count initial) (settle_count goes mode count initial h)
+  pub copying_after : (goes : Copying) (mode : ResizeMode) (initial number : ℕ) (answer : Answer) → ((slots limit : ℕ) → answer ≡ answers.Call (Size slots limit) → ToldIn (link_in_copying goes) slots) → ((n : ℕ) → answer ≡ answers.Call (Made_number n) → NewIn (link_in_copying goes) n) → HoldsIn (link_in_copying goes) → Copied_holds (machine.copying_after goes mode initial number answer)
+  copying_after goes mode initial number (answers.Call answer) told new h = copying_called goes mode number answer (λ slots limit e. told slots limit (ap answers.Call e)) (λ n e. new n (ap answers.Call e)) h
+  copying_after (Stepping aim goes) mode initial number (answers.Hash hash) told new h = step_hash goes hash h
+  copying_after (Lone slot goes) mode initial number (answers.Hash hash) told new h = settle_hash goes hash h
+  copying_after (Stepping aim goes) mode initial number (answers.Count count) told new h = leads aim mode (step.at_count goes mode count initial) (step_count goes mode count initial h)
+  copying_after (Lone slot goes) mode initial number (answers.Count count) told new h = lone slot (settle.at_count goes mode count initial) (settle_count goes mode count initial h)
 
   link_called : (made : Link) (answer : Call_answer) → ((slots limit : ℕ) → answer ≡ Size slots limit → ToldIn (Some made) slots) → ((n : ℕ) → answer ≡ Made_number n → NewIn (Some made) n) → HoldsIn (Some made) → Linked_holds (machine.link_called made answer)
   link_called made (Size slots limit) told new h = stable.sizes made slots (told slots limit refl) h
@@ -405,10 +421,10 @@ module _ (Holds : Link → Type 0) (Told New : Link → ℕ → Type 0) (stable 
   link_called made (Found_instead word) told new h = stable.finds made word h
   link_called made other told new h = h
 
-  pub link_after : (made : Link) (initial : ℕ) (answer : Answer) → ((slots limit : ℕ) → answer ≡ answers.Call (Size slots limit) → ToldIn (Some made) slots) → ((n : ℕ) → answer ≡ answers.Call (Made_number n) → NewIn (Some made) n) → HoldsIn (Some made) → Linked_holds (machine.link_after made initial answer)
-  link_after made initial (answers.Call answer) told new h = link_called made answer (λ slots limit e. told slots limit (ap answers.Call e)) (λ n e. new n (ap answers.Call e)) h
-  link_after made initial (answers.Hash hash) told new h = h
-  link_after made initial (answers.Count count) told new h = stable.counts made count initial h
+  pub link_after : (made : Link) (mode : ResizeMode) (initial : ℕ) (answer : Answer) → ((slots limit : ℕ) → answer ≡ answers.Call (Size slots limit) → ToldIn (Some made) slots) → ((n : ℕ) → answer ≡ answers.Call (Made_number n) → NewIn (Some made) n) → HoldsIn (Some made) → Linked_holds (machine.link_after made mode initial answer)
+  link_after made mode initial (answers.Call answer) told new h = link_called made answer (λ slots limit e. told slots limit (ap answers.Call e)) (λ n e. new n (ap answers.Call e)) h
+  link_after made mode initial (answers.Hash hash) told new h = h
+  link_after made mode initial (answers.Count count) told new h = stable.counts made mode count initial h
 
   -- a call that goes on to another table links none yet
   going_on : (m : Machine) (helped : Bool) (aim : Aim) (next : ℕ) → HoldsIn (link_in (machine.goes_on m helped aim next).phase)
@@ -423,7 +439,7 @@ module _ (Holds : Link → Type 0) (Told New : Link → ℕ → Type 0) (stable 
 
   grows : (m : Machine) (mode : ResizeMode) (need : Need) (next : ℕ) → HoldsIn (link_in (machine.grows_as m mode need next).phase)
   grows m Blocking need next = tt
-  grows m (Incremental chunk) need next = cond_both (next == 0) (record m { phase = Linking (links.Sizing (needed need) false) }) (machine.onward m next) (λ (y : Machine). HoldsIn (link_in y.phase)) (λ _. stable.fresh (needed need) false) (λ _. onward m next)
+  grows m (Incremental chunk) need next = cond_both (next == 0) (record m { phase = Linking (links.Sizing (needed need) (needed need) false) }) (machine.onward m next) (λ (y : Machine). HoldsIn (link_in y.phase)) (λ _. stable.fresh (needed need) (needed need) false) (λ _. onward m next)
 
   leaves : (m : Machine) (task : Task) (next : ℕ) → HoldsIn (link_in m.phase) → HoldsIn (link_in (machine.leaves m task next).phase)
   leaves m tasks.Get next h = h
@@ -463,5 +479,5 @@ module _ (Holds : Link → Type 0) (Told New : Link → ℕ → Type 0) (stable 
 
       by_phase : (phase : Phase) → m.phase ≡ phase → ((slots limit : ℕ) → answer ≡ answers.Call (Size slots limit) → ToldIn (link_in phase) slots) → ((n : ℕ) → (m.phase ≡ Calling → ⊥) → answer ≡ answers.Call (Made_number n) → NewIn (link_in phase) n) → HoldsIn (link_in phase) → HoldsIn (link_in (machine.after_in m answer phase).phase)
       by_phase Calling e told new holds = by_answer answer
-      by_phase (Linking goes) e told new holds = linked_on m (machine.link_after goes m.call.initial answer) (link_after goes m.call.initial answer told (λ n is. new n (λ c. let f : Linking goes ≡ Calling = sym e ∙ c in cc) is) holds)
-      by_phase (Copying_root goes) e told new holds = copied_on m (machine.copying_after goes m.call.mode m.call.initial answer) (copying_after goes m.call.mode m.call.initial answer told (λ n is. new n (λ c. let f : Copying_root goes ≡ Calling = sym e ∙ c in cc) is) holds)
+      by_phase (Linking goes) e told new holds = linked_on m (machine.link_after goes m.call.mode m.call.initial answer) (link_after goes m.call.mode m.call.initial answer told (λ n is. new n (λ c. let f : Linking goes ≡ Calling = sym e ∙ c in cc) is) holds)
+      by_phase (Copying_root goes) e told new holds = copied_on m (machine.copying_after goes m.call.mode m.call.initial m.number answer) (copying_after goes m.call.mode m.call.initial m.number answer told (λ n is. new n (λ c. let f : Copying_root goes ≡ Calling = sym e ∙ c in cc) is) holds)

@@ -1,7 +1,8 @@
 -- What the making of the next table learns from an answer.
-use Rattle.std.proofs.Common.{◌≡◌, ⊎_elim, ℕ, ◌<◌, ◌==◌, eqb-true, Option, Some, List, [], ◌∷◌, ◌++◌, append_assoc, refl, sym, ap, ◌∙◌, subst}
+use Rattle.std.proofs.Common.{◌≡◌, ⊎_elim, ℕ, ◌<◌, ◌≤◌, ◌==◌, eqb-true, Option, Some, List, [], ◌∷◌, ◌++◌, append_assoc, refl, sym, ap, ◌∙◌, subst}
 use Rattle.std.proofs.lemmas.Bool.{eqb-false}
 use Rattle.papaya_words.specs.declared.probe.Refused.{Refused}
+use Rattle.papaya_words.specs.declared.probe.ResizeMode.{ResizeMode}
 use Rattle.papaya_ask.specs.declared.ask.Answer.TheVariants.{Exchanged, Found as Found_instead, Size, Made as Made_number, Refused as Was_refused}
 use Rattle.papaya_ask.specs.declared.ask.At.TheVariants.{Next}
 use Rattle.papaya_ask.specs.declared.ask.StepKind.TheVariants as kinds
@@ -18,16 +19,17 @@ use Rattle.papaya_law.specs.Invariant.{IsKeeping}
 use Rattle.papaya_law.specs.Meaning.{map_left}
 use Rattle.papaya_law.proofs.Moments.{allowed_append, run-append}
 use Rattle.papaya_law.proofs.OneMap.{keeping}
-use Rattle.papaya_rests.specs.Copier.{IsCopyAsked, RestsLink, RestsLinked, last_after, told_last}
-use Rattle.papaya_rests.proofs.CopierLinks.{link_counted, link_exchanged, link_found, link_made, link_refused, link_sized}
+use Rattle.papaya_rests.specs.Copier.{HasWords, IsCopyAsked, RestsLink, RestsLinked, last_after, told_last}
+use Rattle.papaya_rests.specs.Rests.{IsCutAs}
+use Rattle.papaya_rests.proofs.CopierLinks.{link_counted, link_exchanged, link_found, link_made, link_refused, link_sized, sized_follows}
 use Rattle.papaya_rests.proofs.CopierMay.{links_on}
 use Rattle.papaya_rests.proofs.RestsLearn.{by_test}
 use Rattle.papaya_chain_rests.specs.Told.{Hands, IsCopyTold, told_of}
 
-module _ {K P : Type 0} (g : Setting K P) (c : Coding K P) (s : State P) (m : K → Option P) (keeps : IsKeeping g s m) (initial : ℕ) (hands : Hands P) where
+module _ {K P : Type 0} (g : Setting K P) (c : Coding K P) (s : State P) (m : K → Option P) (keeps : IsKeeping g s m) (mode : ResizeMode) (cut : IsCutAs mode g.chunk_of) (initial : ℕ) (hands : Hands P) where
   -- what was exchanged was allowed, and it rests where the answer led it
   abbrev pub HasLinked : Link → Answer → List (Exchange P) → Hands P → Type 0
-  HasLinked link answer es hands' = AllAllowed g s es × RestsLinked g c (run es s) hands'.call.last hands'.kept (follows link) (link_after link initial answer)
+  HasLinked link answer es hands' = AllAllowed g s es × RestsLinked g c (run es s) hands'.call.last hands'.kept (follows link) (link_after link mode initial answer)
 
   -- by what the answer is
   answered : (link : Link) (answer answer' : Answer) (es es' : List (Exchange P)) (hands' hands'' : Hands P) → answer ≡ answer' → es ≡ es' → hands' ≡ hands'' → HasLinked link answer' es' hands'' → HasLinked link answer es hands'
@@ -36,54 +38,57 @@ module _ {K P : Type 0} (g : Setting K P) (c : Coding K P) (s : State P) (m : K 
 
   -- where nothing was exchanged
   quiet : (link : Link) (answer answer' : Answer) (es : List (Exchange P)) (hands' hands'' : Hands P) → answer ≡ answer' → es ≡ [] → hands' ≡ hands''
-      → RestsLinked g c s hands''.call.last hands''.kept (follows link) (link_after link initial answer') → HasLinked link answer es hands'
+      → RestsLinked g c s hands''.call.last hands''.kept (follows link) (link_after link mode initial answer') → HasLinked link answer es hands'
   quiet link answer answer' es hands' hands'' a e h r = answered link answer answer' es [] hands' hands'' a e h (tt, r)
 
   -- the next word, which was to be 0
-  linked_there : (behind table : ℕ) → RestsLink g c s (links.Linking behind table) → s.next behind ≡ 0 → (e : Exchange P) → e ≡ Link_to behind table
-      → HasLinked (links.Linking behind table) (answers.Call Exchanged) (e ∷ []) (told_of (last_after e hands.call.last) hands)
-  linked_there behind table r none e is = (
-    subst (λ y. AllAllowed g s (y ∷ [])) (sym is) (links_on g c s m keeps behind table r none, tt),
-    link_exchanged g c s hands.call.last hands.kept (links.Linking behind table) r (Next behind) 0 table refl e is,
+  linked_there : (behind table chunks : ℕ) → RestsLink g c s (links.Linking behind table chunks) → chunks ≤ g.chunks table → s.next behind ≡ 0 → (e : Exchange P) → e ≡ Link_to behind table
+      → HasLinked (links.Linking behind table chunks) (answers.Call Exchanged) (e ∷ []) (told_of (last_after e hands.call.last) hands)
+  linked_there behind table chunks r words none e is = (
+    subst (λ y. AllAllowed g s (y ∷ [])) (sym is) (links_on g c s m keeps behind table chunks r words none, tt),
+    link_exchanged g c s hands.call.last hands.kept (links.Linking behind table chunks) r (Next behind) 0 table refl e is,
   )
 
   -- after each answer
-  pub link_learns : (link : Link) → RestsLink g c s link → (answer : Answer) (es : List (Exchange P)) (hands' : Hands P)
+  pub link_learns : (link : Link) → RestsLink g c s link → HasWords g (Some link) → (answer : Answer) (es : List (Exchange P)) (hands' : Hands P)
       → IsCopyTold g c s (link_kind link) (follows link) hands (link_ask link) answer es hands' → HasLinked link answer es hands'
-  link_learns (links.Sizing behind unfit) r answer es hands' h =
-      quiet (links.Sizing behind unfit) answer (answers.Call (Size (g.size behind) h.0.0)) es hands' hands h.0.2 h.1.0 h.1.1
-      (refl, link_sized g c s hands.call.last hands.kept (links.Sizing behind unfit) r (g.size behind))
-  link_learns (links.Counting behind unfit len) r answer es hands' h =
-      quiet (links.Counting behind unfit len) answer (answers.Count h.0.0) es hands' hands h.0.1 h.1.0 h.1.1
-      (link_counted g c s hands.call.last hands.kept (links.Counting behind unfit len) r h.0.0 initial)
-  link_learns (links.Making behind len limit) r answer es hands' h =
+  link_learns (links.Sizing behind copied unfit) r words answer es hands' h =
+      quiet (links.Sizing behind copied unfit) answer (answers.Call (Size (g.size behind) h.0.0)) es hands' hands h.0.2 h.1.0 h.1.1
+      (sized_follows g c s hands.call.last hands.kept (links.Sizing behind copied unfit) (g.size behind), link_sized g c s hands.call.last hands.kept (links.Sizing behind copied unfit) r behind refl)
+  link_learns (links.Measuring behind copied unfit len) r words answer es hands' h =
+      quiet (links.Measuring behind copied unfit len) answer (answers.Call (Size (g.size copied) h.0.0)) es hands' hands h.0.2 h.1.0 h.1.1
+      (refl, link_sized g c s hands.call.last hands.kept (links.Measuring behind copied unfit len) r copied refl)
+  link_learns (links.Counting behind unfit len copied) r words answer es hands' h =
+      quiet (links.Counting behind unfit len copied) answer (answers.Count h.0.0) es hands' hands h.0.1 h.1.0 h.1.1
+      (link_counted g c s hands.call.last hands.kept mode cut (links.Counting behind unfit len copied) r h.0.0 initial)
+  link_learns (links.Making behind len limit chunks) r words answer es hands' h =
       ⊎_elim
       (λ (u : (refused : Refused) × (answer ≡ answers.Call (Was_refused refused))).
-      quiet (links.Making behind len limit) answer (answers.Call (Was_refused u.0)) es hands' hands u.1 h.1.0 h.1.1
-      (link_refused g c s hands.call.last hands.kept (links.Making behind len limit) r u.0))
+      quiet (links.Making behind len limit chunks) answer (answers.Call (Was_refused u.0)) es hands' hands u.1 h.1.0 h.1.1
+      (link_refused g c s hands.call.last hands.kept (links.Making behind len limit chunks) r u.0))
       (λ (n : (n : ℕ) × (behind < n) × (answer ≡ answers.Call (Made_number n))).
-      quiet (links.Making behind len limit) answer (answers.Call (Made_number n.0)) es hands' hands n.2 h.1.0 h.1.1
-      (refl, link_made g c s hands.call.last hands.kept (links.Making behind len limit) r n.0 n.1))
+      quiet (links.Making behind len limit chunks) answer (answers.Call (Made_number n.0)) es hands' hands n.2 h.1.0 h.1.1
+      (refl, link_made g c s hands.call.last hands.kept (links.Making behind len limit chunks) r n.0 n.1))
       h.0
-  link_learns (links.Linking behind table) r answer es hands' h =
+  link_learns (links.Linking behind table chunks) r words answer es hands' h =
       by_test (s.next behind == 0)
       ((answer ≡ answers.Call Exchanged) × ((e : Exchange P) × IsCopyAsked c (Some kinds.Link) (Next behind) table s hands.kept e × (es ≡ e ∷ []) × (hands' ≡ told_of (last_after e hands.call.last) hands)))
       ((answer ≡ answers.Call (Found_instead (s.next behind))) × (es ≡ []) × (hands' ≡ told_of (told_last s (Next behind) hands.call.last) hands))
-      (HasLinked (links.Linking behind table) answer es hands') h
+      (HasLinked (links.Linking behind table chunks) answer es hands') h
       (λ none (a, (e, asked, is, h')).
-      answered (links.Linking behind table) answer (answers.Call Exchanged) es (e ∷ []) hands' (told_of (last_after e hands.call.last) hands) a is h'
-      (linked_there behind table r (eqb-true (s.next behind) 0 none) e asked))
+      answered (links.Linking behind table chunks) answer (answers.Call Exchanged) es (e ∷ []) hands' (told_of (last_after e hands.call.last) hands) a is h'
+      (linked_there behind table chunks r words (eqb-true (s.next behind) 0 none) e asked))
       (λ some (a, is, h').
-      quiet (links.Linking behind table) answer (answers.Call (Found_instead (s.next behind))) es hands' hands a is h'
-      (link_found g c s hands.call.last hands.kept (links.Linking behind table) r (Next behind) 0 table refl (eqb-false (s.next behind) 0 some)))
+      quiet (links.Linking behind table chunks) answer (answers.Call (Found_instead (s.next behind))) es hands' hands a is h'
+      (link_found g c s hands.call.last hands.kept (links.Linking behind table chunks) r (Next behind) 0 table refl (eqb-false (s.next behind) 0 some)))
 
-module _ {K P : Type 0} (g : Setting K P) (c : Coding K P) (hashed : IsHashed g c) (begun since : List (Exchange P)) (may : AllAllowed g start (begun ++ since)) (initial : ℕ) (hands : Hands P) where
+module _ {K P : Type 0} (g : Setting K P) (c : Coding K P) (hashed : IsHashed g c) (begun since : List (Exchange P)) (may : AllAllowed g start (begun ++ since)) (mode : ResizeMode) (cut : IsCutAs mode g.chunk_of) (initial : ℕ) (hands : Hands P) where
   -- the same after all exchanges
-  pub link_learns_all : (link : Link) → RestsLink g c (run (begun ++ since) start) link → (answer : Answer) (es : List (Exchange P)) (hands' : Hands P) → IsCopyTold g c (run (begun ++ since) start) (link_kind link) (follows link) hands (link_ask link) answer es hands'
-      → AllAllowed g start (begun ++ (since ++ es)) × RestsLinked g c (run (begun ++ (since ++ es)) start) hands'.call.last hands'.kept (follows link) (link_after link initial answer)
-  link_learns_all link r answer es hands' h =
-      let out = link_learns g c (run (begun ++ since) start) (map_left g (begun ++ since)) (keeping g hashed.lawful (begun ++ since) may) initial hands link r answer es hands' h in
+  pub link_learns_all : (link : Link) → RestsLink g c (run (begun ++ since) start) link → HasWords g (Some link) → (answer : Answer) (es : List (Exchange P)) (hands' : Hands P) → IsCopyTold g c (run (begun ++ since) start) (link_kind link) (follows link) hands (link_ask link) answer es hands'
+      → AllAllowed g start (begun ++ (since ++ es)) × RestsLinked g c (run (begun ++ (since ++ es)) start) hands'.call.last hands'.kept (follows link) (link_after link mode initial answer)
+  link_learns_all link r words answer es hands' h =
+      let out = link_learns g c (run (begun ++ since) start) (map_left g (begun ++ since)) (keeping g hashed.lawful (begun ++ since) may) mode cut initial hands link r words answer es hands' h in
       let reaches : run es (run (begun ++ since) start) ≡ run (begun ++ (since ++ es)) start = sym (run-append (begun ++ since) es start) ∙ ap (λ l. run l start) (append_assoc begun since es) in (
         subst (AllAllowed g start) (append_assoc begun since es) (allowed_append g (begun ++ since) es start may out.0),
-        subst (λ s. RestsLinked g c s hands'.call.last hands'.kept (follows link) (link_after link initial answer)) reaches out.1,
+        subst (λ s. RestsLinked g c s hands'.call.last hands'.kept (follows link) (link_after link mode initial answer)) reaches out.1,
       )

@@ -20,10 +20,11 @@ use Rattle.papaya_law.specs.Exchange.{Setting, State, Exchange, after, run, star
 use Rattle.papaya_law.specs.Invariant.{IsKeeping}
 use Rattle.papaya_law.specs.Meaning.{map_left}
 use Rattle.papaya_law.proofs.OneMap.{keeping}
-use Rattle.papaya_rests.specs.Copier.{AreThere, IsCopyAsked, RestsCopying}
+use Rattle.papaya_rests.specs.Copier.{AreThere, HasWords, IsCopyAsked, RestsCopying}
 use Rattle.papaya_rests.specs.Told.{IsWritten, word_of}
 use Rattle.papaya_rests.proofs.CopierCopies.{copying_there, link_there, copying_noted}
 use Rattle.papaya_rests.proofs.CopierExchange.{copying_may, link_may}
+use Rattle.papaya_chain_rests.specs.Goes.{link_in}
 use Rattle.papaya_chain_rests.specs.Rests.{Rests, RestsPhase}
 use Rattle.papaya_chain_rests.specs.Told.{Hands}
 use Rattle.papaya_rests.proofs.CopierCarries.{no_note}
@@ -64,13 +65,13 @@ module _ {K P : Type 0} (g : Setting K P) (c : Coding K P) (hashed : IsHashed g 
   abbrev May : Option StepKind → At → (old new : ℕ) → Type 0
   May kind at old new = word_of g c now at ≡ old → (e : Exchange P) × IsCopyAsked c kind at new now hands.kept e × Allows g now e × IsWritten g c now at new (after now e)
 
-  may_in : (phase : Phase) → RestsPhase g c begun since k m hands phase → (at : At) (old new : ℕ) → asks_in m.call phase ≡ asks.Copy (Ask_exchange at old new) → May (kind_in m.call phase) at old new
-  may_in Calling at place old new e = absurd cc
-  may_in (Linking link) at place old new e = let is : link_ask link ≡ Ask_exchange place old new = cc e in link_may g c hashed now (map_left g (begun ++ since)) keeps hands.call.last hands.kept link at.rests place old new is
-  may_in (Copying_root copying) at place old new e = let is : copying_ask copying ≡ Ask_exchange place old new = cc e in copying_may g c hashed now (map_left g (begun ++ since)) keeps hands.call.last hands.kept copying (copy_rests copying at) place old new is
+  may_in : (phase : Phase) → RestsPhase g c begun since k m hands phase → HasWords g (link_in phase) → (at : At) (old new : ℕ) → asks_in m.call phase ≡ asks.Copy (Ask_exchange at old new) → May (kind_in m.call phase) at old new
+  may_in Calling at words place old new e = absurd cc
+  may_in (Linking link) at words place old new e = let is : link_ask link ≡ Ask_exchange place old new = cc e in link_may g c hashed now (map_left g (begun ++ since)) keeps hands.call.last hands.kept link at.rests words place old new is
+  may_in (Copying_root copying) at words place old new e = let is : copying_ask copying ≡ Ask_exchange place old new = cc e in copying_may g c hashed now (map_left g (begun ++ since)) keeps hands.call.last hands.kept copying (copy_rests copying at) words place old new is
 
-  pub copies_may : (at : At) (old new : ℕ) → ask_of m ≡ asks.Copy (Ask_exchange at old new) → May (kind_of_ask m) at old new
-  copies_may at old new e = may_in m.phase r.phase at old new e
+  pub copies_may : HasWords g (link_in m.phase) → (at : At) (old new : ℕ) → ask_of m ≡ asks.Copy (Ask_exchange at old new) → May (kind_of_ask m) at old new
+  copies_may words at old new e = may_in m.phase r.phase words at old new e
 
   -- and a hint that is written may be there
   may_hint_in : (phase : Phase) → RestsPhase g c begun since k m hands phase → (t x n : ℕ) → asks_in m.call phase ≡ asks.Copy (WriteHint t x n) → IsHint g c now t x n

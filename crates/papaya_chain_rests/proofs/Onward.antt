@@ -1,6 +1,5 @@
 -- A call that is told of the next table copies first, or looks for its key there.
 use Rattle.std.proofs.Common.{◌≡◌, inl, ℕ, ◌<◌, Bool, true, false, Some, List, ◌++◌, refl, sym, subst}
-use Rattle.papaya_words.specs.Mode.{IsChunked}
 use Rattle.papaya_call.specs.declared.machine.State.{State as Stage}
 use Rattle.papaya_call.specs.declared.machine.State.TheVariants.{Leaving, Growing}
 use Rattle.papaya_call.specs.declared.need.Need.TheVariants.{Room, Pair as Pair_at}
@@ -23,7 +22,7 @@ module _ {K P : Type 0} (g : Setting K P) (c : Coding K P) (hashed : IsHashed g 
   abbrev now : State P
   now = run (begun ++ since) start
 
-  module _ (inc : g.blocking ≡ false) (m : Machine) (hands : Hands P) (chunked : IsChunked m.call.mode) (r : calls.Rests g c begun since k m.call hands.call) (changes : IsChanger m.call.task) (t : ℕ) (left : left_by m.call.state ≡ Some t) (some : 0 < now.next t) where
+  module _ (inc : g.blocking ≡ false) (m : Machine) (hands : Hands P) (cut : calls.IsCutAs m.call.mode g.chunk_of) (r : calls.Rests g c begun since k m.call hands.call) (changes : IsChanger m.call.task) (t : ℕ) (left : left_by m.call.state ≡ Some t) (some : 0 < now.next t) where
     -- what the call copies for is there
     aims_rest : (stage : Stage) → RestsStage g c begun since k hands.call m.call.task stage → left_by stage ≡ Some t → RestsAim g c now hands.call.last hands.kept (aim_for stage (now.next t))
     aims_rest (Growing (Pair_at u x)) stands e =
@@ -36,7 +35,7 @@ module _ {K P : Type 0} (g : Setting K P) (c : Coding K P) (hashed : IsHashed g 
     -- it copies a chunk first
     helps_first : Rests g c begun since k (goes_on m false (aim_for m.call.state (now.next t)) (now.next t)) hands
     helps_first = record {
-      chunked = chunked;
+      cut = cut;
       call = r;
       phase = inl (record { mode = inc; changes = changes; table = t; left = left; next = some; aim = refl; rests = (aims_rest m.call.state r.stage left, tt) });
     }
@@ -49,7 +48,7 @@ module _ {K P : Type 0} (g : Setting K P) (c : Coding K P) (hashed : IsHashed g 
     entered : (stage : Stage) → RestsStage g c begun since k hands.call m.call.task stage → left_by stage ≡ Some t
         → ((u x : ℕ) → stage ≡ Growing (Pair_at u x) → IsSettled g now (now.next t) (now.slot u x)) → Rests g c begun since k (enters (in_stage stage) (now.next t)) hands
     entered stage stands e settled = record {
-      chunked = chunked;
+      cut = cut;
       call = enters_rests g c hashed begun since may k inc (record m.call { state = stage }) hands.call (record { hash = r.hash; mode = r.mode; made = r.made; stage = stands }) t e some settled;
       phase = tt;
     }
@@ -57,7 +56,7 @@ module _ {K P : Type 0} (g : Setting K P) (c : Coding K P) (hashed : IsHashed g 
     -- or, where it did so before, the slot in which it met its key's pair, or nothing
     helps_no_more : (stage : Stage) → RestsStage g c begun since k hands.call m.call.task stage → left_by stage ≡ Some t → Rests g c begun since k (goes_on (in_stage stage) true (aim_for stage (now.next t)) (now.next t)) hands
     helps_no_more (Growing (Pair_at u x)) stands e = record {
-      chunked = chunked;
+      cut = cut;
       call = record { hash = r.hash; mode = r.mode; made = r.made; stage = stands };
       phase = inl (record { mode = inc; changes = changes; table = t; left = e; next = some; aim = refl; rests = (aims_rest (Growing (Pair_at u x)) stands e, tt) });
     }

@@ -1,6 +1,5 @@
 -- Where the making of a table, or the copy of the root, led: the call rests again.
 use Rattle.std.proofs.Common.{◌≡◌, inl, inr, ℕ, ◌<◌, true, false, Some, List, [], ◌++◌, append-nil, refl, sym, ap, ◌∙◌, subst}
-use Rattle.papaya_words.specs.Mode.{IsChunked}
 use Rattle.papaya_words.specs.declared.probe.Refused.{Refused}
 use Rattle.papaya_ask.specs.declared.ask.Answer.TheVariants.{Word as Word_read}
 use Rattle.papaya_ask.specs.declared.call.Reply.TheVariants.{Refused as Reply_refused}
@@ -63,11 +62,11 @@ module _ {K P : Type 0} (g : Setting K P) (c : Coding K P) (hashed : IsHashed g 
   refused_stage hands RemoveIf changes refused = tt
   refused_stage hands Compute changes refused = tt
 
-  module _ (m : Machine) (hands : Hands P) (chunked : IsChunked m.call.mode) (r : calls.Rests g c begun since k m.call hands.call) (changes : IsChanger m.call.task) where
+  module _ (m : Machine) (hands : Hands P) (cut : calls.IsCutAs m.call.mode g.chunk_of) (r : calls.Rests g c begun since k m.call hands.call) (changes : IsChanger m.call.task) where
     -- a table could not be made
     refuses_rests : (refused : Refused) → Rests g c begun since k (refuses m refused) hands
     refuses_rests refused = record {
-      chunked = chunked;
+      cut = cut;
       call = record { hash = r.hash; mode = r.mode; made = r.made; stage = refused_stage hands.call m.call.task changes refused };
       phase = tt;
     }
@@ -76,7 +75,7 @@ module _ {K P : Type 0} (g : Setting K P) (c : Coding K P) (hashed : IsHashed g 
     anew_rests : (root : ℕ) → now.root ≡ root → Rests g c begun since k (begins_anew m root) hands
     anew_rests root is = subst (λ n. Rests g c begun since k (begins_anew m n) hands) is
         (record {
-          chunked = subst IsChunked (sym (settings_stay (record m.call { state = At_root }) (Word_read now.root)).0) chunked;
+          cut = subst (λ mode. calls.IsCutAs mode g.chunk_of) (sym (settings_stay (record m.call { state = At_root }) (Word_read now.root)).0) cut;
           call = subst (λ l. calls.Rests g c begun l k (call_machine.after (record m.call { state = At_root }) (Word_read now.root)) hands.call) (append-nil since)
               (machine_learns g c hashed begun since may k (record m.call { state = At_root }) hands.call (record { hash = r.hash; mode = r.mode; made = r.made; stage = tt }) (Word_read now.root) [] hands.call (refl, refl, refl)).1;
           phase = tt;
@@ -85,7 +84,7 @@ module _ {K P : Type 0} (g : Setting K P) (c : Coding K P) (hashed : IsHashed g 
     -- the copy of all led here
     pub all_rests : g.blocking ≡ true → (t : ℕ) → left_by m.call.state ≡ Some t → (met : ℕ) (end : Copied) → RestsCopied g c now hands.call.last hands.kept (aims.All met) end → Rests g c begun since k (after_copied m end) hands
     all_rests blocks t left met (copied.On copying) is = record {
-      chunked = chunked;
+      cut = cut;
       call = r;
       phase = inr (record { mode = blocks; changes = changes; table = t; left = left; met = is.0.0; aim = is.0.1; rests = is.1 });
     }
@@ -94,18 +93,18 @@ module _ {K P : Type 0} (g : Setting K P) (c : Coding K P) (hashed : IsHashed g 
     all_rests blocks t left met copied.Chunk is = absurd cc
     all_rests blocks t left met (copied.Refused refused) is = refuses_rests refused
 
-  module _ (inc : g.blocking ≡ false) (m : Machine) (hands : Hands P) (chunked : IsChunked m.call.mode) (r : calls.Rests g c begun since k m.call hands.call) (changes : IsChanger m.call.task) (t : ℕ) (left : left_by m.call.state ≡ Some t) where
+  module _ (inc : g.blocking ≡ false) (m : Machine) (hands : Hands P) (cut : calls.IsCutAs m.call.mode g.chunk_of) (r : calls.Rests g c begun since k m.call hands.call) (changes : IsChanger m.call.task) (t : ℕ) (left : left_by m.call.state ≡ Some t) where
     -- the making of the next table led here
     pub linked_rests : (end : Linked) → RestsLinked g c now hands.call.last hands.kept t end → Rests g c begun since k (after_linked m end) hands
     linked_rests (linked.On link) is = record {
-      chunked = chunked;
+      cut = cut;
       call = r;
       phase = record { mode = inc; changes = changes; left = left ∙ ap (λ n. Some n) (sym is.0); rests = is.1 };
     }
     linked_rests (linked.Table n) is =
         subst (λ n. Rests g c begun since k (onward m n) hands) is.0
-        (onward_rests g c hashed begun since may k inc m hands chunked r changes t left (subst (λ n. 0 < n) (sym is.0) is.1))
-    linked_rests (linked.Refused refused) is = refuses_rests m hands chunked r changes refused
+        (onward_rests g c hashed begun since may k inc m hands cut r changes t left (subst (λ n. 0 < n) (sym is.0) is.1))
+    linked_rests (linked.Refused refused) is = refuses_rests m hands cut r changes refused
 
     module _ (some : 0 < now.next t) where
       -- where the call was to look on, its slot is settled
@@ -126,13 +125,13 @@ module _ {K P : Type 0} (g : Setting K P) (c : Coding K P) (hashed : IsHashed g 
       -- the copy of the root led here
       pub copied_rests : (end : Copied) → RestsCopied g c now hands.call.last hands.kept (aim_for m.call.state (now.next t)) end → Rests g c begun since k (after_copied m end) hands
       copied_rests (copied.On copying) is = record {
-        chunked = chunked;
+        cut = cut;
         call = r;
         phase = inl (record { mode = inc; changes = changes; table = t; left = left; next = some; aim = same_aimed m.call.state (now.next t) (aim_of copying) is.0; rests = is.1 });
       }
       copied_rests (copied.Search n) led =
           subst (λ y. Rests g c begun since k (enters m y) hands) (sym (led_next m.call.state n led))
-          (record { chunked = chunked; call = enters_rests g c hashed begun since may k inc m.call hands.call r t left some (led_settled m.call.state n led); phase = tt })
+          (record { cut = cut; call = enters_rests g c hashed begun since may k inc m.call hands.call r t left some (led_settled m.call.state n led); phase = tt })
       copied_rests (copied.Root root) is = absurd (not_all m.call.state (now.next t) is.1.0 is.1.1)
       copied_rests copied.Chunk is = absurd (not_chunk m.call.state (now.next t) is)
-      copied_rests (copied.Refused refused) is = refuses_rests m hands chunked r changes refused
+      copied_rests (copied.Refused refused) is = refuses_rests m hands cut r changes refused

@@ -45,7 +45,8 @@ use Rattle.papaya_rests.specs.Told as call_told
 use Rattle.papaya_rests.proofs.RestsLearn.{by_test}
 use Rattle.papaya_law.specs.Code.{Coding}
 use Rattle.papaya_law.specs.Exchange.{Setting, State, Exchange}
-use Rattle.papaya_chain_rests.specs.Goes.{IsCause, IsInOrder, IsOwnRefusal, IsOwnStep, IsToMake, WasNotMade, WouldBeTooLong, link_in, link_in_copying}
+use Rattle.papaya_rests.specs.Copier.{link_in_copying}
+use Rattle.papaya_chain_rests.specs.Goes.{IsCause, IsInOrder, IsOwnRefusal, IsOwnStep, IsToMake, WasNotMade, WouldBeTooLong, link_in}
 use Rattle.papaya_chain_rests.specs.Rests.{left_by}
 use Rattle.papaya_chain_rests.specs.Told.{Hands, IsTold}
 use Rattle.papaya_chain_rests.proofs.CopyRefusals.{copying_asks, of_copied, of_link, of_linked}
@@ -86,7 +87,7 @@ module _ (m : Machine) where
   -- nor one that is told of the next table it needs
   grows_none : (mode : ResizeMode) (need : Need) (word : ℕ) → of_asked (ask_of (grows_as m mode need word)) ≡ None
   grows_none Blocking need word = refl
-  grows_none (Incremental chunk) need word = cond_both (word == 0) (record m { phase = Linking (links.Sizing (needed need) false) }) (onward m word) (λ (y : Machine). of_asked (ask_of y) ≡ None) (λ _. refl) (λ _. onward_none word)
+  grows_none (Incremental chunk) need word = cond_both (word == 0) (record m { phase = Linking (links.Sizing (needed need) (needed need) false) }) (onward m word) (λ (y : Machine). of_asked (ask_of y) ≡ None) (λ _. refl) (λ _. onward_none word)
 
   -- the call went on for itself, and was told no next table that it needs, or it isn't refused
   abbrev IsStep : Call_answer → Machine → Type 0
@@ -125,16 +126,16 @@ module _ (m : Machine) where
 
 module _ (m : Machine) (answer : Answer) (refused : Refused) where
   -- the making of a table is refused by an answer, or by a count
-  made_why : (made : Link) → link_in m.phase ≡ Some made → ask_of m ≡ asked.Copy (link_ask made) → of_linked (link_after made m.call.initial answer) ≡ Some refused → WasNotMade m answer refused ⊎ WouldBeTooLong m answer refused
+  made_why : (made : Link) → link_in m.phase ≡ Some made → ask_of m ≡ asked.Copy (link_ask made) → of_linked (link_after made m.call.mode m.call.initial answer) ≡ Some refused → WasNotMade m answer refused ⊎ WouldBeTooLong m answer refused
   made_why made stands says e =
       ⊎_elim
-      (λ (a : HasNotMade made answer refused). inl (record { slots = a.slots; limit = a.limit; asks = says ∙ ap asked.Copy a.asks; is = a.is }))
+      (λ (a : HasNotMade made answer refused). inl (record { slots = a.slots; limit = a.limit; chunks = a.chunks; asks = says ∙ ap asked.Copy a.asks; is = a.is }))
       (λ (b : HasCountedTooMany made m.call.initial answer refused).
-      inr (record { capacity = b.capacity; behind = b.behind; unfit = b.unfit; slots = b.slots; link = stands ∙ ap Some b.link; asks = says ∙ ap (λ l. asked.Copy (link_ask l)) b.link; count = b.count; is = b.is; long = b.long }))
-      (link_why made m.call.initial answer refused e)
+      inr (record { capacity = b.capacity; behind = b.behind; unfit = b.unfit; slots = b.slots; copied = b.copied; link = stands ∙ ap Some b.link; asks = says ∙ ap (λ l. asked.Copy (link_ask l)) b.link; count = b.count; is = b.is; long = b.long }))
+      (link_why made m.call.mode m.call.initial answer refused e)
 
   -- where a copy makes one
-  held_why : (goes : Copying) → m.phase ≡ Copying_root goes → (held : Option Link) → link_in_copying goes ≡ held → of_link (λ made. link_after made m.call.initial answer) held ≡ Some refused → WasNotMade m answer refused ⊎ WouldBeTooLong m answer refused
+  held_why : (goes : Copying) → m.phase ≡ Copying_root goes → (held : Option Link) → link_in_copying goes ≡ held → of_link (λ made. link_after made m.call.mode m.call.initial answer) held ≡ Some refused → WasNotMade m answer refused ⊎ WouldBeTooLong m answer refused
   held_why goes phase None holds e = absurd cc
   held_why goes phase (Some made) holds e = made_why made (ap link_in phase ∙ holds) (ap (asks_in m.call) phase ∙ ap asked.Copy (copying_asks goes made holds)) e
 
@@ -169,12 +170,12 @@ module _ (m : Machine) (answer : Answer) (refused : Refused) where
     phase_why : (phase : Phase) → m.phase ≡ phase → IsInOrder m answer phase → IsCause m answer refused
     phase_why Calling e order = inl (called_why order.0 e order.1 (called_steps m order.0))
     phase_why (Linking made) e order =
-        inr (record { from = order.0; left = order.1; why = made_why made (ap link_in e) (ap (asks_in m.call) e) (linked_ends m refused (link_after made m.call.initial answer) (ended (Linking made) e)) })
+        inr (record { from = order.0; left = order.1; why = made_why made (ap link_in e) (ap (asks_in m.call) e) (linked_ends m refused (link_after made m.call.mode m.call.initial answer) (ended (Linking made) e)) })
       where
         ended : (phase : Phase) → m.phase ≡ phase → of_asked (ask_of (after_in m answer phase)) ≡ Some refused
         ended phase e = sym (ap (λ p. of_asked (ask_of (after_in m answer p))) e) ∙ ap of_asked ends
     phase_why (Copying_root goes) e order =
-        inr (record { from = order.0; left = order.1; why = held_why goes e (link_in_copying goes) refl (copying_ends goes m.call.mode m.call.initial answer refused (copied_ends m order.0 order.1 refused (copying_after goes m.call.mode m.call.initial answer) (ended (Copying_root goes) e))) })
+        inr (record { from = order.0; left = order.1; why = held_why goes e (link_in_copying goes) refl (copying_ends goes m.call.mode m.call.initial m.number answer refused (copied_ends m order.0 order.1 refused (copying_after goes m.call.mode m.call.initial m.number answer) (ended (Copying_root goes) e))) })
       where
         ended : (phase : Phase) → m.phase ≡ phase → of_asked (ask_of (after_in m answer phase)) ≡ Some refused
         ended phase e = sym (ap (λ p. of_asked (ask_of (after_in m answer p))) e) ∙ ap of_asked ends

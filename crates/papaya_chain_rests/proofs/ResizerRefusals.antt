@@ -2,6 +2,7 @@
 use Rattle.std.proofs.Common.{◌≡◌, inl, inr, ⊎_elim, ℕ, ◌+◌, ◌==◌, ◌<◌, ◌^◌, Bool, true, false, nat_le, cond, eqb-true, leb-false, max, Option, None, Some, List, [], ◌∷◌, refl, sym, ap, ◌∙◌, subst, arith}
 use Rattle.std.proofs.lemmas.Bool.{cond_both}
 use Rattle.papaya_words.specs.declared.probe.Refused.{Refused}
+use Rattle.papaya_words.specs.declared.probe.ResizeMode.{ResizeMode}
 use Rattle.papaya_words.specs.declared.probe.Refused.TheVariants.{Capacity}
 use Rattle.papaya_ask.specs.declared.ask.Answer.TheVariants.{Word as Word_read, Exchanged, Found as Found_instead, Size, Made as Made_number, Refused as Was_refused}
 use Rattle.papaya_ask.specs.declared.ask.At.TheVariants.{Root, Next}
@@ -28,7 +29,7 @@ use Rattle.papaya_chain.specs.Room.{entries_of, room_of, room_of_len}
 use Rattle.papaya_law.specs.Code.{Coding}
 use Rattle.papaya_law.specs.Exchange.{Setting, State, Exchange, Open}
 use Rattle.papaya_rests.proofs.RestsLearn.{by_test}
-use Rattle.papaya_chain_rests.specs.Goes.{link_in_copying}
+use Rattle.papaya_rests.specs.Copier.{link_in_copying}
 use Rattle.papaya_chain_rests.specs.Resizers.{HasLink, IsCountTold, IsResizeCause, IsStageTold}
 use Rattle.papaya_chain_rests.specs.Told.{Hands, IsCopyTold, Quiet}
 use Rattle.papaya_chain_rests.proofs.CopyRefusals.{copying_asks, of_copied, of_link, of_linked}
@@ -51,12 +52,12 @@ over_none Chunk refused e = absurd cc
 over_none CopyAll refused e = absurd cc
 over_none (Reserve more) refused e = absurd cc
 
-last_none : (root : ℕ) (room : Option Room) → HasNone (at_last root room)
-last_none root None refused e = absurd cc
-last_none root (Some room) refused e = absurd cc
+last_none : (mode : ResizeMode) (root len : ℕ) (room : Option Room) → HasNone (at_last mode root len room)
+last_none mode root len None refused e = absurd cc
+last_none mode root len (Some room) refused e = absurd cc
 
-next_none : (root : ℕ) (room : Option Room) (next : ℕ) → HasNone (at_next root room next)
-next_none root room next = cond_both (next == 0) (at_last root room) (copies root) HasNone (λ _. last_none root room) (λ _ refused e. absurd cc)
+next_none : (mode : ResizeMode) (root len : ℕ) (room : Option Room) (next : ℕ) → HasNone (at_next mode root len room next)
+next_none mode root len room next = cond_both (next == 0) (at_last mode root len room) (copies root) HasNone (λ _. last_none mode root len room) (λ _ refused e. absurd cc)
 
 -- what was made ends refused as it does
 linked_ends : (root : ℕ) (end : Linked) (refused : Refused) → reply_in (linked root end) ≡ Some (Reply_refused refused) → of_linked end ≡ Some refused
@@ -73,15 +74,15 @@ copied_ends resize from (copied_to.Refused other) refused e = let same : other �
 
 module _ (resizer : Resizer) (answer : Answer) (refused : Refused) where
   -- the making of a table is refused by an answer, or by a count
-  made_why : (made : Link) → HasLink resizer.state made → asks_in resizer.state ≡ Some (link_ask made) → of_linked (link_after made resizer.initial answer) ≡ Some refused → IsResizeCause resizer answer refused
+  made_why : (made : Link) → HasLink resizer.state made → asks_in resizer.state ≡ Some (link_ask made) → of_linked (link_after made resizer.mode resizer.initial answer) ≡ Some refused → IsResizeCause resizer answer refused
   made_why made stands says e =
       ⊎_elim
-      (λ (a : HasNotMade made answer refused). inl (record { slots = a.slots; limit = a.limit; asks = says ∙ ap Some a.asks; is = a.is }))
+      (λ (a : HasNotMade made answer refused). inl (record { slots = a.slots; limit = a.limit; chunks = a.chunks; asks = says ∙ ap Some a.asks; is = a.is }))
       (λ (b : HasCountedTooMany made resizer.initial answer refused).
-      inr (inl (record { capacity = b.capacity; behind = b.behind; unfit = b.unfit; slots = b.slots; link = subst (HasLink resizer.state) b.link stands; asks = says ∙ ap (λ l. Some (link_ask l)) b.link; count = b.count; is = b.is; long = b.long })))
-      (link_why made resizer.initial answer refused e)
+      inr (inl (record { capacity = b.capacity; behind = b.behind; unfit = b.unfit; slots = b.slots; copied = b.copied; link = subst (HasLink resizer.state) b.link stands; asks = says ∙ ap (λ l. Some (link_ask l)) b.link; count = b.count; is = b.is; long = b.long })))
+      (link_why made resizer.mode resizer.initial answer refused e)
 
-  held_why : (from : ℕ) (copying : Root_copying) → resizer.state ≡ Copying from copying → (held : Option Link) → link_in_copying copying ≡ held → of_link (λ made. link_after made resizer.initial answer) held ≡ Some refused → IsResizeCause resizer answer refused
+  held_why : (from : ℕ) (copying : Root_copying) → resizer.state ≡ Copying from copying → (held : Option Link) → link_in_copying copying ≡ held → of_link (λ made. link_after made resizer.mode resizer.initial answer) held ≡ Some refused → IsResizeCause resizer answer refused
   held_why from copying stage None holds e = absurd cc
   held_why from copying stage (Some made) holds e = made_why made (subst (λ y. HasLink y made) (sym stage) holds) (ap asks_in stage ∙ ap Some (copying_asks copying made holds)) e
 
@@ -97,8 +98,8 @@ module _ (resizer : Resizer) (answer : Answer) (refused : Refused) where
   makes_why more wants told (Some room) some e = absurd cc
 
   root_why : (root : ℕ) → answer ≡ answers.Call (Word_read root) → (resize : Resize) → resizer.resize ≡ resize → reply_in (at_root resize root) ≡ Some (Reply_refused refused) → IsResizeCause resizer answer refused
-  root_why root told Chunk wants = cond_both (root == 0) Done (Looking root None) (λ y. reply_in y ≡ Some (Reply_refused refused) → IsResizeCause resizer answer refused) (λ _ e. absurd cc) (λ _ e. absurd cc)
-  root_why root told CopyAll wants = cond_both (root == 0) Done (Looking root None) (λ y. reply_in y ≡ Some (Reply_refused refused) → IsResizeCause resizer answer refused) (λ _ e. absurd cc) (λ _ e. absurd cc)
+  root_why root told Chunk wants = cond_both (root == 0) Done (Looking root 0 None) (λ y. reply_in y ≡ Some (Reply_refused refused) → IsResizeCause resizer answer refused) (λ _ e. absurd cc) (λ _ e. absurd cc)
+  root_why root told CopyAll wants = cond_both (root == 0) Done (Looking root 0 None) (λ y. reply_in y ≡ Some (Reply_refused refused) → IsResizeCause resizer answer refused) (λ _ e. absurd cc) (λ _ e. absurd cc)
   root_why root told (Reserve more) wants =
       cond_both (root == 0) (makes (room_of more)) (Sizing root) (λ y. reply_in y ≡ Some (Reply_refused refused) → IsResizeCause resizer answer refused)
       (λ none e. makes_why more wants (told ∙ ap (λ r. answers.Call (Word_read r)) (eqb-true root 0 none)) (room_of more) refl e)
@@ -107,7 +108,7 @@ module _ (resizer : Resizer) (answer : Answer) (refused : Refused) where
   -- and where it counted
   judges_why : (root len more count : ℕ) → resizer.resize ≡ Reserve more → answer ≡ answers.Count count → (room : Option Room) → room_of (count + more) ≡ room → reply_in (judges root len room) ≡ Some (Reply_refused refused) → IsResizeCause resizer answer refused
   judges_why root len more count wants told None none e = let is : Capacity ≡ refused = cc e in room_why more count wants (inr told) none is
-  judges_why root len more count wants told (Some room) some e = cond_both (nat_le room.len len) Done (Looking root (Some room)) (λ y. reply_in y ≡ Some (Reply_refused refused) → IsResizeCause resizer answer refused) (λ _ e. absurd cc) (λ _ e. absurd cc) e
+  judges_why root len more count wants told (Some room) some e = cond_both (nat_le room.len len) Done (Looking root len (Some room)) (λ y. reply_in y ≡ Some (Reply_refused refused) → IsResizeCause resizer answer refused) (λ _ e. absurd cc) (λ _ e. absurd cc) e
 
   count_why : (root len count : ℕ) → answer ≡ answers.Count count → (resize : Resize) → resizer.resize ≡ resize → reply_in (at_count resize root len count) ≡ Some (Reply_refused refused) → IsResizeCause resizer answer refused
   count_why root len count told Chunk wants e = absurd cc
@@ -117,7 +118,7 @@ module _ (resizer : Resizer) (answer : Answer) (refused : Refused) where
 module _ {K P : Type 0} (g : Setting K P) (c : Coding K P) (s : State P) (resizer : Resizer) (hands : Hands P) (answer : Answer) (es : List (Exchange P)) (hands' : Hands P) where
   -- where the stage goes, after this answer
   abbrev Goes : Answer → Stage → Stage
-  Goes = after_in resizer.resize resizer.mode resizer.initial
+  Goes = after_in resizer.resize resizer.mode resizer.initial resizer.number
 
   module _ (refused : Refused) where
     -- why it goes there refused
@@ -134,13 +135,13 @@ module _ {K P : Type 0} (g : Setting K P) (c : Coding K P) (s : State P) (resize
         let h = subst (λ a. IsCopyTold g c s None 0 hands a answer es hands') same told in
         root_why resizer answer refused s.root h.0 resizer.resize refl (by_answer AtRoot (answers.Call (Word_read s.root)) h.0 e)
     stage_why (Making room) (ask, asks, told) at e =
-        let same : ask ≡ MakeTable room.len room.limit = cc asks in
+        let same : ask ≡ MakeTable room.len room.limit 0 = cc asks in
         let h = subst (λ a. IsCopyTold g c s None 0 hands a answer es hands') same told in
         ⊎_elim
         (λ (u : (other : Refused) × (answer ≡ answers.Call (Was_refused other))).
         let to = by_answer (Making room) (answers.Call (Was_refused u.0)) u.1 e in
         let is : u.0 ≡ refused = cc to in
-        inl (record { slots = room.len; limit = room.limit; asks = ap asks_in at; is = u.1 ∙ ap (λ r. answers.Call (Was_refused r)) is }))
+        inl (record { slots = room.len; limit = room.limit; chunks = 0; asks = ap asks_in at; is = u.1 ∙ ap (λ r. answers.Call (Was_refused r)) is }))
         (λ (n : (n : ℕ) × (0 < n) × (answer ≡ answers.Call (Made_number n))). let to = by_answer (Making room) (answers.Call (Made_number n.0)) n.2 e in absurd (cc to))
         h.0
     stage_why (Opening table) told at e =
@@ -158,14 +159,14 @@ module _ {K P : Type 0} (g : Setting K P) (c : Coding K P) (s : State P) (resize
         let same : ask ≡ Count = cc asks in
         let h = subst (λ a. IsCopyTold g c s None 0 hands a answer es hands') same told in
         count_why resizer answer refused root len h.0.0 h.0.1 resizer.resize refl (by_answer (Counting root len) (answers.Count h.0.0) h.0.1 e)
-    stage_why (Looking root room) (ask, asks, told) at e =
+    stage_why (Looking root len room) (ask, asks, told) at e =
         let same : ask ≡ Load (Next root) = cc asks in
         let h = subst (λ a. IsCopyTold g c s None 0 hands a answer es hands') same told in
-        absurd (next_none root room (s.next root) refused (by_answer (Looking root room) (answers.Call (Word_read (s.next root))) h.0 e))
-    stage_why (Linking link) told at e = made_why resizer answer refused link (subst (λ y. HasLink y link) (sym at) refl) (ap asks_in at) (linked_ends (follows link) (link_after link resizer.initial answer) refused e)
+        absurd (next_none resizer.mode root len room (s.next root) refused (by_answer (Looking root len room) (answers.Call (Word_read (s.next root))) h.0 e))
+    stage_why (Linking link) told at e = made_why resizer answer refused link (subst (λ y. HasLink y link) (sym at) refl) (ap asks_in at) (linked_ends (follows link) (link_after link resizer.mode resizer.initial answer) refused e)
     stage_why (Copying from copying) told at e =
         held_why resizer answer refused from copying at (link_in_copying copying) refl
-        (copying_ends copying resizer.mode resizer.initial answer refused (copied_ends resizer.resize from (copying_after copying resizer.mode resizer.initial answer) refused e))
+        (copying_ends copying resizer.mode resizer.initial resizer.number answer refused (copied_ends resizer.resize from (copying_after copying resizer.mode resizer.initial resizer.number answer) refused e))
     stage_why Done told at e = let no = told.1 in absurd cc
     stage_why (Ended_refused other) told at e = let no = told.1 in absurd cc
 

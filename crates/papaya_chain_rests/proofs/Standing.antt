@@ -67,7 +67,7 @@ module _ (m : Machine) (stands : IsStanding m) where
 
   grows_stand : (mode : ResizeMode) (need : Need) (next : ℕ) → IsStanding (grows_as m mode need next)
   grows_stand Blocking need next = in_phase _ tt
-  grows_stand (Incremental chunk) need next = cond_both (next == 0) (record m { phase = Linking (links.Sizing (needed need) false) }) (onward m next) IsStanding (λ _. in_phase _ tt) (λ _. onward_stand next)
+  grows_stand (Incremental chunk) need next = cond_both (next == 0) (record m { phase = Linking (links.Sizing (needed need) (needed need) false) }) (onward m next) IsStanding (λ _. in_phase _ tt) (λ _. onward_stand next)
 
   -- it was told the number of the next table
   leaves_stand : (task : Task) (next : ℕ) → IsStanding (leaves m task next)
@@ -100,8 +100,8 @@ module _ (m : Machine) (stands : IsStanding m) where
   after_stand (answers.Call told) fit Calling is = called_stand told fit
   after_stand (answers.Hash hash) fit Calling is = stands
   after_stand (answers.Count count) fit Calling is = stands
-  after_stand answer fit (Linking link) is = linked_stand (link_after link m.call.initial answer) (link_stands link m.call.initial answer stands.initial fit is)
-  after_stand answer fit (Copying_root copying) is = copied_stand (copying_after copying m.call.mode m.call.initial answer) (copying_stands copying m.call.mode m.call.initial answer stands.chunked stands.initial fit is)
+  after_stand answer fit (Linking link) is = linked_stand (link_after link m.call.mode m.call.initial answer) (link_stands link m.call.mode m.call.initial answer stands.initial fit is)
+  after_stand answer fit (Copying_root copying) is = copied_stand (copying_after copying m.call.mode m.call.initial m.number answer) (copying_stands copying m.call.mode m.call.initial m.number answer stands.initial fit is)
 
   -- it stands after an answer
   pub chain_stands : (answer : Answer) → IsFit answer → IsStanding (after m answer)
@@ -117,5 +117,5 @@ module _ (m : Machine) (stands : IsStanding m) where
   chain_ask_fits = fits_in m.phase stands.phase
 
 -- a call that begins stands
-pub started_stands : (task : Task) (hash : ℕ) (mode : ResizeMode) (initial : ℕ) → IsChunked mode → IsPowerOfTwo initial → IsStanding (started task hash mode initial)
-started_stands task hash mode initial chunked power = record { call = record { made = tt; remembered = record { fill = tt; choice = tt }; state = tt }; chunked = chunked; initial = power; phase = tt }
+pub started_stands : (task : Task) (hash : ℕ) (mode : ResizeMode) (initial number : ℕ) → IsChunked mode → IsPowerOfTwo initial → IsStanding (started task hash mode initial number)
+started_stands task hash mode initial number chunked power = record { call = record { made = tt; remembered = record { fill = tt; choice = tt }; state = tt }; chunked = chunked; initial = power; phase = tt }

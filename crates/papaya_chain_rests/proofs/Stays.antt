@@ -19,7 +19,7 @@ use Rattle.papaya_law.proofs.Moments.{allowed_first, allowed_rest, run-append}
 use Rattle.papaya_law.proofs.OneMap.{keeping, keeping_sound}
 use Rattle.papaya_rests.specs.Copier.{aim_of}
 use Rattle.papaya_rests.proofs.CopierStays.{copying_stays, link_stays}
-use Rattle.papaya_rests.proofs.CopierTables.{copying_carries}
+use Rattle.papaya_rests.proofs.CopierTables.{copying_carries, link_carries}
 use Rattle.papaya_rests.proofs.RestsStay.{rests_stays}
 use Rattle.papaya_rests.proofs.RestsTables.{rests_carries}
 use Rattle.papaya_chain_rests.specs.Rests.{Rests, RestsPhase, now}
@@ -99,7 +99,7 @@ module _ {K P : Type 0} (g : Setting K P) (c : Coding K P) (hashed : IsHashed g 
   -- all that it rests on
   pub all_stays : (m : Machine) (hands : Hands P) → Rests g c begun since k m hands → Rests g c begun (since ++ es) k m hands
   all_stays m hands r = record {
-    chunked = r.chunked;
+    cut = r.cut;
     call = rests_stays g c hashed begun since es may k m.call hands.call r.call;
     phase = phase_stays m hands m.phase r.phase;
   }
@@ -116,7 +116,7 @@ module _ {K P : Type 0} (g g' : Setting K P) (c : Coding K P) (hashed : IsHashed
     mode = agrees.blocking ∙ r.mode;
     changes = r.changes;
     left = r.left;
-    rests = record { on = r.rests.on; rises = r.rests.rises };
+    rests = link_carries g g' c (now g c begun since k) (keeping_sound g (now g c begun since k) (map_left g (begun ++ since)) keeps_now) agrees hands.call.last hands.kept link r.rests;
   }
   phase_carries m hands (Copying copying) (inl r) = inl (record {
     mode = agrees.blocking ∙ r.mode;
@@ -139,7 +139,7 @@ module _ {K P : Type 0} (g g' : Setting K P) (c : Coding K P) (hashed : IsHashed
 
   pub all_carries : (m : Machine) (hands : Hands P) → Rests g c begun since k m hands → Rests g' c begun since k m hands
   all_carries m hands r = record {
-    chunked = r.chunked;
+    cut = λ x. agrees.chunk_of x ∙ r.cut x;
     call = rests_carries g g' c hashed begun since may k agrees m.call hands.call r.call;
     phase = phase_carries m hands m.phase r.phase;
   }

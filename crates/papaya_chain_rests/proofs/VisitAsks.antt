@@ -22,7 +22,7 @@ use Rattle.papaya_law.proofs.Moments.{allowed_first, allowed_rest, map_of-append
 use Rattle.papaya_law.proofs.OneMap.{keeping_sound, run_keeps}
 use Rattle.papaya_law.proofs.Slots.{put_elsewhere, put_there}
 use Rattle.papaya_rests.specs.Told.{IsWritten, word_of}
-use Rattle.papaya_chain_rests.specs.Resizers.{RestsStage}
+use Rattle.papaya_chain_rests.specs.Resizers.{RestsStage, link_of}
 use Rattle.papaya_chain_rests.proofs.ResizerRests.{stage_may, stage_there, stage_may_hint}
 use Rattle.papaya_chain.specs.declared.visit_ask.VisitAsk.{VisitAsk}
 use Rattle.papaya_chain.specs.declared.visit_ask.VisitAsk.TheVariants.{Copy, Show, Give, AddToShard}
@@ -32,8 +32,9 @@ use Rattle.papaya_chain.specs.declared.visitor.State.TheVariants.{Copying, AtRoo
 use Rattle.papaya_chain.specs.declared.visitor.Visit.{Visit}
 use Rattle.papaya_chain.specs.Visitor.{asks_in, buries, copy_asks}
 use Rattle.papaya_chain_rests.specs.VisitTold.{Hands}
-use Rattle.papaya_chain_rests.specs.Visits.{HadPair, IsMeeting, IsNamed, IsSpot, IsTaking, IsVisitAsked, RestsState}
+use Rattle.papaya_chain_rests.specs.Visits.{HadPair, IsMeeting, IsNamed, IsSpot, IsTaking, IsVisitAsked, RestsState, link_in_visit}
 use Rattle.papaya_chain_rests.proofs.VisitSlots.{reached_now, was_now}
+use Rattle.papaya_rests.specs.Copier.{HasWords}
 use Rattle.papaya_rests.specs.Rests.{IsModeOf}
 use Rattle.papaya_words.specs.declared.probe.ResizeMode.{ResizeMode}
 use Rattle.papaya_law.specs.Hints.{IsHint}
@@ -161,27 +162,27 @@ module _ {K P : Type 0} (g : Setting K P) (c : Coding K P) (hashed : IsHashed g 
         )
 
     -- the copy exchanges a word
-    copy_may : (stage : Stage) → RestsState g c s m since visit hands (Copying stage) → (o : Option CopyAsk) → resizers.asks_in stage ≡ o → (at : At) (old new : ℕ) → copy_asks o ≡ Some (Copy (Ask_exchange at old new)) → May (Copying stage) at old new
-    copy_may stage r None is at old new e = absurd cc
-    copy_may stage r (Some ask) is at old new e =
+    copy_may : (stage : Stage) → RestsState g c s m since visit hands (Copying stage) → HasWords g (link_of stage) → (o : Option CopyAsk) → resizers.asks_in stage ≡ o → (at : At) (old new : ℕ) → copy_asks o ≡ Some (Copy (Ask_exchange at old new)) → May (Copying stage) at old new
+    copy_may stage r words None is at old new e = absurd cc
+    copy_may stage r words (Some ask) is at old new e =
         let same : ask ≡ Ask_exchange at old new = cc e in
-        stage_may g c hashed now (map_of g m since) keeps_since hands.copy stage r.2 at old new (is ∙ ap Some same)
+        stage_may g c hashed now (map_of g m since) keeps_since hands.copy stage r.2 words at old new (is ∙ ap Some same)
 
-    pub state_may : (state : State) → RestsState g c s m since visit hands state → (at : At) (old new : ℕ) → asks_in state ≡ Some (Copy (Ask_exchange at old new)) → May state at old new
-    state_may (Copying stage) r at old new e = copy_may stage r (resizers.asks_in stage) refl at old new e
-    state_may (Burying spot word) r at old new e =
+    pub state_may : (state : State) → RestsState g c s m since visit hands state → HasWords g (link_in_visit state) → (at : At) (old new : ℕ) → asks_in state ≡ Some (Copy (Ask_exchange at old new)) → May state at old new
+    state_may (Copying stage) r words at old new e = copy_may stage r words (resizers.asks_in stage) refl at old new e
+    state_may (Burying spot word) r words at old new e =
         let same_at : Slot spot.table spot.slot ≡ at = cc e in
         let same_old : word ≡ old = cc e in
         let same_new : grave_word word ≡ new = cc e in
         subst (λ y. May (Burying spot word) y old new) same_at (subst (λ y. May (Burying spot word) (Slot spot.table spot.slot) y new) same_old (subst (May (Burying spot word) (Slot spot.table spot.slot) word) same_new (buries_pair spot word r)))
-    state_may AtRoot r at old new e = absurd cc
-    state_may (Sizing table) r at old new e = absurd cc
-    state_may (Looking spot) r at old new e = absurd cc
-    state_may (Giving spot word) r at old new e = absurd cc
-    state_may (Showing spot word) r at old new e = absurd cc
-    state_may (Uncounting spot) r at old new e = absurd cc
-    state_may Done r at old new e = absurd cc
-    state_may (Refused refused) r at old new e = absurd cc
+    state_may AtRoot r words at old new e = absurd cc
+    state_may (Sizing table) r words at old new e = absurd cc
+    state_may (Looking spot) r words at old new e = absurd cc
+    state_may (Giving spot word) r words at old new e = absurd cc
+    state_may (Showing spot word) r words at old new e = absurd cc
+    state_may (Uncounting spot) r words at old new e = absurd cc
+    state_may Done r words at old new e = absurd cc
+    state_may (Refused refused) r words at old new e = absurd cc
 
     -- a hint that the copy writes may be there
     copy_hint : (stage : Stage) → RestsState g c s m since visit hands (Copying stage) → (mode : ResizeMode) → IsModeOf mode g.blocking → (o : Option CopyAsk) → resizers.asks_in stage ≡ o → (t x n : ℕ) → copy_asks o ≡ Some (Copy (WriteHint t x n)) → IsHint g c now t x n

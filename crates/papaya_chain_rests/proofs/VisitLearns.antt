@@ -1,7 +1,6 @@
 -- What a visit learns from an answer.
 use Rattle.std.proofs.Common.{◌≡◌, ◌⊎◌, inl, inr, ⊎_elim, ℕ, suc, ◌+◌, ◌<◌, ◌≤◌, ◌==◌, nat_lt, eqb-true, Bool, true, false, Option, None, Some, List, [], ◌∷◌, ◌++◌, append-nil, refl, sym, ap, ◌∙◌, subst, arith}
 use Rattle.std.proofs.lemmas.Bool.{cond_both, eqb-false, cases_lt, ltb-true, ltb-false}
-use Rattle.papaya_words.specs.Mode.{IsChunked}
 use Rattle.papaya_words.specs.Word.{kind_of}
 use Rattle.papaya_words.specs.declared.probe.ResizeMode.{ResizeMode}
 use Rattle.papaya_words.specs.declared.word.Kind.TheVariants as kinds
@@ -29,11 +28,11 @@ use Rattle.papaya_law.proofs.Codes.{code_kind, code_pair}
 use Rattle.papaya_law.proofs.CopierFacts.{last_root}
 use Rattle.papaya_law.proofs.Moments.{allowed_append, run-append}
 use Rattle.papaya_law.proofs.OneMap.{keeping_sound}
-use Rattle.papaya_rests.specs.Copier.{told_last}
-use Rattle.papaya_rests.specs.Rests.{IsModeOf}
+use Rattle.papaya_rests.specs.Copier.{HasWords, told_last}
+use Rattle.papaya_rests.specs.Rests.{IsCutAs, IsModeOf}
 use Rattle.papaya_rests.specs.Told.{IsOneOf, or_last}
 use Rattle.papaya_rests.proofs.RestsLearn.{by_test}
-use Rattle.papaya_chain_rests.specs.Resizers.{RestsStage}
+use Rattle.papaya_chain_rests.specs.Resizers.{RestsStage, link_of}
 use Rattle.papaya_chain_rests.specs.Told.{IsCopyTold, told_of}
 use Rattle.papaya_chain_rests.specs.Told as copies
 use Rattle.papaya_chain_rests.proofs.ResizerRests.{stage_learns, told_of_ask}
@@ -45,7 +44,7 @@ use Rattle.papaya_chain.specs.declared.visitor.Visit.{Visit}
 use Rattle.papaya_chain.specs.declared.visitor.Visit.TheVariants.{Clear, Retain, Walk}
 use Rattle.papaya_chain.specs.Visitor.{after_in, asks_in, at_root, copied, first_in, looks, meets, next}
 use Rattle.papaya_chain_rests.specs.VisitTold.{Hands, IsBuried, IsCopyAnswer, IsFoundThere, IsGiven, IsShown, IsVisitTold, IsWordAnswer, last_of}
-use Rattle.papaya_chain_rests.specs.Visits.{GivesNone, IsDealtWith, IsMeeting, IsMetIn, IsSpot, IsTaking, IsVisitedTo, IsVisiting, MayTake, RestsState, Takes}
+use Rattle.papaya_chain_rests.specs.Visits.{GivesNone, IsDealtWith, IsMeeting, IsMetIn, IsSpot, IsTaking, IsVisitedTo, IsVisiting, MayTake, RestsState, Takes, link_in_visit}
 use Rattle.papaya_chain_rests.proofs.VisitAsks.{bury_may, keeps_since, keeps_then, may_before, may_then, now_is}
 use Rattle.papaya_chain_rests.proofs.VisitEnds.{rootless_over, table_over}
 use Rattle.papaya_chain_rests.proofs.VisitSlots.{IsPast, met_had, visit_begins, visit_buries, visit_drops, visit_gives, visit_keeps, visit_meets, visit_passes}
@@ -196,15 +195,15 @@ module _ {K P : Type 0} (g : Setting K P) (c : Coding K P) (hashed : IsHashed g 
     meets_rests = subst (λ a. Rests hands_now (meets visit spot word_now a)) (sym (code_kind g c (now.slot spot.table spot.slot))) (by_word visit refl (now.slot spot.table spot.slot) refl)
 
   -- What an answer leads to: what was exchanged was allowed, and it rests there. The mode and the initial capacity are those of the visitor.
-  module _ (mode : ResizeMode) (moded : IsModeOf mode g.blocking) (chunked : IsChunked mode) (initial : ℕ) where
+  module _ (mode : ResizeMode) (moded : IsModeOf mode g.blocking) (cut : IsCutAs mode g.chunk_of) (initial number : ℕ) where
     abbrev Learned : State → Answer → List (Exchange P) → Hands P → Type 0
-    Learned state answer es hands' = AllAllowed g s (since ++ es) × RestsState g c s m (since ++ es) visit hands' (after_in visit mode initial answer state)
+    Learned state answer es hands' = AllAllowed g s (since ++ es) × RestsState g c s m (since ++ es) visit hands' (after_in visit mode initial number answer state)
 
     -- where nothing was exchanged
-    quiet : (state : State) (answer answer' : Answer) (es : List (Exchange P)) (hands' hands'' : Hands P) → answer ≡ answer' → es ≡ [] → hands' ≡ hands'' → Rests hands'' (after_in visit mode initial answer' state) → Learned state answer es hands'
+    quiet : (state : State) (answer answer' : Answer) (es : List (Exchange P)) (hands' hands'' : Hands P) → answer ≡ answer' → es ≡ [] → hands' ≡ hands'' → Rests hands'' (after_in visit mode initial number answer' state) → Learned state answer es hands'
     quiet state answer answer' es hands' hands'' a e h r =
         subst (λ y. Learned state y es hands') (sym a) (subst (λ y. Learned state answer' y hands') (sym e) (subst (λ y. Learned state answer' [] y) (sym h)
-        (subst (AllAllowed g s) (sym (append-nil since)) may, subst (λ l. RestsState g c s m l visit hands'' (after_in visit mode initial answer' state)) (sym (append-nil since)) r)))
+        (subst (AllAllowed g s) (sym (append-nil since)) may, subst (λ l. RestsState g c s m l visit hands'' (after_in visit mode initial number answer' state)) (sym (append-nil since)) r)))
 
     -- it loaded a word, or asked for a size
     module _ (hands : Hands P) (answer : Answer) (es : List (Exchange P)) (hands' : Hands P) where
@@ -366,47 +365,47 @@ module _ {K P : Type 0} (g : Setting K P) (c : Coding K P) (hashed : IsHashed g 
       root_was : (now.root ≡ 0 → ⊥) → now.was_root now.root ≡ true
       root_was some = (keeping_sound g now (map_of g m since) (keeps_since g c hashed s m keeps since may)).root_was (⊎_elim (λ a. a) (λ b. absurd (some (omega (arith, b)))) (cases_lt 0 now.root))
 
-      copy_learns : (stage : Stage) → Rests hands (Copying stage) → IsCopyAnswer g c now since stage hands answer es hands' → Learned (Copying stage) answer es hands'
-      copy_learns stages.AtRoot r t =
+      copy_learns : (stage : Stage) → Rests hands (Copying stage) → HasWords g (link_of stage) → IsCopyAnswer g c now since stage hands answer es hands' → Learned (Copying stage) answer es hands'
+      copy_learns stages.AtRoot r words t =
           let h = told_of_ask g c now hands.copy stages.AtRoot (Load Root) refl answer es t.copy t.told in
           let then' : Hands P = record hands { copy = t.copy; before = since } in
           quiet (Copying stages.AtRoot) answer (answers.Call (Word_read now.root)) es hands' then' h.0 h.1 (t.handed ∙ until t.copy h.1)
-          (cond_both (now.root == 0) stages.Done (stages.Looking now.root None) (λ y. Rests then' (copied stages.AtRoot y))
+          (cond_both (now.root == 0) stages.Done (stages.Looking now.root 0 None) (λ y. Rests then' (copied stages.AtRoot y))
           (λ zero. rootless_over g c hashed.lawful s m keeps since may (eqb-true now.root 0 zero) visit then' refl r.0)
           (λ some. let differs = eqb-false now.root 0 some in (r.0, (root_was differs, refl), on_root differs)))
-      copy_learns (stages.Looking root None) r t =
-          let h = told_of_ask g c now hands.copy (stages.Looking root None) (Load (Next root)) refl answer es t.copy t.told in
+      copy_learns (stages.Looking root len None) r words t =
+          let h = told_of_ask g c now hands.copy (stages.Looking root len None) (Load (Next root)) refl answer es t.copy t.told in
           let then' : Hands P = record hands { copy = t.copy; before = since } in
           let was : now.was_root root ≡ true = r.1.0 in
-          quiet (Copying (stages.Looking root None)) answer (answers.Call (Word_read (now.next root))) es hands' then' h.0 h.1 (t.handed ∙ until t.copy h.1)
-          (cond_both (now.next root == 0) stages.Done (resizers.copies root) (λ y. Rests then' (copied (stages.Looking root None) y))
+          quiet (Copying (stages.Looking root len None)) answer (answers.Call (Word_read (now.next root))) es hands' then' h.0 h.1 (t.handed ∙ until t.copy h.1)
+          (cond_both (now.next root == 0) stages.Done (resizers.copies root) (λ y. Rests then' (copied (stages.Looking root len None) y))
           (λ zero. let none = eqb-true (now.next root) 0 zero in takes_root then' refl r.0 root (last_root g now (map_of g m since) (keeps_since g c hashed s m keeps since may) root was none) (λ inc. none))
           (λ some. (r.0, tt, (tt, (tt, tt)))))
-      copy_learns (stages.Looking root (Some room)) r t = let no = r.1.1 in absurd (cc no)
-      copy_learns (stages.Copying from copying) r t =
-          let out = stage_learns g c hashed now (map_of g m since) (keeps_since g c hashed s m keeps since may) CopyAll mode initial hands.copy moded chunked (stages.Copying from copying) r.2 answer es t.copy t.told in
-          let rests = subst (λ w. RestsStage g c w t.copy (resizers.copied CopyAll from (copying_after copying mode initial answer))) (sym (run-append since es s)) out.1 in
-          (allowed_append g since es s may out.0, subst (λ y. RestsState g c s m (since ++ es) visit y (after_in visit mode initial answer (Copying (stages.Copying from copying)))) (sym t.handed) (copied_all t.copy r.0 from copying (copying_after copying mode initial answer) rests))
-      copy_learns (stages.Making room) r t = absurd r.1
-      copy_learns (stages.Opening table) r t = absurd r.1
-      copy_learns (stages.Sizing root) r t = absurd r.1
-      copy_learns (stages.Counting root len) r t = absurd r.1
-      copy_learns (stages.Linking link) r t = absurd r.1
-      copy_learns stages.Done r t = absurd r.1
-      copy_learns (stages.Refused refused) r t = absurd r.1
+      copy_learns (stages.Looking root len (Some room)) r words t = let no = r.1.1 in absurd (cc no)
+      copy_learns (stages.Copying from copying) r words t =
+          let out = stage_learns g c hashed now (map_of g m since) (keeps_since g c hashed s m keeps since may) CopyAll mode initial number hands.copy moded cut (stages.Copying from copying) r.2 words answer es t.copy t.told in
+          let rests = subst (λ w. RestsStage g c w t.copy (resizers.copied CopyAll from (copying_after copying mode initial number answer))) (sym (run-append since es s)) out.1 in
+          (allowed_append g since es s may out.0, subst (λ y. RestsState g c s m (since ++ es) visit y (after_in visit mode initial number answer (Copying (stages.Copying from copying)))) (sym t.handed) (copied_all t.copy r.0 from copying (copying_after copying mode initial number answer) rests))
+      copy_learns (stages.Making room) r words t = absurd r.1
+      copy_learns (stages.Opening table) r words t = absurd r.1
+      copy_learns (stages.Sizing root) r words t = absurd r.1
+      copy_learns (stages.Counting root len) r words t = absurd r.1
+      copy_learns (stages.Linking link) r words t = absurd r.1
+      copy_learns stages.Done r words t = absurd r.1
+      copy_learns (stages.Refused refused) r words t = absurd r.1
 
       -- in each state
-      pub state_learns : GivesNone g c s m since visit hands → (state : State) → Rests hands state → IsVisitTold g c now since state hands answer es hands' → Learned state answer es hands'
-      state_learns gives (Copying stage) r told = copy_learns stage r told
-      state_learns gives AtRoot r told = root_learns r told
-      state_learns gives (Sizing table) r told = size_learns table r told
-      state_learns gives (Looking spot) r told = look_learns gives spot r told
-      state_learns gives (Giving spot word) r told = give_learns spot word r told
-      state_learns gives (Showing spot word) r told = show_learns spot word r told
-      state_learns gives (Burying spot word) r told = bury_learns gives spot word r told
-      state_learns gives (Uncounting spot) r told = uncount_learns spot r told
-      state_learns gives Done r told = let e = told.asks in absurd (cc e)
-      state_learns gives (Refused refused) r told = let e = told.asks in absurd (cc e)
+      pub state_learns : GivesNone g c s m since visit hands → (state : State) → Rests hands state → HasWords g (link_in_visit state) → IsVisitTold g c now since state hands answer es hands' → Learned state answer es hands'
+      state_learns gives (Copying stage) r words told = copy_learns stage r words told
+      state_learns gives AtRoot r words told = root_learns r told
+      state_learns gives (Sizing table) r words told = size_learns table r told
+      state_learns gives (Looking spot) r words told = look_learns gives spot r told
+      state_learns gives (Giving spot word) r words told = give_learns spot word r told
+      state_learns gives (Showing spot word) r words told = show_learns spot word r told
+      state_learns gives (Burying spot word) r words told = bury_learns gives spot word r told
+      state_learns gives (Uncounting spot) r words told = uncount_learns spot r told
+      state_learns gives Done r words told = let e = told.asks in absurd (cc e)
+      state_learns gives (Refused refused) r words told = let e = told.asks in absurd (cc e)
 
       -- a call that takes pairs out gives none
       gives_same : (is : Visit) → hands'.given ≡ hands.given → GivesNone g c s m since is hands → GivesNone g c s m (since ++ es) is hands'

@@ -90,7 +90,7 @@ copied_ends from (stages.Making room) refused e = absurd cc
 copied_ends from (stages.Opening table) refused e = absurd cc
 copied_ends from (stages.Sizing root) refused e = absurd cc
 copied_ends from (stages.Counting root len) refused e = absurd cc
-copied_ends from (stages.Looking root room) refused e = absurd cc
+copied_ends from (stages.Looking root len room) refused e = absurd cc
 copied_ends from (stages.Linking link) refused e = absurd cc
 copied_ends from (stages.Copying from' copying) refused e = absurd cc
 
@@ -103,7 +103,7 @@ copied_owes from (stages.Making room) = refl
 copied_owes from (stages.Opening table) = refl
 copied_owes from (stages.Sizing root) = refl
 copied_owes from (stages.Counting root len) = refl
-copied_owes from (stages.Looking root room) = refl
+copied_owes from (stages.Looking root len room) = refl
 copied_owes from (stages.Linking link) = refl
 copied_owes from (stages.Copying from' copying) = refl
 
@@ -135,7 +135,7 @@ module _ {K P : Type 0} (g : Setting K P) (c : Coding K P) where
   copy_told s kind follows hands (HashOf n) answer es hands' h = inl h.1
   copy_told s kind follows hands (SamePair i n) answer es hands' h = inl h.1.0
   copy_told s kind follows hands Count answer es hands' h = inl h.1.0
-  copy_told s kind follows hands (MakeTable slots limit) answer es hands' h = inl h.1.0
+  copy_told s kind follows hands (MakeTable slots limit chunks) answer es hands' h = inl h.1.0
 
 module _ {K P : Type 0} (g : Setting K P) (c : Coding K P) (s : Words P) (m : K → Option P) (since : List (Exchange P)) (visitor : Visitor) (hands : Hands P) (answer : Answer) (es : List (Exchange P)) (hands' : Hands P) where
   -- the words after all exchanges
@@ -144,7 +144,7 @@ module _ {K P : Type 0} (g : Setting K P) (c : Coding K P) (s : Words P) (m : K 
 
   -- where a state goes, after an answer
   abbrev Goes : Answer → State → State
-  Goes = after_in visitor.visit visitor.mode visitor.initial
+  Goes = after_in visitor.visit visitor.mode visitor.initial visitor.number
 
   -- where the visit goes on after this answer, by the one that was given
   goes_as : (state : State) (answer' : Answer) → answer ≡ answer' → GoesOn (Goes answer' state) → GoesOn (Goes answer state)
@@ -190,7 +190,7 @@ module _ {K P : Type 0} (g : Setting K P) (c : Coding K P) (s : Words P) (m : K 
 
     copy_why : (stage : Stage) → IsCopyAnswer g c now since stage hands answer es hands' → Why (Copying stage)
     copy_why stage t at e =
-        let why = resizer_why g c now (resizer_of visitor stage) hands.copy answer es t.copy t.told refused (copied_ends stage (resizers.after_in CopyAll visitor.mode visitor.initial answer stage) refused e) in
+        let why = resizer_why g c now (resizer_of visitor stage) hands.copy answer es t.copy t.told refused (copied_ends stage (resizers.after_in CopyAll visitor.mode visitor.initial visitor.number answer stage) refused e) in
         record {
           stage = stage;
           copying = at;
@@ -230,13 +230,13 @@ module _ {K P : Type 0} (g : Setting K P) (c : Coding K P) (s : Words P) (m : K 
   copy_done : (stage : Stage) → IsOfAll g c s m since stage → IsCopyAnswer g c now since stage hands answer es hands' → DoneIn (Copying stage)
   copy_done stage all t =
       ⊎_elim
-      (λ none. inl (none, copied_owes stage (resizers.after_in CopyAll visitor.mode visitor.initial answer stage)))
-      (λ h. let (e, one, leaves) = h in inr (inl (e, one, leaves, copied_owes stage (resizers.after_in CopyAll visitor.mode visitor.initial answer stage))))
+      (λ none. inl (none, copied_owes stage (resizers.after_in CopyAll visitor.mode visitor.initial visitor.number answer stage)))
+      (λ h. let (e, one, leaves) = h in inr (inl (e, one, leaves, copied_owes stage (resizers.after_in CopyAll visitor.mode visitor.initial visitor.number answer stage))))
       (left stage all t)
     where
       left : (stage : Stage) → IsOfAll g c s m since stage → IsCopyAnswer g c now since stage hands answer es hands' → Left g c es
       left stages.AtRoot all t = let (ask, asks, told) = t.told in copy_told g c now (resizers.kind_in stages.AtRoot) (resizers.follows_in stages.AtRoot) hands.copy ask answer es t.copy told
-      left (stages.Looking root room) all t = let (ask, asks, told) = t.told in copy_told g c now (resizers.kind_in (stages.Looking root room)) (resizers.follows_in (stages.Looking root room)) hands.copy ask answer es t.copy told
+      left (stages.Looking root len room) all t = let (ask, asks, told) = t.told in copy_told g c now (resizers.kind_in (stages.Looking root len room)) (resizers.follows_in (stages.Looking root len room)) hands.copy ask answer es t.copy told
       left (stages.Copying from copying) all t = let (ask, asks, told) = t.told in copy_told g c now (resizers.kind_in (stages.Copying from copying)) (resizers.follows_in (stages.Copying from copying)) hands.copy ask answer es t.copy told
       left (stages.Making room) all t = absurd all
       left (stages.Opening table) all t = absurd all

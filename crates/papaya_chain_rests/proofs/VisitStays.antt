@@ -82,7 +82,7 @@ module _ {K P : Type 0} (g : Setting K P) (c : Coding K P) (s : Words P) (m : K 
 
     all_more : (stage : Stage) → IsOfAll g c s m since stage → IsOfAll g c s m (since ++ more) stage
     all_more stages.AtRoot r = tt
-    all_more (stages.Looking root room) r = (was_more root r.0, r.1)
+    all_more (stages.Looking root len room) r = (was_more root r.0, r.1)
     all_more (stages.Copying from copying) r = tt
     all_more (stages.Making room) r = absurd r
     all_more (stages.Opening table) r = absurd r

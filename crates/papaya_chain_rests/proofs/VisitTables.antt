@@ -182,7 +182,7 @@ module _ {K P : Type 0} (g g' : Setting K P) (c : Coding K P) (hashed : IsHashed
   -- the copy of all
   all_carries : (stage : Stage) → IsOfAll g c s m since stage → IsOfAll g' c s m since stage
   all_carries stages.AtRoot r = r
-  all_carries (stages.Looking root room) r = r
+  all_carries (stages.Looking root len room) r = r
   all_carries (stages.Copying from copying) r = r
   all_carries (stages.Making room) r = absurd r
   all_carries (stages.Opening table) r = absurd r

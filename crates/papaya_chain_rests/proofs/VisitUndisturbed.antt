@@ -92,7 +92,7 @@ module _ {K P : Type 0} (g : Setting K P) (c : Coding K P) (s : Words P) (m : K 
 
   -- where a state goes, after an answer
   abbrev Goes : Answer → State → State
-  Goes = after_in visitor.visit visitor.mode visitor.initial
+  Goes = after_in visitor.visit visitor.mode visitor.initial visitor.number
 
   module _ (calm : now.next now.root ≡ 0) where
     -- it stands at a root without a next table
@@ -116,12 +116,12 @@ module _ {K P : Type 0} (g : Setting K P) (c : Coding K P) (s : Words P) (m : K 
     copy_at stages.AtRoot r at t =
         let h = told_of_ask g c now hands.copy stages.AtRoot (Load Root) refl answer es t.copy t.told in
         quiet (Copying stages.AtRoot) (answers.Call (Word_read now.root)) h.0 h.1
-        (cond_both (now.root == 0) stages.Done (stages.Looking now.root None) (λ y. StandsAtRoot now (copied stages.AtRoot y)) (λ _. tt) (λ _. refl))
-    copy_at (stages.Looking root None) r at t =
-        let h = told_of_ask g c now hands.copy (stages.Looking root None) (Load (Next root)) refl answer es t.copy t.told in
+        (cond_both (now.root == 0) stages.Done (stages.Looking now.root 0 None) (λ y. StandsAtRoot now (copied stages.AtRoot y)) (λ _. tt) (λ _. refl))
+    copy_at (stages.Looking root len None) r at t =
+        let h = told_of_ask g c now hands.copy (stages.Looking root len None) (Load (Next root)) refl answer es t.copy t.told in
         let none : now.next root ≡ 0 = ap now.next (sym at) ∙ calm in
-        quiet (Copying (stages.Looking root None)) (answers.Call (Word_read 0)) (h.0 ∙ ap (λ n. answers.Call (Word_read n)) none) h.1 (root_at now root at)
-    copy_at (stages.Looking root (Some room)) r at t = let no = r.1.1 in absurd (cc no)
+        quiet (Copying (stages.Looking root len None)) (answers.Call (Word_read 0)) (h.0 ∙ ap (λ n. answers.Call (Word_read n)) none) h.1 (root_at now root at)
+    copy_at (stages.Looking root len (Some room)) r at t = let no = r.1.1 in absurd (cc no)
     copy_at (stages.Copying from copying) r at t = absurd at
     copy_at (stages.Making room) r at t = absurd at
     copy_at (stages.Opening table) r at t = absurd at

@@ -12,16 +12,8 @@ use Rattle.papaya_ask.specs.declared.ask.StepKind.{StepKind}
 use Rattle.papaya_ask.specs.declared.call.Reply.TheVariants.{Refused as Reply_refused}
 use Rattle.papaya_ask.specs.declared.copy_ask.CopyAsk.TheVariants.{Count, MakeTable}
 use Rattle.papaya_ask.specs.declared.search.Search.TheVariants.{Sizing}
-use Rattle.papaya_copy.specs.declared.carry.Carry.{Carry}
-use Rattle.papaya_copy.specs.declared.carry.Carry.TheVariants.{Linking as Link_to_carry}
-use Rattle.papaya_copy.specs.declared.copying.Copying.{Copying}
-use Rattle.papaya_copy.specs.declared.copying.Copying.TheVariants.{Stepping, Lone}
 use Rattle.papaya_copy.specs.declared.link.Link.{Link}
 use Rattle.papaya_copy.specs.declared.link.Link.TheVariants.{Counting}
-use Rattle.papaya_copy.specs.declared.settle.Settle.{Settle}
-use Rattle.papaya_copy.specs.declared.settle.Settle.TheVariants.{Carrying}
-use Rattle.papaya_copy.specs.declared.step.Step.{Step}
-use Rattle.papaya_copy.specs.declared.step.Step.TheVariants.{Linking as Link_to_step, Settling}
 use Rattle.papaya_call.specs.declared.machine.State.TheVariants.{AtRoot, Searching, Ended}
 use Rattle.papaya_call.specs.Machine as call_machine
 use Rattle.papaya_chain.specs.declared.ask.Ask.{Ask}
@@ -32,6 +24,7 @@ use Rattle.papaya_chain.specs.declared.machine.Machine.{Machine}
 use Rattle.papaya_chain.specs.declared.machine.Phase.{Phase}
 use Rattle.papaya_chain.specs.declared.machine.Phase.TheVariants.{Calling, Linking, Copying as Copying_root}
 use Rattle.papaya_chain.specs.Machine.{after, ask_of}
+use Rattle.papaya_rests.specs.Copier.{link_in_copying}
 use Rattle.papaya_rests.specs.Owed.{grows_by, owed_by}
 use Rattle.papaya_rests.specs.Rests.{Change, change_after}
 use Rattle.papaya_chain_rests.specs.Rests.{left_by}
@@ -99,23 +92,6 @@ grown_by kind (asks.Call ask) (answers.Call answer) = grows_by kind ask answer
 grown_by kind _ _ = pos 0
 
 -- the making of a table under way in a copy, or for the call itself, if one is
-abbrev pub link_in_carry : Carry → Option Link
-link_in_carry (Link_to_carry hash link) = Some link
-link_in_carry _ = None
-
-abbrev pub link_in_settle : Settle → Option Link
-link_in_settle (Carrying word carry) = link_in_carry carry
-link_in_settle _ = None
-
-abbrev pub link_in_step : Step → Option Link
-link_in_step (Link_to_step from link) = Some link
-link_in_step (Settling chunk settle) = link_in_settle settle
-link_in_step _ = None
-
-abbrev pub link_in_copying : Copying → Option Link
-link_in_copying (Stepping aim step) = link_in_step step
-link_in_copying (Lone slot settle) = link_in_settle settle
-
 abbrev pub link_in : Phase → Option Link
 link_in Calling = None
 link_in (Linking link) = Some link
@@ -125,7 +101,7 @@ link_in (Copying_root copying) = link_in_copying copying
 abbrev pub IsToMake : Call_ask → Type 0
 IsToMake MakeKey = Unit {0}
 IsToMake MakePair = Unit {0}
-IsToMake (Make_table slots limit) = Unit {0}
+IsToMake (Make_table slots limit chunks) = Unit {0}
 IsToMake _ = ⊥
 
 -- the answer is the call's own refusal: what it asked to be made was refused so, or its closure
@@ -139,7 +115,8 @@ pub record IsOwnRefusal (m : Machine) (answer : Answer) (refused : Refused) : Ty
 pub record WasNotMade (m : Machine) (answer : Answer) (refused : Refused) : Type 0 where
   pub slots : ℕ
   pub limit : ℕ
-  pub asks : ask_of m ≡ asks.Copy (MakeTable slots limit)
+  pub chunks : ℕ
+  pub asks : ask_of m ≡ asks.Copy (MakeTable slots limit chunks)
   pub is : answer ≡ answers.Call (Was_refused refused)
 
 -- the table after one of so many slots would be longer than a table may be, by the count answered
@@ -148,7 +125,8 @@ pub record WouldBeTooLong (m : Machine) (answer : Answer) (refused : Refused) : 
   pub behind : ℕ
   pub unfit : Bool
   pub slots : ℕ
-  pub link : link_in m.phase ≡ Some (Counting behind unfit slots)
+  pub copied : ℕ
+  pub link : link_in m.phase ≡ Some (Counting behind unfit slots copied)
   pub asks : ask_of m ≡ asks.Copy Count
   pub count : ℕ
   pub is : answer ≡ answers.Count count

@@ -1,6 +1,5 @@
 -- What a call that resizes the map rests on: facts of the words alone.
-use Rattle.std.specs.Prelude.{◌≡◌, ◌⊎◌, ℕ, ◌+◌, ◌^◌, ◌<◌, ◌==◌, Bool, Some, List, [], ◌∷◌, MatchBool}
-use Rattle.papaya_words.specs.Mode.{IsChunked}
+use Rattle.std.specs.Prelude.{◌≡◌, ◌⊎◌, ℕ, ◌+◌, ◌^◌, ◌<◌, ◌==◌, Bool, true, Option, None, Some, List, [], ◌∷◌, MatchBool}
 use Rattle.papaya_words.specs.Table.{length_after}
 use Rattle.papaya_words.specs.declared.probe.Refused.{Refused}
 use Rattle.papaya_words.specs.declared.probe.Refused.TheVariants.{Capacity}
@@ -23,9 +22,8 @@ use Rattle.papaya_chain.specs.Room.{entries_of}
 use Rattle.papaya_law.specs.Class.{IsOn}
 use Rattle.papaya_law.specs.Code.{Coding}
 use Rattle.papaya_law.specs.Exchange.{Setting, State, Exchange, Open}
-use Rattle.papaya_rests.specs.Copier.{IsCopyAsked, RestsCopying, RestsLink, aim_of}
-use Rattle.papaya_rests.specs.Rests.{IsModeOf}
-use Rattle.papaya_chain_rests.specs.Goes.{link_in_copying}
+use Rattle.papaya_rests.specs.Copier.{IsCopyAsked, RestsCopying, RestsLink, aim_of, link_in_copying}
+use Rattle.papaya_rests.specs.Rests.{IsCutAs, IsModeOf}
 use Rattle.papaya_chain_rests.specs.Told.{Hands, IsCopyTold, Quiet}
 
 -- it copies a chunk, or all, and no key is looked for then
@@ -37,9 +35,12 @@ IsOwnAim _ = ⊥
 module _ {K P : Type 0} (g : Setting K P) (c : Coding K P) (s : State P) where
   abbrev pub RestsStage : Hands P → Stage → Type 0
   RestsStage hands (Opening table) = 0 < table
-  RestsStage hands (Sizing root) = IsOn s.first s.next root
-  RestsStage hands (Counting root len) = IsOn s.first s.next root × (len ≡ g.size root)
-  RestsStage hands (Looking root room) = IsOn s.first s.next root
+  RestsStage hands (Sizing root) = IsOn s.first s.next root × (s.was_root root ≡ true)
+  RestsStage hands (Counting root len) = IsOn s.first s.next root × (s.was_root root ≡ true)
+      × (len ≡ g.size root)
+  RestsStage hands (Looking root len None) = IsOn s.first s.next root
+  RestsStage hands (Looking root len (Some room)) = IsOn s.first s.next root
+      × (s.was_root root ≡ true) × (len ≡ g.size root)
   RestsStage hands (Linking link) = RestsLink g c s link
   RestsStage hands (Copying from copying) = IsOwnAim (aim_of copying)
       × RestsCopying g c s hands.call.last hands.kept copying
@@ -47,7 +48,7 @@ module _ {K P : Type 0} (g : Setting K P) (c : Coding K P) (s : State P) where
 
   pub record RestsResizer (resizer : Resizer) (hands : Hands P) : Type 0 where
     pub mode : IsModeOf resizer.mode g.blocking
-    pub chunked : IsChunked resizer.mode
+    pub cut : IsCutAs resizer.mode g.chunk_of
     pub stage : RestsStage hands resizer.state
 
   -- a first table is opened, where there is none
@@ -69,6 +70,12 @@ module _ {K P : Type 0} (g : Setting K P) (c : Coding K P) (s : State P) where
   IsStageAsked stage at new hands e = IsCopyAsked c (kind_in stage) at new s hands.kept e
 
 -- the making of a table that is under way, if one is
+abbrev pub link_of : Stage → Option Link
+link_of (Linking link) = Some link
+link_of (Copying from copying) = link_in_copying copying
+link_of _ = None
+
+-- the same of one
 abbrev pub HasLink : Stage → Link → Type 0
 HasLink (Linking link) other = link ≡ other
 HasLink (Copying from copying) link = link_in_copying copying ≡ Some link
@@ -78,7 +85,8 @@ HasLink _ link = ⊥
 pub record WasNotMade (resizer : Resizer) (answer : Answer) (refused : Refused) : Type 0 where
   pub slots : ℕ
   pub limit : ℕ
-  pub asks : ask_of resizer ≡ Some (MakeTable slots limit)
+  pub chunks : ℕ
+  pub asks : ask_of resizer ≡ Some (MakeTable slots limit chunks)
   pub is : answer ≡ answers.Call (Was_refused refused)
 
 -- the table after one of so many slots would be longer than a table may be, by the count answered
@@ -87,7 +95,8 @@ pub record WouldBeTooLong (resizer : Resizer) (answer : Answer) (refused : Refus
   pub behind : ℕ
   pub unfit : Bool
   pub slots : ℕ
-  pub link : HasLink resizer.state (links.Counting behind unfit slots)
+  pub copied : ℕ
+  pub link : HasLink resizer.state (links.Counting behind unfit slots copied)
   pub asks : ask_of resizer ≡ Some Count
   pub count : ℕ
   pub is : answer ≡ answers.Count count

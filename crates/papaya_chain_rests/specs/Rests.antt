@@ -1,6 +1,5 @@
 -- What a call over a chain of tables rests on, while others exchange words between its asks.
 use Rattle.std.specs.Prelude.{◌≡◌, ◌⊎◌, ℕ, ◌<◌, true, false, Option, None, Some, List, ◌++◌}
-use Rattle.papaya_words.specs.Mode.{IsChunked}
 use Rattle.papaya_call.specs.declared.machine.State.{State as Stage}
 use Rattle.papaya_call.specs.declared.machine.State.TheVariants.{Leaving, Growing}
 use Rattle.papaya_call.specs.Machine.{IsChanger, needed}
@@ -65,6 +64,6 @@ module _ {K P : Type 0} (g : Setting K P) (c : Coding K P) (begun since : List (
       ⊎ IsCopyingAll m hands copying
 
   pub record Rests (m : Machine) (hands : Hands P) : Type 0 where
-    pub chunked : IsChunked m.call.mode
+    pub cut : calls.IsCutAs m.call.mode g.chunk_of
     pub call : calls.Rests g c begun since k m.call hands.call
     pub phase : RestsPhase m hands m.phase

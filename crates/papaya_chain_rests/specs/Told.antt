@@ -68,7 +68,7 @@ module _ {K P : Type 0} (g : Setting K P) (c : Coding K P) where
       × Quiet hands es hands'
   IsCopyTold s kind follows hands Count answer es hands' =
       ((count : ℕ) × (answer ≡ answers.Count count)) × Quiet hands es hands'
-  IsCopyTold s kind follows hands (MakeTable slots limit) answer es hands' =
+  IsCopyTold s kind follows hands (MakeTable slots limit chunks) answer es hands' =
       (((refused : Refused) × (answer ≡ answers.Call (Was_refused refused)))
       ⊎ ((n : ℕ) × (follows < n) × (answer ≡ answers.Call (Made_number n))))
       × Quiet hands es hands'

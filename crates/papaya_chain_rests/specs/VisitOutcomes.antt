@@ -43,7 +43,7 @@ pub record IsVisitCause (visitor : Visitor) (answer : Answer) (refused : Cause) 
 -- it visits the root of these words, or is about to, and copies nothing
 abbrev pub StandsAtRoot : {P : Type 0} → Words P → State → Type 0
 StandsAtRoot s (Copying stages.AtRoot) = Unit {0}
-StandsAtRoot s (Copying (stages.Looking root room)) = s.root ≡ root
+StandsAtRoot s (Copying (stages.Looking root len room)) = s.root ≡ root
 StandsAtRoot s (Copying _) = ⊥
 StandsAtRoot s AtRoot = Unit {0}
 StandsAtRoot s (Sizing table) = s.root ≡ table

@@ -1,6 +1,5 @@
 -- What a call that visits a table rests on, and what is so at its end.
 use Rattle.std.specs.Prelude.{◌≡◌, ◌⊎◌, ℕ, suc, ◌<◌, ◌≤◌, ◌++◌, true, false, Option, None, Some, List, []}
-use Rattle.papaya_words.specs.Mode.{IsChunked}
 use Rattle.papaya_words.specs.Word.{kind_of, pair_of}
 use Rattle.papaya_words.specs.declared.word.Kind.TheVariants as kinds
 use Rattle.papaya_ask.specs.declared.ask.At.{At}
@@ -11,9 +10,10 @@ use Rattle.papaya_law.specs.Exchange.{Live, Setting, State as Words, Exchange, B
 use Rattle.papaya_law.specs.Meaning.{IsAtMoment, map_of}
 use Rattle.papaya_law.specs.View.{held, look}
 use Rattle.papaya_rests.specs.Copier.{AreThere}
-use Rattle.papaya_rests.specs.Rests.{IsModeOf}
+use Rattle.papaya_rests.specs.Rests.{IsCutAs, IsModeOf}
 use Rattle.papaya_rests.specs.Told.{IsOneOf}
-use Rattle.papaya_chain_rests.specs.Resizers.{IsStageAsked, RestsStage}
+use Rattle.papaya_copy.specs.declared.link.Link.{Link}
+use Rattle.papaya_chain_rests.specs.Resizers.{IsStageAsked, RestsStage, link_of}
 use Rattle.papaya_chain.specs.declared.visit_ask.VisitAsk.{VisitAsk}
 use Rattle.papaya_chain.specs.declared.visit_ask.VisitAsk.TheVariants.{Copy, Show, Give, AddToShard}
 use Rattle.papaya_chain.specs.declared.visitor.Spot.{Spot}
@@ -154,7 +154,7 @@ module _ {K P : Type 0} (g : Setting K P) (c : Coding K P) (s : Words P) (m : K 
   -- the copy of all looks for the table after one that was the root, and makes none
   abbrev pub IsOfAll : Stage → Type 0
   IsOfAll stages.AtRoot = Unit {0}
-  IsOfAll (stages.Looking root room) = (now.was_root root ≡ true) × (room ≡ None)
+  IsOfAll (stages.Looking root len room) = (now.was_root root ≡ true) × (room ≡ None)
   IsOfAll (stages.Copying from copying) = Unit {0}
   IsOfAll _ = ⊥
 
@@ -183,7 +183,7 @@ module _ {K P : Type 0} (g : Setting K P) (c : Coding K P) (s : Words P) (m : K 
 
   pub record RestsVisitor (visitor : Visitor) (hands : Hands P) : Type 0 where
     pub mode : IsModeOf visitor.mode g.blocking
-    pub chunked : IsChunked visitor.mode
+    pub cut : IsCutAs visitor.mode g.chunk_of
     pub gives : GivesNone visitor.visit hands
     pub state : RestsState visitor.visit hands visitor.state
 
@@ -213,3 +213,8 @@ module _ {K P : Type 0} (g : Setting K P) (c : Coding K P) (s : Words P) (m : K 
       × ((p : P) × (now.slot spot.table spot.slot ≡ Live p) × (c.number p ≡ pair_of word)
       × (e ≡ Bury spot.table spot.slot p))
   IsVisitAsked visit state at new hands e = ⊥
+
+-- the making of a table that is under way for the copy of all, if one is
+abbrev pub link_in_visit : State → Option Link
+link_in_visit (Copying stage) = link_of stage
+link_in_visit _ = None

@@ -1,7 +1,6 @@
 //! What a call over a chain of tables rests on. The functions do nothing: their contracts are the
 //! laws.
 ghost use Rattle.std.specs.Prelude.{◌≡◌, ◌⊎◌, ℕ, List, [], Option, ◌++◌};
-ghost use Rattle.papaya_words.specs.Mode.{IsChunked};
 ghost use Rattle.papaya_words.specs.declared.probe.ResizeMode.{ResizeMode};
 ghost use Rattle.papaya_ask.specs.declared.copy_ask.CopyAsk.TheVariants.{Exchange as Copy_exchange};
 ghost use Rattle.papaya_call.specs.Machine.{IsStanding, ask_of as call_ask_of, kind_of_ask as call_kind};
@@ -11,12 +10,12 @@ ghost use Rattle.papaya_law.specs.Code.{Coding, IsHashed};
 ghost use Rattle.papaya_law.specs.Exchange.{Setting, Exchange, after as state_after, run, start};
 ghost use Rattle.papaya_law.specs.Grows.{Agrees};
 ghost use Rattle.papaya_law.specs.Hints.{IsHint};
-ghost use Rattle.papaya_rests.specs.Copier.{AreThere, IsCopyAsked};
-ghost use Rattle.papaya_rests.specs.Rests.{IsModeOf, Rests as CallRests, change_in};
+ghost use Rattle.papaya_rests.specs.Copier.{AreThere, HasWords, IsCopyAsked};
+ghost use Rattle.papaya_rests.specs.Rests.{IsCutAs, IsModeOf, Rests as CallRests, change_in};
 ghost use Rattle.papaya_rests.specs.Says.{HasShownNone, IsSaidBy, Said, ShowsPairs, StandsOn};
 ghost use Rattle.papaya_rests.specs.Told.{IsWritten, word_of};
 ghost use Rattle.papaya_chain.specs.Machine.{after, ask_of, follows_of, kind_of_ask, started};
-ghost use Rattle.papaya_chain_rests.specs.Goes.{Goes, IsCause, IsOwnStep, change_by, grown_by, owed_in};
+ghost use Rattle.papaya_chain_rests.specs.Goes.{Goes, IsCause, IsOwnStep, change_by, grown_by, link_in, owed_in};
 ghost use Rattle.papaya_chain_rests.specs.Rests.{Rests};
 ghost use Rattle.papaya_chain_rests.specs.Told.{Hands, IsTold, no_hands};
 
@@ -30,9 +29,9 @@ use papaya_words::probe::Refused;
 /// A call that begins rests on the exchanges as they are.
 pub fn begins<K, P>()
     ensures { (g : Setting K P) (c : Coding K P)
-        → (begun : List (Exchange P)) (k : K) (task : Task) (mode : ResizeMode) (initial : ℕ)
-        → IsChunked mode → IsModeOf mode g.blocking
-        → Rests g c begun [] k (started task (c.hash k) mode initial) no_hands }
+        → (begun : List (Exchange P)) (k : K) (task : Task) (mode : ResizeMode)
+        (initial number : ℕ) → IsModeOf mode g.blocking → IsCutAs mode g.chunk_of
+        → Rests g c begun [] k (started task (c.hash k) mode initial number) no_hands }
 {}
 
 /// What a call rests on stays so, whatever others exchange and whichever tables are made.
@@ -63,12 +62,12 @@ pub fn names<K, P>()
 {}
 
 /// An exchange of a copy whose old word stands there is one of the law, allowed, and writes just
-/// its word. It is a link, a mark, a shut slot, a placed copy, a finished slot, counted slots, a new
+/// its word. A table that is linked was made with as many words for chunks as were asked for. It is a link, a mark, a shut slot, a placed copy, a finished slot, counted slots, a new
 /// root or a table that is given up, and never a change of the map.
 pub fn copies_may_exchange<K, P>()
     ensures { (g : Setting K P) (c : Coding K P) → IsHashed g c → (begun since : List (Exchange P))
         → AllAllowed g start (begun ++ since) → (k : K) (m : Machine) (hands : Hands P)
-        → Rests g c begun since k m hands → (at : At) (old new : ℕ)
+        → Rests g c begun since k m hands → HasWords g (link_in m.phase) → (at : At) (old new : ℕ)
         → ask_of m ≡ Ask.Copy (Copy_exchange at old new)
         → word_of g c (run (begun ++ since) start) at ≡ old → (e : Exchange P)
         × IsCopyAsked c (kind_of_ask m) at new (run (begun ++ since) start) hands.kept e
@@ -91,8 +90,8 @@ pub fn copies_may_hint<K, P>()
 pub fn learns<K, P>()
     ensures { (g : Setting K P) (c : Coding K P) → IsHashed g c → (begun since : List (Exchange P))
         → AllAllowed g start (begun ++ since) → (k : K) (m : Machine) (hands : Hands P)
-        → Rests g c begun since k m hands → (answer : Answer) (es : List (Exchange P))
-        (hands' : Hands P) → IsTold g c k (run (begun ++ since) start) (kind_of_ask m)
+        → Rests g c begun since k m hands → HasWords g (link_in m.phase) → (answer : Answer)
+        (es : List (Exchange P)) (hands' : Hands P) → IsTold g c k (run (begun ++ since) start) (kind_of_ask m)
         (follows_of m) hands (ask_of m) answer es hands'
         → AllAllowed g start (begun ++ (since ++ es))
         × Rests g c begun (since ++ es) k (after m answer) hands' }

@@ -1,7 +1,6 @@
 //! What a call that visits a whole table rests on. The functions do nothing: their contracts are
 //! the laws.
 ghost use Rattle.std.specs.Prelude.{◌≡◌, ◌++◌, ℕ, List, [], Option, Some};
-ghost use Rattle.papaya_words.specs.Mode.{IsChunked};
 ghost use Rattle.papaya_words.specs.declared.probe.ResizeMode.{ResizeMode};
 ghost use Rattle.papaya_words.specs.declared.probe.Refused.{Refused};
 ghost use Rattle.papaya_ask.specs.declared.ask.StepKind.TheVariants.{Bury};
@@ -14,14 +13,15 @@ ghost use Rattle.papaya_law.specs.Exchange.{Setting, State, Exchange, after as s
 ghost use Rattle.papaya_law.specs.Grows.{Agrees};
 ghost use Rattle.papaya_law.specs.Hints.{IsHint};
 ghost use Rattle.papaya_law.specs.Invariant.{IsKeeping};
-ghost use Rattle.papaya_rests.specs.Rests.{IsModeOf};
+ghost use Rattle.papaya_rests.specs.Copier.{HasWords};
+ghost use Rattle.papaya_rests.specs.Rests.{IsCutAs, IsModeOf};
 ghost use Rattle.papaya_rests.specs.Told.{IsWritten, word_of};
 ghost use Rattle.papaya_chain.specs.Visitor.{after, ask_of, begun, kind_of_ask, reply_of};
 ghost use Rattle.papaya_chain.specs.declared.visit_ask.VisitAsk.TheVariants.{Copy as Copy_ask};
 ghost use Rattle.papaya_chain_rests.specs.VisitOutcomes.{HasDone, IsVisitCause, StandsAtRoot};
 ghost use Rattle.papaya_chain_rests.specs.VisitTold.{Hands, IsVisitTold, no_hands};
 ghost use Rattle.papaya_chain_rests.specs.Visits.{HasCleared, HasRetained, HasWalked};
-ghost use Rattle.papaya_chain_rests.specs.Visits.{IsNamed, IsVisitAsked, RestsVisitor};
+ghost use Rattle.papaya_chain_rests.specs.Visits.{IsNamed, IsVisitAsked, RestsVisitor, link_in_visit};
 
 use papaya_ask::ask::At;
 use papaya_chain::ask::Answer;
@@ -32,9 +32,9 @@ use papaya_chain::visitor::{Visit, Visitor};
 /// others exchange and whichever tables are made.
 pub fn visitors_rest<K, P>()
     ensures begins { (g : Setting K P) (c : Coding K P) (s : State P) (m : K → Option P)
-        (visit : Visit) (mode : ResizeMode) (initial : ℕ) → IsChunked mode
-        → IsModeOf mode g.blocking
-        → RestsVisitor g c s m [] (begun visit mode initial) no_hands }
+        (visit : Visit) (mode : ResizeMode) (initial number : ℕ) → IsModeOf mode g.blocking
+        → IsCutAs mode g.chunk_of
+        → RestsVisitor g c s m [] (begun visit mode initial number) no_hands }
     ensures exchanges { (g : Setting K P) (c : Coding K P) → IsHashed g c
         → (s : State P) (m : K → Option P) → IsKeeping g s m → (since es : List (Exchange P))
         → AllAllowed g s (since ++ es) → (visitor : Visitor) (hands : Hands P)
@@ -59,7 +59,8 @@ pub fn visitors_ask<K, P>()
     ensures may { (g : Setting K P) (c : Coding K P) → IsHashed g c
         → (s : State P) (m : K → Option P) → IsKeeping g s m → (since : List (Exchange P))
         → AllAllowed g s since → (visitor : Visitor) (hands : Hands P)
-        → RestsVisitor g c s m since visitor hands → (at : At) (old new : ℕ)
+        → RestsVisitor g c s m since visitor hands → HasWords g (link_in_visit visitor.state)
+        → (at : At) (old new : ℕ)
         → ask_of visitor ≡ Some (Copy_ask (Ask_exchange at old new))
         → word_of g c (run since s) at ≡ old → (e : Exchange P)
         × IsVisitAsked g c s m since visitor.visit visitor.state at new hands e
@@ -78,7 +79,7 @@ pub fn visitors_learn<K, P>()
     ensures { (g : Setting K P) (c : Coding K P) → IsHashed g c
         → (s : State P) (m : K → Option P) → IsKeeping g s m → (since : List (Exchange P))
         → AllAllowed g s since → (visitor : Visitor) (hands : Hands P)
-        → RestsVisitor g c s m since visitor hands
+        → RestsVisitor g c s m since visitor hands → HasWords g (link_in_visit visitor.state)
         → (answer : Answer) (es : List (Exchange P)) (hands' : Hands P)
         → IsVisitTold g c (run since s) since visitor.state hands answer es hands'
         → AllAllowed g s (since ++ es)
@@ -107,8 +108,8 @@ pub fn visitors_do<K, P>()
 /// While the root has no next table, and nobody else makes one, a visit copies nothing, so no table
 /// is made for it and it is not refused.
 pub fn visitors_undisturbed<K, P>()
-    ensures begins { (s : State P) (visit : Visit) (mode : ResizeMode) (initial : ℕ)
-        → StandsAtRoot s (begun visit mode initial).state }
+    ensures begins { (s : State P) (visit : Visit) (mode : ResizeMode) (initial number : ℕ)
+        → StandsAtRoot s (begun visit mode initial number).state }
     ensures stays { (g : Setting K P) (c : Coding K P) (s : State P) (m : K → Option P)
         (since : List (Exchange P)) (visitor : Visitor) (hands : Hands P)
         → RestsVisitor g c s m since visitor hands

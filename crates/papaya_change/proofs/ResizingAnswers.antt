@@ -26,7 +26,7 @@ use Rattle.papaya_chain.specs.declared.resizer.Resizer.{Resizer}
 use Rattle.papaya_chain.specs.declared.resizer.State.{State as Stage}
 use Rattle.papaya_chain.specs.declared.resizer.State.TheVariants.{Opening, Linking, Copying, Done}
 use Rattle.papaya_chain.specs.Resizer.{after, ask_of, follows_of, kind_of_ask}
-use Rattle.papaya_chain_rests.specs.Goes.{link_in_copying}
+use Rattle.papaya_rests.specs.Copier.{link_in_copying}
 use Rattle.papaya_chain_rests.specs.Resizers.{HasLink, IsResizeCause, IsStageTold, RestsStage}
 use Rattle.papaya_chain_rests.specs.Told.{Hands, IsCopyTold}
 use Rattle.papaya_chain_rests.proofs.LinkStates.{In, Of}

@@ -33,7 +33,7 @@ use Rattle.papaya_chain.specs.declared.resizer.State.TheVariants.{AtRoot, Making
 use Rattle.papaya_chain.specs.Machine as machine
 use Rattle.papaya_chain.specs.Resizer.{IsStandingIn, after_in, asks_in, at_count, at_last, at_next, at_root, called, copied, copies, counted, judges, kind_in, linked, makes, over, told_root}
 use Rattle.papaya_chain.specs.Room.{room_of}
-use Rattle.papaya_chain_rests.specs.Goes.{link_in_copying}
+use Rattle.papaya_rests.specs.Copier.{link_in_copying}
 use Rattle.papaya_chain_rests.proofs.CopyStanding.{copying_fits, link_fits}
 use Rattle.papaya_chain_rests.proofs.LinkMade as made
 use Rattle.papaya_chain_rests.proofs.LinkMade.{IsMadeLink, copying_asks, link_asks, machine_linking}

@@ -14,7 +14,7 @@ use Rattle.papaya_chain.specs.declared.resizer.Room.{Room}
 use Rattle.papaya_chain.specs.declared.resizer.State.TheVariants.{Opening, Counting, Looking, Linking, Copying, Done}
 use Rattle.papaya_chain.specs.Resizer.{reply_of}
 use Rattle.papaya_chain.specs.Room.{entries_of}
-use Rattle.papaya_chain_rests.specs.Goes.{link_in_copying}
+use Rattle.papaya_rests.specs.Copier.{link_in_copying}
 use Rattle.papaya_chain_rests.specs.Resizers.{RestsResizer}
 use Rattle.papaya_book.specs.declared.rule.entry.Begun.{Begun}
 use Rattle.papaya_book.specs.declared.rule.entry.Event.{Event}

@@ -1,1 +1,2 @@
--- no lemma: the contracts of the copiers are their definitions
+-- the chunk from which on a table is copied
+pub mod Starts

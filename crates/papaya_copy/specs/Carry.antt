@@ -90,7 +90,7 @@ look hash at mode word = look_at (kind_of word) hash at mode word
 
 -- the next table has this number; where there is none it is made
 abbrev pub passed : (hash table next : ℕ) → Carry
-passed hash table next = if next == 0 then Linking hash (Link_sizing table true)
+passed hash table next = if next == 0 then Linking hash (Link_sizing table table true)
     else Sizing hash next
 
 -- the making of the next table leads here
@@ -139,9 +139,10 @@ at_found (Linking hash link) mode word = carried_on hash (links.at_found link wo
 at_found (Aborting table) mode word = Unfit table
 at_found carry mode word = On carry
 
-abbrev pub at_count : Carry → (count initial : ℕ) → Carried
-at_count (Linking hash link) count initial = carried_on hash (links.at_count link count initial)
-at_count carry count initial = On carry
+abbrev pub at_count : Carry → ResizeMode → (count initial : ℕ) → Carried
+at_count (Linking hash link) mode count initial = carried_on hash
+    (links.at_count link mode count initial)
+at_count carry mode count initial = On carry
 
 abbrev pub at_made : Carry → ℕ → Carry
 at_made (Linking hash link) number = Linking hash (links.at_made link number)

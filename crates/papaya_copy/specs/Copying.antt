@@ -15,9 +15,10 @@ use Rattle.papaya_copy.specs.declared.settle.Settle.TheVariants.{Looking}
 use Rattle.papaya_copy.specs.declared.settle.Settled.{Settled}
 use Rattle.papaya_copy.specs.declared.settle.Settled.TheVariants.{On as Settle_on, Settled as Was_settled, Unfit, Refused as Settle_refused}
 use Rattle.papaya_copy.specs.declared.settle.Slot.{Slot}
+use Rattle.papaya_copy.specs.declared.step.Chunk.{Chunk as Chunk_of}
 use Rattle.papaya_copy.specs.declared.step.Stepped.{Stepped}
-use Rattle.papaya_copy.specs.declared.step.Stepped.TheVariants.{On as Step_on, Root as Step_root, Last, Over, Refused as Step_refused}
-use Rattle.papaya_copy.specs.declared.step.Step.TheVariants.{AtRoot, Aiming}
+use Rattle.papaya_copy.specs.declared.step.Stepped.TheVariants.{On as Step_on, Root as Step_root, Last, Further, Over, Refused as Step_refused}
+use Rattle.papaya_copy.specs.declared.step.Step.TheVariants.{AtRoot, Aiming, Settling}
 use Rattle.papaya_copy.specs.Settle as settles
 use Rattle.papaya_copy.specs.Settle.{IsStandingSettle, settle_ask, settle_follows, settle_kind}
 use Rattle.papaya_copy.specs.Step as steps
@@ -47,12 +48,17 @@ abbrev pub copying_follows : Copying → ℕ
 copying_follows (Stepping aim step) = step_follows step
 copying_follows (Lone slot settle) = settle_follows settle
 
--- a chunk is over
+-- what was to be copied is copied
 abbrev pub over : Aim → Copied
 over (aims.Search table) = Search table
 over (aims.Settle slot) = On (Lone slot Looking)
 over aims.Chunk = Chunk
 over (aims.All met) = On (Stepping (aims.All met) AtRoot)
+
+-- a chunk was copied, and this one was not yet: who copies all copies it too
+abbrev pub further : Aim → Chunk_of → Copied
+further (aims.All met) chunk = On (Stepping (aims.All met) (Settling chunk Looking))
+further aim chunk = over aim
 
 -- the root has no next table
 abbrev pub last : Aim → ℕ → Copied
@@ -75,6 +81,7 @@ abbrev pub leads : Aim → ResizeMode → Stepped → Copied
 leads aim mode (Step_on step) = On (Stepping aim step)
 leads aim mode (Step_root root) = at_root aim mode root
 leads aim mode (Last table) = last aim table
+leads aim mode (Further chunk) = further aim chunk
 leads aim mode Over = over aim
 leads aim mode (Step_refused refused) = Was_refused refused
 
@@ -90,9 +97,11 @@ abbrev pub at_hash : Copying → ℕ → Copying
 at_hash (Stepping aim step) hash = Stepping aim (steps.at_hash step hash)
 at_hash (Lone slot settle) hash = Lone slot (settles.at_hash settle hash)
 
-abbrev pub at_size : Copying → (slots limit : ℕ) → Copying
-at_size (Stepping aim step) slots limit = Stepping aim (steps.at_size step slots limit)
-at_size (Lone slot settle) slots limit = Lone slot (settles.at_size settle slots limit)
+abbrev pub at_size : Copying → ResizeMode → (number slots limit : ℕ) → Copying
+at_size (Stepping aim step) mode number slots limit =
+    Stepping aim (steps.at_size step mode number slots limit)
+at_size (Lone slot settle) mode number slots limit =
+    Lone slot (settles.at_size settle slots limit)
 
 abbrev pub at_word : Copying → ResizeMode → ℕ → Copied
 at_word (Stepping aim step) mode word = leads aim mode (steps.at_word step mode word)

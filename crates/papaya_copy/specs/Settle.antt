@@ -126,7 +126,7 @@ at_found (Finishing old) slot mode word = Was_settled
 
 abbrev pub at_count : Settle → ResizeMode → (count initial : ℕ) → Settled
 at_count (Carrying marked carry) mode count initial =
-    settled_by marked mode (carries.at_count carry count initial)
+    settled_by marked mode (carries.at_count carry mode count initial)
 at_count settle mode count initial = On settle
 
 abbrev pub at_made : Settle → ℕ → Settle

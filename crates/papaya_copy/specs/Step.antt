@@ -1,6 +1,6 @@
 -- One chunk of the copy of the root: what it asks, and where each answer leads it.
-use Rattle.std.specs.Prelude.{ℕ, ◌+◌, ◌-◌, ◌<◌, ◌≤◌, ◌^◌, ◌==◌, nat_lt, nat_le, not, Bool, if◌then◌else◌, Option, Some, None}
-use Rattle.papaya_words.specs.declared.limits.TheConstants.{BLOCKING_CHUNK}
+use Rattle.std.specs.Prelude.{ℕ, ◌+◌, ◌-◌, ◌*◌, ◌%◌, ◌<◌, ◌≤◌, ◌^◌, ◌==◌, ◌&&◌, nat_lt, nat_le, not, Bool, true, false, if◌then◌else◌, Option, Some, None}
+use Rattle.papaya_words.specs.Chunks.{chunk_count, chunk_len}
 use Rattle.papaya_words.specs.declared.probe.Refused.{Refused}
 use Rattle.papaya_words.specs.declared.probe.ResizeMode.{ResizeMode}
 use Rattle.papaya_words.specs.declared.probe.ResizeMode.TheVariants.{Incremental, Blocking}
@@ -17,35 +17,46 @@ use Rattle.papaya_copy.specs.declared.settle.Settled.{Settled}
 use Rattle.papaya_copy.specs.declared.settle.Settled.TheVariants.{On as Settle_on, Settled as Was_settled, Unfit, Refused as Settle_refused}
 use Rattle.papaya_copy.specs.declared.settle.Slot.{Slot}
 use Rattle.papaya_copy.specs.declared.step.Chunk.{Chunk}
+use Rattle.papaya_copy.specs.declared.step.Scan.{Scan}
 use Rattle.papaya_copy.specs.declared.step.Step.{Step}
-use Rattle.papaya_copy.specs.declared.step.Step.TheVariants.{AtRoot, Aiming, Linking, Judging, Sizing, Counting, Settling, Advancing, Promoting}
+use Rattle.papaya_copy.specs.declared.step.Step.TheVariants.{AtRoot, Aiming, Linking, Judging, Sizing, Scanning, Settling, Advancing, Promoting}
 use Rattle.papaya_copy.specs.declared.step.Stepped.{Stepped}
-use Rattle.papaya_copy.specs.declared.step.Stepped.TheVariants.{On, Root as At_root, Last, Over, Refused as Was_refused}
+use Rattle.papaya_copy.specs.declared.step.Stepped.TheVariants.{On, Root as At_root, Last, Further, Over, Refused as Was_refused}
 use Rattle.papaya_copy.specs.Link as links
 use Rattle.papaya_copy.specs.Link.{IsStandingLink, follows, link_ask, link_kind}
 use Rattle.papaya_copy.specs.Settle as settles
 use Rattle.papaya_copy.specs.Settle.{IsStandingSettle, settle_ask, settle_follows, settle_kind}
 
+-- the chunk whose word is loaded has a slot
+pub record IsStandingScan (scan : Scan) : Type 0 where
+  pub some : 1 ≤ scan.slots
+  pub start : scan.start ≤ scan.len
+  pub at : scan.at ≤ scan.begun
+  pub begun : scan.begun < scan.len
+  pub most : scan.len ≤ 2 ^ 32
+
 -- a slot of the chunk is copied
 pub record IsStandingChunk (chunk : Chunk) : Type 0 where
+  pub scan : IsStandingScan chunk.scan
   pub at : chunk.at < chunk.end
-  pub within : chunk.end ≤ chunk.len
-  pub most : chunk.len ≤ 2 ^ 32
+  pub within : chunk.end ≤ chunk.scan.len
 
 -- it stands within its chunk
 abbrev pub IsStandingStep : Step → Type 0
 IsStandingStep (Linking from link) = IsStandingLink link
-IsStandingStep (Counting from to len) = len ≤ 2 ^ 32
+IsStandingStep (Scanning scan) = IsStandingScan scan
 IsStandingStep (Settling chunk settle) = IsStandingChunk chunk × IsStandingSettle settle
+IsStandingStep (Advancing scan) = IsStandingScan scan
 IsStandingStep _ = Unit {0}
 
 abbrev pub IsStandingStepped : Stepped → Type 0
 IsStandingStepped (On step) = IsStandingStep step
+IsStandingStepped (Further chunk) = IsStandingChunk chunk
 IsStandingStepped _ = Unit {0}
 
 -- the slot that is copied now
 abbrev pub slot_of : Chunk → Slot
-slot_of chunk = record { from = chunk.from; index = chunk.at; to = chunk.to }
+slot_of chunk = record { from = chunk.scan.from; index = chunk.at; to = chunk.scan.to }
 
 -- what it asks
 abbrev pub step_ask : Step → CopyAsk
@@ -54,16 +65,16 @@ step_ask (Aiming from behind) = Load (Next behind)
 step_ask (Linking from link) = link_ask link
 step_ask (Judging from to) = Load (Aborted to)
 step_ask (Sizing from to) = SizeOf from
-step_ask (Counting from to len) = Load (Done to)
+step_ask (Scanning scan) = Load (Done scan.to scan.at)
 step_ask (Settling chunk settle) = settle_ask settle (slot_of chunk)
-step_ask (Advancing chunk) = Exchange (Done chunk.to) chunk.begun chunk.end
+step_ask (Advancing scan) = Exchange (Done scan.to scan.at) 0 1
 step_ask (Promoting from to) = Exchange Root from to
 
 -- the kind of the exchange that it asks for
 abbrev pub step_kind : Step → Option StepKind
 step_kind (Linking from link) = link_kind link
 step_kind (Settling chunk settle) = settle_kind settle
-step_kind (Advancing chunk) = Some kinds.Advance
+step_kind (Advancing scan) = Some kinds.Advance
 step_kind (Promoting from to) = Some kinds.Promote
 step_kind _ = None
 
@@ -73,40 +84,71 @@ step_follows (Linking from link) = follows link
 step_follows (Settling chunk settle) = settle_follows settle
 step_follows _ = 0
 
--- how many slots are copied at a time
-abbrev pub chunk_of : ResizeMode → ℕ
-chunk_of (Incremental chunk) = chunk
-chunk_of Blocking = BLOCKING_CHUNK
-
 -- the table behind has this number: without blocking copies go there, else they do if it isn't
 -- given up, and it is made where there is none
 abbrev pub aimed : (from behind : ℕ) → ResizeMode → (next : ℕ) → Stepped
 aimed from behind (Incremental chunk) next = if next == 0 then Last from else On (Sizing from next)
 aimed from behind Blocking next = if next == 0
-    then On (Linking from (Link_sizing behind (not (behind == from)))) else On (Judging from next)
+    then On (Linking from (Link_sizing behind from (not (behind == from)))) else On (Judging from next)
 
 -- the table was given up, or not
 abbrev pub judged : (from to word : ℕ) → Step
 judged from to word = if word == 0 then Sizing from to else Aiming from to
 
--- from `done` on so many slots, or as many as there are
-abbrev pub end_of : (len done slots : ℕ) → ℕ
-end_of len done slots = if nat_lt slots (len - done) then done + slots else len
-
-abbrev pub chunk_at : (from to len done slots : ℕ) → Chunk
-chunk_at from to len done slots = record {
+-- the words are loaded from some chunk on
+abbrev pub scan_from : (from to len slots start : ℕ) → Scan
+scan_from from to len slots start = record {
   from = from;
   to = to;
   len = len;
-  begun = done;
-  at = done;
-  end = end_of len done slots;
+  slots = slots;
+  start = start;
+  at = start;
+  begun = start * slots;
+  wrapped = false;
+  copied = false;
 }
 
--- so many slots were copied
-abbrev pub counted : (from to len : ℕ) → ResizeMode → (done : ℕ) → Step
-counted from to len mode done = if nat_le len done then Promoting from to
-    else Settling (chunk_at from to len done (chunk_of mode)) Looking
+-- from that of this number on, of as many as there are
+abbrev pub first_scan : (from to len : ℕ) → ResizeMode → (number : ℕ) → Scan
+first_scan from to len mode number =
+    scan_from from to len (chunk_len mode) (number % chunk_count len (chunk_len mode))
+
+-- the chunk after this one, and the first one
+abbrev pub next_chunk : Scan → Scan
+next_chunk scan = record scan { at = scan.at + 1; begun = scan.begun + scan.slots }
+
+abbrev pub first_chunk : Scan → Scan
+first_chunk scan = record scan { at = 0; begun = 0; wrapped = true }
+
+-- a chunk comes after this one, and its word was not loaded
+abbrev pub is_further : Scan → Bool
+is_further scan = nat_lt scan.slots (scan.len - scan.begun)
+    && not (scan.wrapped && nat_le scan.start (scan.at + 1))
+
+-- this chunk is copied: the next word is loaded, while there is one that was not
+abbrev pub next_scan : Scan → Step
+next_scan scan = if is_further scan then Scanning (next_chunk scan)
+    else if not scan.wrapped && nat_lt 0 scan.start then Scanning (first_chunk scan)
+    else Promoting scan.from scan.to
+
+-- so many slots from the first of the chunk on, or as many as there are
+abbrev pub end_of : Scan → ℕ
+end_of scan = if nat_lt scan.slots (scan.len - scan.begun) then scan.begun + scan.slots
+    else scan.len
+
+abbrev pub chunk_at : Scan → Chunk
+chunk_at scan = record { scan = scan; at = scan.begun; end = end_of scan }
+
+-- the word of the chunk: 0 where it is not copied
+abbrev pub scanned : Scan → (done : ℕ) → Stepped
+scanned scan done = if not (done == 0) then On (next_scan scan)
+    else if scan.copied then Further (chunk_at scan)
+    else On (Settling (chunk_at scan) Looking)
+
+-- this caller copied the chunk
+abbrev pub advanced : Scan → Stepped
+advanced scan = On (next_scan (record scan { copied = true }))
 
 -- the next slot of the chunk, while there is one
 abbrev pub next_slot : Chunk → Chunk
@@ -114,18 +156,14 @@ next_slot chunk = record chunk { at = chunk.at + 1 }
 
 abbrev pub next_in : Chunk → Stepped
 next_in chunk = if nat_lt chunk.at chunk.end then On (Settling chunk Looking)
-    else On (Advancing chunk)
+    else On (Advancing chunk.scan)
 
 -- the copy of a slot leads here
 abbrev pub settled_to : Chunk → Settled → Stepped
 settled_to chunk (Settle_on settle) = On (Settling chunk settle)
 settled_to chunk Was_settled = next_in (next_slot chunk)
-settled_to chunk (Unfit table) = On (Aiming chunk.from table)
+settled_to chunk (Unfit table) = On (Aiming chunk.scan.from table)
 settled_to chunk (Settle_refused refused) = Was_refused refused
-
--- so many slots are counted as copied: where all are, the other table is to be the root
-abbrev pub advanced : Chunk → (done : ℕ) → Stepped
-advanced chunk done = if nat_le chunk.len done then On (Promoting chunk.from chunk.to) else Over
 
 -- the making of a table leads here
 abbrev pub linked_to : (from : ℕ) → Linked → Stepped
@@ -138,17 +176,18 @@ abbrev pub at_hash : Step → ℕ → Step
 at_hash (Settling chunk settle) hash = Settling chunk (settles.at_hash settle hash)
 at_hash step hash = step
 
-abbrev pub at_size : Step → (slots limit : ℕ) → Step
-at_size (Linking from link) slots limit = Linking from (links.at_size link slots)
-at_size (Sizing from to) slots limit = Counting from to slots
-at_size (Settling chunk settle) slots limit = Settling chunk (settles.at_size settle slots limit)
-at_size step slots limit = step
+abbrev pub at_size : Step → ResizeMode → (number slots limit : ℕ) → Step
+at_size (Linking from link) mode number slots limit = Linking from (links.at_size link slots)
+at_size (Sizing from to) mode number slots limit = Scanning (first_scan from to slots mode number)
+at_size (Settling chunk settle) mode number slots limit =
+    Settling chunk (settles.at_size settle slots limit)
+at_size step mode number slots limit = step
 
 abbrev pub at_word : Step → ResizeMode → ℕ → Stepped
 at_word AtRoot mode word = At_root word
 at_word (Aiming from behind) mode word = aimed from behind mode word
 at_word (Judging from to) mode word = On (judged from to word)
-at_word (Counting from to len) mode word = On (counted from to len mode word)
+at_word (Scanning scan) mode word = scanned scan word
 at_word (Settling chunk settle) mode word = settled_to chunk
     (settles.at_word settle (slot_of chunk) mode word)
 at_word step mode word = On step
@@ -161,7 +200,7 @@ abbrev pub at_exchanged : Step → ResizeMode → Stepped
 at_exchanged (Linking from link) mode = linked_to from (links.at_exchanged link)
 at_exchanged (Settling chunk settle) mode = settled_to chunk
     (settles.at_exchanged settle (slot_of chunk) mode)
-at_exchanged (Advancing chunk) mode = advanced chunk chunk.end
+at_exchanged (Advancing scan) mode = advanced scan
 at_exchanged (Promoting from to) mode = Over
 at_exchanged step mode = On step
 
@@ -173,12 +212,13 @@ abbrev pub at_found : Step → ResizeMode → ℕ → Stepped
 at_found (Linking from link) mode word = linked_to from (links.at_found link word)
 at_found (Settling chunk settle) mode word = settled_to chunk
     (settles.at_found settle (slot_of chunk) mode word)
-at_found (Advancing chunk) mode word = advanced chunk word
+at_found (Advancing scan) mode word = advanced scan
 at_found (Promoting from to) mode word = Over
 at_found step mode word = On step
 
 abbrev pub at_count : Step → ResizeMode → (count initial : ℕ) → Stepped
-at_count (Linking from link) mode count initial = linked_to from (links.at_count link count initial)
+at_count (Linking from link) mode count initial = linked_to from
+    (links.at_count link mode count initial)
 at_count (Settling chunk settle) mode count initial =
     settled_to chunk (settles.at_count settle mode count initial)
 at_count step mode count initial = On step

@@ -220,14 +220,16 @@ impl Carry {
 
     /// The map counts so many pairs, and its initial capacity is this.
     #[inline]
-    pub fn at_count(self, count: usize, initial: usize) -> Carried
+    pub fn at_count(self, mode: ResizeMode, count: usize, initial: usize) -> Carried
         requires standing { IsStandingCarry self }
         requires initial { IsPowerOfTwo initial }
-        ensures value { result ≡ at_count self count initial }
+        ensures value { result ≡ at_count self mode count initial }
         ensures standing { IsStandingCarried result }
     {
         match self {
-            Carry::Linking { hash, link } => Carry::linked(hash, link.at_count(count, initial)),
+            Carry::Linking { hash, link } => {
+                Carry::linked(hash, link.at_count(mode, count, initial))
+            }
             carry => Carried::On(carry),
         }
     }
@@ -326,6 +328,7 @@ impl Carry {
                 hash,
                 link: Link::Sizing {
                     after: table,
+                    copied: table,
                     unfit: true,
                 },
             }

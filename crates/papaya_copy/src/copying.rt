@@ -3,15 +3,14 @@ ghost use Rattle.std.specs.Prelude.{◌≡◌};
 ghost use Rattle.std.specs.Int.{IsPowerOfTwo};
 ghost use Rattle.papaya_copy.specs.Copying.{IsStandingCopying, IsStandingCopied, at_count, at_exchanged, at_found, at_hash, at_made, at_ok};
 ghost use Rattle.papaya_copy.specs.Copying.{at_refused, at_root, at_size, at_word, at_yes, copying_ask, copying_follows};
-ghost use Rattle.papaya_copy.specs.Copying.{copying_kind, last, leads, lone, over};
+ghost use Rattle.papaya_copy.specs.Copying.{copying_kind, further, last, leads, lone, over};
 ghost use Rattle.papaya_copy.specs.Link.{IsFitCopyAsk};
-ghost use Rattle.papaya_words.specs.Mode.{IsChunked};
 ghost use Rattle.papaya_ask.specs.Search.{IsSize};
 ghost use Rattle.papaya_copy.specs.Settle.{IsStandingSettled};
-ghost use Rattle.papaya_copy.specs.Step.{IsStandingStepped};
+ghost use Rattle.papaya_copy.specs.Step.{IsStandingChunk, IsStandingStepped};
 
 use crate::settle::{Settle, Settled, Slot};
-use crate::step::{Step, Stepped};
+use crate::step::{Chunk, Step, Stepped};
 use papaya_ask::ask::StepKind;
 use papaya_ask::copy_ask::CopyAsk;
 use papaya_words::probe::{Refused, ResizeMode};
@@ -105,16 +104,18 @@ impl Copying {
         }
     }
 
-    /// A table has this size.
+    /// A table has this size. The number says from which chunk on a table is copied.
     #[inline]
-    pub fn at_size(self, len: usize, limit: usize) -> Copying
+    pub fn at_size(self, mode: ResizeMode, number: u64, len: usize, limit: usize) -> Copying
         requires standing { IsStandingCopying self }
         requires size { IsSize len limit }
-        ensures value { result ≡ at_size self len limit }
+        ensures value { result ≡ at_size self mode number len limit }
         ensures standing { IsStandingCopying result }
     {
         match self {
-            Copying::Stepping(aim, step) => Copying::Stepping(aim, step.at_size(len, limit)),
+            Copying::Stepping(aim, step) => {
+                Copying::Stepping(aim, step.at_size(mode, number, len, limit))
+            }
             Copying::Lone(slot, settle) => Copying::Lone(slot, settle.at_size(len, limit)),
         }
     }
@@ -123,7 +124,6 @@ impl Copying {
     #[inline]
     pub fn at_word(self, mode: ResizeMode, word: u64) -> Copied
         requires standing { IsStandingCopying self }
-        requires chunked { IsChunked mode }
         ensures value { result ≡ at_word self mode word }
         ensures standing { IsStandingCopied result }
     {
@@ -255,6 +255,7 @@ impl Aim {
             Stepped::On(step) => Copied::On(Copying::Stepping(self, step)),
             Stepped::Root(root) => self.at_root(mode, root),
             Stepped::Last(table) => self.last(table),
+            Stepped::Further(chunk) => self.further(chunk),
             Stepped::Over => self.over(),
             Stepped::Refused(refused) => Copied::Refused(refused),
         }
@@ -309,7 +310,22 @@ impl Aim {
         }
     }
 
-    /// A chunk is over.
+    /// A chunk was copied, and this one was not yet. Who copies all copies it too.
+    #[inline]
+    fn further(self, chunk: Chunk) -> Copied
+        requires { IsStandingChunk chunk }
+        ensures value { result ≡ further self chunk }
+        ensures standing { IsStandingCopied result }
+    {
+        match self {
+            Aim::All(_) => {
+                Copied::On(Copying::Stepping(self, Step::Settling(chunk, Settle::Looking)))
+            }
+            _ => self.over(),
+        }
+    }
+
+    /// What was to be copied is copied.
     #[inline]
     fn over(self) -> Copied
         ensures value { result ≡ over self }

@@ -7,7 +7,8 @@ ghost use Rattle.papaya_copy.specs.Link.{at_made, at_refused, at_size, link_ask,
 
 use papaya_ask::ask::{At, StepKind};
 use papaya_ask::copy_ask::CopyAsk;
-use papaya_words::probe::Refused;
+use papaya_words::chunks::chunk_count;
+use papaya_words::probe::{Refused, ResizeMode};
 use papaya_words::table::{next_len, next_limit, table_len};
 
 /// Where it stands, between two answers.
@@ -20,25 +21,39 @@ pub enum Link {
     /// found no place, or that this table was given up.
     Sizing {
         after: u64,
+        /// The table that is copied to the next one: this one, or the root, if this one was given
+        /// up.
+        copied: u64,
         unfit: bool,
+    },
+    /// It asks for the size of the table that is copied, which is another one.
+    Measuring {
+        after: u64,
+        copied: u64,
+        unfit: bool,
+        /// How many slots the table has that is to get a next one.
+        len: usize,
     },
     /// It asks for the count of pairs.
     Counting {
         after: u64,
         unfit: bool,
-        /// How many slots that table has.
         len: usize,
+        /// How many slots the table has that is copied.
+        copied: usize,
     },
-    /// It makes a table of so many slots.
+    /// It makes a table of so many slots, with a word for each chunk of the table that is copied.
     Making {
         after: u64,
         len: usize,
         limit: usize,
+        chunks: usize,
     },
-    /// It puts this table, which it made, in as the next.
+    /// It puts this table, which it made so, in as the next.
     Linking {
         after: u64,
         table: u64,
+        chunks: usize,
     },
 }
 
@@ -63,9 +78,15 @@ impl Link {
     {
         match self {
             Link::Sizing { after, .. } => CopyAsk::SizeOf(after),
+            Link::Measuring { copied, .. } => CopyAsk::SizeOf(copied),
             Link::Counting { .. } => CopyAsk::Count,
-            Link::Making { len, limit, .. } => CopyAsk::MakeTable { len, limit },
-            Link::Linking { after, table } => CopyAsk::Exchange(At::Next(after), 0, table),
+            Link::Making {
+                len,
+                limit,
+                chunks,
+                ..
+            } => CopyAsk::MakeTable { len, limit, chunks },
+            Link::Linking { after, table, .. } => CopyAsk::Exchange(At::Next(after), 0, table),
         }
     }
 
@@ -87,6 +108,7 @@ impl Link {
     {
         match self {
             Link::Sizing { after, .. }
+            | Link::Measuring { after, .. }
             | Link::Counting { after, .. }
             | Link::Making { after, .. }
             | Link::Linking { after, .. } => after,
@@ -102,27 +124,64 @@ impl Link {
         ensures standing { IsStandingLink result }
     {
         match self {
-            Link::Sizing { after, unfit } => Link::Counting { after, unfit, len },
+            Link::Sizing {
+                after,
+                copied,
+                unfit,
+            } => {
+                if copied == after {
+                    Link::Counting {
+                        after,
+                        unfit,
+                        len,
+                        copied: len,
+                    }
+                } else {
+                    Link::Measuring {
+                        after,
+                        copied,
+                        unfit,
+                        len,
+                    }
+                }
+            }
+            Link::Measuring {
+                after,
+                unfit,
+                len: before,
+                ..
+            } => Link::Counting {
+                after,
+                unfit,
+                len: before,
+                copied: len,
+            },
             link => link,
         }
     }
 
     /// The map counts so many pairs, and its initial capacity is this.
     #[inline]
-    pub fn at_count(self, count: usize, initial: usize) -> Linked
+    pub fn at_count(self, mode: ResizeMode, count: usize, initial: usize) -> Linked
         requires standing { IsStandingLink self }
         requires initial { IsPowerOfTwo initial }
-        ensures value { result ≡ at_count self count initial }
+        ensures value { result ≡ at_count self mode count initial }
         ensures standing { IsStandingLinked result }
     {
         match self {
-            Link::Counting { after, unfit, len } => match next_len(len, count, initial, unfit) {
+            Link::Counting {
+                after,
+                unfit,
+                len,
+                copied,
+            } => match next_len(len, count, initial, unfit) {
                 Ok(next) => {
                     let next = table_len(next);
                     Linked::On(Link::Making {
                         after,
                         len: next,
                         limit: next_limit(next, len, unfit),
+                        chunks: chunk_count(copied, mode),
                     })
                 }
                 Err(refused) => Linked::Refused(refused),
@@ -139,9 +198,10 @@ impl Link {
         ensures standing { IsStandingLink result }
     {
         match self {
-            Link::Making { after, .. } => Link::Linking {
+            Link::Making { after, chunks, .. } => Link::Linking {
                 after,
                 table: number,
+                chunks,
             },
             link => link,
         }

@@ -224,7 +224,7 @@ impl Settle {
     {
         match self {
             Settle::Carrying(marked, carry) => {
-                Settle::carried(marked, mode, carry.at_count(count, initial))
+                Settle::carried(marked, mode, carry.at_count(mode, count, initial))
             }
             settle => Settled::On(settle),
         }

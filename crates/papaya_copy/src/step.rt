@@ -1,32 +1,50 @@
 //! One chunk of the copy of the root: slots that are copied one after another.
-ghost use Rattle.std.specs.Prelude.{◌≡◌, ◌<◌, ◌≤◌, ◌^◌};
+ghost use Rattle.std.specs.Prelude.{◌≡◌, ◌≤◌, ◌^◌};
 ghost use Rattle.std.specs.Int.{IsPowerOfTwo};
 ghost use Rattle.papaya_copy.specs.Link.{IsFitCopyAsk, IsStandingLink, IsStandingLinked};
-ghost use Rattle.papaya_words.specs.Mode.{IsChunked};
 ghost use Rattle.papaya_ask.specs.Search.{IsSize};
 ghost use Rattle.papaya_copy.specs.Settle.{IsStandingSettled};
-ghost use Rattle.papaya_copy.specs.Step.{IsStandingChunk, IsStandingStep, IsStandingStepped, advanced, aimed, at_count, at_exchanged, at_found};
-ghost use Rattle.papaya_copy.specs.Step.{at_hash, at_made, at_ok, at_refused, at_size, at_word, at_yes, chunk_of, counted};
-ghost use Rattle.papaya_copy.specs.Step.{judged, linked_to, settled_to, slot_of, step_ask, step_follows, step_kind};
+ghost use Rattle.papaya_copy.specs.Step.{IsStandingChunk, IsStandingScan, IsStandingStep, IsStandingStepped, advanced, aimed, at_count, at_exchanged, at_found};
+ghost use Rattle.papaya_copy.specs.Step.{at_hash, at_made, at_ok, at_refused, at_size, at_word, at_yes, chunk_at};
+ghost use Rattle.papaya_copy.specs.Step.{first_scan, judged, linked_to, next_scan, scanned, settled_to, slot_of, step_ask, step_follows};
+ghost use Rattle.papaya_copy.specs.Step.{step_kind};
 
 use crate::link::{Link, Linked};
 use crate::settle::{Settle, Settled, Slot};
 use papaya_ask::ask::{At, StepKind};
 use papaya_ask::copy_ask::CopyAsk;
-use papaya_words::limits::BLOCKING_CHUNK;
+use papaya_words::chunks::{chunk_count, chunk_len};
 use papaya_words::probe::{Refused, ResizeMode};
 
-/// Slots of a table that are copied one after another.
+/// The words of a table's chunks, loaded one after another: from one of them to the last, and then
+/// from the first on. Each that was passed by says that its chunk is copied.
 #[derive(Clone, Copy)]
-pub struct Chunk {
+pub struct Scan {
     /// The table that is copied.
     pub from: u64,
     /// The table to which its pairs go first.
     pub to: u64,
     /// How many slots the first table has.
     pub len: usize,
-    /// The first slot.
+    /// How many slots a chunk has.
+    pub slots: usize,
+    /// The chunk whose word was loaded first.
+    pub start: usize,
+    /// The chunk whose word is loaded now.
+    pub at: usize,
+    /// The first slot of that chunk.
     pub begun: usize,
+    /// The last chunk was passed by.
+    pub wrapped: bool,
+    /// A chunk was copied.
+    pub copied: bool,
+}
+
+/// Slots of a table that are copied one after another.
+#[derive(Clone, Copy)]
+pub struct Chunk {
+    /// Where the scan came to the chunk.
+    pub scan: Scan,
     /// The slot that is copied now.
     pub at: usize,
     /// The slot after the last.
@@ -49,13 +67,13 @@ pub enum Step {
     Judging { from: u64, to: u64 },
     /// It asks for the size of the table that is copied.
     Sizing { from: u64, to: u64 },
-    /// It loads how many of its slots were copied.
-    Counting { from: u64, to: u64, len: usize },
+    /// It loads the word of a chunk.
+    Scanning(Scan),
     /// It copies a slot.
     Settling(Chunk, Settle),
-    /// The chunk was copied, and is to be counted.
-    Advancing(Chunk),
-    /// All slots were copied, and the other table is to be the root.
+    /// The chunk was copied, and its word is to say so.
+    Advancing(Scan),
+    /// All chunks were copied, and the other table is to be the root.
     Promoting { from: u64, to: u64 },
 }
 
@@ -68,10 +86,111 @@ pub enum Stepped {
     Root(u64),
     /// This root has no next table, so nothing is to be copied.
     Last(u64),
-    /// The chunk is over.
+    /// A chunk was copied, and this one was not yet.
+    Further(Chunk),
+    /// What was to be copied is copied, or the root is another table now.
     Over,
     /// A further table could not be made.
     Refused(Refused),
+}
+
+impl Scan {
+    /// The words are loaded from the chunk of this number on, of as many as there are.
+    #[inline]
+    #[tactic(auto, using(crate::proofs::Starts::start_within, crate::proofs::Starts::start_low))]
+    fn new(from: u64, to: u64, len: usize, mode: ResizeMode, number: u64) -> Scan
+        requires power { IsPowerOfTwo len }
+        requires most { len ≤ 2 ^ 32 }
+        ensures value { result ≡ first_scan from to len mode number }
+        ensures standing { IsStandingScan result }
+    {
+        let slots = chunk_len(mode);
+        let start = (number % chunk_count(len, mode) as u64) as usize;
+        Scan {
+            from,
+            to,
+            len,
+            slots,
+            start,
+            at: start,
+            begun: start * slots,
+            wrapped: false,
+            copied: false,
+        }
+    }
+
+    /// This chunk is copied, and the next one's word is loaded, while there is one that was not
+    /// loaded yet.
+    #[inline]
+    fn next(mut self) -> Step
+        requires { IsStandingScan self }
+        ensures value { result ≡ next_scan self }
+        ensures standing { IsStandingStep result }
+    {
+        let further = self.slots < self.len - self.begun;
+        if further && !(self.wrapped && self.at + 1 >= self.start) {
+            self.at += 1;
+            self.begun += self.slots;
+            Step::Scanning(self)
+        } else if !self.wrapped && self.start > 0 {
+            self.at = 0;
+            self.begun = 0;
+            self.wrapped = true;
+            Step::Scanning(self)
+        } else {
+            Step::Promoting {
+                from: self.from,
+                to: self.to,
+            }
+        }
+    }
+
+    /// The chunk whose word is loaded now.
+    #[inline]
+    fn chunk(self) -> Chunk
+        requires { IsStandingScan self }
+        ensures value { result ≡ chunk_at self }
+        ensures standing { IsStandingChunk result }
+    {
+        // A chunk may be any number of 64 bits.
+        let end = if self.slots < self.len - self.begun {
+            self.begun + self.slots
+        } else {
+            self.len
+        };
+        Chunk {
+            scan: self,
+            at: self.begun,
+            end,
+        }
+    }
+
+    /// The chunk's word says that it is copied, or that it is not.
+    #[inline]
+    fn word(self, done: u64) -> Stepped
+        requires { IsStandingScan self }
+        ensures value { result ≡ scanned self done }
+        ensures standing { IsStandingStepped result }
+    {
+        if done != 0 {
+            Stepped::On(self.next())
+        } else if self.copied {
+            Stepped::Further(self.chunk())
+        } else {
+            Stepped::On(Step::Settling(self.chunk(), Settle::Looking))
+        }
+    }
+
+    /// This caller copied the chunk, and its word says so.
+    #[inline]
+    fn advanced(mut self) -> Stepped
+        requires { IsStandingScan self }
+        ensures value { result ≡ advanced self }
+        ensures standing { IsStandingStepped result }
+    {
+        self.copied = true;
+        Stepped::On(self.next())
+    }
 }
 
 impl Chunk {
@@ -81,9 +200,9 @@ impl Chunk {
         ensures { result ≡ slot_of self }
     {
         Slot {
-            from: self.from,
+            from: self.scan.from,
             index: self.at,
-            to: self.to,
+            to: self.scan.to,
         }
     }
 }
@@ -102,11 +221,9 @@ impl Step {
             Step::Linking { link, .. } => link.ask(),
             Step::Judging { to, .. } => CopyAsk::Load(At::Aborted(to)),
             Step::Sizing { from, .. } => CopyAsk::SizeOf(from),
-            Step::Counting { to, .. } => CopyAsk::Load(At::Done(to)),
+            Step::Scanning(scan) => CopyAsk::Load(At::Done(scan.to, scan.at)),
             Step::Settling(chunk, settle) => settle.ask(chunk.slot()),
-            Step::Advancing(chunk) => {
-                CopyAsk::Exchange(At::Done(chunk.to), chunk.begun as u64, chunk.end as u64)
-            }
+            Step::Advancing(scan) => CopyAsk::Exchange(At::Done(scan.to, scan.at), 0, 1),
             Step::Promoting { from, to } => CopyAsk::Exchange(At::Root, from, to),
         }
     }
@@ -150,12 +267,12 @@ impl Step {
         }
     }
 
-    /// A table has this size.
+    /// A table has this size. The number says from which chunk on it is copied.
     #[inline]
-    pub fn at_size(self, len: usize, limit: usize) -> Step
+    pub fn at_size(self, mode: ResizeMode, number: u64, len: usize, limit: usize) -> Step
         requires standing { IsStandingStep self }
         requires size { IsSize len limit }
-        ensures value { result ≡ at_size self len limit }
+        ensures value { result ≡ at_size self mode number len limit }
         ensures standing { IsStandingStep result }
     {
         match self {
@@ -163,7 +280,7 @@ impl Step {
                 from,
                 link: link.at_size(len, limit),
             },
-            Step::Sizing { from, to } => Step::Counting { from, to, len },
+            Step::Sizing { from, to } => Step::Scanning(Scan::new(from, to, len, mode, number)),
             Step::Settling(chunk, settle) => Step::Settling(chunk, settle.at_size(len, limit)),
             step => step,
         }
@@ -173,7 +290,6 @@ impl Step {
     #[inline]
     pub fn at_word(self, mode: ResizeMode, word: u64) -> Stepped
         requires standing { IsStandingStep self }
-        requires chunked { IsChunked mode }
         ensures value { result ≡ at_word self mode word }
         ensures standing { IsStandingStepped result }
     {
@@ -181,9 +297,7 @@ impl Step {
             Step::AtRoot => Stepped::Root(word),
             Step::Aiming { from, after } => Step::aimed(from, after, mode, word),
             Step::Judging { from, to } => Stepped::On(Step::judged(from, to, word)),
-            Step::Counting { from, to, len } => {
-                Stepped::On(Step::counted(from, to, len, mode, word))
-            }
+            Step::Scanning(scan) => scan.word(word),
             Step::Settling(chunk, settle) => {
                 Step::settled(chunk, settle.at_word(chunk.slot(), mode, word))
             }
@@ -216,7 +330,7 @@ impl Step {
             Step::Settling(chunk, settle) => {
                 Step::settled(chunk, settle.at_exchanged(chunk.slot(), mode))
             }
-            Step::Advancing(chunk) => Step::advanced(chunk, chunk.end),
+            Step::Advancing(scan) => scan.advanced(),
             Step::Promoting { .. } => Stepped::Over,
             step => Stepped::On(step),
         }
@@ -247,7 +361,7 @@ impl Step {
             Step::Settling(chunk, settle) => {
                 Step::settled(chunk, settle.at_found(chunk.slot(), mode, word))
             }
-            Step::Advancing(chunk) => Step::advanced(chunk, word as usize),
+            Step::Advancing(scan) => scan.advanced(),
             Step::Promoting { .. } => Stepped::Over,
             step => Stepped::On(step),
         }
@@ -262,7 +376,9 @@ impl Step {
         ensures standing { IsStandingStepped result }
     {
         match self {
-            Step::Linking { from, link } => Step::linked(from, link.at_count(count, initial)),
+            Step::Linking { from, link } => {
+                Step::linked(from, link.at_count(mode, count, initial))
+            }
             Step::Settling(chunk, settle) => {
                 Step::settled(chunk, settle.at_count(mode, count, initial))
             }
@@ -320,10 +436,13 @@ impl Step {
             }
             ResizeMode::Blocking => {
                 if next == 0 {
-                    let unfit = after != from;
                     Stepped::On(Step::Linking {
                         from,
-                        link: Link::Sizing { after, unfit },
+                        link: Link::Sizing {
+                            after,
+                            copied: from,
+                            unfit: after != from,
+                        },
                     })
                 } else {
                     Stepped::On(Step::Judging { from, to: next })
@@ -345,39 +464,6 @@ impl Step {
         }
     }
 
-    /// So many slots were copied.
-    #[inline]
-    fn counted(from: u64, to: u64, len: usize, mode: ResizeMode, done: u64) -> Step
-        requires chunked { IsChunked mode }
-        requires most { len ≤ 2 ^ 32 }
-        ensures value { result ≡ counted from to len mode done }
-        ensures standing { IsStandingStep result }
-    {
-        let begun = done as usize;
-        if begun >= len {
-            return Step::Promoting { from, to };
-        }
-        let slots = match mode {
-            ResizeMode::Incremental(chunk) => chunk,
-            ResizeMode::Blocking => BLOCKING_CHUNK,
-        };
-        // A chunk may be any number of 64 bits.
-        let end = if slots < len - begun {
-            begun + slots
-        } else {
-            len
-        };
-        let chunk = Chunk {
-            from,
-            to,
-            len,
-            begun,
-            at: begun,
-            end,
-        };
-        Step::Settling(chunk, Settle::Looking)
-    }
-
     /// The copy of a slot leads here.
     #[inline]
     fn settled(mut chunk: Chunk, settled: Settled) -> Stepped
@@ -393,30 +479,14 @@ impl Step {
                 if chunk.at < chunk.end {
                     Stepped::On(Step::Settling(chunk, Settle::Looking))
                 } else {
-                    Stepped::On(Step::Advancing(chunk))
+                    Stepped::On(Step::Advancing(chunk.scan))
                 }
             }
             Settled::Unfit(table) => Stepped::On(Step::Aiming {
-                from: chunk.from,
+                from: chunk.scan.from,
                 after: table,
             }),
             Settled::Refused(refused) => Stepped::Refused(refused),
-        }
-    }
-
-    /// So many slots are counted as copied.
-    #[inline]
-    fn advanced(chunk: Chunk, done: usize) -> Stepped
-        ensures value { result ≡ advanced chunk done }
-        ensures standing { IsStandingStepped result }
-    {
-        if done >= chunk.len {
-            Stepped::On(Step::Promoting {
-                from: chunk.from,
-                to: chunk.to,
-            })
-        } else {
-            Stepped::Over
         }
     }
 

@@ -1,5 +1,5 @@
 -- Two settings that see pairs alike allow the same exchanges, whatever types their keys have: an exchange asks of keys only what the pairs' keys are to each other and where their places are.
-use Rattle.std.proofs.Common.{◌≡◌, inl, inr, ⊎_elim, ℕ, suc, ◌<◌, ◌≤◌, Bool, cond, List, [], ◌∷◌, refl, sym, ap, ◌∙◌, subst}
+use Rattle.std.proofs.Common.{true, ◌≡◌, inl, inr, ⊎_elim, ℕ, suc, ◌<◌, Bool, cond, List, [], ◌∷◌, refl, sym, ap, ◌∙◌, subst}
 use Rattle.papaya_law.specs.Exchange.{Word, Empty, Closed, Live, Marked, Copied, Buried, Setting, State, Exchange, Open, Claim, Replace, Bury, Link, Mark, Close, Place, Finish, Advance, Promote, Abort, after, walk}
 use Rattle.papaya_law.specs.View.{View, Foreign, Here, Leaving, Gone, Grave, beyond, foreign, view, look, IsPassed, IsFull, HasWord, IsNextPlace, IsReached}
 use Rattle.papaya_law.specs.Copying.{IsSettled, IsTaker, IsTarget, IsCopied}
@@ -10,6 +10,8 @@ use mathlib.Core.Path.{fun_ext}
 pub record AreAlike {K K' P : Type 0} (g : Setting K P) (g' : Setting K' P) : Type 0 where
   pub blocking : g'.blocking ≡ g.blocking
   pub size : (t : ℕ) → g'.size t ≡ g.size t
+  pub chunk_of : (x : ℕ) → g'.chunk_of x ≡ g.chunk_of x
+  pub chunks : (t : ℕ) → g'.chunks t ≡ g.chunks t
   pub places : (t : ℕ) → g'.places t ≡ g.places t
   pub place : (p : P) (t j : ℕ) → g'.place (g'.key p) t j ≡ g.place (g.key p) t j
   pub same : (p q : P) → g'.same (g'.key p) (g'.key q) ≡ g.same (g.key p) (g.key q)
@@ -19,6 +21,8 @@ pub alike_back : {K K' P : Type 0} (g : Setting K P) (g' : Setting K' P) → Are
 alike_back g g' alike = record {
   blocking = sym alike.blocking;
   size = λ t. sym (alike.size t);
+  chunk_of = λ x. sym (alike.chunk_of x);
+  chunks = λ t. sym (alike.chunks t);
   places = λ t. sym (alike.places t);
   place = λ p t j. sym (alike.place p t j);
   same = λ p q. sym (alike.same p q);
@@ -103,7 +107,17 @@ module _ {K K' P : Type 0} (g : Setting K P) (g' : Setting K' P) (alike : AreAli
     allows_alike (Claim t x p) may = record { empty = may.empty; reached = reached_alike p t may.reached; place = next_place_alike p beyond t x may.place }
     allows_alike (Replace t x p q) may = record { live = may.live; reached = reached_alike p t may.reached; same = alike.same p q ∙ may.same }
     allows_alike (Bury t x p) may = record { live = may.live; reached = reached_alike p t may.reached }
-    allows_alike (Link t n) may = may
+    allows_alike (Link t n) may = record {
+      last = may.last;
+      on = may.on;
+      rises = may.rises;
+      from = may.from;
+      linking = ⊎_elim
+          (λ h. inl (h.0, λ b. h.1 (sym alike.blocking ∙ b)))
+          (λ h. inr (alike.blocking ∙ h.0, h.1, target_alike may.from t h.2, h.3))
+          may.linking;
+      covers = λ x lt. subst (λ y. y < g'.chunks n) (sym (alike.chunk_of x)) (subst (λ y. g.chunk_of x < y) (sym (alike.chunks n)) (may.covers x (subst (λ y. x < y) (alike.size may.from) lt)));
+    }
     allows_alike (Mark t x p) may = record { live = may.live; was = may.was; further = may.further }
     allows_alike (Close t x) may = record { empty = may.empty; was = may.was; further = may.further }
     allows_alike (Place n x p) may = record { empty = may.empty; source = copied_alike n p may.source; place = next_place_alike p foreign n x may.place }
@@ -114,15 +128,16 @@ module _ {K K' P : Type 0} (g : Setting K P) (g' : Setting K' P) (alike : AreAli
       taker = taker_alike p t may.to may.taker;
       has = said_alike p (λ k V. HasWord k V may.to) may.has;
     }
-    allows_alike (Advance n a b) may = record {
+    allows_alike (Advance n c) may = record {
       done = may.done;
-      more = may.more;
       from = may.from;
       target = target_alike may.from n may.target;
-      within = subst (λ y. b ≤ y) (sym (alike.size may.from)) may.within;
-      settled = λ x lo hi. settled_alike n (s.slot may.from x) (may.settled x lo hi);
+      slot = may.slot;
+      within = subst (λ y. may.slot < y) (sym (alike.size may.from)) may.within;
+      in_chunk = alike.chunk_of may.slot ∙ may.in_chunk;
+      settled = λ x lo hi. settled_alike n (s.slot may.from x) (may.settled x (subst (λ y. x < y) (alike.size may.from) lo) (sym (alike.chunk_of x) ∙ hi));
     }
-    allows_alike (Promote t n) may = record { root = may.root; made = may.made; target = target_alike t n may.target; whole = subst (λ y. y ≤ s.done n) (sym (alike.size t)) may.whole }
+    allows_alike (Promote t n) may = record { root = may.root; made = may.made; target = target_alike t n may.target; whole = λ x lt. subst (λ y. s.done n y ≡ true) (sym (alike.chunk_of x)) (may.whole x (subst (λ y. x < y) (alike.size t) lt)) }
     allows_alike (Abort n) may = record {
       before = may.before;
       mode = alike.blocking ∙ may.mode;

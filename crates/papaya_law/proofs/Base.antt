@@ -1,8 +1,9 @@
 -- What every allowed exchange keeps in both modes, of all words.
-use Rattle.std.proofs.Common.{◌≡◌, inl, inr, ⊎_elim, ℕ, zero, suc, ◌<◌, ◌≤◌, Bool, true, false, ◌==◌, Some, refl, sym, ap, ◌∙◌, subst, arith, eqb-true, eq-eqb}
-use Rattle.std.proofs.lemmas.Bool.{cases_Bool, cond-true, cond-false}
-use Rattle.papaya_law.specs.Exchange.{Word, Setting, State, Open, Link, Advance, Promote, start, after, at_put, slot_put, walk}
+use Rattle.std.proofs.Common.{◌≡◌, ◌⊎◌, inl, inr, ⊎_elim, ℕ, zero, suc, ◌<◌, ◌≤◌, Bool, true, false, ◌==◌, ◌&&◌, Some, refl, sym, ap, ◌∙◌, subst, arith, eqb-true, eq-eqb}
+use Rattle.std.proofs.lemmas.Bool.{and_parts, cases_Bool, cond-true, cond-false}
+use Rattle.papaya_law.specs.Exchange.{Word, Setting, State, Open, Link, Advance, Promote, start, after, at_put, done_put, slot_put, walk}
 use Rattle.papaya_law.specs.View.{View, view, look, IsNextPlace}
+use Rattle.papaya_law.specs.Copying.{IsLinking}
 use Rattle.papaya_law.specs.Meaning.{IsLawful}
 use Rattle.papaya_law.specs.Class.{IsOn}
 use Rattle.papaya_law.specs.Invariant.{named, shut, IsPlaceOf, IsSound}
@@ -13,6 +14,20 @@ use Rattle.papaya_law.proofs.Slots.{slot_cases, slot_turn, look_same}
 -- the turn of a slot, by what a key sees of its words
 recast : {P : Type 0} → (S : ℕ → ℕ → ℕ) (V V' : ℕ → ℕ → View P) (t x : ℕ) (a b c d : View P) → IsTurn S V V' t x a b → a ≡ c → b ≡ d → IsTurn S V V' t x c d
 recast S V V' t x a b c d turn e f = subst (λ y. IsTurn S V V' t x y d) e (subst (IsTurn S V V' t x a) f turn)
+
+-- a chunk that is done is the one that was just done, or was done before
+pub done_cases : (f : ℕ → ℕ → Bool) (n c u d : ℕ) → done_put f n c u d ≡ true → ((u ≡ n) × (d ≡ c)) ⊎ (f u d ≡ true)
+done_cases f n c u d h = ⊎_elim
+    (λ (q : ((u == n) && (d == c)) ≡ true). let e = and_parts (u == n) (d == c) q in inl (eqb-true u n e.0, eqb-true d c e.1))
+    (λ (q : ((u == n) && (d == c)) ≡ false). inr (sym (cond-false ((u == n) && (d == c)) true (f u d) q) ∙ h))
+    (cases_Bool ((u == n) && (d == c)))
+
+-- and stays so
+pub done_stays : (f : ℕ → ℕ → Bool) (n c u d : ℕ) → f u d ≡ true → done_put f n c u d ≡ true
+done_stays f n c u d h = ⊎_elim
+    (λ (q : ((u == n) && (d == c)) ≡ true). cond-true ((u == n) && (d == c)) true (f u d) q)
+    (λ (q : ((u == n) && (d == c)) ≡ false). cond-false ((u == n) && (d == c)) true (f u d) q ∙ h)
+    (cases_Bool ((u == n) && (d == c)))
 
 module _ {K P : Type 0} (g : Setting K P) (s : State P) where
   -- a slot's turn, by what a key sees of the old word and the new one
@@ -55,11 +70,17 @@ module _ {K P : Type 0} (g : Setting K P) (s : State P) where
         zeros zero = refl
         zeros (suc k) = ap s.next (zeros k) ∙ next_zero s.next sound.rises
 
+    -- what is copied to the table that is linked to one of the chain is on it
+    pub linking_on : (from t : ℕ) → IsOn s.first s.next t → IsLinking g s from t → IsOn s.first s.next from
+    linking_on from t on (inl h) = subst (IsOn s.first s.next) (sym h.0) on
+    linking_on from t on (inr h) = (sound.was from h.1).0
+
     -- a slot's word changes
     pub slot_sound : (t x : ℕ) (w' : Word P) → IsOn s.first s.next t → ((p : P) → named w' ≡ Some p → IsPlaceOf g t x p) → (shut w' ≡ true → 0 < s.next t) → IsSound g (slot_put s t x w')
     slot_sound t x w' on new next = record {
       further = λ u y h. ⊎_elim (λ r. sound.further u y (ap shut (sym r.0) ∙ h)) (λ r. subst (λ a. 0 < s.next a) (sym r.0) (next (ap shut (sym r.2) ∙ h))) (slot_cases s t x w' u y);
       rises = sound.rises;
+      linked = sound.linked;
       root = sound.root;
       was = sound.was;
       root_was = sound.root_was;
@@ -78,7 +99,8 @@ module _ {K P : Type 0} (g : Setting K P) (s : State P) where
           (λ (q : (u == t) ≡ false). absurd (no_root e u (sound.was u (sym (cond-false (u == t) true (s.was_root u) q) ∙ h)).0))
           (cases_Bool (u == t));
       root_was = λ h. cond-true (t == t) true (s.was_root t) (eq-eqb t t refl);
-      done_on = λ u h. absurd (no_root e u (sound.done_on u h));
+      linked = λ u h. absurd (no_root e u (sound.linked u h));
+      done_on = λ u d h. absurd (no_root e u (sound.done_on u d h));
       slots_on = λ u x h. absurd (no_root e u (sound.slots_on u x h));
       placed = sound.placed;
       further = sound.further;
@@ -97,13 +119,17 @@ module _ {K P : Type 0} (g : Setting K P) (s : State P) where
       link_old = link_older s.next sound.rises t n none some up s.first
 
       -- a link is made
-      pub link_sound : IsSound g (after s (Link t n))
-      link_sound = record {
+      pub link_sound : IsOn s.first s.next t → IsSound g (after s (Link t n))
+      link_sound on-t = record {
         rises = link_rises s.next sound.rises t n none some up;
         root = ⊎_elim (λ r. inl r) (λ on. inr (link_more s.root on)) sound.root;
         was = λ u h. (link_more u (sound.was u h).0, (sound.was u h).1);
         root_was = sound.root_was;
-        done_on = λ u h. link_more u (sound.done_on u h);
+        linked = λ u h. ⊎_elim
+            (λ (q : (u == t) ≡ true). link_more u (subst (IsOn s.first s.next) (sym (eqb-true u t q)) on-t))
+            (λ (q : (u == t) ≡ false). link_more u (sound.linked u (subst (λ y. 0 < y) (cond-false (u == t) n (s.next u) q) h)))
+            (cases_Bool (u == t));
+        done_on = λ u d h. link_more u (sound.done_on u d h);
         slots_on = λ u x h. link_more u (sound.slots_on u x h);
         placed = sound.placed;
         further = λ u x h. ⊎_elim
@@ -113,25 +139,24 @@ module _ {K P : Type 0} (g : Setting K P) (s : State P) where
       }
 
     -- a table's `done` rises
-    pub advance_sound : (n a b : ℕ) → IsOn s.first s.next n → IsSound g (after s (Advance n a b))
-    advance_sound n a b on = record {
+    pub advance_sound : (n c : ℕ) → IsOn s.first s.next n → IsSound g (after s (Advance n c))
+    advance_sound n c on = record {
       rises = sound.rises;
+      linked = sound.linked;
       root = sound.root;
       was = sound.was;
       root_was = sound.root_was;
       slots_on = sound.slots_on;
       placed = sound.placed;
       further = sound.further;
-      done_on = λ u h. ⊎_elim
-          (λ (q : (u == n) ≡ true). subst (IsOn s.first s.next) (sym (eqb-true u n q)) on)
-          (λ (q : (u == n) ≡ false). sound.done_on u (subst (λ y. 0 < y) (cond-false (u == n) b (s.done u) q) h))
-          (cases_Bool (u == n));
+      done_on = λ u d h. ⊎_elim (λ r. subst (IsOn s.first s.next) (sym r.0) on) (λ r. sound.done_on u d r) (done_cases s.done n c u d h);
     }
 
     -- the root moves on along the chain
     pub promote_sound : (t n : ℕ) → IsOn s.first s.next n → s.root ≤ n → IsSound g (after s (Promote t n))
     promote_sound t n on up = record {
       rises = sound.rises;
+      linked = sound.linked;
       done_on = sound.done_on;
       slots_on = sound.slots_on;
       placed = sound.placed;
@@ -151,7 +176,8 @@ start_sound g = record {
   root = inl (refl, refl);
   was = λ t e. absurd cc;
   root_was = λ h. absurd (omega arith);
-  done_on = λ t h. absurd (omega arith);
+  linked = λ t h. absurd (omega arith);
+  done_on = λ t d h. absurd (cc h);
   slots_on = λ t x h. absurd (h refl);
   placed = λ t x p e. absurd cc;
   further = λ t x e. absurd cc;

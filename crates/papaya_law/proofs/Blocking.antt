@@ -1,5 +1,6 @@
 pub mod ClassSteps
 pub mod States
 pub mod SlotSteps
+pub mod Links
 pub mod TableSteps
 pub mod Steps

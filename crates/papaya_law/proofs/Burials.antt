@@ -32,7 +32,7 @@ module _ {K P : Type 0} (g : Setting K P) where
   buries s m (Close t x) may u y p q live buried k same = absurd (put_unburied s t x Closed (λ o d. cc) u y p q live buried)
   buries s m (Place t x r) may u y p q live buried k same = absurd (put_unburied s t x (Live r) (λ o d. cc) u y p q live buried)
   buries s m (Finish t x r) may u y p q live buried k same = absurd (put_unburied s t x (Copied r) (λ o d. cc) u y p q live buried)
-  buries s m (Advance n a b) may u y p q live buried k same = absurd cc
+  buries s m (Advance n c) may u y p q live buried k same = absurd cc
   buries s m (Promote t n) may u y p q live buried k same = absurd cc
   buries s m (Abort n) may u y p q live buried k same = absurd cc
 

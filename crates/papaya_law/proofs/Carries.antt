@@ -1,8 +1,8 @@
 -- What is kept and seen under one setting is kept and seen under each that agrees with it on the tables of the chain.
-use Rattle.std.proofs.Common.{◌≡◌, ◌⊎◌, inl, inr, ⊎_elim, ℕ, ◌<◌, Bool, cond, Option, None, Some, refl, sym, ap, ◌∙◌, subst}
+use Rattle.std.proofs.Common.{true, ◌≡◌, ◌⊎◌, inl, inr, ⊎_elim, ℕ, ◌<◌, Bool, cond, Option, None, Some, refl, sym, ap, ◌∙◌, subst}
 use Rattle.papaya_law.specs.Exchange.{Word, Empty, Closed, Live, Marked, Copied, Buried, Setting, State}
 use Rattle.papaya_law.specs.View.{View, Foreign, Here, Leaving, Gone, Grave, own, view, look, IsPassed, IsFull, HasWord}
-use Rattle.papaya_law.specs.Copying.{IsSettled}
+use Rattle.papaya_law.specs.Copying.{IsSettled, IsTarget, Covers}
 use Rattle.papaya_law.specs.Class.{IsOn, IsBase, AllFull, IsCopy, IsGoneTo, IsTied, IsIncrementalClass}
 use Rattle.papaya_law.specs.ClassBlocking.{IsRootCopy, IsRootTied, IsBlockingClass}
 use Rattle.papaya_law.specs.Invariant.{named, IsSound, IsIncrementalState, IsBlockingState, IsKeeping}
@@ -10,6 +10,8 @@ use Rattle.papaya_law.specs.Grows.{Agrees}
 use Rattle.papaya_law.proofs.Views.{held-active, active-own}
 use Rattle.papaya_law.proofs.Class.{held_of}
 use Rattle.papaya_law.proofs.Base.{no_root}
+use Rattle.papaya_law.proofs.Chain.{next_on}
+use Rattle.papaya_law.proofs.Blocking.States.{target_aborted}
 use mathlib.Core.Path.{fun_ext}
 
 -- one class of keys, where n' and S' agree with n and S on the chain
@@ -161,6 +163,7 @@ module _ {K P : Type 0} (g g' : Setting K P) (s : State P) (sound : IsSound g s)
     root = sound.root;
     was = sound.was;
     root_was = sound.root_was;
+    linked = sound.linked;
     done_on = sound.done_on;
     slots_on = sound.slots_on;
     further = sound.further;
@@ -169,6 +172,11 @@ module _ {K P : Type 0} (g g' : Setting K P) (s : State P) (sound : IsSound g s)
         let on = sound.slots_on t x (λ q. let f = ap named q in cc (f, e)) in
         record { at = r.at; within = subst (λ y. r.at < y) (sym (agrees.places t on)) r.within; is = ap (λ k. g'.place k t r.at) (agrees.key p) ∙ (agrees.place (g.key p) t r.at on ∙ r.is) };
   }
+
+  -- a table has a word for each chunk of another, both of the chain
+  pub covers_carries : (t n : ℕ) → IsOn s.first s.next t → IsOn s.first s.next n → Covers g t n → Covers g' t n
+  covers_carries t n on on-n covers x lt =
+      subst (λ y. y < g'.chunks n) (sym (agrees.chunk_of x)) (subst (λ y. g.chunk_of x < y) (sym (agrees.chunks n on-n)) (covers x (subst (λ y. x < y) (agrees.size t on) lt)))
 
   -- a slot tells a key one thing
   one_slot : (k : K) (t i j : ℕ) → g'.place k t i ≡ g'.place k t j → look g s k t i ≡ look g s k t j
@@ -179,7 +187,10 @@ module _ {K P : Type 0} (g g' : Setting K P) (s : State P) (sound : IsSound g s)
   incremental_carries m holds = record {
     sound = sound_carries;
     settled = λ t x on lt h. holds.settled t x on lt (subst (λ y. x < y) (agrees.size t on) h);
-    done = λ t x on lt h. holds.done t x on lt (subst (λ y. x < y) (agrees.size t on) h);
+    done = λ t x on lt h. holds.done t x on (subst (λ y. s.done (s.next t) y ≡ true) (agrees.chunk_of x) lt) (subst (λ y. x < y) (agrees.size t on) h);
+    covered = λ t h.
+        let on = sound.linked t h in
+        covers_carries t (s.next t) on (next_on s.next sound.rises s.first t on h) (holds.covered t h);
     class = λ k.
         subst (λ W. IsIncrementalClass (IsOn s.first s.next) g'.places (g'.place k) W (m k)) (sym (look_agrees k))
         (incremental_class_agrees (IsOn s.first s.next) g.places g'.places (look g s k) agrees.places (g.place k) (g'.place k) (agrees.place k) (one_slot k) (m k) (holds.class k));
@@ -196,10 +207,15 @@ module _ {K P : Type 0} (g g' : Setting K P) (s : State P) (sound : IsSound g s)
     given_up = λ t a lt.
         let v = holds.given_up t a lt in
         record { on = v.on; between = v.between; slot = v.slot; pair = v.pair; marked = v.marked; full = full_carries (look g s (g.key v.pair)) (look g' s (g'.key v.pair)) (look_pair v.pair) t v.on v.full };
-    done_to = λ t lt some.
-        let v = holds.done_to t lt some in
-        let on = holds.done_on t some in
-        record { between = v.between; settled = λ x h i. settled_carries t on (s.slot s.root x) (v.settled x h (subst (λ y. x < y) (agrees.size s.root (root_on t on)) i)) };
+    done_to = λ t c lt some.
+        let v = holds.done_to t c lt some in
+        let on = holds.done_on t c some in
+        record { between = v.between; settled = λ x h i. settled_carries t on (s.slot s.root x) (v.settled x (subst (λ y. s.done t y ≡ true) (agrees.chunk_of x) h) (subst (λ y. x < y) (agrees.size s.root (root_on t on)) i)) };
+    linked_by = holds.linked_by;
+    covered = λ t n was target.
+        let on = (sound.was t was).0 in
+        let old : IsTarget g s t n = record { links = target.links; is = target.is; made = target.made; over = target.over; mode = ⊎_elim (λ e. inl e) (λ b. inr (sym agrees.blocking ∙ b)) target.mode } in
+        covers_carries t n on (target_aborted g s sound t n on old).0 (holds.covered t n was old);
     class = λ k.
         subst (λ W. IsBlockingClass (IsOn s.first s.next) s.was_root s.aborted s.root g'.places (g'.place k) W (m k)) (sym (look_agrees k))
         (blocking_class_agrees (IsOn s.first s.next) g.places g'.places (look g s k) agrees.places (g.place k) (g'.place k) (agrees.place k) (one_slot k) s.was_root s.aborted s.root (m k) (holds.class k));

@@ -38,7 +38,7 @@ module _ {K P : Type 0} (g : Setting K P) (c : Coding K P) where
     code_step s (Close u y) may t x is = step_there s u y Empty Closed t x may.empty is (refl, refl)
     code_step s (Place u y p) may t x is = step_there s u y Empty (Live p) t x may.empty is refl
     code_step s (Finish u y p) may t x is = step_there s u y (Marked p) (Copied p) t x may.marked is (same_pair (Marked p) (Copied p) p refl refl)
-    code_step s (Advance n a b) may t x is = absurd is
+    code_step s (Advance n c) may t x is = absurd is
     code_step s (Promote u n) may t x is = absurd is
     code_step s (Abort n) may t x is = absurd is
 
@@ -53,6 +53,6 @@ code_stays s (Mark u y p) t x other = put_elsewhere s u y (Marked p) t x other
 code_stays s (Close u y) t x other = put_elsewhere s u y Closed t x other
 code_stays s (Place u y p) t x other = put_elsewhere s u y (Live p) t x other
 code_stays s (Finish u y p) t x other = put_elsewhere s u y (Copied p) t x other
-code_stays s (Advance n a b) t x other = refl
+code_stays s (Advance n c) t x other = refl
 code_stays s (Promote u n) t x other = refl
 code_stays s (Abort n) t x other = refl

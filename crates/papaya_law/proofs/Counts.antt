@@ -78,6 +78,6 @@ module _ {K P : Type 0} (g : Setting K P) (law : IsLawful g) (s : State P) (m : 
   count_after (Close t x) may = absurd (let some = may.further in let z = alone t in omega (arith, some, z))
   count_after (Place n x p) may = absurd (no_walk may.source.taker.links may.source.from n may.source.taker.is may.source.taker.made)
   count_after (Finish t x p) may = absurd (no_walk may.taker.links t may.to may.taker.is may.taker.made)
-  count_after (Advance n a b) may = refl
+  count_after (Advance n c) may = refl
   count_after (Promote t n) may = absurd (no_walk may.target.links t n may.target.is may.target.made)
   count_after (Abort n) may = refl

@@ -155,7 +155,7 @@ module _ {K P : Type 0} (g : Setting K P) where
       length_after (Close t x) legal now = sym (one_length a b ha hb (λ k. before k ∙ sym (now k)))
       length_after (Place n x p) legal now = sym (one_length a b ha hb (λ k. before k ∙ sym (now k)))
       length_after (Finish t x p) legal now = sym (one_length a b ha hb (λ k. before k ∙ sym (now k)))
-      length_after (Advance n i j) legal now = sym (one_length a b ha hb (λ k. before k ∙ sym (now k)))
+      length_after (Advance n c) legal now = sym (one_length a b ha hb (λ k. before k ∙ sym (now k)))
       length_after (Promote t n) legal now = sym (one_length a b ha hb (λ k. before k ∙ sym (now k)))
       length_after (Abort n) legal now = sym (one_length a b ha hb (λ k. before k ∙ sym (now k)))
 
@@ -197,6 +197,6 @@ module _ {K P : Type 0} (g : Setting K P) where
       list_after s (Close t x) may legal = (a, ha, before)
       list_after s (Place n x p) may legal = (a, ha, before)
       list_after s (Finish t x p) may legal = (a, ha, before)
-      list_after s (Advance n i j) may legal = (a, ha, before)
+      list_after s (Advance n c) may legal = (a, ha, before)
       list_after s (Promote t n) may legal = (a, ha, before)
       list_after s (Abort n) may legal = (a, ha, before)

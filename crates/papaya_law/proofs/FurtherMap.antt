@@ -19,7 +19,7 @@ module _ {K P : Type 0} (g : Setting K P) (matches : K → Bool) (hash : ℕ) wh
   own_after m m' own (Close t x) k = own k
   own_after m m' own (Place n x p) k = own k
   own_after m m' own (Finish t x p) k = own k
-  own_after m m' own (Advance n a b) k = own k
+  own_after m m' own (Advance n c) k = own k
   own_after m m' own (Promote t n) k = own k
   own_after m m' own (Abort n) k = own k
 
@@ -39,7 +39,7 @@ module _ {K P : Type 0} (g : Setting K P) (matches : K → Bool) (hash : ℕ) wh
   key_legal m m' own (Close t x) = (λ h. h, λ h. h)
   key_legal m m' own (Place n x p) = (λ h. h, λ h. h)
   key_legal m m' own (Finish t x p) = (λ h. h, λ h. h)
-  key_legal m m' own (Advance n a b) = (λ h. h, λ h. h)
+  key_legal m m' own (Advance n c) = (λ h. h, λ h. h)
   key_legal m m' own (Promote t n) = (λ h. h, λ h. h)
   key_legal m m' own (Abort n) = (λ h. h, λ h. h)
 
@@ -63,7 +63,7 @@ module _ {K P : Type 0} (g : Setting K P) (matches : K → Bool) (hash : ℕ) wh
     matched_after m m' k h is (Close t x) = is
     matched_after m m' k h is (Place n x p) = is
     matched_after m m' k h is (Finish t x p) = is
-    matched_after m m' k h is (Advance n a b) = is
+    matched_after m m' k h is (Advance n c) = is
     matched_after m m' k h is (Promote t n) = is
     matched_after m m' k h is (Abort n) = is
 
@@ -92,7 +92,7 @@ module _ {K P : Type 0} (g : Setting K P) (matches : K → Bool) (hash : ℕ) wh
     found_after s m' f (Close t x) may = f
     found_after s m' f (Place n x p) may = f
     found_after s m' f (Finish t x p) may = f
-    found_after s m' f (Advance n a b) may = f
+    found_after s m' f (Advance n c) may = f
     found_after s m' f (Promote t n) may = f
     found_after s m' f (Abort n) may = f
 

@@ -1,16 +1,17 @@
 -- What a caller saw, an exchange or a list of them that is allowed under one setting, is so under each that agrees with it on the tables of the chain.
-use Rattle.std.proofs.Common.{◌≡◌, inl, inr, ⊎_elim, ℕ, suc, ◌<◌, ◌≤◌, Bool, true, cond, Option, None, Some, List, [], ◌∷◌, refl, sym, ap, ◌∙◌, subst, arith}
-use Rattle.papaya_law.specs.Exchange.{Word, Empty, Closed, Live, Buried, Marked, Copied, Setting, Exchange, Open, Claim, Replace, Bury, Link, Mark, Close, Place, Finish, Advance, Promote, Abort, State, after, run, walk}
+use Rattle.std.proofs.Common.{◌≡◌, inl, inr, ⊎_elim, ℕ, suc, ◌<◌, ◌≤◌, ◌==◌, Bool, true, cond, Option, None, Some, List, [], ◌∷◌, refl, sym, ap, ◌∙◌, subst, arith, eqb-true, eq-eqb}
+use Rattle.std.proofs.lemmas.Bool.{cond-true}
+use Rattle.papaya_law.specs.Exchange.{Word, Empty, Closed, Live, Buried, Marked, Copied, Setting, Exchange, Open, Claim, Replace, Bury, Link, Mark, Close, Place, Finish, Advance, Promote, Abort, State, after, at_put, run, walk}
 use Rattle.papaya_law.specs.View.{View, beyond, foreign, look, IsNextPlace, IsReached}
-use Rattle.papaya_law.specs.Copying.{IsSettled, IsTaker, IsTarget, IsCopied}
+use Rattle.papaya_law.specs.Copying.{IsSettled, IsTaker, IsTarget, IsCopied, IsLinking}
 use Rattle.papaya_law.specs.Allows.{Allows, AllAllowed}
 use Rattle.papaya_law.specs.Meaning.{IsLawful, map_after, map_of}
 use Rattle.papaya_law.specs.Class.{IsOn}
 use Rattle.papaya_law.specs.Invariant.{IsSound, IsKeeping}
 use Rattle.papaya_law.specs.Later.{Becomes, IsLater}
-use Rattle.papaya_law.specs.Grows.{Agrees}
-use Rattle.papaya_law.proofs.Chain.{pos_before, walk_on}
-use Rattle.papaya_law.proofs.Base.{filled_on, link_more, no_root}
+use Rattle.papaya_law.specs.Grows.{Agrees, brings}
+use Rattle.papaya_law.proofs.Chain.{link_rises, next_on, pos_before, walk_on}
+use Rattle.papaya_law.proofs.Base.{filled_on, link_more, linking_on, no_root}
 use Rattle.papaya_law.proofs.Carries.{look_agrees, look_pair, passed_carries, full_carries, has_carries, settled_carries}
 use Rattle.papaya_law.proofs.OneMap.{keeping_sound, step_keeps}
 use mathlib.Core.Path.{fun_ext}
@@ -77,25 +78,40 @@ module _ {K P : Type 0} (g g' : Setting K P) (s : State P) (sound : IsSound g s)
   taker_on : (k : K) (t n : ℕ) → IsOn s.first s.next t → IsTaker g s k t n → IsOn s.first s.next n
   taker_on k t n on r = end_on t (suc r.links) n on r.is r.made
 
-  -- an exchange that is allowed under the one is allowed under the other
-  pub allows_carries : (e : Exchange P) → Allows g s e → Allows g' s e
-  allows_carries (Open t) may = may
-  allows_carries (Claim t x p) may =
+  -- what is copied to the next table
+  pub linking_carries : (from t : ℕ) → IsLinking g s from t → IsLinking g' s from t
+  linking_carries from t (inl h) = inl (h.0, λ b. h.1 (sym agrees.blocking ∙ b))
+  linking_carries from t (inr h) = inr (agrees.blocking ∙ h.0, h.1, target_carries from t h.2, h.3)
+
+  -- an exchange that is allowed under the one is allowed under the other, where both give the table that it links as many words for chunks
+  pub allows_carries : (e : Exchange P) → ((n : ℕ) → brings e n ≡ true → g'.chunks n ≡ g.chunks n) → Allows g s e → Allows g' s e
+  allows_carries (Open t) chunks may = may
+  allows_carries (Claim t x p) chunks may =
       let r = may.reached in
       record { empty = may.empty; reached = reached_pair p t r; place = next_place_carries p beyond t x (end_on r.from r.links t (sound.was r.from r.was).0 r.is r.made) may.place }
-  allows_carries (Replace t x p q) may = record {
+  allows_carries (Replace t x p q) chunks may = record {
     live = may.live;
     reached = reached_pair p t may.reached;
     same = agrees.same (g'.key p) (g'.key q) ∙ (ap (λ k. g.same k (g'.key q)) (agrees.key p) ∙ (ap (g.same (g.key p)) (agrees.key q) ∙ may.same));
   }
-  allows_carries (Bury t x p) may = record { live = may.live; reached = reached_pair p t may.reached }
-  allows_carries (Link t n) may = may
-  allows_carries (Mark t x p) may = record { live = may.live; was = may.was; further = may.further }
-  allows_carries (Close t x) may = record { empty = may.empty; was = may.was; further = may.further }
-  allows_carries (Place n x p) may =
+  allows_carries (Bury t x p) chunks may = record { live = may.live; reached = reached_pair p t may.reached }
+  allows_carries (Link t n) chunks may =
+      let on = linking_on g s sound may.from t may.on may.linking in
+      record {
+        last = may.last;
+        on = may.on;
+        rises = may.rises;
+        from = may.from;
+        linking = linking_carries may.from t may.linking;
+        covers = λ x lt.
+            subst (λ y. y < g'.chunks n) (sym (agrees.chunk_of x)) (subst (λ y. g.chunk_of x < y) (sym (chunks n (eq-eqb n n refl))) (may.covers x (subst (λ y. x < y) (agrees.size may.from on) lt)));
+      }
+  allows_carries (Mark t x p) chunks may = record { live = may.live; was = may.was; further = may.further }
+  allows_carries (Close t x) chunks may = record { empty = may.empty; was = may.was; further = may.further }
+  allows_carries (Place n x p) chunks may =
       let c = may.source in
       record { empty = may.empty; source = copied_carries n p c; place = next_place_carries p foreign n x (taker_on (g.key p) c.from n (source_on n p c) c.taker) may.place }
-  allows_carries (Finish t x p) may =
+  allows_carries (Finish t x p) chunks may =
       let on = filled_on g s sound t x p (Marked p) may.marked refl in
       record {
         marked = may.marked;
@@ -104,21 +120,22 @@ module _ {K P : Type 0} (g g' : Setting K P) (s : State P) (sound : IsSound g s)
         taker = taker_carries p t may.to on may.taker;
         has = has_carries g g' s sound agrees (look g s (g.key p)) (look g' s (g'.key p)) (look_pair g g' s sound agrees p) may.to (taker_on (g.key p) t may.to on may.taker) may.has;
       }
-  allows_carries (Advance n a b) may =
+  allows_carries (Advance n c) chunks may =
       let r = may.target in
-      let on = sound.slots_on may.from a (λ e. subst (IsSettled g s n) e (may.settled a (omega arith) may.more)) in
+      let on = sound.slots_on may.from may.slot (λ e. subst (IsSettled g s n) e (may.settled may.slot may.within may.in_chunk)) in
       record {
         done = may.done;
-        more = may.more;
         from = may.from;
         target = target_carries may.from n r;
-        within = subst (λ y. b ≤ y) (sym (agrees.size may.from on)) may.within;
-        settled = λ x lo hi. settled_carries g g' s sound agrees n (end_on may.from (suc r.links) n on r.is r.made) (s.slot may.from x) (may.settled x lo hi);
+        slot = may.slot;
+        within = subst (λ y. may.slot < y) (sym (agrees.size may.from on)) may.within;
+        in_chunk = agrees.chunk_of may.slot ∙ may.in_chunk;
+        settled = λ x lo hi. settled_carries g g' s sound agrees n (end_on may.from (suc r.links) n on r.is r.made) (s.slot may.from x) (may.settled x (subst (λ y. x < y) (agrees.size may.from on) lo) (sym (agrees.chunk_of x) ∙ hi));
       }
-  allows_carries (Promote t n) may =
+  allows_carries (Promote t n) chunks may =
       let on = ⊎_elim (λ h. absurd (let e = may.root in let some = may.made in omega (arith, h.0))) (λ h. subst (IsOn s.first s.next) may.root h) sound.root in
-      record { root = may.root; made = may.made; target = target_carries t n may.target; whole = subst (λ y. y ≤ s.done n) (sym (agrees.size t on)) may.whole }
-  allows_carries (Abort n) may =
+      record { root = may.root; made = may.made; target = target_carries t n may.target; whole = λ x lt. subst (λ y. s.done n y ≡ true) (sym (agrees.chunk_of x)) (may.whole x (subst (λ y. x < y) (agrees.size t on) lt)) }
+  allows_carries (Abort n) chunks may =
       let c = may.source in
       record {
         before = may.before;
@@ -136,6 +153,8 @@ module _ {K P : Type 0} (g g' : Setting K P) (On : ℕ → Type 0) (agrees : Agr
     key = agrees.key;
     same = agrees.same;
     size = λ t h. agrees.size t (on t h);
+    chunk_of = agrees.chunk_of;
+    chunks = λ t h. agrees.chunks t (on t h);
     places = λ t h. agrees.places t (on t h);
     place = λ k t j h. agrees.place k t j (on t h);
   }
@@ -173,7 +192,7 @@ module _ {K P : Type 0} (g g' : Setting K P) (On : ℕ → Type 0) (agrees : Agr
   map_after_at m (Close t x) k = refl
   map_after_at m (Place n x p) k = refl
   map_after_at m (Finish t x p) k = refl
-  map_after_at m (Advance n a b) k = refl
+  map_after_at m (Advance n c) k = refl
   map_after_at m (Promote t n) k = refl
   map_after_at m (Abort n) k = refl
 
@@ -189,14 +208,32 @@ module _ {K P : Type 0} (g : Setting K P) (law : IsLawful g) where
   on_after s sound (Claim u x p) may t on = on
   on_after s sound (Replace u x p q) may t on = on
   on_after s sound (Bury u x p) may t on = on
-  on_after s sound (Link u n) may t on = link_more g s sound u n may.0 may.1 may.2 t on
+  on_after s sound (Link u n) may t on = link_more g s sound u n may.last may.on.0 may.rises t on
   on_after s sound (Mark u x p) may t on = on
   on_after s sound (Close u x) may t on = on
   on_after s sound (Place n x p) may t on = on
   on_after s sound (Finish u x p) may t on = on
-  on_after s sound (Advance n a b) may t on = on
+  on_after s sound (Advance n c) may t on = on
   on_after s sound (Promote u n) may t on = on
   on_after s sound (Abort n) may t on = on
+
+  -- and has the table that the exchange brings
+  brought_on : (s : State P) → IsSound g s → (e : Exchange P) → Allows g s e → (t : ℕ) → brings e t ≡ true → IsOn (after s e).first (after s e).next t
+  brought_on s sound (Open u) may t b = subst (IsOn u s.next) (eqb-true u t b) (may.1, (0, refl))
+  brought_on s sound (Link u n) may t b =
+      let here : at_put s.next u n u ≡ n = cond-true (u == u) n (s.next u) (eq-eqb u u refl) in
+      let up : 0 < at_put s.next u n u = subst (λ y. 0 < y) (sym here) (omega (arith, may.rises)) in
+      subst (IsOn s.first (at_put s.next u n)) (here ∙ eqb-true n t b) (next_on (at_put s.next u n) (link_rises s.next sound.rises u n may.last may.on.0 may.rises) s.first u (link_more g s sound u n may.last may.on.0 may.rises u may.on) up)
+  brought_on s sound (Claim u x p) may t b = absurd cc
+  brought_on s sound (Replace u x p q) may t b = absurd cc
+  brought_on s sound (Bury u x p) may t b = absurd cc
+  brought_on s sound (Mark u x p) may t b = absurd cc
+  brought_on s sound (Close u x) may t b = absurd cc
+  brought_on s sound (Place n x p) may t b = absurd cc
+  brought_on s sound (Finish u x p) may t b = absurd cc
+  brought_on s sound (Advance n c) may t b = absurd cc
+  brought_on s sound (Promote u n) may t b = absurd cc
+  brought_on s sound (Abort n) may t b = absurd cc
 
   -- and at a list of them
   pub on_run : (es : List (Exchange P)) (s : State P) (m : K → Option P) → IsKeeping g s m → AllAllowed g s es → (t : ℕ) → IsOn s.first s.next t → IsOn (run es s).first (run es s).next t
@@ -207,6 +244,6 @@ module _ {K P : Type 0} (g : Setting K P) (law : IsLawful g) where
   pub all_carries : (g' : Setting K P) (es : List (Exchange P)) (s : State P) (m : K → Option P) → IsKeeping g s m → AllAllowed g s es → Agrees (IsOn (run es s).first (run es s).next) g g' → AllAllowed g' s es
   all_carries g' [] s m keeps may agrees = tt
   all_carries g' (e ∷ es) s m keeps may agrees = (
-    allows_carries g g' s (keeping_sound g s m keeps) (agrees_on_fewer g g' (IsOn (run es (after s e)).first (run es (after s e)).next) agrees (IsOn s.first s.next) (on_run (e ∷ es) s m keeps may)) e may.0,
+    allows_carries g g' s (keeping_sound g s m keeps) (agrees_on_fewer g g' (IsOn (run es (after s e)).first (run es (after s e)).next) agrees (IsOn s.first s.next) (on_run (e ∷ es) s m keeps may)) e (λ n b. agrees.chunks n (on_run es (after s e) (map_after g m e) (step_keeps g law s m keeps e may.0).1 may.1 n (brought_on s (keeping_sound g s m keeps) e may.0 n b))) may.0,
     all_carries g' es (after s e) (map_after g m e) (step_keeps g law s m keeps e may.0).1 may.1 agrees,
   )

@@ -3,7 +3,7 @@ use Rattle.std.proofs.Common.{◌≡◌, ◌⊎◌, inl, inr, ⊎_elim, ℕ, tru
 use Rattle.std.proofs.lemmas.Bool.{cases_Bool, cond-false, or_parts}
 use Rattle.papaya_words.specs.Word.{hint_of, may_hold}
 use Rattle.papaya_law.specs.Exchange.{Word, Empty, Closed, Live, Marked, Copied, Buried, Setting, State}
-use Rattle.papaya_law.specs.View.{View, Foreign, Here, Leaving, Gone, Grave, view}
+use Rattle.papaya_law.specs.View.{Foreign, Here, Leaving, Gone, Grave, view}
 use Rattle.papaya_law.specs.Code.{Coding, IsLawfulCoding}
 use Rattle.papaya_law.specs.Hints.{IsHintOf, IsHint, hint_of_pair}
 use Rattle.papaya_law.specs.Later.{Becomes, IsLater}

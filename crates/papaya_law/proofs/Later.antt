@@ -7,6 +7,7 @@ use Rattle.papaya_law.specs.Copying.{IsTaker, IsTarget, IsSettled}
 use Rattle.papaya_law.specs.Allows.{Allows, AllAllowed}
 use Rattle.papaya_law.specs.Meaning.{IsLawful}
 use Rattle.papaya_law.specs.Later.{Becomes, IsLater, IsLasting}
+use Rattle.papaya_law.proofs.Base.{done_stays}
 use Rattle.papaya_law.proofs.Slots.{slot_cases, same_right}
 
 -- what a key may see next
@@ -84,7 +85,7 @@ module _ {K P : Type 0} (g : Setting K P) (law : IsLawful g) where
 
   -- a state is later than itself
   pub later_itself : (s : State P) → IsLater g s s
-  later_itself s = record { was = λ t h. h; next = λ t h. refl; aborted = λ t h. h; done = λ t. omega arith; words = λ t x. becomes_itself (s.slot t x) }
+  later_itself s = record { was = λ t h. h; next = λ t h. refl; aborted = λ t h. h; done = λ t c h. h; words = λ t x. becomes_itself (s.slot t x) }
 
   -- and later than what it is later than is
   pub later_through : (s s' s'' : State P) → IsLater g s s' → IsLater g s' s'' → IsLater g s s''
@@ -92,7 +93,7 @@ module _ {K P : Type 0} (g : Setting K P) (law : IsLawful g) where
     was = λ t h. b.was t (a.was t h);
     next = λ t h. b.next t (subst (λ y. 0 < y) (sym (a.next t h)) h) ∙ a.next t h;
     aborted = λ t h. b.aborted t (a.aborted t h);
-    done = λ t. let x = a.done t in let y = b.done t in omega arith;
+    done = λ t c h. b.done t c (a.done t c h);
     words = λ t x. becomes_through (s.slot t x) (s'.slot t x) (s''.slot t x) (a.words t x) (b.words t x);
   }
 
@@ -102,7 +103,7 @@ module _ {K P : Type 0} (g : Setting K P) (law : IsLawful g) where
     was = λ u h. h;
     next = λ u h. refl;
     aborted = λ u h. h;
-    done = λ u. omega arith;
+    done = λ u c h. h;
     words = λ u y. ⊎_elim
         (λ r. subst (Becomes g (s.slot u y)) (sym r.0) (becomes_itself (s.slot u y)))
         (λ r. let e : s.slot u y ≡ w = cc (r.0, r.1, old) in subst (Becomes g (s.slot u y)) (sym r.2) (subst (λ v. Becomes g v w') (sym e) b))
@@ -120,21 +121,18 @@ module _ {K P : Type 0} (g : Setting K P) (law : IsLawful g) where
     aborted = l.aborted;
     done = l.done;
     words = l.words;
-    next = λ u h. ⊎_elim (λ (q : (u == t) ≡ true). let e = ap s.next (eqb-true u t q) in let z = may.0 in absurd (omega arith)) (λ (q : (u == t) ≡ false). cond-false (u == t) n (s.next u) q) (cases_Bool (u == t));
+    next = λ u h. ⊎_elim (λ (q : (u == t) ≡ true). let e = ap s.next (eqb-true u t q) in let z = may.last in absurd (omega arith)) (λ (q : (u == t) ≡ false). cond-false (u == t) n (s.next u) q) (cases_Bool (u == t));
   }
   later_step s (Mark t x p) may = slot_later s t x (Live p) (Marked p) may.live (law.itself (g.key p))
   later_step s (Close t x) may = slot_later s t x Empty Closed may.empty tt
   later_step s (Place n x p) may = slot_later s n x Empty (Live p) may.empty tt
   later_step s (Finish t x p) may = slot_later s t x (Marked p) (Copied p) may.marked (inr refl)
-  later_step s (Advance n a b) may = let l = later_itself s in record {
+  later_step s (Advance n c) may = let l = later_itself s in record {
     was = l.was;
     next = l.next;
     aborted = l.aborted;
     words = l.words;
-    done = λ u. ⊎_elim
-        (λ (q : (u == n) ≡ true). let e : at_put s.done n b u ≡ b = cond-true (u == n) b (s.done u) q in let f = ap s.done (eqb-true u n q) in let d = may.done in let m = may.more in omega arith)
-        (λ (q : (u == n) ≡ false). let e : at_put s.done n b u ≡ s.done u = cond-false (u == n) b (s.done u) q in omega arith)
-        (cases_Bool (u == n));
+    done = λ u d h. done_stays s.done n c u d h;
   }
   later_step s (Promote t n) may = let l = later_itself s in record { was = put_on s.was_root n; next = l.next; aborted = l.aborted; done = l.done; words = l.words }
   later_step s (Abort n) may = let l = later_itself s in record { was = l.was; next = l.next; aborted = put_on s.aborted n; done = l.done; words = l.words }

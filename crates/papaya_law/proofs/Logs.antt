@@ -5,7 +5,7 @@ use Rattle.papaya_law.specs.Exchange.{Exchange, Open, Claim, Replace, Bury, Link
 use Rattle.papaya_law.specs.Allows.{Allows, AllAllowed}
 use Rattle.papaya_law.specs.Meaning.{IsLawful}
 use Rattle.papaya_law.specs.Class.{IsOn}
-use Rattle.papaya_law.specs.Grows.{Agrees, Plan, IsLawfulPlan, planned, Comes, Entry, exchanges, brings, is_brought, size_in, places_in, setting_in, AllSized}
+use Rattle.papaya_law.specs.Grows.{Agrees, Plan, IsLawfulPlan, planned, Comes, Entry, exchanges, brings, is_brought, size_in, places_in, chunks_in, setting_in, AllSized}
 use Rattle.papaya_law.proofs.Moments.{allowed_append}
 use Rattle.papaya_law.proofs.OneMap.{start_keeps}
 use Rattle.papaya_law.proofs.Grows.{all_carries}
@@ -23,7 +23,7 @@ comes_after s (Mark u x p) t c = inr c
 comes_after s (Close u x) t c = inr c
 comes_after s (Place n x p) t c = inr c
 comes_after s (Finish u x p) t c = inr c
-comes_after s (Advance n a b) t c = inr c
+comes_after s (Advance n d) t c = inr c
 comes_after s (Promote u n) t c = inr c
 comes_after s (Abort n) t c = inr c
 
@@ -68,6 +68,15 @@ places_stay (e ∷ es) fs t h =
     (λ b. cond-false (brings e.by t) e.places (places_in (es ++ fs) t) b ∙ (places_stay es fs t (⊎_elim (λ c. absurd (cc (b, c))) (λ c. c) (or_cases (brings e.by t) (is_brought es t) h)) ∙ sym (cond-false (brings e.by t) e.places (places_in es t) b)))
     (cases_Bool (brings e.by t))
 
+-- the same of its number of words for chunks
+chunks_stay : {P : Type 0} (es fs : List (Entry P)) (t : ℕ) → is_brought es t ≡ true → chunks_in (es ++ fs) t ≡ chunks_in es t
+chunks_stay [] fs t h = absurd cc
+chunks_stay (e ∷ es) fs t h =
+    ⊎_elim
+    (λ b. cond-true (brings e.by t) e.chunks (chunks_in (es ++ fs) t) b ∙ sym (cond-true (brings e.by t) e.chunks (chunks_in es t) b))
+    (λ b. cond-false (brings e.by t) e.chunks (chunks_in (es ++ fs) t) b ∙ (chunks_stay es fs t (⊎_elim (λ c. absurd (cc (b, c))) (λ c. c) (or_cases (brings e.by t) (is_brought es t) h)) ∙ sym (cond-false (brings e.by t) e.chunks (chunks_in es t) b)))
+    (cases_Bool (brings e.by t))
+
 -- the exchanges of two logs
 exchanges-append : {P : Type 0} (es fs : List (Entry P)) → exchanges (es ++ fs) ≡ exchanges es ++ exchanges fs
 exchanges-append [] fs = refl
@@ -75,23 +84,25 @@ exchanges-append (e ∷ es) fs = ap (λ l. e.by ∷ l) (exchanges-append es fs)
 
 module _ {K P : Type 0} (h : Plan K P) where
   -- settings of one plan agree where their sizes and numbers of places do
-  pub planned_agrees : (On : ℕ → Type 0) (size size' places places' : ℕ → ℕ) → ((t : ℕ) → On t → size' t ≡ size t) → ((t : ℕ) → On t → places' t ≡ places t) → Agrees On (planned h size places) (planned h size' places')
-  planned_agrees On size size' places places' a b = record { blocking = refl; key = λ p. refl; same = λ k l. refl; size = a; places = b; place = λ k t j on. ap (λ n. h.probe k n j) (a t on) }
+  pub planned_agrees : (On : ℕ → Type 0) (size size' places places' chunks chunks' : ℕ → ℕ) → ((t : ℕ) → On t → size' t ≡ size t) → ((t : ℕ) → On t → places' t ≡ places t) → ((t : ℕ) → On t → chunks' t ≡ chunks t)
+      → Agrees On (planned h size places chunks) (planned h size' places' chunks')
+  planned_agrees On size size' places places' chunks chunks' a b d = record { blocking = refl; key = λ p. refl; same = λ k l. refl; size = a; chunk_of = λ x. refl; chunks = d; places = b; place = λ k t j on. ap (λ n. h.probe k n j) (a t on) }
 
   -- and are lawful where each table has a slot and a place
-  pub planned_lawful : IsLawfulPlan h → (size places : ℕ → ℕ) → ((t : ℕ) → 0 < size t) → ((t : ℕ) → 0 < places t) → IsLawful (planned h size places)
-  planned_lawful law size places a b = record {
+  pub planned_lawful : IsLawfulPlan h → (size places chunks : ℕ → ℕ) → ((t : ℕ) → 0 < size t) → ((t : ℕ) → 0 < places t) → IsLawful (planned h size places chunks)
+  planned_lawful law size places chunks a b = record {
     itself = law.itself;
     back = law.back;
     through = law.through;
     places_same = λ k l e t j. law.probe_same k l e (size t) j;
     within = λ k t j lt. law.within k (size t) j (a t);
     some_place = b;
+    some_slot = a;
   }
 
   -- the setting of a log is lawful
   pub lawful_in : IsLawfulPlan h → (es : List (Entry P)) → AllSized es → IsLawful (setting_in h es)
-  lawful_in law es sized = planned_lawful law (size_in es) (places_in es) (slots es sized) (some_places es sized)
+  lawful_in law es sized = planned_lawful law (size_in es) (places_in es) (chunks_in es) (slots es sized) (some_places es sized)
     where
       slots : (es : List (Entry P)) → AllSized es → (t : ℕ) → 0 < size_in es t
       slots [] sized t = omega arith
@@ -104,7 +115,8 @@ module _ {K P : Type 0} (h : Plan K P) where
   -- the setting of a log and that of a longer one agree on the chain
   pub log_agrees : (es fs : List (Entry P)) → Agrees (IsOn (run (exchanges es) start).first (run (exchanges es) start).next) (setting_in h es) (setting_in h (es ++ fs))
   log_agrees es fs =
-      planned_agrees (IsOn (run (exchanges es) start).first (run (exchanges es) start).next) (size_in es) (size_in (es ++ fs)) (places_in es) (places_in (es ++ fs)) (λ t on. size_stays es fs t (on_brought es t on)) (λ t on. places_stay es fs t (on_brought es t on))
+      planned_agrees (IsOn (run (exchanges es) start).first (run (exchanges es) start).next) (size_in es) (size_in (es ++ fs)) (places_in es) (places_in (es ++ fs)) (chunks_in es) (chunks_in (es ++ fs))
+      (λ t on. size_stays es fs t (on_brought es t on)) (λ t on. places_stay es fs t (on_brought es t on)) (λ t on. chunks_stay es fs t (on_brought es t on))
 
   -- A log grows by an entry that is allowed under the setting with its own table: the longer log is allowed as a whole.
   pub log_grows : (es : List (Entry P)) (e : Entry P) → IsLawful (setting_in h es) → AllAllowed (setting_in h es) start (exchanges es) → Allows (setting_in h (es ++ e ∷ [])) (run (exchanges es) start) e.by

@@ -50,10 +50,10 @@ module _ {K P : Type 0} (g : Setting K P) where
     promoted s m holds t n may x lt =
         let was : s.was_root t ≡ true = subst (λ y. s.was_root y ≡ true) may.root (holds.root_was (subst (λ y. 0 < y) (sym may.root) may.made)) in
         let target = target_aborted g s holds.sound t n (holds.was t was).0 may.target in
-        let whole = may.whole in
+        let whole = may.whole x lt in
         let low : s.root < n = subst (λ y. y < n) (sym may.root) target.1 in
-        let d = holds.done_to n low (omega arith) in
-        subst (λ y. plain (s.slot y x) ≡ false) may.root (settled_not_plain g s n (s.slot s.root x) (d.settled x (omega arith) (subst (λ y. x < g.size y) (sym may.root) lt)))
+        let d = holds.done_to n (g.chunk_of x) low whole in
+        subst (λ y. plain (s.slot y x) ≡ false) may.root (settled_not_plain g s n (s.slot s.root x) (d.settled x whole (subst (λ y. x < g.size y) (sym may.root) lt)))
 
     -- a word that no copier has to come to stands
     stands : (u w : Word P) → plain u ≡ false → ((p : P) → w ≡ Copied p → ⊥) → Becomes g u w → w ≡ u
@@ -75,7 +75,7 @@ module _ {K P : Type 0} (g : Setting K P) where
     keeps_root s t is some (Close u x) may = inl is
     keeps_root s t is some (Place n x p) may = inl is
     keeps_root s t is some (Finish u x p) may = inl is
-    keeps_root s t is some (Advance n a b) may = inl is
+    keeps_root s t is some (Advance n c) may = inl is
     keeps_root s t is some (Promote u n) may = inr (n, subst (λ y. MayPromote g s y n) (sym may.root ∙ is) may)
     keeps_root s t is some (Abort n) may = inl is
 

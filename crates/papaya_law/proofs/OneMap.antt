@@ -4,11 +4,12 @@ use Rattle.std.proofs.lemmas.Bool.{cases_Bool}
 use Rattle.papaya_law.specs.Exchange.{Setting, State, Exchange, after, run, start}
 use Rattle.papaya_law.specs.View.{Free, Here, Leaving, beyond, look, IsPassed, IsReached}
 use Rattle.papaya_law.specs.Allows.{AllAllowed, Allows, MayClaim, MayPlace}
+use Rattle.papaya_law.specs.Copying.{IsTarget, Covers}
 use Rattle.papaya_law.specs.Meaning.{AllLegal, IsAtMoment, IsLegal, IsLawful, IsMeaning, map_after, map_left, map_of}
 use Rattle.papaya_law.specs.Invariant.{IsIncrementalState, IsBlockingState, IsSound, IsKeeping}
 use Rattle.papaya_law.specs.Later.{IsLater, IsLasting}
 use Rattle.papaya_law.proofs.Incremental.Steps.{step_incremental, meaning_incremental}
-use Rattle.papaya_law.proofs.Incremental.TableSteps.{start_incremental}
+use Rattle.papaya_law.proofs.Incremental.TableSteps.{start_incremental, target_next}
 use Rattle.papaya_law.proofs.Blocking.Steps.{step_blocking, meaning_blocking}
 use Rattle.papaya_law.proofs.Blocking.TableSteps.{start_blocking}
 use Rattle.papaya_law.proofs.Later.{later_run, lasts}
@@ -29,6 +30,15 @@ module _ {K P : Type 0} (g : Setting K P) (s : State P) (m : K → Option P) (ke
   -- and in both, of the words themselves
   pub keeping_sound : IsSound g s
   keeping_sound = ⊎_elim (λ h. h.1.sound) (λ h. h.1.sound) keeps
+
+  -- a table has a word for each chunk of one that was the root and is copied to it
+  pub covered : (t n : ℕ) → s.was_root t ≡ true → IsTarget g s t n → Covers g t n
+  covered t n was target = ⊎_elim
+      (λ h.
+      let is : s.next t ≡ n = target_next g h.0 s m h.1 t n target in
+      subst (Covers g t) is (h.1.covered t (subst (λ y. 0 < y) (sym is) target.made)))
+      (λ h. h.1.covered t n was target)
+      keeps
 
   -- the root that a load finds is reached for each key
   pub root_reached : (k : K) → 0 < s.root → IsReached g s k s.root

@@ -62,7 +62,7 @@ module _ {K P : Type 0} (g : Setting K P) where
   by_burial s t x (Close u y) may old new = absurd (let r = changed buried s t x u y Closed old new in let f = r.2 in cc f)
   by_burial s t x (Place u y p) may old new = absurd (let r = changed buried s t x u y (Live p) old new in let f = r.2 in cc f)
   by_burial s t x (Finish u y p) may old new = absurd (let r = changed buried s t x u y (Copied p) old new in let f = r.2 in cc f)
-  by_burial s t x (Advance n a b) may old new = absurd (cc (old, new))
+  by_burial s t x (Advance n c) may old new = absurd (cc (old, new))
   by_burial s t x (Promote u n) may old new = absurd (cc (old, new))
   by_burial s t x (Abort n) may old new = absurd (cc (old, new))
 
@@ -77,7 +77,7 @@ module _ {K P : Type 0} (g : Setting K P) where
   by_finish s t x (Close u y) may old new = absurd (let r = changed copied s t x u y Closed old new in let f = r.2 in cc f)
   by_finish s t x (Place u y p) may old new = absurd (let r = changed copied s t x u y (Live p) old new in let f = r.2 in cc f)
   by_finish s t x (Finish u y p) may old new = let r = changed copied s t x u y (Copied p) old new in let m = may.marked in (p, cc (r.0, r.1, m), cc (r.0, r.1))
-  by_finish s t x (Advance n a b) may old new = absurd (cc (old, new))
+  by_finish s t x (Advance n c) may old new = absurd (cc (old, new))
   by_finish s t x (Promote u n) may old new = absurd (cc (old, new))
   by_finish s t x (Abort n) may old new = absurd (cc (old, new))
 

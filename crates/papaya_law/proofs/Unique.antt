@@ -28,7 +28,7 @@ step_bounded s (Mark t x p) h = h
 step_bounded s (Close t x) h = h
 step_bounded s (Place n x p) h = h
 step_bounded s (Finish t x p) h = h
-step_bounded s (Advance n a b) h = h
+step_bounded s (Advance n c) h = h
 step_bounded s (Promote t n) h = h
 step_bounded s (Abort n) h = h
 

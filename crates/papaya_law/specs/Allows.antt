@@ -1,10 +1,11 @@
 -- When an exchange may come next. Each condition is on the state alone; but for what the word
 -- itself holds, no later exchange undoes it (`proofs/Law/Later.antt`), so "was" and "stood" are
 -- read off the words as they are now.
-use Rattle.std.specs.Prelude.{◌≡◌, ℕ, ◌<◌, ◌≤◌, true, false, List, [], ◌∷◌}
+use Rattle.std.specs.Prelude.{◌≡◌, ℕ, ◌<◌, true, false, List, [], ◌∷◌}
 use Rattle.papaya_law.specs.Exchange.{Empty, Live, Marked, Setting, Exchange, Open, Claim, Replace, Bury, Link, Mark, Close, Place, Finish, Advance, Promote, Abort, State, after}
 use Rattle.papaya_law.specs.View.{look, beyond, foreign, IsFull, HasWord, IsNextPlace, IsReached}
-use Rattle.papaya_law.specs.Copying.{IsTaker, IsTarget, IsCopied, IsSettled}
+use Rattle.papaya_law.specs.Class.{IsOn}
+use Rattle.papaya_law.specs.Copying.{IsTaker, IsTarget, IsCopied, IsSettled, IsLinking, Covers}
 
 -- Claim: an insertion puts p at the first place that is left, in a table where a search for its key
 -- comes.
@@ -24,6 +25,16 @@ pub record MayReplace {K P : Type 0} (g : Setting K P) (s : State P) (t x : ℕ)
 pub record MayBury {K P : Type 0} (g : Setting K P) (s : State P) (t x : ℕ) (p : P) : Type 0 where
   pub live : s.slot t x ≡ Live p
   pub reached : IsReached g s (g.key p) t
+
+-- Link: t is the last table of the chain, and the new one has a greater number, so that no chain
+-- leads back, and a word for each chunk of the table that is copied to it.
+pub record MayLink {K P : Type 0} (g : Setting K P) (s : State P) (t n : ℕ) : Type 0 where
+  pub last : s.next t ≡ 0
+  pub on : IsOn s.first s.next t
+  pub rises : t < n
+  pub from : ℕ
+  pub linking : IsLinking g s from t
+  pub covers : Covers g from n
 
 -- Mark: a copier marks p, of a table that was the root. There is a next table to copy it to, else a
 -- search that meets the mark couldn't go on.
@@ -55,22 +66,23 @@ pub record MayFinish {K P : Type 0} (g : Setting K P) (s : State P) (t x : ℕ) 
   pub taker : IsTaker g s (g.key p) t to
   pub has : HasWord g.places (look g s (g.key p)) to
 
--- Advance: the slots from a to b are settled, of a table whose copies go to n; b is no more than
--- its length, so that a count never speaks of slots that aren't there.
-pub record MayAdvance {K P : Type 0} (g : Setting K P) (s : State P) (n a b : ℕ) : Type 0 where
-  pub done : s.done n ≡ a
-  pub more : a < b
+-- Advance: the slots of chunk c are settled, of a table whose copies go to n; there is one at least,
+-- so that no word speaks of slots that aren't there.
+pub record MayAdvance {K P : Type 0} (g : Setting K P) (s : State P) (n c : ℕ) : Type 0 where
+  pub done : s.done n c ≡ false
   pub from : ℕ
   pub target : IsTarget g s from n
-  pub within : b ≤ g.size from
-  pub settled : (x : ℕ) → a ≤ x → x < b → IsSettled g s n (s.slot from x)
+  pub slot : ℕ
+  pub within : slot < g.size from
+  pub in_chunk : g.chunk_of slot ≡ c
+  pub settled : (x : ℕ) → x < g.size from → g.chunk_of x ≡ c → IsSettled g s n (s.slot from x)
 
--- Promote: the root is copied to n, from its first slot to its last.
+-- Promote: the root is copied to n: the word of each slot's chunk says so.
 pub record MayPromote {K P : Type 0} (g : Setting K P) (s : State P) (t n : ℕ) : Type 0 where
   pub root : s.root ≡ t
   pub made : 0 < t
   pub target : IsTarget g s t n
-  pub whole : g.size t ≤ s.done n
+  pub whole : (x : ℕ) → x < g.size t → s.done n (g.chunk_of x) ≡ true
 
 -- Abort, with blocking: a pair that stood marked and goes to n doesn't fit into it.
 pub record MayAbort {K P : Type 0} (g : Setting K P) (s : State P) (n : ℕ) : Type 0 where
@@ -80,19 +92,18 @@ pub record MayAbort {K P : Type 0} (g : Setting K P) (s : State P) (n : ℕ) : T
   pub source : IsCopied g s n pair
   pub full : IsFull g.places (look g s (g.key pair)) n
 
--- The exchange may come next. Open: there is no root yet. Link: t has no next table, and the new
--- one has a greater number, so that no chain leads back.
+-- The exchange may come next. Open: there is no root yet.
 abbrev pub Allows : {K P : Type 0} → Setting K P → State P → Exchange P → Type 0
 Allows g s (Open t) = (s.root ≡ 0) × (0 < t)
 Allows g s (Claim t x p) = MayClaim g s t x p
 Allows g s (Replace t x p q) = MayReplace g s t x p q
 Allows g s (Bury t x p) = MayBury g s t x p
-Allows g s (Link t n) = (s.next t ≡ 0) × (0 < t) × (t < n)
+Allows g s (Link t n) = MayLink g s t n
 Allows g s (Mark t x p) = MayMark g s t x p
 Allows g s (Close t x) = MayClose g s t x
 Allows g s (Place n x p) = MayPlace g s n x p
 Allows g s (Finish t x p) = MayFinish g s t x p
-Allows g s (Advance n a b) = MayAdvance g s n a b
+Allows g s (Advance n c) = MayAdvance g s n c
 Allows g s (Promote t n) = MayPromote g s t n
 Allows g s (Abort n) = MayAbort g s n
 

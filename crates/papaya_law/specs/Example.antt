@@ -7,6 +7,8 @@ abbrev pub by_two : Setting ℕ ℕ
 by_two = record {
   blocking = false;
   size = λ t. 2;
+  chunk_of = λ x. 0;
+  chunks = λ t. 1;
   places = λ t. 2;
   place = λ k t j. j;
   key =
@@ -17,13 +19,15 @@ by_two = record {
 -- a pair is replaced, the new one copied to a second table, and removed there
 abbrev pub two_tables : List (Exchange ℕ)
 two_tables = Open 1 ∷ Claim 1 0 70 ∷ Replace 1 0 70 71 ∷ Link 1 2 ∷ Mark 1 0 71 ∷ Place 2 0 71
-    ∷ Finish 1 0 71 ∷ Close 1 1 ∷ Advance 2 0 2 ∷ Promote 1 2 ∷ Bury 2 0 71 ∷ []
+    ∷ Finish 1 0 71 ∷ Close 1 1 ∷ Advance 2 0 ∷ Promote 1 2 ∷ Bury 2 0 71 ∷ []
 
 -- with blocking: table 2 has one slot
 abbrev pub of_one : Setting ℕ ℕ
 of_one = record {
   blocking = true;
   size = λ t. cond (t == 2) 1 2;
+  chunk_of = λ x. 0;
+  chunks = λ t. 1;
   places = λ t. cond (t == 2) 1 2;
   place = λ k t j. cond (t == 2) 0 j;
   key = λ p. p / 10;
@@ -32,6 +36,6 @@ of_one = record {
 
 -- two pairs don't fit into table 2, and table 3 takes both
 abbrev pub three_tables : List (Exchange ℕ)
-three_tables = Open 1 ∷ Claim 1 0 70 ∷ Claim 1 1 80 ∷ Link 1 2 ∷ Link 2 3 ∷ Mark 1 0 70
-    ∷ Mark 1 1 80 ∷ Place 2 0 70 ∷ Abort 2 ∷ Place 3 0 70 ∷ Place 3 1 80 ∷ Advance 3 0 2
+three_tables = Open 1 ∷ Claim 1 0 70 ∷ Claim 1 1 80 ∷ Link 1 2 ∷ Mark 1 0 70
+    ∷ Mark 1 1 80 ∷ Place 2 0 70 ∷ Abort 2 ∷ Link 2 3 ∷ Place 3 0 70 ∷ Place 3 1 80 ∷ Advance 3 0
     ∷ Promote 1 3 ∷ []

@@ -31,6 +31,8 @@ abbrev pub with_key : {K P : Type 0} → Setting K P → (K → Bool) → ℕ �
 with_key g matches hash = record {
   blocking = g.blocking;
   size = g.size;
+  chunk_of = g.chunk_of;
+  chunks = g.chunks;
   places = g.places;
   place = place_with g hash;
   key = λ p. Some (g.key p);

@@ -4,9 +4,10 @@ use Rattle.papaya_words.specs.Probe.{place}
 use Rattle.papaya_law.specs.Grows.{Plan}
 
 -- the plan in which a search begins at the key's hash
-abbrev pub hashed : {K P : Type 0} → Bool → (P → K) → (K → K → Bool) → (K → ℕ) → Plan K P
-hashed blocking key same hash = record {
+abbrev pub hashed : {K P : Type 0} → Bool → (ℕ → ℕ) → (P → K) → (K → K → Bool) → (K → ℕ) → Plan K P
+hashed blocking chunk_of key same hash = record {
   blocking = blocking;
+  chunk_of = chunk_of;
   key = key;
   same = same;
   probe =

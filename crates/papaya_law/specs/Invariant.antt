@@ -2,7 +2,7 @@
 use Rattle.std.specs.Prelude.{◌≡◌, ◌⊎◌, ℕ, ◌<◌, ◌≤◌, Bool, true, false, Option, None, Some}
 use Rattle.papaya_law.specs.Exchange.{Word, Empty, Closed, Live, Marked, Copied, Buried, Setting, State}
 use Rattle.papaya_law.specs.View.{look, IsFull}
-use Rattle.papaya_law.specs.Copying.{IsSettled}
+use Rattle.papaya_law.specs.Copying.{IsSettled, IsTarget, Covers}
 use Rattle.papaya_law.specs.Class.{Rises, IsOn, IsIncrementalClass}
 use Rattle.papaya_law.specs.ClassBlocking.{AllAborted, IsBlockingClass}
 
@@ -49,7 +49,8 @@ pub record IsSound {K P : Type 0} (g : Setting K P) (s : State P) : Type 0 where
   pub was : (t : ℕ) → s.was_root t ≡ true → IsOn s.first s.next t × (t ≤ s.root)
   pub root_was : 0 < s.root → s.was_root s.root ≡ true
   -- a table off the chain is as it was made
-  pub done_on : (t : ℕ) → 0 < s.done t → IsOn s.first s.next t
+  pub linked : (t : ℕ) → 0 < s.next t → IsOn s.first s.next t
+  pub done_on : (t c : ℕ) → s.done t c ≡ true → IsOn s.first s.next t
   pub slots_on : (t x : ℕ) → (s.slot t x ≡ Empty → ⊥) → IsOn s.first s.next t
   -- a pair stands at a place of its key
   pub placed : (t x : ℕ) (p : P) → named (s.slot t x) ≡ Some p → IsPlaceOf g t x p
@@ -61,11 +62,13 @@ pub record IsIncrementalState {K P : Type 0} (g : Setting K P) (s : State P)
     (m : K → Option P) : Type 0 where
   pub sound : IsSound g s
   pub open sound use *
-  -- tables before the root are finished, and so are the slots below `done` of the next table
+  -- tables before the root are finished, and so are the slots of chunks that are done
   pub settled : (t x : ℕ) → IsOn s.first s.next t → t < s.root → x < g.size t
       → finished (s.slot t x) ≡ true
-  pub done : (t x : ℕ) → IsOn s.first s.next t → x < s.done (s.next t) → x < g.size t
-      → finished (s.slot t x) ≡ true
+  pub done : (t x : ℕ) → IsOn s.first s.next t → s.done (s.next t) (g.chunk_of x) ≡ true
+      → x < g.size t → finished (s.slot t x) ≡ true
+  -- a table has a word for each chunk of the one before
+  pub covered : (t : ℕ) → 0 < s.next t → Covers g t (s.next t)
   pub class : (k : K) → IsIncrementalClass (IsOn s.first s.next) g.places (g.place k) (look g s k)
       (m k)
 
@@ -78,10 +81,11 @@ pub record IsGivenUp {K P : Type 0} (g : Setting K P) (s : State P) (t : ℕ) : 
   pub marked : s.slot s.root slot ≡ Marked pair
   pub full : IsFull g.places (look g s (g.key pair)) t
 
--- the root is copied to table t as far as its `done` says
+-- the chunks of the root are copied to table t that its `done` says
 pub record IsDoneTo {K P : Type 0} (g : Setting K P) (s : State P) (t : ℕ) : Type 0 where
   pub between : AllAborted (IsOn s.first s.next) s.aborted s.root t
-  pub settled : (x : ℕ) → x < s.done t → x < g.size s.root → IsSettled g s t (s.slot s.root x)
+  pub settled : (x : ℕ) → s.done t (g.chunk_of x) ≡ true → x < g.size s.root
+      → IsSettled g s t (s.slot s.root x)
 
 -- What is kept with blocking, m being the map.
 pub record IsBlockingState {K P : Type 0} (g : Setting K P) (s : State P)
@@ -96,7 +100,11 @@ pub record IsBlockingState {K P : Type 0} (g : Setting K P) (s : State P)
   pub fresh : (t x : ℕ) → s.was_root t ≡ false → plain (s.slot t x) ≡ true
   pub copied : (t x : ℕ) (p : P) → s.slot t x ≡ Copied p → ⊥
   pub given_up : (t : ℕ) → s.aborted t ≡ true → s.root < t → IsGivenUp g s t
-  pub done_to : (t : ℕ) → s.root < t → 0 < s.done t → IsDoneTo g s t
+  pub done_to : (t c : ℕ) → s.root < t → s.done t c ≡ true → IsDoneTo g s t
+  -- tables that were the root or were given up have a next one alone, and that has a word for each
+  -- chunk of the root whose copies go to it
+  pub linked_by : (t : ℕ) → 0 < s.next t → (s.was_root t ≡ true) ⊎ (s.aborted t ≡ true)
+  pub covered : (t n : ℕ) → s.was_root t ≡ true → IsTarget g s t n → Covers g t n
   pub class : (k : K) → IsBlockingClass (IsOn s.first s.next) s.was_root s.aborted s.root g.places
       (g.place k) (look g s k) (m k)
 

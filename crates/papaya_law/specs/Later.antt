@@ -1,5 +1,5 @@
 -- What no allowed exchange undoes, so that what a caller saw at an earlier moment still serves.
-use Rattle.std.specs.Prelude.{◌≡◌, ◌⊎◌, ℕ, ◌<◌, ◌≤◌, true}
+use Rattle.std.specs.Prelude.{◌≡◌, ◌⊎◌, ℕ, ◌<◌, true}
 use Rattle.papaya_law.specs.Exchange.{Word, Empty, Closed, Live, Marked, Copied, Buried, Setting, State}
 use Rattle.papaya_law.specs.View.{look, beyond, foreign, IsPassed, IsFull, HasWord, IsNextPlace, IsReached}
 use Rattle.papaya_law.specs.Copying.{IsTaker, IsTarget, IsCopied, IsSettled}
@@ -23,7 +23,7 @@ pub record IsLater {K P : Type 0} (g : Setting K P) (s s' : State P) : Type 0 wh
   pub was : (t : ℕ) → s.was_root t ≡ true → s'.was_root t ≡ true
   pub next : (t : ℕ) → 0 < s.next t → s'.next t ≡ s.next t
   pub aborted : (t : ℕ) → s.aborted t ≡ true → s'.aborted t ≡ true
-  pub done : (t : ℕ) → s.done t ≤ s'.done t
+  pub done : (t c : ℕ) → s.done t c ≡ true → s'.done t c ≡ true
   pub words : (t x : ℕ) → Becomes g (s.slot t x) (s'.slot t x)
 
 -- Each fact that a caller may have gathered by its loads, if it was so in s, is so in s'.

@@ -3,7 +3,8 @@ use Rattle.std.specs.Prelude.{◌≡◌, ◌⊎◌, ℕ, ◌<◌, ◌++◌, true
 use Rattle.papaya_law.specs.Exchange.{Setting, Exchange, Claim, Replace, Bury, State}
 use Rattle.papaya_law.specs.View.{Free, Here, Leaving, look, beyond, IsPassed, IsReached}
 
--- Equal keys have equal places, and a search looks within the table, at one place at least.
+-- Equal keys have equal places, a table has a slot, and a search looks within it, at one place at
+-- least.
 pub record IsLawful {K P : Type 0} (g : Setting K P) : Type 0 where
   pub itself : (k : K) → g.same k k ≡ true
   pub back : (k l : K) → g.same k l ≡ true → g.same l k ≡ true
@@ -11,6 +12,7 @@ pub record IsLawful {K P : Type 0} (g : Setting K P) : Type 0 where
   pub places_same : (k l : K) → g.same k l ≡ true → (t j : ℕ) → g.place k t j ≡ g.place l t j
   pub within : (k : K) (t j : ℕ) → j < g.places t → g.place k t j < g.size t
   pub some_place : (t : ℕ) → 0 < g.places t
+  pub some_slot : (t : ℕ) → 0 < g.size t
 
 -- the map after an exchange: which pair each key has
 abbrev pub map_after : {K P : Type 0} → Setting K P → (K → Option P) → Exchange P → K → Option P

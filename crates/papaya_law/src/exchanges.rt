@@ -6,7 +6,7 @@ ghost use Rattle.papaya_law.specs.ChainContent.{chain_content, joined};
 ghost use Rattle.papaya_law.specs.Code.{AreAlike, ChangesSlot, Coding, IsLawfulCoding, IsOfKind, code, kind};
 ghost use Rattle.papaya_law.specs.Hints.{IsHint, IsHintOf};
 ghost use Rattle.papaya_law.specs.Content.{AreApart, IsCountAfter, content, lookup, pairs_in};
-ghost use Rattle.papaya_law.specs.Copying.{IsPutting, IsSettled, IsTaker, IsTarget};
+ghost use Rattle.papaya_law.specs.Copying.{Covers, IsPutting, IsSettled, IsTaker, IsTarget};
 ghost use Rattle.papaya_law.specs.Example.{by_two, two_tables, of_one, three_tables};
 ghost use Rattle.papaya_law.specs.Exchange.{Empty, Marked, Exchange, Setting, State, Word, after, run, start, walk};
 ghost use Rattle.papaya_law.specs.Further.{IsLawfulKey, IsMapWith, IsMatchedAtMoment, coding_with, hash_with, same_with, with_key};
@@ -56,7 +56,8 @@ pub fn tables_come_later<K, P>()
     ensures keeps { (g g' : Setting K P) (s : State P) (m : K → Option P)
         → Agrees (IsOn s.first s.next) g g' → IsKeeping g s m → IsKeeping g' s m }
     ensures allows { (g g' : Setting K P) (s : State P) (m : K → Option P)
-        → Agrees (IsOn s.first s.next) g g' → IsKeeping g s m → (e : Exchange P) → Allows g s e
+        → Agrees (IsOn s.first s.next) g g' → IsKeeping g s m → (e : Exchange P)
+        → ((n : ℕ) → brings e n ≡ true → g'.chunks n ≡ g.chunks n) → Allows g s e
         → Allows g' s e }
     ensures reaches { (g g' : Setting K P) (s : State P) (m : K → Option P)
         → Agrees (IsOn s.first s.next) g g' → IsKeeping g s m → (k : K) (t : ℕ) → IsReached g s k t
@@ -76,10 +77,12 @@ pub fn tables_of_a_log<K, P>()
     ensures comes { (s : State P) (t : ℕ) → IsOn s.first s.next t → Comes s t }
     ensures brings { (s : State P) (e : Exchange P) (t : ℕ) → Comes (after s e) t
         → (brings e t ≡ true) ⊎ Comes s t }
-    ensures planned { (h : Plan K P) (s : State P) (size size' places places' : ℕ → ℕ)
+    ensures planned { (h : Plan K P) (s : State P)
+        (size size' places places' chunks chunks' : ℕ → ℕ)
         → ((t : ℕ) → IsOn s.first s.next t → size' t ≡ size t)
         → ((t : ℕ) → IsOn s.first s.next t → places' t ≡ places t)
-        → Agrees (IsOn s.first s.next) (planned h size places) (planned h size' places') }
+        → ((t : ℕ) → IsOn s.first s.next t → chunks' t ≡ chunks t) → Agrees (IsOn s.first s.next)
+        (planned h size places chunks) (planned h size' places' chunks') }
     ensures lawful { (h : Plan K P) → IsLawfulPlan h → (es : List (Entry P)) → AllSized es
         → IsLawful (setting_in h es) }
     ensures log { (h : Plan K P) (es : List (Entry P)) (e : Entry P) → IsLawful (setting_in h es)
@@ -182,6 +185,12 @@ pub fn copiers<K, P>()
         → s.slot t x ≡ Marked p → MayFinish g s t x p }
 {}
 
+/// A table to which one that was the root is copied has a word for each chunk of it.
+pub fn chunk_words<K, P>()
+    ensures { (g : Setting K P) (s : State P) (m : K → Option P) → IsKeeping g s m → (t n : ℕ)
+        → s.was_root t ≡ true → IsTarget g s t n → Covers g t n }
+{}
+
 /// What a root without a next table is, and where a search goes on once the slot was settled in
 /// which it met its key's pair leaving.
 pub fn after_copies<K, P>()
@@ -241,13 +250,14 @@ pub fn hints<K, P>()
 /// Keys that are looked for by their hash have a lawful plan, and a lawful plan gives lawful
 /// settings.
 pub fn plans_by_hash<K, P>()
-    ensures plan { (blocking : Bool) (key : P → K) (same : K → K → Bool) (hash : K → ℕ)
-        → ((k : K) → same k k ≡ true) → ((k l : K) → same k l ≡ true → same l k ≡ true)
+    ensures plan { (blocking : Bool) (chunk_of : ℕ → ℕ) (key : P → K) (same : K → K → Bool)
+        (hash : K → ℕ) → ((k : K) → same k k ≡ true) → ((k l : K) → same k l ≡ true → same l k ≡ true)
         → ((k l m : K) → same k l ≡ true → same l m ≡ true → same k m ≡ true)
         → ((k l : K) → same k l ≡ true → hash k ≡ hash l)
-        → IsLawfulPlan (hashed blocking key same hash) }
-    ensures setting { (h : Plan K P) → IsLawfulPlan h → (size places : ℕ → ℕ)
-        → ((t : ℕ) → 0 < size t) → ((t : ℕ) → 0 < places t) → IsLawful (planned h size places) }
+        → IsLawfulPlan (hashed blocking chunk_of key same hash) }
+    ensures setting { (h : Plan K P) → IsLawfulPlan h → (size places chunks : ℕ → ℕ)
+        → ((t : ℕ) → 0 < size t) → ((t : ℕ) → 0 < places t)
+        → IsLawful (planned h size places chunks) }
 {}
 
 /// Lookups by a borrowed form of a key, on every backend: by a `&str` where the keys are `String`s.
@@ -261,11 +271,11 @@ pub fn further_keys<K, P>()
     ensures lawful { (g : Setting K P) (c : Coding K P) → IsHashed g c → ((t : ℕ) → 0 < g.size t)
         → (matches : K → Bool) (hash : ℕ) → IsLawfulKey g c matches hash
         → IsHashed (with_key g matches hash) (coding_with c hash) }
-    ensures planned { (blocking : Bool) (key : P → K) (same : K → K → Bool) (hash_of : K → ℕ)
-        (size places : ℕ → ℕ) (matches : K → Bool) (hash : ℕ)
-        → with_key (planned (hashed blocking key same hash_of) size places) matches hash ≡ planned
-        (hashed blocking (λ p. Some (key p)) (same_with same matches) (hash_with hash_of hash)) size
-        places }
+    ensures planned { (blocking : Bool) (chunk_of : ℕ → ℕ) (key : P → K) (same : K → K → Bool)
+        (hash_of : K → ℕ) (size places chunks : ℕ → ℕ) (matches : K → Bool) (hash : ℕ) → with_key
+        (planned (hashed blocking chunk_of key same hash_of) size places chunks) matches hash
+        ≡ planned (hashed blocking chunk_of (λ p. Some (key p)) (same_with same matches)
+        (hash_with hash_of hash)) size places chunks }
     ensures agrees { (g g' : Setting K P) (s : State P) → Agrees (IsOn s.first s.next) g g'
         → (matches : K → Bool) (hash : ℕ) → Agrees (IsOn s.first s.next) (with_key g matches hash)
         (with_key g' matches hash) }

@@ -37,7 +37,7 @@ use Rattle.papaya_law.proofs.CopierFacts.{taker_on}
 use Rattle.papaya_law.proofs.OneMap.{keeping_sound}
 use Rattle.papaya_law.proofs.Later.{later_itself}
 use Rattle.papaya_rests.specs.Copier.{IsCarrying, IsFor, RestsCarried, RestsCarry, RestsLinked, carried_to, told_last}
-use Rattle.papaya_rests.specs.Rests.{IsModeOf}
+use Rattle.papaya_rests.specs.Rests.{IsCutAs, IsModeOf}
 use Rattle.papaya_rests.specs.Told.{or_last, word_of}
 use Rattle.papaya_rests.proofs.CopierExchange.{aborted_some}
 use Rattle.papaya_rests.proofs.CopierLinks.{link_counted, link_found, link_made, link_refused, link_sized, made_follows, sized_follows}
@@ -49,43 +49,49 @@ above n e = ⊎_elim (λ (lt : 0 < n). lt) (λ (le : n ≤ 0). let z : n ≡ 0 =
 
 -- what makes a table loads nothing
 pub no_load : (link : Link) (at : At) → link_ask link ≡ Load at → ⊥
-no_load (links.Sizing behind unfit) at e = cc e
-no_load (links.Counting behind unfit len) at e = cc e
-no_load (links.Making behind len limit) at e = cc e
-no_load (links.Linking behind table) at e = cc e
+no_load (links.Sizing behind copied unfit) at e = cc e
+no_load (links.Measuring behind copied unfit len) at e = cc e
+no_load (links.Counting behind unfit len copied) at e = cc e
+no_load (links.Making behind len limit chunks) at e = cc e
+no_load (links.Linking behind table chunks) at e = cc e
 
 -- what it exchanges is a next table
 pub links_next : (link : Link) (at : At) (old new : ℕ) → link_ask link ≡ Ask_exchange at old new → (t : ℕ) × (at ≡ Next t)
-links_next (links.Sizing behind unfit) at old new e = absurd cc
-links_next (links.Counting behind unfit len) at old new e = absurd cc
-links_next (links.Making behind len limit) at old new e = absurd cc
-links_next (links.Linking behind table) at old new e = (behind, cc e)
+links_next (links.Sizing behind copied unfit) at old new e = absurd cc
+links_next (links.Measuring behind copied unfit len) at old new e = absurd cc
+links_next (links.Counting behind unfit len copied) at old new e = absurd cc
+links_next (links.Making behind len limit chunks) at old new e = absurd cc
+links_next (links.Linking behind table chunks) at old new e = (behind, cc e)
 
 -- it hashes and compares nothing
 pub no_hash : (link : Link) (n : ℕ) → link_ask link ≡ HashOf n → ⊥
-no_hash (links.Sizing behind unfit) n e = cc e
-no_hash (links.Counting behind unfit len) n e = cc e
-no_hash (links.Making behind len limit) n e = cc e
-no_hash (links.Linking behind table) n e = cc e
+no_hash (links.Sizing behind copied unfit) n e = cc e
+no_hash (links.Measuring behind copied unfit len) n e = cc e
+no_hash (links.Counting behind unfit len copied) n e = cc e
+no_hash (links.Making behind len limit chunks) n e = cc e
+no_hash (links.Linking behind table chunks) n e = cc e
 
 -- nor does it load or write a hint
 pub no_hint : (link : Link) (t x : ℕ) → link_ask link ≡ LoadHint t x → ⊥
-no_hint (links.Sizing behind unfit) t x e = cc e
-no_hint (links.Counting behind unfit len) t x e = cc e
-no_hint (links.Making behind len limit) t x e = cc e
-no_hint (links.Linking behind table) t x e = cc e
+no_hint (links.Sizing behind copied unfit) t x e = cc e
+no_hint (links.Measuring behind copied unfit len) t x e = cc e
+no_hint (links.Counting behind unfit len copied) t x e = cc e
+no_hint (links.Making behind len limit chunks) t x e = cc e
+no_hint (links.Linking behind table chunks) t x e = cc e
 
 pub no_note : (link : Link) (t x n : ℕ) → link_ask link ≡ WriteHint t x n → ⊥
-no_note (links.Sizing behind unfit) t x n e = cc e
-no_note (links.Counting behind unfit len) t x n e = cc e
-no_note (links.Making behind len limit) t x n e = cc e
-no_note (links.Linking behind table) t x n e = cc e
+no_note (links.Sizing behind copied unfit) t x n e = cc e
+no_note (links.Measuring behind copied unfit len) t x n e = cc e
+no_note (links.Counting behind unfit len copied) t x n e = cc e
+no_note (links.Making behind len limit chunks) t x n e = cc e
+no_note (links.Linking behind table chunks) t x n e = cc e
 
 pub no_same : (link : Link) (i n : ℕ) → link_ask link ≡ SamePair i n → ⊥
-no_same (links.Sizing behind unfit) i n e = cc e
-no_same (links.Counting behind unfit len) i n e = cc e
-no_same (links.Making behind len limit) i n e = cc e
-no_same (links.Linking behind table) i n e = cc e
+no_same (links.Sizing behind copied unfit) i n e = cc e
+no_same (links.Measuring behind copied unfit len) i n e = cc e
+no_same (links.Counting behind unfit len copied) i n e = cc e
+no_same (links.Making behind len limit chunks) i n e = cc e
+no_same (links.Linking behind table chunks) i n e = cc e
 
 module _ {K P : Type 0} (g : Setting K P) (c : Coding K P) (hashed : IsHashed g c) (s : State P) (m : K → Option P) (keeps : IsKeeping g s m) (mode : ResizeMode) (moded : IsModeOf mode g.blocking) (kept : Option P) (slot : Slot) (word : ℕ) (p : P) (marked : word ≡ code g c (Marked p)) (on : IsOn s.first s.next slot.from) where
   -- a table that takes the pair is on the chain
@@ -215,8 +221,8 @@ module _ {K P : Type 0} (g : Setting K P) (c : Coding K P) (hashed : IsHashed g 
     carry_loaded (carries.Passing hash table) here r at e =
         let is : Next table ≡ at = cc e in
         subst (λ a. RestsCarried g c s (told_last s a last) kept slot word (at_word (carries.Passing hash table) mode (word_of g c s a))) is
-        (cond_both (s.next table == 0) (carries.Linking hash (links.Sizing table true)) (carries.Sizing hash (s.next table)) (λ y. RestsCarried g c s last kept slot word (carried.On y))
-        (λ none. record { pair = p; marked = marked; here = here; rests = (r.0, r.1, r.2, r.3, record { on = takes_on table (g.places table) r.3; rises = tt }) })
+        (cond_both (s.next table == 0) (carries.Linking hash (links.Sizing table table true)) (carries.Sizing hash (s.next table)) (λ y. RestsCarried g c s last kept slot word (carried.On y))
+        (λ none. record { pair = p; marked = marked; here = here; rests = (r.0, r.1, r.2, r.3, record { on = takes_on table (g.places table) r.3; rises = tt; from = table; linking = inl (refl, λ b. absurd (let i = r.0 in cc (b, i))); measures = refl }) })
         (λ some. passes_to last hash table r.0 r.1 r.2 r.3 (s.next table) refl (above (s.next table) some)))
     carry_loaded (carries.Linking hash link) here r at e = absurd (no_load link at e)
     carry_loaded (carries.Aborting table) here r at e = absurd cc
@@ -305,7 +311,7 @@ module _ {K P : Type 0} (g : Setting K P) (c : Coding K P) (hashed : IsHashed g 
       pair = p;
       marked = marked;
       here = λ b. absurd (let i = r.0 in cc (b, i));
-      rests = (r.0, r.1, r.2, subst (λ n. IsPutting g s slot.from slot.index p n (g.places n)) (sym (sized_follows g c s last kept link (g.size t))) r.3, link_sized g c s last kept link r.4 (g.size t));
+      rests = (r.0, r.1, r.2, subst (λ n. IsPutting g s slot.from slot.index p n (g.places n)) (sym (sized_follows g c s last kept link (g.size t))) r.3, link_sized g c s last kept link r.4 t e);
     }
     carry_sized (carries.Aborting table) here r t limit e most = absurd cc
 
@@ -366,17 +372,17 @@ module _ {K P : Type 0} (g : Setting K P) (c : Coding K P) (hashed : IsHashed g 
         (here r.0, r.0, gone)
 
     -- a table is made
-    pub carry_counted : (carry : Carry) → (g.blocking ≡ true → carried_to carry ≡ slot.to) → RestsCarry g c s last kept slot p carry → (count initial : ℕ) → RestsCarried g c s last kept slot word (at_count carry count initial)
-    carry_counted (carries.Linking hash link) here r count initial = leads_on last hash (follows link) r.0 r.1 r.2 r.3 (link_at_count link count initial) (link_counted g c s last kept link r.4 count initial)
-    carry_counted (carries.Hashing table) here r count initial = record { pair = p; marked = marked; here = here; rests = r }
-    carry_counted (carries.Sizing hash table) here r count initial = record { pair = p; marked = marked; here = here; rests = r }
-    carry_counted (carries.Looking hash place) here r count initial = record { pair = p; marked = marked; here = here; rests = r }
-    carry_counted (carries.Reading hash place) here r count initial = record { pair = p; marked = marked; here = here; rests = r }
-    carry_counted (carries.Comparing hash place found) here r count initial = record { pair = p; marked = marked; here = here; rests = r }
-    carry_counted (carries.Placing hash place) here r count initial = record { pair = p; marked = marked; here = here; rests = r }
-    carry_counted (carries.Placed hash place) here r count initial = record { pair = p; marked = marked; here = here; rests = r }
-    carry_counted (carries.Passing hash table) here r count initial = record { pair = p; marked = marked; here = here; rests = r }
-    carry_counted (carries.Aborting table) here r count initial = record { pair = p; marked = marked; here = here; rests = r }
+    pub carry_counted : IsCutAs mode g.chunk_of → (carry : Carry) → (g.blocking ≡ true → carried_to carry ≡ slot.to) → RestsCarry g c s last kept slot p carry → (count initial : ℕ) → RestsCarried g c s last kept slot word (at_count carry mode count initial)
+    carry_counted cut (carries.Linking hash link) here r count initial = leads_on last hash (follows link) r.0 r.1 r.2 r.3 (link_at_count link mode count initial) (link_counted g c s last kept mode cut link r.4 count initial)
+    carry_counted cut (carries.Hashing table) here r count initial = record { pair = p; marked = marked; here = here; rests = r }
+    carry_counted cut (carries.Sizing hash table) here r count initial = record { pair = p; marked = marked; here = here; rests = r }
+    carry_counted cut (carries.Looking hash place) here r count initial = record { pair = p; marked = marked; here = here; rests = r }
+    carry_counted cut (carries.Reading hash place) here r count initial = record { pair = p; marked = marked; here = here; rests = r }
+    carry_counted cut (carries.Comparing hash place found) here r count initial = record { pair = p; marked = marked; here = here; rests = r }
+    carry_counted cut (carries.Placing hash place) here r count initial = record { pair = p; marked = marked; here = here; rests = r }
+    carry_counted cut (carries.Placed hash place) here r count initial = record { pair = p; marked = marked; here = here; rests = r }
+    carry_counted cut (carries.Passing hash table) here r count initial = record { pair = p; marked = marked; here = here; rests = r }
+    carry_counted cut (carries.Aborting table) here r count initial = record { pair = p; marked = marked; here = here; rests = r }
 
     pub carry_made : (carry : Carry) → (g.blocking ≡ true → carried_to carry ≡ slot.to) → RestsCarry g c s last kept slot p carry → (n : ℕ) → carry_follows carry < n → IsCarrying g c s last kept slot word (at_made carry n)
     carry_made (carries.Linking hash link) here r n more = record {

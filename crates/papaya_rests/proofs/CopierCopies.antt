@@ -22,14 +22,14 @@ use Rattle.papaya_copy.specs.declared.settle.Settle.TheVariants as settles
 use Rattle.papaya_copy.specs.declared.settle.Settled.{Settled}
 use Rattle.papaya_copy.specs.declared.settle.Settled.TheVariants as settled
 use Rattle.papaya_copy.specs.declared.settle.Slot.{Slot}
+use Rattle.papaya_copy.specs.declared.step.Chunk.{Chunk}
 use Rattle.papaya_copy.specs.declared.step.Step.{Step}
 use Rattle.papaya_copy.specs.declared.step.Step.TheVariants as steps
 use Rattle.papaya_copy.specs.declared.step.Stepped.{Stepped}
 use Rattle.papaya_copy.specs.declared.step.Stepped.TheVariants as stepped
 use Rattle.papaya_copy.specs.Carry.{carry_ask}
-use Rattle.papaya_copy.specs.Copying.{all_of, at_count, at_exchanged, at_found, at_hash, at_made, at_ok, at_refused, at_root, at_size, at_word, at_yes, copying_ask, copying_follows, copying_kind, last as last_of, leads, lone, over}
+use Rattle.papaya_copy.specs.Copying.{all_of, at_count, at_exchanged, at_found, at_hash, at_made, at_ok, at_refused, at_root, at_size, at_word, at_yes, copying_ask, copying_follows, copying_kind, last as last_of, further, leads, lone, over}
 use Rattle.papaya_copy.specs.Link.{link_ask}
-use Rattle.papaya_words.specs.Mode.{IsChunked}
 use Rattle.papaya_copy.specs.Settle.{settle_ask, at_count as settle_at_count, at_exchanged as settle_at_exchanged, at_found as settle_at_found, at_ok as settle_at_ok, at_refused as settle_at_refused, at_word as settle_at_word, at_yes as settle_at_yes}
 use Rattle.papaya_copy.specs.Step.{slot_of, step_ask, at_count as step_at_count, at_exchanged as step_at_exchanged, at_found as step_at_found, at_ok as step_at_ok, at_refused as step_at_refused, at_word as step_at_word, at_yes as step_at_yes}
 use Rattle.papaya_law.specs.Allows.{Allows}
@@ -40,15 +40,16 @@ use Rattle.papaya_law.specs.Exchange.{Marked, Setting, State, Exchange, after}
 use Rattle.papaya_law.specs.Hints.{IsHint}
 use Rattle.papaya_law.specs.Invariant.{IsKeeping}
 use Rattle.papaya_law.specs.Meaning.{map_after}
+use Rattle.papaya_law.proofs.Base.{linking_on}
 use Rattle.papaya_law.proofs.Codes.{code_pair}
 use Rattle.papaya_law.proofs.CopierFacts.{last_root, taker_on, target_on}
 use Rattle.papaya_law.proofs.OneMap.{keeping_sound}
-use Rattle.papaya_rests.specs.Copier.{AreThere, IsCopyAsked, IsFor, IsMoving, IsStillAimed, RestsAim, RestsCarry, RestsCopied, RestsCopying, RestsLink, RestsSettle, RestsSettled, RestsStep, RestsStepped, aim_of, last_after, told_last}
-use Rattle.papaya_rests.specs.Rests.{IsModeOf}
+use Rattle.papaya_rests.specs.Copier.{AreThere, IsChunk, IsCopyAsked, IsFor, IsMoving, IsStillAimed, RestsAim, RestsCarry, RestsCopied, RestsCopying, RestsLink, RestsSettle, RestsSettled, RestsStep, RestsStepped, aim_of, last_after, told_last}
+use Rattle.papaya_rests.specs.Rests.{IsCutAs, IsModeOf}
 use Rattle.papaya_rests.specs.Told.{word_of}
 use Rattle.papaya_rests.proofs.CopierCarries.{above}
 use Rattle.papaya_rests.proofs.CopierExchange.{IsKnown, carried_number, moving_known}
-use Rattle.papaya_rests.proofs.CopierMay.{root_on}
+use Rattle.papaya_rests.proofs.CopierMay.{root_on, scan_word}
 use Rattle.papaya_rests.proofs.CopierSettles.{keeps', later, settle_compared, settle_counted, settle_found, settle_hashed, settle_hinted, settle_loaded, settle_made, settle_noted, settle_refused, settle_sized, still_on, zero_next}
 use Rattle.papaya_rests.proofs.CopierSettlesMade.{settle_exchanged}
 use Rattle.papaya_rests.proofs.CopierStays.{moving_stays}
@@ -68,6 +69,13 @@ module _ {K P : Type 0} (g : Setting K P) (c : Coding K P) (s : State P) (m : K 
   over_on (aims.Settle slot) r = (refl, (r, tt))
   over_on aims.Chunk r = refl
   over_on (aims.All met) r = ((met, refl), (tt, tt))
+
+  -- a chunk was copied, and this one was not yet
+  further_on : (aim : Aim) → RestsAim g c s last kept aim → (chunk : Chunk) → IsChunk g c s chunk → RestsCopied g c s last kept aim (further aim chunk)
+  further_on (aims.Search table) r chunk h = refl
+  further_on (aims.Settle slot) r chunk h = (refl, (r, tt))
+  further_on aims.Chunk r chunk h = refl
+  further_on (aims.All met) r chunk h = ((met, refl), (tt, (h, tt)))
 
   -- the root has no next table, so it is the root still
   last_on : (aim : Aim) → RestsAim g c s last kept aim → (t : ℕ) → s.was_root t ≡ true → s.next t ≡ 0 → RestsCopied g c s last kept aim (last_of aim t)
@@ -107,6 +115,7 @@ module _ {K P : Type 0} (g : Setting K P) (c : Coding K P) (s : State P) (m : K 
   leads_to how aim r (stepped.On step) h = (same_aim aim, (r, h))
   leads_to how aim r (stepped.Root t) h = root_on_to how aim r t h
   leads_to how aim r (stepped.Last t) h = last_on aim r t h.0 h.1
+  leads_to how aim r (stepped.Further chunk) h = further_on aim r chunk h
   leads_to how aim r stepped.Over h = over_on aim r
   leads_to how aim r (stepped.Refused refused) h = tt
 
@@ -122,15 +131,15 @@ module _ {K P : Type 0} (g : Setting K P) (c : Coding K P) (hashed : IsHashed g 
   known : (slot : Slot) → IsMoving g c s slot → IsKnown g c hashed s m keeps slot
   known slot r = moving_known g c hashed s m keeps slot r
 
-  pub copying_loaded : IsChunked mode → (copying : Copying) → RestsCopying g c s last kept copying → (at : At) → copying_ask copying ≡ Load at → RestsCopied g c s (told_last s at last) kept (aim_of copying) (at_word copying mode (word_of g c s at))
-  copying_loaded chunked (copyings.Stepping aim step) r at e = leads_to g c s m keeps (told_last s at last) kept mode aim (same_rests aim r.0) (step_at_word step mode (word_of g c s at)) (step_loaded g c hashed s m keeps mode moded last kept chunked step r.1 at e)
+  pub copying_loaded : (copying : Copying) → RestsCopying g c s last kept copying → (at : At) → copying_ask copying ≡ Load at → RestsCopied g c s (told_last s at last) kept (aim_of copying) (at_word copying mode (word_of g c s at))
+  copying_loaded (copyings.Stepping aim step) r at e = leads_to g c s m keeps (told_last s at last) kept mode aim (same_rests aim r.0) (step_at_word step mode (word_of g c s at)) (step_loaded g c hashed s m keeps mode moded last kept step r.1 at e)
     where
       same_rests : (aim : Aim) → RestsAim g c s last kept aim → RestsAim g c s (told_last s at last) kept aim
       same_rests (aims.Search table) r = tt
       same_rests (aims.Settle slot) r = r
       same_rests aims.Chunk r = tt
       same_rests (aims.All met) r = tt
-  copying_loaded chunked (copyings.Lone slot settle) r at e = lone_on g c s m keeps (told_last s at last) kept slot r.0 (settle_at_word settle slot mode (word_of g c s at)) (settle_loaded g c hashed s m keeps mode moded slot (known slot r.0) last kept settle r.1 at e)
+  copying_loaded (copyings.Lone slot settle) r at e = lone_on g c s m keeps (told_last s at last) kept slot r.0 (settle_at_word settle slot mode (word_of g c s at)) (settle_loaded g c hashed s m keeps mode moded slot (known slot r.0) last kept settle r.1 at e)
 
   pub copying_hinted : (copying : Copying) → RestsCopying g c s last kept copying → (t x : ℕ) → copying_ask copying ≡ LoadHint t x → (n : ℕ) → IsHint g c s t x n → RestsCopied g c s last kept (aim_of copying) (at_word copying mode n)
   copying_hinted (copyings.Stepping aim step) r t x e n is = leads_to g c s m keeps last kept mode aim r.0 (step_at_word step mode n) (step_hinted g c hashed s m keeps mode moded last kept step r.1 t x e n is)
@@ -155,9 +164,10 @@ module _ {K P : Type 0} (g : Setting K P) (c : Coding K P) (hashed : IsHashed g 
       same_rests (aims.All met) r = tt
   copying_hashed (copyings.Lone slot settle) r n e q told = (refl, (r.0, settle_hashed g c hashed s m keeps mode moded slot (known slot r.0) last kept settle r.1 n e q told))
 
-  pub copying_sized : (copying : Copying) → RestsCopying g c s last kept copying → (t limit : ℕ) → copying_ask copying ≡ SizeOf t → limit + 1 ≡ g.places t → (aim_of (at_size copying (g.size t) limit) ≡ aim_of copying) × RestsCopying g c s last kept (at_size copying (g.size t) limit)
-  copying_sized (copyings.Stepping aim step) r t limit e most = (refl, (r.0, step_sized g c hashed s m keeps mode moded last kept step r.1 t limit e most))
-  copying_sized (copyings.Lone slot settle) r t limit e most = (refl, (r.0, settle_sized g c hashed s m keeps mode moded slot (known slot r.0) last kept settle r.1 t limit e most))
+  pub copying_sized : IsCutAs mode g.chunk_of → (number : ℕ) → (copying : Copying) → RestsCopying g c s last kept copying → (t limit : ℕ) → copying_ask copying ≡ SizeOf t → limit + 1 ≡ g.places t
+      → (aim_of (at_size copying mode number (g.size t) limit) ≡ aim_of copying) × RestsCopying g c s last kept (at_size copying mode number (g.size t) limit)
+  copying_sized cut number (copyings.Stepping aim step) r t limit e most = (refl, (r.0, step_sized g c hashed s m keeps mode moded last kept cut number step r.1 t limit e most))
+  copying_sized cut number (copyings.Lone slot settle) r t limit e most = (refl, (r.0, settle_sized g c hashed s m keeps mode moded slot (known slot r.0) last kept settle r.1 t limit e most))
 
   pub copying_compared : (copying : Copying) → RestsCopying g c s last kept copying → (i n : ℕ) → copying_ask copying ≡ SamePair i n → (o q : P) → kept ≡ Some o → last ≡ Some q → RestsCopied g c s last kept (aim_of copying) (at_yes copying mode (g.same (g.key o) (g.key q)))
   copying_compared (copyings.Stepping aim step) r i n e o q k told = leads_to g c s m keeps last kept mode aim r.0 (step_at_yes step mode (g.same (g.key o) (g.key q))) (step_compared g c hashed s m keeps mode moded last kept step r.1 i n e o q k told)
@@ -174,9 +184,9 @@ module _ {K P : Type 0} (g : Setting K P) (c : Coding K P) (hashed : IsHashed g 
       same_rests (aims.All met) r = tt
   copying_found (copyings.Lone slot settle) r at old new e other = lone_on g c s m keeps (told_last s at last) kept slot r.0 (settle_at_found settle slot mode (word_of g c s at)) (settle_found g c hashed s m keeps mode moded slot (known slot r.0) last kept settle r.1 at old new e other)
 
-  pub copying_counted : (copying : Copying) → RestsCopying g c s last kept copying → (count initial : ℕ) → RestsCopied g c s last kept (aim_of copying) (at_count copying mode count initial)
-  copying_counted (copyings.Stepping aim step) r count initial = leads_to g c s m keeps last kept mode aim r.0 (step_at_count step mode count initial) (step_counted g c hashed s m keeps mode moded last kept step r.1 count initial)
-  copying_counted (copyings.Lone slot settle) r count initial = lone_on g c s m keeps last kept slot r.0 (settle_at_count settle mode count initial) (settle_counted g c hashed s m keeps mode moded slot (known slot r.0) last kept settle r.1 count initial)
+  pub copying_counted : IsCutAs mode g.chunk_of → (copying : Copying) → RestsCopying g c s last kept copying → (count initial : ℕ) → RestsCopied g c s last kept (aim_of copying) (at_count copying mode count initial)
+  copying_counted cut (copyings.Stepping aim step) r count initial = leads_to g c s m keeps last kept mode aim r.0 (step_at_count step mode count initial) (step_counted g c hashed s m keeps mode moded last kept cut step r.1 count initial)
+  copying_counted cut (copyings.Lone slot settle) r count initial = lone_on g c s m keeps last kept slot r.0 (settle_at_count settle mode count initial) (settle_counted g c hashed s m keeps mode moded slot (known slot r.0) last kept cut settle r.1 count initial)
 
   pub copying_made : (copying : Copying) → RestsCopying g c s last kept copying → (n : ℕ) → copying_follows copying < n → (aim_of (at_made copying n) ≡ aim_of copying) × RestsCopying g c s last kept (at_made copying n)
   copying_made (copyings.Stepping aim step) r n more = (refl, (r.0, step_made g c hashed s m keeps mode moded last kept step r.1 n more))
@@ -206,10 +216,11 @@ module _ {K P : Type 0} (g : Setting K P) (c : Coding K P) (hashed : IsHashed g 
 module _ {K P : Type 0} (g : Setting K P) (c : Coding K P) (hashed : IsHashed g c) (s : State P) (m : K → Option P) (keeps : IsKeeping g s m) (last kept : Option P) where
   -- what the making of a table names
   pub link_there : (link : Link) → RestsLink g c s link → AreThere g c s last kept (link_ask link)
-  link_there (links.Sizing behind unfit) r = r.on
-  link_there (links.Counting behind unfit len) r = tt
-  link_there (links.Making behind len limit) r = tt
-  link_there (links.Linking behind table) r = r.on
+  link_there (links.Sizing behind copied unfit) r = r.on
+  link_there (links.Measuring behind copied unfit len) r = subst (IsOn s.first s.next) (sym r.measures) (linking_on g s (keeping_sound g s m keeps) r.from behind r.on r.linking)
+  link_there (links.Counting behind unfit len copied) r = tt
+  link_there (links.Making behind len limit chunks) r = tt
+  link_there (links.Linking behind table chunks) r = r.on
 
   module _ (slot : Slot) (on : IsOn s.first s.next slot.from) (word : ℕ) (p : P) (marked : word ≡ code g c (Marked p)) where
     -- a table that takes the pair is on the chain
@@ -252,9 +263,9 @@ module _ {K P : Type 0} (g : Setting K P) (c : Coding K P) (hashed : IsHashed g 
   step_there (steps.Linking from link) r = link_there link r.2
   step_there (steps.Judging from to) r = to_on from to r.1.was r.1.target
   step_there (steps.Sizing from to) r = root_on g c s m keeps from r.was
-  step_there (steps.Counting from to len) r = to_on from to r.0.was r.0.target
-  step_there (steps.Settling chunk settle) r = settle_there (slot_of chunk) (known_slot g c hashed s m keeps chunk r.0 r.2) settle r.3
-  step_there (steps.Advancing chunk) r = to_on chunk.from chunk.to r.source.was r.source.target
+  step_there (steps.Scanning scan) r = (to_on scan.from scan.to r.source.was r.source.target, scan_word g c s m keeps scan r)
+  step_there (steps.Settling chunk settle) r = settle_there (slot_of chunk) (known_slot g c hashed s m keeps chunk r.0) settle r.1
+  step_there (steps.Advancing scan) r = (to_on scan.from scan.to r.scanned.source.was r.scanned.source.target, scan_word g c s m keeps scan r.scanned)
   step_there (steps.Promoting from to) r = tt
 
   pub copying_there : (copying : Copying) → RestsCopying g c s last kept copying → AreThere g c s last kept (copying_ask copying)

@@ -1,6 +1,8 @@
 -- What a copier asks for is allowed where its old word stands, and what it may count on after each answer.
 use Rattle.std.proofs.Common.{◌≡◌, inl, ⊎_elim, ℕ, suc, ◌<◌, ◌≤◌, true, false, Option, ap, ◌∙◌, sym, subst, arith}
 use Rattle.std.proofs.lemmas.Bool.{cases_lt}
+use Rattle.papaya_words.proofs.ChunkLemmas.{chunk_first}
+use Rattle.papaya_words.specs.Chunks.{chunk_of}
 use Rattle.papaya_law.specs.Allows.{Allows}
 use Rattle.papaya_law.specs.Class.{IsOn}
 use Rattle.papaya_law.specs.Code.{Coding}
@@ -9,15 +11,15 @@ use Rattle.papaya_law.specs.Exchange.{Empty, Live, Marked, Setting, State, Link,
 use Rattle.papaya_law.specs.Invariant.{IsKeeping}
 use Rattle.papaya_law.specs.Meaning.{IsLawful}
 use Rattle.papaya_law.specs.View.{look, view, own, foreign, HasWord}
-use Rattle.papaya_rests.specs.Copier.{HasCarried, HasCompared, IsChunk, IsFor, IsSource, RestsCarry, RestsLink}
+use Rattle.papaya_rests.specs.Copier.{HasCarried, HasCompared, IsAllDone, IsFor, IsScan, IsSettledChunk, IsSource, RestsCarry, RestsLink}
 use Rattle.papaya_copy.specs.declared.carry.Carry.TheVariants as carries
-use Rattle.papaya_copy.specs.declared.step.Chunk.{Chunk}
+use Rattle.papaya_copy.specs.declared.step.Scan.{Scan}
 use Rattle.papaya_copy.specs.declared.link.Link.TheVariants as links
 use Rattle.papaya_ask.specs.declared.search.Place.{Place}
 use Rattle.papaya_copy.specs.declared.settle.Slot.{Slot}
 use Rattle.papaya_law.proofs.CopierFacts.{compared_foreign, compared_own, target_further}
 use Rattle.papaya_law.proofs.Copies.{may_abort, may_place, put_next, target_takes}
-use Rattle.papaya_law.proofs.OneMap.{keeping_sound}
+use Rattle.papaya_law.proofs.OneMap.{covered, keeping_sound}
 
 module _ {K P : Type 0} (g : Setting K P) (c : Coding K P) (s : State P) (m : K → Option P) (keeps : IsKeeping g s m) where
   -- a table that was the root is on the chain
@@ -34,20 +36,33 @@ module _ {K P : Type 0} (g : Setting K P) (c : Coding K P) (s : State P) (m : K 
   pub marks : (from n x : ℕ) (p : P) → IsSource g c s from n → s.slot from x ≡ Live p → Allows g s (Mark from x p)
   marks from n x p r e = record { live = e; was = r.was; further = further from n r }
 
-  pub links_on : (behind table : ℕ) → RestsLink g c s (links.Linking behind table) → s.next behind ≡ 0 → Allows g s (Link behind table)
-  links_on behind table r e = (e, r.on.0, r.rises)
-
-  pub advances : (chunk : Chunk) → IsChunk g c s chunk chunk.end → s.done chunk.to ≡ chunk.begun → Allows g s (Advance chunk.to chunk.begun chunk.end)
-  advances chunk r e = record {
-    done = e;
-    more = r.some;
-    from = chunk.from;
-    target = r.source.target;
-    within = subst (λ y. chunk.end ≤ y) r.len r.within;
-    settled = r.settled;
+  pub links_on : (behind table chunks : ℕ) → RestsLink g c s (links.Linking behind table chunks) → chunks ≤ g.chunks table → s.next behind ≡ 0 → Allows g s (Link behind table)
+  links_on behind table chunks r words e = record {
+    last = e;
+    on = r.on;
+    rises = r.rises;
+    from = r.from;
+    linking = r.linking;
+    covers = λ x lt. let within : g.chunk_of x < chunks = r.measures x lt in omega (arith, within, words);
   }
 
-  pub promotes : (from to : ℕ) → IsSource g c s from to → g.size from ≤ s.done to → s.root ≡ from → Allows g s (Promote from to)
+  -- the chunk whose word is loaded has a slot
+  pub scan_slot : (scan : Scan) → IsScan g c s scan → (scan.begun < g.size scan.from) × (g.chunk_of scan.begun ≡ scan.at)
+  scan_slot scan r = (
+    subst (λ y. scan.begun < y) r.len r.within,
+    r.cut scan.begun ∙ (ap (chunk_of scan.slots) r.begun ∙ chunk_first scan.slots r.some scan.at),
+  )
+
+  -- so its table has a word for it
+  pub scan_word : (scan : Scan) → IsScan g c s scan → scan.at < g.chunks scan.to
+  scan_word scan r = let slot = scan_slot scan r in subst (λ y. y < g.chunks scan.to) slot.1 (covered g s m keeps scan.from scan.to r.source.was r.source.target scan.begun slot.0)
+
+  pub advances : (scan : Scan) → IsSettledChunk g c s scan → s.done scan.to scan.at ≡ false → Allows g s (Advance scan.to scan.at)
+  advances scan r e =
+      let slot = scan_slot scan r.scanned in
+      record { done = e; from = scan.from; target = r.scanned.source.target; slot = scan.begun; within = slot.0; in_chunk = slot.1; settled = r.settled }
+
+  pub promotes : (from to : ℕ) → IsSource g c s from to → IsAllDone g c s from to → s.root ≡ from → Allows g s (Promote from to)
   promotes from to r whole e = record { root = e; made = (root_on from r.was).0; target = r.target; whole = whole }
 
   -- the word that stands is the marked one of the pair that was carried

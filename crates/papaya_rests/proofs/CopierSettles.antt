@@ -40,7 +40,7 @@ use Rattle.papaya_law.proofs.Later.{later_step}
 use Rattle.papaya_law.proofs.OneMap.{keeping_sound, step_keeps}
 use Rattle.papaya_law.proofs.Slots.{put_there}
 use Rattle.papaya_rests.specs.Copier.{IsCarrying, IsCopyAsked, RestsCarried, RestsCarry, RestsSettle, RestsSettled, carried_to, last_after, told_last}
-use Rattle.papaya_rests.specs.Rests.{IsModeOf}
+use Rattle.papaya_rests.specs.Rests.{IsCutAs, IsModeOf}
 use Rattle.papaya_rests.specs.Told.{or_last, word_of}
 use Rattle.papaya_rests.proofs.CopierCarries.{carry_compared, carry_counted, carry_found, carry_hashed, carry_hinted, carry_loaded, carry_made, carry_noted, carry_refused, carry_sized, leads_on}
 use Rattle.papaya_rests.proofs.CopierExchange.{IsKnown, put_here}
@@ -50,10 +50,11 @@ use Rattle.papaya_rests.proofs.CopierStays.{carry_stays}
 
 -- an exchange of a next table tells of no pair
 pub link_last : {K P : Type 0} → (c : Coding K P) (s : State P) (last kept : Option P) (link : Link) (at : At) (old new : ℕ) → link_ask link ≡ Ask_exchange at old new → (e : Exchange P) → IsCopyAsked c (link_kind link) at new s kept e → last_after e last ≡ last
-link_last c s last kept (links.Sizing behind unfit) at old new q e asked = absurd cc
-link_last c s last kept (links.Counting behind unfit len) at old new q e asked = absurd cc
-link_last c s last kept (links.Making behind len limit) at old new q e asked = absurd cc
-link_last c s last kept (links.Linking behind table) at old new q e asked =
+link_last c s last kept (links.Sizing behind copied unfit) at old new q e asked = absurd cc
+link_last c s last kept (links.Measuring behind copied unfit len) at old new q e asked = absurd cc
+link_last c s last kept (links.Counting behind unfit len copied) at old new q e asked = absurd cc
+link_last c s last kept (links.Making behind len limit chunks) at old new q e asked = absurd cc
+link_last c s last kept (links.Linking behind table chunks) at old new q e asked =
     let is : Next behind ≡ at = cc q in
     let by : e ≡ Link_to behind new = subst (λ a. IsCopyAsked c (Some kinds.Link) a new s kept e) (sym is) asked in
     ap (λ y. last_after y last) by
@@ -232,14 +233,14 @@ module _ {K P : Type 0} (g : Setting K P) (c : Coding K P) (hashed : IsHashed g 
         let same : word ≡ old = cc e in
         settled_incremental g c s m keeps slot word r.1 (λ stands. other (ap (word_of g c s) (sym is) ∙ ap (code g c) stands ∙ sym r.1.marked ∙ same))
 
-    pub settle_counted : (settle : Settle) → RestsSettle g c s last kept slot settle → (count initial : ℕ) → RestsSettled g c s last kept slot (at_count settle mode count initial)
-    settle_counted settles.Looking r count initial = r
-    settle_counted settles.Closing r count initial = r
-    settle_counted settles.Shutting r count initial = r
-    settle_counted (settles.Marking word) r count initial = r
-    settle_counted (settles.Carrying word carry) r count initial =
-        by_carried mode moded last kept slot word (carry_at_count carry count initial) (carry_counted g c hashed s m keeps mode moded kept slot word r.pair r.marked known.on last carry r.here r.rests count initial)
-    settle_counted (settles.Finishing word) r count initial = r
+    pub settle_counted : IsCutAs mode g.chunk_of → (settle : Settle) → RestsSettle g c s last kept slot settle → (count initial : ℕ) → RestsSettled g c s last kept slot (at_count settle mode count initial)
+    settle_counted cut settles.Looking r count initial = r
+    settle_counted cut settles.Closing r count initial = r
+    settle_counted cut settles.Shutting r count initial = r
+    settle_counted cut (settles.Marking word) r count initial = r
+    settle_counted cut (settles.Carrying word carry) r count initial =
+        by_carried mode moded last kept slot word (carry_at_count carry mode count initial) (carry_counted g c hashed s m keeps mode moded kept slot word r.pair r.marked known.on last cut carry r.here r.rests count initial)
+    settle_counted cut (settles.Finishing word) r count initial = r
 
     pub settle_made : (settle : Settle) → RestsSettle g c s last kept slot settle → (n : ℕ) → settle_follows settle < n → RestsSettle g c s last kept slot (at_made settle n)
     settle_made settles.Looking r n more = r

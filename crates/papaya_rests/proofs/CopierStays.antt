@@ -3,7 +3,7 @@ use Rattle.std.proofs.Common.{◌≡◌, ◌⊎◌, inl, inr, ⊎_elim, ℕ, Opt
 use Rattle.papaya_words.specs.Word.{hint_of}
 use Rattle.papaya_law.specs.Class.{IsOn}
 use Rattle.papaya_law.specs.Code.{Coding, IsHashed}
-use Rattle.papaya_law.specs.Copying.{IsPutting}
+use Rattle.papaya_law.specs.Copying.{IsLinking, IsPutting}
 use Rattle.papaya_law.specs.Exchange.{Closed, Marked, Copied, Setting, State}
 use Rattle.papaya_law.specs.Later.{Becomes, IsLater, IsLasting}
 use Rattle.papaya_copy.specs.declared.copying.Aim.{Aim}
@@ -12,10 +12,11 @@ use Rattle.papaya_copy.specs.declared.copying.Copying.{Copying}
 use Rattle.papaya_copy.specs.declared.copying.Copying.TheVariants as copyings
 use Rattle.papaya_copy.specs.Link.{follows}
 use Rattle.papaya_copy.specs.Step.{slot_of}
-use Rattle.papaya_rests.specs.Copier.{HasCompared, HasPlaced, IsAimed, IsChunk, IsFor, IsMoving, IsSource, RestsAim, RestsCarry, RestsCopying, RestsLink, RestsSettle, RestsStep}
+use Rattle.papaya_rests.specs.Copier.{HasCompared, HasPlaced, IsAimed, IsChunk, IsFor, IsMoving, IsScan, IsSettledChunk, IsSource, RestsAim, RestsCarry, RestsCopying, RestsLink, RestsSettle, RestsStep}
 use Rattle.papaya_copy.specs.declared.carry.Carry.{Carry}
 use Rattle.papaya_copy.specs.declared.carry.Carry.TheVariants as carries
 use Rattle.papaya_copy.specs.declared.step.Chunk.{Chunk}
+use Rattle.papaya_copy.specs.declared.step.Scan.{Scan}
 use Rattle.papaya_copy.specs.declared.step.Step.{Step}
 use Rattle.papaya_copy.specs.declared.step.Step.TheVariants as steps
 use Rattle.papaya_copy.specs.declared.link.Link.{Link}
@@ -39,8 +40,12 @@ module _ {K P : Type 0} (g : Setting K P) (c : Coding K P) (hashed : IsHashed g 
   putting : (t x : ℕ) (p : P) (n j : ℕ) → IsPutting g s t x p n j → IsPutting g s' t x p n j
   putting = putting_lasts g hashed.lawful s s' zero_next later
 
+  linking_stays : (from t : ℕ) → IsLinking g s from t → IsLinking g s' from t
+  linking_stays from t (inl h) = inl (h.0, λ b. later.was t (h.1 b))
+  linking_stays from t (inr h) = inr (h.0, later.was from h.1, all.target from t h.2, later.aborted t h.3)
+
   pub link_stays : (link : Link) → RestsLink g c s link → RestsLink g c s' link
-  link_stays link r = record { on = on (follows link) r.on; rises = r.rises }
+  link_stays link r = record { on = on (follows link) r.on; rises = r.rises; from = r.from; linking = linking_stays r.from (follows link) r.linking; measures = r.measures }
 
   pub source_stays : (from n : ℕ) → IsSource g c s from n → IsSource g c s' from n
   source_stays from n r = record { was = later.was from r.was; target = all.target from n r.target }
@@ -51,14 +56,28 @@ module _ {K P : Type 0} (g : Setting K P) (c : Coding K P) (hashed : IsHashed g 
     given_up = ⊎_elim (λ e. inl e) (λ h. inr (h.0, all.target from behind h.1, later.aborted behind h.2)) r.given_up;
   }
 
-  pub chunk_stays : (chunk : Chunk) (upto : ℕ) → IsChunk g c s chunk upto → IsChunk g c s' chunk upto
-  chunk_stays chunk upto r = record {
-    source = source_stays chunk.from chunk.to r.source;
+  pub scan_stays : (scan : Scan) → IsScan g c s scan → IsScan g c s' scan
+  scan_stays scan r = record {
+    source = source_stays scan.from scan.to r.source;
     len = r.len;
     some = r.some;
+    cut = r.cut;
+    begun = r.begun;
     within = r.within;
-    settled = λ x lo hi. all.settled chunk.to chunk.from x (r.settled x lo hi);
+    done = λ x lt passed. later.done scan.to (g.chunk_of x) (r.done x lt passed);
   }
+
+  pub chunk_stays : (chunk : Chunk) → IsChunk g c s chunk → IsChunk g c s' chunk
+  chunk_stays chunk r = record {
+    scan = scan_stays chunk.scan r.scan;
+    at = r.at;
+    within = r.within;
+    whole = r.whole;
+    settled = λ x lt is. all.settled chunk.scan.to chunk.scan.from x (r.settled x lt is);
+  }
+
+  pub settled_stays : (scan : Scan) → IsSettledChunk g c s scan → IsSettledChunk g c s' scan
+  settled_stays scan r = record { scanned = scan_stays scan r.scanned; settled = λ x lt is. all.settled scan.to scan.from x (r.settled x lt is) }
 
   compared_stays : (at : Place) (word : ℕ) → HasCompared g c s last kept at word → HasCompared g c s' last kept at word
   compared_stays at word r = record {
@@ -131,10 +150,10 @@ module _ {K P : Type 0} (g : Setting K P) (c : Coding K P) (hashed : IsHashed g 
   step_stays (steps.Linking from link) r = (r.0, aimed_stays from (follows link) r.1, link_stays link r.2)
   step_stays (steps.Judging from to) r = (r.0, source_stays from to r.1)
   step_stays (steps.Sizing from to) r = source_stays from to r
-  step_stays (steps.Counting from to len) r = (source_stays from to r.0, r.1)
-  step_stays (steps.Settling chunk settle) r = (chunk_stays chunk chunk.at r.0, r.1, r.2, settle_stays (slot_of chunk) settle r.3)
-  step_stays (steps.Advancing chunk) r = chunk_stays chunk chunk.end r
-  step_stays (steps.Promoting from to) r = let d = later.done to in let l = r.1 in (source_stays from to r.0, omega (arith, d, l))
+  step_stays (steps.Scanning scan) r = scan_stays scan r
+  step_stays (steps.Settling chunk settle) r = (chunk_stays chunk r.0, settle_stays (slot_of chunk) settle r.1)
+  step_stays (steps.Advancing scan) r = settled_stays scan r
+  step_stays (steps.Promoting from to) r = (source_stays from to r.0, λ x lt. later.done to (g.chunk_of x) (r.1 x lt))
 
   pub aim_stays : (aim : Aim) → RestsAim g c s last kept aim → RestsAim g c s' last kept aim
   aim_stays (aims.Search table) r = tt

@@ -1,5 +1,5 @@
 -- What the copy of a chunk rests on after each answer.
-use Rattle.std.proofs.Common.{◌≡◌, inr, ⊎_elim, ℕ, ◌+◌, ◌-◌, ◌<◌, ◌≤◌, ◌==◌, nat_lt, nat_le, not, ltb-true, ltb-false, leb-true, leb-false, true, Option, Some, refl, sym, ap, ◌∙◌, subst, arith, eq-eqb, eqb-true}
+use Rattle.std.proofs.Common.{◌≡◌, cond, inl, inr, ⊎_elim, ℕ, ◌+◌, ◌-◌, ◌<◌, ◌≤◌, ◌==◌, nat_lt, nat_le, not, ltb-true, ltb-false, leb-true, leb-false, true, Option, Some, refl, sym, ap, ◌∙◌, subst, arith, eq-eqb, eqb-true}
 use Rattle.std.proofs.lemmas.Bool.{cases_lt, cond_both}
 use Rattle.papaya_words.specs.declared.probe.Refused.{Refused}
 use Rattle.papaya_words.specs.declared.probe.ResizeMode.{ResizeMode}
@@ -15,46 +15,35 @@ use Rattle.papaya_copy.specs.declared.settle.Settle.TheVariants as settles
 use Rattle.papaya_copy.specs.declared.settle.Settled.{Settled}
 use Rattle.papaya_copy.specs.declared.settle.Settled.TheVariants as settled
 use Rattle.papaya_copy.specs.declared.step.Chunk.{Chunk}
+use Rattle.papaya_copy.specs.declared.step.Scan.{Scan}
 use Rattle.papaya_copy.specs.declared.step.Step.{Step}
 use Rattle.papaya_copy.specs.declared.step.Step.TheVariants as steps
 use Rattle.papaya_copy.specs.declared.step.Stepped.TheVariants as stepped
 use Rattle.papaya_copy.specs.Link.{follows, at_count as link_at_count, at_exchanged as link_at_exchanged, at_found as link_at_found, at_refused as link_at_refused}
-use Rattle.papaya_words.specs.Mode.{IsChunked}
 use Rattle.papaya_copy.specs.Settle.{at_count as settle_at_count, at_exchanged as settle_at_exchanged, at_found as settle_at_found, at_ok as settle_at_ok, at_refused as settle_at_refused, at_word as settle_at_word, at_yes as settle_at_yes}
-use Rattle.papaya_copy.specs.Step.{advanced, aimed, at_count, at_exchanged, at_found, at_hash, at_made, at_ok, at_refused, at_size, at_word, at_yes, chunk_at, chunk_of, counted, end_of, linked_to, next_slot, settled_to, slot_of, step_ask, step_follows, step_kind}
+use Rattle.papaya_copy.specs.Step.{advanced, aimed, at_count, at_exchanged, at_found, at_hash, at_made, at_ok, at_refused, at_size, at_word, at_yes, chunk_at, first_scan, linked_to, next_scan, next_slot, scanned, settled_to, slot_of, step_ask, step_follows, step_kind}
 use Rattle.papaya_law.specs.Allows.{Allows}
 use Rattle.papaya_law.specs.Class.{IsOn}
 use Rattle.papaya_law.specs.Code.{Coding, IsHashed}
 use Rattle.papaya_law.specs.Copying.{IsSettled, IsTarget}
-use Rattle.papaya_law.specs.Exchange.{Setting, State, Exchange, after}
+use Rattle.papaya_law.specs.Exchange.{Setting, State, Exchange, Advance, after}
 use Rattle.papaya_law.specs.Hints.{IsHint}
 use Rattle.papaya_law.specs.Invariant.{IsKeeping}
 use Rattle.papaya_law.specs.Meaning.{map_after}
 use Rattle.papaya_law.proofs.Copies.{first_target, next_target}
 use Rattle.papaya_law.proofs.CopierFacts.{target_on}
 use Rattle.papaya_law.proofs.OneMap.{keeping_sound}
-use Rattle.papaya_rests.specs.Copier.{IsAimed, IsChunk, IsCopyAsked, IsSource, RestsLinked, RestsSettled, RestsStep, RestsStepped, last_after, told_last}
-use Rattle.papaya_rests.specs.Rests.{IsModeOf}
+use Rattle.papaya_rests.specs.Copier.{IsAimed, IsChunk, IsCopyAsked, IsScan, IsSource, RestsLinked, RestsSettled, RestsStep, RestsStepped, last_after, told_last}
+use Rattle.papaya_rests.specs.Rests.{IsCutAs, IsModeOf}
 use Rattle.papaya_rests.specs.Told.{word_of}
 use Rattle.papaya_rests.proofs.CopierCarries.{above, links_next, no_hash, no_hint, no_load, no_note, no_same}
-use Rattle.papaya_rests.proofs.CopierExchange.{IsKnown, aborted_some, chunk_known, put_here}
+use Rattle.papaya_rests.proofs.CopierExchange.{IsKnown, aborted_some, chunk_known, done_here}
 use Rattle.papaya_rests.proofs.CopierLinks.{link_counted, link_exchanged, link_found, link_made, link_refused, link_sized, made_follows, sized_follows}
 use Rattle.papaya_rests.proofs.CopierMay.{root_on}
+use Rattle.papaya_rests.proofs.CopierScans.{chunk_begins, first_rests, next_rests}
 use Rattle.papaya_rests.proofs.CopierSettles.{keeps', later, link_last, settle_compared, settle_counted, settle_found, settle_hashed, settle_hinted, settle_loaded, settle_made, settle_noted, settle_refused, settle_sized, still_on, zero_next}
 use Rattle.papaya_rests.proofs.CopierSettlesMade.{settle_exchanged}
 use Rattle.papaya_rests.proofs.CopierStays.{step_stays}
-
--- a chunk has a slot
-chunk_some : (mode : ResizeMode) → IsChunked mode → 0 < chunk_of mode
-chunk_some (Incremental chunk) h = h
-chunk_some Blocking h = omega arith
-
--- it ends behind its first slot, and within the table
-end_after : (len done slots : ℕ) → 0 < slots → done < len → (done < end_of len done slots) × (end_of len done slots ≤ len)
-end_after len done slots some less =
-    cond_both (nat_lt slots (len - done)) (done + slots) len (λ y. (done < y) × (y ≤ len))
-    (λ e. let lt : slots < len - done = ltb-true slots (len - done) e in (omega (arith, some), omega (arith, lt, less)))
-    (λ e. (less, omega arith))
 
 module _ {K P : Type 0} (g : Setting K P) (c : Coding K P) (hashed : IsHashed g c) (s : State P) (m : K → Option P) (keeps : IsKeeping g s m) where
   -- the table behind is one to which copies go, or went
@@ -74,8 +63,8 @@ module _ {K P : Type 0} (g : Setting K P) (c : Coding K P) (hashed : IsHashed g 
       ⊎_elim (λ (e : behind ≡ from). subst (IsOn s.first s.next) (sym e) on) (λ h. target_on g s (keeping_sound g s m keeps).rises from behind on h.1) r.given_up
 
   -- the slot that is copied now
-  pub known_slot : (chunk : Chunk) → IsChunk g c s chunk chunk.at → chunk.at < chunk.end → IsKnown g c hashed s m keeps (slot_of chunk)
-  known_slot chunk r lt = chunk_known g c hashed s m keeps (slot_of chunk) r.source (let b = r.within in let d = r.len in omega (arith, lt, b, d))
+  pub known_slot : (chunk : Chunk) → IsChunk g c s chunk → IsKnown g c hashed s m keeps (slot_of chunk)
+  known_slot chunk r = chunk_known g c hashed s m keeps (slot_of chunk) r.scan.source (let a = r.at in let b = r.within in let d = r.scan.len in omega (arith, a, b, d))
 
   module _ (last kept : Option P) where
     -- the making of a table leads on
@@ -85,34 +74,36 @@ module _ {K P : Type 0} (g : Setting K P) (c : Coding K P) (hashed : IsHashed g 
     linked_on from behind blocks r (linked.Refused refused) h = tt
 
     -- the copy of a slot leads on
-    settled_on : (chunk : Chunk) → IsChunk g c s chunk chunk.at → chunk.begun ≤ chunk.at → chunk.at < chunk.end → (end : Settled) → RestsSettled g c s last kept (slot_of chunk) end → RestsStepped g c s last kept (settled_to chunk end)
-    settled_on chunk r lo hi (settled.On settle) h = (r, lo, hi, h)
-    settled_on chunk r lo hi settled.Settled h =
-        let more : (x : ℕ) → chunk.begun ≤ x → x < chunk.at + 1 → IsSettled g s chunk.to (s.slot chunk.from x) = λ x a b.
+    settled_on : (chunk : Chunk) → IsChunk g c s chunk → (end : Settled) → RestsSettled g c s last kept (slot_of chunk) end → RestsStepped g c s last kept (settled_to chunk end)
+    settled_on chunk r (settled.On settle) h = (r, h)
+    settled_on chunk r settled.Settled h =
+        let more : (x : ℕ) → x < chunk.at + 1 → g.chunk_of x ≡ chunk.scan.at → IsSettled g s chunk.scan.to (s.slot chunk.scan.from x) = λ x lt in-chunk.
         ⊎_elim
-        (λ (lt : x < chunk.at). r.settled x a lt)
-        (λ (le : chunk.at ≤ x). let is : chunk.at ≡ x = omega (arith, b, le) in subst (λ y. IsSettled g s chunk.to (s.slot chunk.from y)) is h)
+        (λ (less : x < chunk.at). r.settled x less in-chunk)
+        (λ (le : chunk.at ≤ x). let is : chunk.at ≡ x = omega (arith, lt, le) in subst (λ y. IsSettled g s chunk.scan.to (s.slot chunk.scan.from y)) is h)
         (cases_lt x chunk.at)
         in
-        cond_both (nat_lt (chunk.at + 1) chunk.end) (stepped.On (steps.Settling (next_slot chunk) settles.Looking)) (stepped.On (steps.Advancing (next_slot chunk))) (RestsStepped g c s last kept)
-        (λ e. (
-          record { source = r.source; len = r.len; some = r.some; within = r.within; settled = more },
-          omega (arith, lo),
-          ltb-true (chunk.at + 1) chunk.end e,
-          tt,
-        ))
+        cond_both (nat_lt (chunk.at + 1) chunk.end) (stepped.On (steps.Settling (next_slot chunk) settles.Looking)) (stepped.On (steps.Advancing chunk.scan)) (RestsStepped g c s last kept)
+        (λ e. (record { scan = r.scan; at = ltb-true (chunk.at + 1) chunk.end e; within = r.within; whole = r.whole; settled = more }, tt))
         (λ e.
         let le : chunk.end ≤ chunk.at + 1 = ltb-false (chunk.at + 1) chunk.end e in
-        record { source = r.source; len = r.len; some = r.some; within = r.within; settled = λ x a b. more x a (omega (arith, b, le)) })
-    settled_on chunk r lo hi (settled.Unfit table) h = record { was = r.source.was; given_up = inr (h.1, subst (IsTarget g s chunk.from) (sym h.0) r.source.target, h.2) }
-    settled_on chunk r lo hi (settled.Refused refused) h = tt
+        record { scanned = r.scan; settled = λ x lt in-chunk. more x (let w = r.whole x (subst (λ y. x < y) (sym r.scan.len) lt) in-chunk in omega (arith, w, le)) in-chunk })
+    settled_on chunk r (settled.Unfit table) h = record { was = r.scan.source.was; given_up = inr (h.1, subst (IsTarget g s chunk.scan.from) (sym h.0) r.scan.source.target, h.2) }
+    settled_on chunk r (settled.Refused refused) h = tt
 
-    -- so many slots are counted as copied
-    counts_on : (chunk : Chunk) → IsChunk g c s chunk chunk.end → (done : ℕ) → s.done chunk.to ≡ done → RestsStepped g c s last kept (advanced chunk done)
-    counts_on chunk r done is =
-        cond_both (nat_le chunk.len done) (stepped.On (steps.Promoting chunk.from chunk.to)) stepped.Over (RestsStepped g c s last kept)
-        (λ e. let le : chunk.len ≤ done = leb-true chunk.len done e in let n = r.len in (r.source, omega (arith, le, n, is)))
-        (λ e. tt)
+    -- the word of a chunk was loaded
+    scans_on : (scan : Scan) → IsScan g c s scan → (word : ℕ) → word ≡ cond (s.done scan.to scan.at) 1 0 → RestsStepped g c s last kept (scanned scan word)
+    scans_on scan r word is =
+        cond_both (not (word == 0)) (stepped.On (next_scan scan)) (cond scan.copied (stepped.Further (chunk_at scan)) (stepped.On (steps.Settling (chunk_at scan) settles.Looking))) (RestsStepped g c s last kept)
+        (λ some. next_rests g c s last kept scan r (aborted_some (s.done scan.to scan.at) word is (λ z. let y : (word == 0) ≡ true = eq-eqb word 0 z in absurd (let f = ap not y in cc (f, some)))))
+        (λ none.
+        cond_both scan.copied (stepped.Further (chunk_at scan)) (stepped.On (steps.Settling (chunk_at scan) settles.Looking)) (RestsStepped g c s last kept)
+        (λ e. chunk_begins g c s scan r)
+        (λ e. (chunk_begins g c s scan r, tt)))
+
+    -- the chunk is copied, and its word says so
+    advances_on : (scan : Scan) → IsScan g c s scan → s.done scan.to scan.at ≡ true → RestsStepped g c s last kept (advanced scan)
+    advances_on scan r done = next_rests g c s last kept (record scan { copied = true }) (record { source = r.source; len = r.len; some = r.some; cut = r.cut; begun = r.begun; within = r.within; done = r.done }) done
 
     -- the table behind has this number
     aims_at : (how : ResizeMode) → IsModeOf how g.blocking → (from behind next : ℕ) → IsAimed g c s from behind → s.next behind ≡ next → RestsStepped g c s last kept (aimed from behind how next)
@@ -124,49 +115,47 @@ module _ {K P : Type 0} (g : Setting K P) (c : Coding K P) (hashed : IsHashed g 
         (r.was, subst (λ y. s.next y ≡ 0) same none))
         (λ e. record { was = r.was; target = aimed_target from behind next r is (above next e) })
     aims_at Blocking blocks from behind next r is =
-        cond_both (next == 0) (stepped.On (steps.Linking from (links.Sizing behind (not (behind == from))))) (stepped.On (steps.Judging from next)) (RestsStepped g c s last kept)
-        (λ e. (blocks, r, record { on = aimed_on from behind r; rises = tt }))
+        cond_both (next == 0) (stepped.On (steps.Linking from (links.Sizing behind from (not (behind == from))))) (stepped.On (steps.Judging from next)) (RestsStepped g c s last kept)
+        (λ e. (
+          blocks,
+          r,
+          record {
+            on = aimed_on from behind r;
+            rises = tt;
+            from = from;
+            linking = ⊎_elim
+                (λ (same : behind ≡ from). inl (sym same, λ b. subst (λ y. s.was_root y ≡ true) (sym same) r.was))
+                (λ h. inr (h.0, r.was, h.1, h.2))
+                r.given_up;
+            measures = refl;
+          },
+        ))
         (λ e. (blocks, record { was = r.was; target = aimed_target from behind next r is (above next e) }))
 
-    -- so many slots were copied before
-    begins : (mode : ResizeMode) → IsChunked mode → (from to len : ℕ) → IsSource g c s from to → len ≡ g.size from → RestsStep g c s last kept (counted from to len mode (s.done to))
-    begins mode chunked from to len r is =
-        let done : ℕ = s.done to in
-        cond_both (nat_le len done) (steps.Promoting from to) (steps.Settling (chunk_at from to len done (chunk_of mode)) settles.Looking) (RestsStep g c s last kept)
-        (λ e. let le : len ≤ done = leb-true len done e in (r, omega (arith, le, is)))
-        (λ e.
-        let lt : done < len = leb-false len done e in
-        let end = end_after len done (chunk_of mode) (chunk_some mode chunked) lt in (
-          record { source = r; len = is; some = end.0; within = end.1; settled = λ x a b. absurd (omega (arith, a, b)) },
-          omega arith,
-          end.0,
-          tt,
-        ))
-
   module _ (mode : ResizeMode) (moded : IsModeOf mode g.blocking) (last kept : Option P) where
-    pub step_loaded : IsChunked mode → (step : Step) → RestsStep g c s last kept step → (at : At) → step_ask step ≡ Load at → RestsStepped g c s (told_last s at last) kept (at_word step mode (word_of g c s at))
-    step_loaded chunked steps.AtRoot r at e =
+    pub step_loaded : (step : Step) → RestsStep g c s last kept step → (at : At) → step_ask step ≡ Load at → RestsStepped g c s (told_last s at last) kept (at_word step mode (word_of g c s at))
+    step_loaded steps.AtRoot r at e =
         let is : Root ≡ at = cc e in
         subst (λ a. RestsStepped g c s (told_last s a last) kept (at_word steps.AtRoot mode (word_of g c s a))) is refl
-    step_loaded chunked (steps.Aiming from behind) r at e =
+    step_loaded (steps.Aiming from behind) r at e =
         let is : Next behind ≡ at = cc e in
         subst (λ a. RestsStepped g c s (told_last s a last) kept (at_word (steps.Aiming from behind) mode (word_of g c s a))) is (aims_at last kept mode moded from behind (s.next behind) r refl)
-    step_loaded chunked (steps.Linking from link) r at e = absurd (no_load link at e)
-    step_loaded chunked (steps.Judging from to) r at e =
+    step_loaded (steps.Linking from link) r at e = absurd (no_load link at e)
+    step_loaded (steps.Judging from to) r at e =
         let is : Aborted to ≡ at = cc e in
         let w : ℕ = word_of g c s (Aborted to) in
         subst (λ a. RestsStepped g c s (told_last s a last) kept (at_word (steps.Judging from to) mode (word_of g c s a))) is
         (cond_both (w == 0) (steps.Sizing from to) (steps.Aiming from to) (RestsStep g c s last kept)
         (λ none. r.1)
         (λ some. record { was = r.1.was; given_up = inr (r.0, r.1.target, aborted_some (s.aborted to) w refl (λ z. let y = eq-eqb w 0 z in cc (y, some))) }))
-    step_loaded chunked (steps.Sizing from to) r at e = absurd cc
-    step_loaded chunked (steps.Counting from to len) r at e =
-        let is : Done to ≡ at = cc e in
-        subst (λ a. RestsStepped g c s (told_last s a last) kept (at_word (steps.Counting from to len) mode (word_of g c s a))) is (begins last kept mode chunked from to len r.0 r.1)
-    step_loaded chunked (steps.Settling chunk settle) r at e =
-        settled_on (told_last s at last) kept chunk r.0 r.1 r.2 (settle_at_word settle (slot_of chunk) mode (word_of g c s at)) (settle_loaded g c hashed s m keeps mode moded (slot_of chunk) (known_slot chunk r.0 r.2) last kept settle r.3 at e)
-    step_loaded chunked (steps.Advancing chunk) r at e = absurd cc
-    step_loaded chunked (steps.Promoting from to) r at e = absurd cc
+    step_loaded (steps.Sizing from to) r at e = absurd cc
+    step_loaded (steps.Scanning scan) r at e =
+        let is : Done scan.to scan.at ≡ at = cc e in
+        subst (λ a. RestsStepped g c s (told_last s a last) kept (at_word (steps.Scanning scan) mode (word_of g c s a))) is (scans_on last kept scan r (word_of g c s (Done scan.to scan.at)) refl)
+    step_loaded (steps.Settling chunk settle) r at e =
+        settled_on (told_last s at last) kept chunk r.0 (settle_at_word settle (slot_of chunk) mode (word_of g c s at)) (settle_loaded g c hashed s m keeps mode moded (slot_of chunk) (known_slot chunk r.0) last kept settle r.1 at e)
+    step_loaded (steps.Advancing scan) r at e = absurd cc
+    step_loaded (steps.Promoting from to) r at e = absurd cc
 
     pub step_hinted : (step : Step) → RestsStep g c s last kept step → (t x : ℕ) → step_ask step ≡ LoadHint t x → (n : ℕ) → IsHint g c s t x n → RestsStepped g c s last kept (at_word step mode n)
     step_hinted steps.AtRoot r t x e n is = absurd cc
@@ -174,10 +163,10 @@ module _ {K P : Type 0} (g : Setting K P) (c : Coding K P) (hashed : IsHashed g 
     step_hinted (steps.Linking from link) r t x e n is = absurd (no_hint link t x e)
     step_hinted (steps.Judging from to) r t x e n is = absurd cc
     step_hinted (steps.Sizing from to) r t x e n is = absurd cc
-    step_hinted (steps.Counting from to len) r t x e n is = absurd cc
+    step_hinted (steps.Scanning scan) r t x e n is = absurd cc
     step_hinted (steps.Settling chunk settle) r t x e n is =
-        settled_on last kept chunk r.0 r.1 r.2 (settle_at_word settle (slot_of chunk) mode n) (settle_hinted g c hashed s m keeps mode moded (slot_of chunk) (known_slot chunk r.0 r.2) last kept settle r.3 t x e n is)
-    step_hinted (steps.Advancing chunk) r t x e n is = absurd cc
+        settled_on last kept chunk r.0 (settle_at_word settle (slot_of chunk) mode n) (settle_hinted g c hashed s m keeps mode moded (slot_of chunk) (known_slot chunk r.0) last kept settle r.1 t x e n is)
+    step_hinted (steps.Advancing scan) r t x e n is = absurd cc
     step_hinted (steps.Promoting from to) r t x e n is = absurd cc
 
     pub step_noted : (step : Step) → RestsStep g c s last kept step → (t x n : ℕ) → step_ask step ≡ WriteHint t x n → IsHint g c s t x n × RestsStepped g c s last kept (at_ok step mode)
@@ -186,11 +175,11 @@ module _ {K P : Type 0} (g : Setting K P) (c : Coding K P) (hashed : IsHashed g 
     step_noted (steps.Linking from link) r t x n e = absurd (no_note link t x n e)
     step_noted (steps.Judging from to) r t x n e = absurd cc
     step_noted (steps.Sizing from to) r t x n e = absurd cc
-    step_noted (steps.Counting from to len) r t x n e = absurd cc
+    step_noted (steps.Scanning scan) r t x n e = absurd cc
     step_noted (steps.Settling chunk settle) r t x n e =
-        let noted = settle_noted g c hashed s m keeps mode moded (slot_of chunk) (known_slot chunk r.0 r.2) last kept settle r.3 t x n e in
-        (noted.0, settled_on last kept chunk r.0 r.1 r.2 (settle_at_ok settle mode) noted.1)
-    step_noted (steps.Advancing chunk) r t x n e = absurd cc
+        let noted = settle_noted g c hashed s m keeps mode moded (slot_of chunk) (known_slot chunk r.0) last kept settle r.1 t x n e in
+        (noted.0, settled_on last kept chunk r.0 (settle_at_ok settle mode) noted.1)
+    step_noted (steps.Advancing scan) r t x n e = absurd cc
     step_noted (steps.Promoting from to) r t x n e = absurd cc
 
     pub step_hashed : (step : Step) → RestsStep g c s last kept step → (n : ℕ) → step_ask step ≡ HashOf n → (q : P) → last ≡ Some q → RestsStep g c s last last (at_hash step (c.hash (g.key q)))
@@ -199,21 +188,23 @@ module _ {K P : Type 0} (g : Setting K P) (c : Coding K P) (hashed : IsHashed g 
     step_hashed (steps.Linking from link) r n e q told = absurd (no_hash link n e)
     step_hashed (steps.Judging from to) r n e q told = absurd cc
     step_hashed (steps.Sizing from to) r n e q told = absurd cc
-    step_hashed (steps.Counting from to len) r n e q told = absurd cc
-    step_hashed (steps.Settling chunk settle) r n e q told = (r.0, r.1, r.2, settle_hashed g c hashed s m keeps mode moded (slot_of chunk) (known_slot chunk r.0 r.2) last kept settle r.3 n e q told)
-    step_hashed (steps.Advancing chunk) r n e q told = absurd cc
+    step_hashed (steps.Scanning scan) r n e q told = absurd cc
+    step_hashed (steps.Settling chunk settle) r n e q told = (r.0, settle_hashed g c hashed s m keeps mode moded (slot_of chunk) (known_slot chunk r.0) last kept settle r.1 n e q told)
+    step_hashed (steps.Advancing scan) r n e q told = absurd cc
     step_hashed (steps.Promoting from to) r n e q told = absurd cc
 
-    pub step_sized : (step : Step) → RestsStep g c s last kept step → (t limit : ℕ) → step_ask step ≡ SizeOf t → limit + 1 ≡ g.places t → RestsStep g c s last kept (at_size step (g.size t) limit)
-    step_sized steps.AtRoot r t limit e most = absurd cc
-    step_sized (steps.Aiming from behind) r t limit e most = absurd cc
-    step_sized (steps.Linking from link) r t limit e most = (r.0, subst (λ y. IsAimed g c s from y) (sym (sized_follows g c s last kept link (g.size t))) r.1, link_sized g c s last kept link r.2 (g.size t))
-    step_sized (steps.Judging from to) r t limit e most = absurd cc
-    step_sized (steps.Sizing from to) r t limit e most = let is : from ≡ t = cc e in (r, ap g.size (sym is))
-    step_sized (steps.Counting from to len) r t limit e most = absurd cc
-    step_sized (steps.Settling chunk settle) r t limit e most = (r.0, r.1, r.2, settle_sized g c hashed s m keeps mode moded (slot_of chunk) (known_slot chunk r.0 r.2) last kept settle r.3 t limit e most)
-    step_sized (steps.Advancing chunk) r t limit e most = absurd cc
-    step_sized (steps.Promoting from to) r t limit e most = absurd cc
+    pub step_sized : IsCutAs mode g.chunk_of → (number : ℕ) → (step : Step) → RestsStep g c s last kept step → (t limit : ℕ) → step_ask step ≡ SizeOf t → limit + 1 ≡ g.places t → RestsStep g c s last kept (at_size step mode number (g.size t) limit)
+    step_sized cut number steps.AtRoot r t limit e most = absurd cc
+    step_sized cut number (steps.Aiming from behind) r t limit e most = absurd cc
+    step_sized cut number (steps.Linking from link) r t limit e most = (r.0, subst (λ y. IsAimed g c s from y) (sym (sized_follows g c s last kept link (g.size t))) r.1, link_sized g c s last kept link r.2 t e)
+    step_sized cut number (steps.Judging from to) r t limit e most = absurd cc
+    step_sized cut number (steps.Sizing from to) r t limit e most =
+        let is : from ≡ t = cc e in
+        subst (λ y. IsScan g c s (first_scan from to (g.size y) mode number)) is (first_rests g c s last kept hashed.lawful mode cut number from to r)
+    step_sized cut number (steps.Scanning scan) r t limit e most = absurd cc
+    step_sized cut number (steps.Settling chunk settle) r t limit e most = (r.0, settle_sized g c hashed s m keeps mode moded (slot_of chunk) (known_slot chunk r.0) last kept settle r.1 t limit e most)
+    step_sized cut number (steps.Advancing scan) r t limit e most = absurd cc
+    step_sized cut number (steps.Promoting from to) r t limit e most = absurd cc
 
     pub step_compared : (step : Step) → RestsStep g c s last kept step → (i n : ℕ) → step_ask step ≡ SamePair i n → (o q : P) → kept ≡ Some o → last ≡ Some q → RestsStepped g c s last kept (at_yes step mode (g.same (g.key o) (g.key q)))
     step_compared steps.AtRoot r i n e o q k told = absurd cc
@@ -221,10 +212,10 @@ module _ {K P : Type 0} (g : Setting K P) (c : Coding K P) (hashed : IsHashed g 
     step_compared (steps.Linking from link) r i n e o q k told = absurd (no_same link i n e)
     step_compared (steps.Judging from to) r i n e o q k told = absurd cc
     step_compared (steps.Sizing from to) r i n e o q k told = absurd cc
-    step_compared (steps.Counting from to len) r i n e o q k told = absurd cc
+    step_compared (steps.Scanning scan) r i n e o q k told = absurd cc
     step_compared (steps.Settling chunk settle) r i n e o q k told =
-        settled_on last kept chunk r.0 r.1 r.2 (settle_at_yes settle mode (g.same (g.key o) (g.key q))) (settle_compared g c hashed s m keeps mode moded (slot_of chunk) (known_slot chunk r.0 r.2) last kept settle r.3 i n e o q k told)
-    step_compared (steps.Advancing chunk) r i n e o q k told = absurd cc
+        settled_on last kept chunk r.0 (settle_at_yes settle mode (g.same (g.key o) (g.key q))) (settle_compared g c hashed s m keeps mode moded (slot_of chunk) (known_slot chunk r.0) last kept settle r.1 i n e o q k told)
+    step_compared (steps.Advancing scan) r i n e o q k told = absurd cc
     step_compared (steps.Promoting from to) r i n e o q k told = absurd cc
 
     pub step_found : (step : Step) → RestsStep g c s last kept step → (at : At) (old new : ℕ) → step_ask step ≡ Ask_exchange at old new → (word_of g c s at ≡ old → ⊥) → RestsStepped g c s (told_last s at last) kept (at_found step mode (word_of g c s at))
@@ -237,25 +228,27 @@ module _ {K P : Type 0} (g : Setting K P) (c : Coding K P) (hashed : IsHashed g 
         (linked_on last kept from (follows link) r.0 r.1 (link_at_found link (word_of g c s at)) (link_found g c s last kept link r.2 at old new e other))
     step_found (steps.Judging from to) r at old new e other = absurd cc
     step_found (steps.Sizing from to) r at old new e other = absurd cc
-    step_found (steps.Counting from to len) r at old new e other = absurd cc
+    step_found (steps.Scanning scan) r at old new e other = absurd cc
     step_found (steps.Settling chunk settle) r at old new e other =
-        settled_on (told_last s at last) kept chunk r.0 r.1 r.2 (settle_at_found settle (slot_of chunk) mode (word_of g c s at)) (settle_found g c hashed s m keeps mode moded (slot_of chunk) (known_slot chunk r.0 r.2) last kept settle r.3 at old new e other)
-    step_found (steps.Advancing chunk) r at old new e other =
-        let is : Done chunk.to ≡ at = cc e in
-        subst (λ a. RestsStepped g c s (told_last s a last) kept (at_found (steps.Advancing chunk) mode (word_of g c s a))) is (counts_on last kept chunk r (s.done chunk.to) refl)
+        settled_on (told_last s at last) kept chunk r.0 (settle_at_found settle (slot_of chunk) mode (word_of g c s at)) (settle_found g c hashed s m keeps mode moded (slot_of chunk) (known_slot chunk r.0) last kept settle r.1 at old new e other)
+    step_found (steps.Advancing scan) r at old new e other =
+        let is : Done scan.to scan.at ≡ at = cc e in
+        let none : 0 ≡ old = cc e in
+        let done : s.done scan.to scan.at ≡ true = aborted_some (s.done scan.to scan.at) (word_of g c s (Done scan.to scan.at)) refl (λ z. other (ap (word_of g c s) (sym is) ∙ z ∙ none)) in
+        subst (λ a. RestsStepped g c s (told_last s a last) kept (at_found (steps.Advancing scan) mode (word_of g c s a))) is (advances_on last kept scan r.scanned done)
     step_found (steps.Promoting from to) r at old new e other = tt
 
-    pub step_counted : (step : Step) → RestsStep g c s last kept step → (count initial : ℕ) → RestsStepped g c s last kept (at_count step mode count initial)
-    step_counted steps.AtRoot r count initial = r
-    step_counted (steps.Aiming from behind) r count initial = r
-    step_counted (steps.Linking from link) r count initial = linked_on last kept from (follows link) r.0 r.1 (link_at_count link count initial) (link_counted g c s last kept link r.2 count initial)
-    step_counted (steps.Judging from to) r count initial = r
-    step_counted (steps.Sizing from to) r count initial = r
-    step_counted (steps.Counting from to len) r count initial = r
-    step_counted (steps.Settling chunk settle) r count initial =
-        settled_on last kept chunk r.0 r.1 r.2 (settle_at_count settle mode count initial) (settle_counted g c hashed s m keeps mode moded (slot_of chunk) (known_slot chunk r.0 r.2) last kept settle r.3 count initial)
-    step_counted (steps.Advancing chunk) r count initial = r
-    step_counted (steps.Promoting from to) r count initial = r
+    pub step_counted : IsCutAs mode g.chunk_of → (step : Step) → RestsStep g c s last kept step → (count initial : ℕ) → RestsStepped g c s last kept (at_count step mode count initial)
+    step_counted cut steps.AtRoot r count initial = r
+    step_counted cut (steps.Aiming from behind) r count initial = r
+    step_counted cut (steps.Linking from link) r count initial = linked_on last kept from (follows link) r.0 r.1 (link_at_count link mode count initial) (link_counted g c s last kept mode cut link r.2 count initial)
+    step_counted cut (steps.Judging from to) r count initial = r
+    step_counted cut (steps.Sizing from to) r count initial = r
+    step_counted cut (steps.Scanning scan) r count initial = r
+    step_counted cut (steps.Settling chunk settle) r count initial =
+        settled_on last kept chunk r.0 (settle_at_count settle mode count initial) (settle_counted g c hashed s m keeps mode moded (slot_of chunk) (known_slot chunk r.0) last kept cut settle r.1 count initial)
+    step_counted cut (steps.Advancing scan) r count initial = r
+    step_counted cut (steps.Promoting from to) r count initial = r
 
     pub step_made : (step : Step) → RestsStep g c s last kept step → (n : ℕ) → step_follows step < n → RestsStep g c s last kept (at_made step n)
     step_made steps.AtRoot r n more = r
@@ -263,9 +256,9 @@ module _ {K P : Type 0} (g : Setting K P) (c : Coding K P) (hashed : IsHashed g 
     step_made (steps.Linking from link) r n more = (r.0, subst (λ y. IsAimed g c s from y) (sym (made_follows g c s last kept link n)) r.1, link_made g c s last kept link r.2 n more)
     step_made (steps.Judging from to) r n more = r
     step_made (steps.Sizing from to) r n more = r
-    step_made (steps.Counting from to len) r n more = r
-    step_made (steps.Settling chunk settle) r n more = (r.0, r.1, r.2, settle_made g c hashed s m keeps mode moded (slot_of chunk) (known_slot chunk r.0 r.2) last kept settle r.3 n more)
-    step_made (steps.Advancing chunk) r n more = r
+    step_made (steps.Scanning scan) r n more = r
+    step_made (steps.Settling chunk settle) r n more = (r.0, settle_made g c hashed s m keeps mode moded (slot_of chunk) (known_slot chunk r.0) last kept settle r.1 n more)
+    step_made (steps.Advancing scan) r n more = r
     step_made (steps.Promoting from to) r n more = r
 
     pub step_refused : (step : Step) → RestsStep g c s last kept step → (refused : Refused) → RestsStepped g c s last kept (at_refused step mode refused)
@@ -274,10 +267,10 @@ module _ {K P : Type 0} (g : Setting K P) (c : Coding K P) (hashed : IsHashed g 
     step_refused (steps.Linking from link) r refused = linked_on last kept from (follows link) r.0 r.1 (link_at_refused link refused) (link_refused g c s last kept link r.2 refused)
     step_refused (steps.Judging from to) r refused = r
     step_refused (steps.Sizing from to) r refused = r
-    step_refused (steps.Counting from to len) r refused = r
+    step_refused (steps.Scanning scan) r refused = r
     step_refused (steps.Settling chunk settle) r refused =
-        settled_on last kept chunk r.0 r.1 r.2 (settle_at_refused settle mode refused) (settle_refused g c hashed s m keeps mode moded (slot_of chunk) (known_slot chunk r.0 r.2) last kept settle r.3 refused)
-    step_refused (steps.Advancing chunk) r refused = r
+        settled_on last kept chunk r.0 (settle_at_refused settle mode refused) (settle_refused g c hashed s m keeps mode moded (slot_of chunk) (known_slot chunk r.0) last kept settle r.1 refused)
+    step_refused (steps.Advancing scan) r refused = r
     step_refused (steps.Promoting from to) r refused = r
 
 module _ {K P : Type 0} (g : Setting K P) (c : Coding K P) (hashed : IsHashed g c) (s : State P) (m : K → Option P) (keeps : IsKeeping g s m) (mode : ResizeMode) (moded : IsModeOf mode g.blocking) (e : Exchange P) (may : Allows g s e) (last kept : Option P) where
@@ -292,15 +285,15 @@ module _ {K P : Type 0} (g : Setting K P) (c : Coding K P) (hashed : IsHashed g 
       (linked_on g c hashed (after s e) (map_after g m e) (keeps' g c hashed s m keeps mode moded e may) last kept from (follows link) still.0 still.1 (link_at_exchanged link) (link_exchanged g c s last kept link r.2 at old new q e asked))
   step_exchanged (steps.Judging from to) r at old new q stands asked = absurd cc
   step_exchanged (steps.Sizing from to) r at old new q stands asked = absurd cc
-  step_exchanged (steps.Counting from to len) r at old new q stands asked = absurd cc
+  step_exchanged (steps.Scanning scan) r at old new q stands asked = absurd cc
   step_exchanged (steps.Settling chunk settle) r at old new q stands asked =
       let still = step_stays g c hashed s (after s e) (zero_next g c hashed s m keeps mode moded e may) (later g c hashed s m keeps mode moded e may) (still_on g c hashed s m keeps mode moded e may) last kept (steps.Settling chunk settle) r in
-      settled_on g c hashed (after s e) (map_after g m e) (keeps' g c hashed s m keeps mode moded e may) (last_after e last) kept chunk still.0 still.1 still.2 (settle_at_exchanged settle (slot_of chunk) mode)
-      (settle_exchanged g c hashed s m keeps mode moded e may (slot_of chunk) (known_slot g c hashed s m keeps chunk r.0 r.2) last kept settle r.3 at old new q stands asked)
-  step_exchanged (steps.Advancing chunk) r at old new q stands asked =
-      let still = step_stays g c hashed s (after s e) (zero_next g c hashed s m keeps mode moded e may) (later g c hashed s m keeps mode moded e may) (still_on g c hashed s m keeps mode moded e may) last kept (steps.Advancing chunk) r in
-      let is : Done chunk.to ≡ at = cc q in
-      let same : chunk.end ≡ new = cc q in
-      let by : IsCopyAsked c (Some kinds.Advance) (Done chunk.to) chunk.end s kept e = subst (λ a. IsCopyAsked c (Some kinds.Advance) a chunk.end s kept e) (sym is) (subst (λ n. IsCopyAsked c (Some kinds.Advance) at n s kept e) (sym same) asked) in
-      counts_on g c hashed (after s e) (map_after g m e) (keeps' g c hashed s m keeps mode moded e may) (last_after e last) kept chunk still chunk.end (subst (λ y. (after s y).done chunk.to ≡ chunk.end) (sym by) (put_here s.done chunk.to chunk.end))
+      settled_on g c hashed (after s e) (map_after g m e) (keeps' g c hashed s m keeps mode moded e may) (last_after e last) kept chunk still.0 (settle_at_exchanged settle (slot_of chunk) mode)
+      (settle_exchanged g c hashed s m keeps mode moded e may (slot_of chunk) (known_slot g c hashed s m keeps chunk r.0) last kept settle r.1 at old new q stands asked)
+  step_exchanged (steps.Advancing scan) r at old new q stands asked =
+      let still = step_stays g c hashed s (after s e) (zero_next g c hashed s m keeps mode moded e may) (later g c hashed s m keeps mode moded e may) (still_on g c hashed s m keeps mode moded e may) last kept (steps.Advancing scan) r in
+      let is : Done scan.to scan.at ≡ at = cc q in
+      let by : e ≡ Advance scan.to scan.at = subst (λ a. IsCopyAsked c (Some kinds.Advance) a new s kept e) (sym is) asked in
+      let done : (after s e).done scan.to scan.at ≡ true = subst (λ y. (after s y).done scan.to scan.at ≡ true) (sym by) (done_here s.done scan.to scan.at) in
+      advances_on g c hashed (after s e) (map_after g m e) (keeps' g c hashed s m keeps mode moded e may) (last_after e last) kept scan still.scanned done
   step_exchanged (steps.Promoting from to) r at old new q stands asked = tt

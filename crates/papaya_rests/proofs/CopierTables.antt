@@ -3,7 +3,7 @@ use Rattle.std.proofs.Common.{◌≡◌, inl, inr, ⊎_elim, ℕ, ◌<◌, ◌�
 use Rattle.papaya_words.specs.Word.{hint_of}
 use Rattle.papaya_law.specs.Class.{IsOn}
 use Rattle.papaya_law.specs.Code.{Coding, code}
-use Rattle.papaya_law.specs.Copying.{IsPutting}
+use Rattle.papaya_law.specs.Copying.{IsPutting, IsSettled}
 use Rattle.papaya_law.specs.Exchange.{Word, Empty, Closed, Live, Marked, Copied, Buried, Setting, State}
 use Rattle.papaya_law.specs.Grows.{Agrees}
 use Rattle.papaya_law.specs.Hints.{IsHint}
@@ -15,21 +15,24 @@ use Rattle.papaya_copy.specs.declared.copying.Copying.{Copying}
 use Rattle.papaya_copy.specs.declared.copying.Copying.TheVariants as copyings
 use Rattle.papaya_copy.specs.Link.{follows}
 use Rattle.papaya_copy.specs.Step.{slot_of}
-use Rattle.papaya_rests.specs.Copier.{HasCompared, HasPlaced, IsAimed, IsChunk, IsFor, IsMoving, IsSource, RestsAim, RestsCarry, RestsCopying, RestsLink, RestsSettle, RestsStep}
+use Rattle.papaya_rests.specs.Copier.{HasCompared, HasPlaced, IsAimed, IsChunk, IsCutInto, IsFor, IsMoving, IsPassedBy, IsScan, IsSettledChunk, IsSource, Measures, RestsAim, RestsCarry, RestsCopying, RestsLink, RestsSettle, RestsStep}
 use Rattle.papaya_copy.specs.declared.carry.Carry.{Carry}
 use Rattle.papaya_copy.specs.declared.carry.Carry.TheVariants as carries
 use Rattle.papaya_copy.specs.declared.step.Chunk.{Chunk}
+use Rattle.papaya_copy.specs.declared.step.Scan.{Scan}
 use Rattle.papaya_copy.specs.declared.step.Step.{Step}
 use Rattle.papaya_copy.specs.declared.step.Step.TheVariants as steps
 use Rattle.papaya_copy.specs.declared.link.Link.{Link}
+use Rattle.papaya_copy.specs.declared.link.Link.TheVariants as links
 use Rattle.papaya_ask.specs.declared.search.Place.{Place}
 use Rattle.papaya_copy.specs.declared.settle.Settle.{Settle}
 use Rattle.papaya_copy.specs.declared.settle.Settle.TheVariants as settles
 use Rattle.papaya_copy.specs.declared.settle.Slot.{Slot}
+use Rattle.papaya_law.proofs.Base.{linking_on}
 use Rattle.papaya_law.proofs.Carries.{has_carries, look_pair, settled_carries}
 use Rattle.papaya_law.proofs.CopierFacts.{taker_on, target_on}
 use Rattle.papaya_law.proofs.Hints.{hint_agrees}
-use Rattle.papaya_law.proofs.Grows.{becomes_carries, taker_carries, target_carries}
+use Rattle.papaya_law.proofs.Grows.{becomes_carries, linking_carries, taker_carries, target_carries}
 
 module _ {K P : Type 0} (g g' : Setting K P) (c : Coding K P) (s : State P) (sound : IsSound g s) (agrees : Agrees (IsOn s.first s.next) g g') (last kept : Option P) where
   -- the number of a word
@@ -45,8 +48,25 @@ module _ {K P : Type 0} (g g' : Setting K P) (c : Coding K P) (s : State P) (sou
   hash_same : (p : P) (hash : ℕ) → hash ≡ c.hash (g.key p) → hash ≡ c.hash (g'.key p)
   hash_same p hash e = e ∙ ap c.hash (sym (agrees.key p))
 
-  link_carries : (link : Link) → RestsLink g c s link → RestsLink g' c s link
-  link_carries link r = record { on = r.on; rises = r.rises }
+  cut_carries : (from chunks : ℕ) → IsOn s.first s.next from → IsCutInto g from chunks → IsCutInto g' from chunks
+  cut_carries from chunks on h x lt = subst (λ y. y < chunks) (sym (agrees.chunk_of x)) (h x (subst (λ y. x < y) (agrees.size from on) lt))
+
+  -- what is known of the table that is copied to the next one
+  measures_carry : (from : ℕ) → IsOn s.first s.next from → (link : Link) → Measures g from link → Measures g' from link
+  measures_carry from on (links.Sizing after copied unfit) h = h
+  measures_carry from on (links.Measuring after copied unfit len) h = h
+  measures_carry from on (links.Counting after unfit len copied) h = h ∙ sym (agrees.size from on)
+  measures_carry from on (links.Making after len limit chunks) h = cut_carries from chunks on h
+  measures_carry from on (links.Linking after table chunks) h = cut_carries from chunks on h
+
+  pub link_carries : (link : Link) → RestsLink g c s link → RestsLink g' c s link
+  link_carries link r = record {
+    on = r.on;
+    rises = r.rises;
+    from = r.from;
+    linking = linking_carries g g' s sound agrees r.from (follows link) r.linking;
+    measures = measures_carry r.from (linking_on g s sound r.from (follows link) r.on r.linking) link r.measures;
+  }
 
   source_carries : (from n : ℕ) → IsSource g c s from n → IsSource g' c s from n
   source_carries from n r = record { was = r.was; target = target_carries g g' s sound agrees from n r.target }
@@ -61,16 +81,36 @@ module _ {K P : Type 0} (g g' : Setting K P) (c : Coding K P) (s : State P) (sou
   root_on : (t : ℕ) → s.was_root t ≡ true → IsOn s.first s.next t
   root_on t was = (sound.was t was).0
 
-  chunk_carries : (chunk : Chunk) (upto : ℕ) → IsChunk g c s chunk upto → IsChunk g' c s chunk upto
-  chunk_carries chunk upto r =
-      let on : IsOn s.first s.next chunk.from = root_on chunk.from r.source.was in
+  scan_carries : (scan : Scan) → IsScan g c s scan → IsScan g' c s scan
+  scan_carries scan r =
+      let size = agrees.size scan.from (root_on scan.from r.source.was) in
       record {
-        source = source_carries chunk.from chunk.to r.source;
-        len = r.len ∙ sym (agrees.size chunk.from on);
+        source = source_carries scan.from scan.to r.source;
+        len = r.len ∙ sym size;
         some = r.some;
+        cut = λ x. agrees.chunk_of x ∙ r.cut x;
+        begun = r.begun;
         within = r.within;
-        settled = λ x lo hi. settled_carries g g' s sound agrees chunk.to (target_on g s sound.rises chunk.from chunk.to on r.source.target) (s.slot chunk.from x) (r.settled x lo hi);
+        done = λ x lt passed. subst (λ y. s.done scan.to y ≡ true) (sym (agrees.chunk_of x)) (r.done x (subst (λ y. x < y) size lt) (subst (IsPassedBy scan) (agrees.chunk_of x) passed));
       }
+
+  settled_on : (scan : Scan) (x : ℕ) → IsSource g c s scan.from scan.to → IsSettled g s scan.to (s.slot scan.from x) → IsSettled g' s scan.to (s.slot scan.from x)
+  settled_on scan x source h = settled_carries g g' s sound agrees scan.to (target_on g s sound.rises scan.from scan.to (root_on scan.from source.was) source.target) (s.slot scan.from x) h
+
+  chunk_carries : (chunk : Chunk) → IsChunk g c s chunk → IsChunk g' c s chunk
+  chunk_carries chunk r = record {
+    scan = scan_carries chunk.scan r.scan;
+    at = r.at;
+    within = r.within;
+    whole = λ x lt is. r.whole x lt (sym (agrees.chunk_of x) ∙ is);
+    settled = λ x lt is. settled_on chunk.scan x r.scan.source (r.settled x lt (sym (agrees.chunk_of x) ∙ is));
+  }
+
+  settled_chunk_carries : (scan : Scan) → IsSettledChunk g c s scan → IsSettledChunk g' c s scan
+  settled_chunk_carries scan r = record {
+    scanned = scan_carries scan r.scanned;
+    settled = λ x lt is. settled_on scan x r.scanned.source (r.settled x (subst (λ y. x < y) (agrees.size scan.from (root_on scan.from r.scanned.source.was)) lt) (sym (agrees.chunk_of x) ∙ is));
+  }
 
   compared_carries : (at : Place) (word : ℕ) → HasCompared g c s last kept at word → HasCompared g' c s last kept at word
   compared_carries at word r = record {
@@ -168,10 +208,13 @@ module _ {K P : Type 0} (g g' : Setting K P) (c : Coding K P) (s : State P) (sou
   step_carries (steps.Linking from link) r = (agrees.blocking ∙ r.0, aimed_carries from (follows link) r.1, link_carries link r.2)
   step_carries (steps.Judging from to) r = (agrees.blocking ∙ r.0, source_carries from to r.1)
   step_carries (steps.Sizing from to) r = source_carries from to r
-  step_carries (steps.Counting from to len) r = (source_carries from to r.0, r.1 ∙ sym (agrees.size from (root_on from r.0.was)))
-  step_carries (steps.Settling chunk settle) r = (chunk_carries chunk chunk.at r.0, r.1, r.2, settle_carries (slot_of chunk) (root_on chunk.from r.0.source.was) settle r.3)
-  step_carries (steps.Advancing chunk) r = chunk_carries chunk chunk.end r
-  step_carries (steps.Promoting from to) r = (source_carries from to r.0, subst (λ y. y ≤ s.done to) (sym (agrees.size from (root_on from r.0.was))) r.1)
+  step_carries (steps.Scanning scan) r = scan_carries scan r
+  step_carries (steps.Settling chunk settle) r = (chunk_carries chunk r.0, settle_carries (slot_of chunk) (root_on chunk.scan.from r.0.scan.source.was) settle r.1)
+  step_carries (steps.Advancing scan) r = settled_chunk_carries scan r
+  step_carries (steps.Promoting from to) r = (
+    source_carries from to r.0,
+    λ x lt. subst (λ y. s.done to y ≡ true) (sym (agrees.chunk_of x)) (r.1 x (subst (λ y. x < y) (agrees.size from (root_on from r.0.was)) lt)),
+  )
 
   aim_carries : (aim : Aim) → RestsAim g c s last kept aim → RestsAim g' c s last kept aim
   aim_carries (aims.Search table) r = tt

@@ -14,5 +14,5 @@ module _ {K P : Type 0} (g : Setting K P) (matches : K → Bool) (hash : ℕ) wh
   key_word c s Root = refl
   key_word c s (Next t) = refl
   key_word c s (Aborted t) = refl
-  key_word c s (Done t) = refl
+  key_word c s (Done t chunk) = refl
   key_word c s (Slot t x) = key_code g matches hash c (s.slot t x)

@@ -57,6 +57,7 @@ pub mod CopierMay
 pub mod CopierExchange
 pub mod CopierLinks
 pub mod CopierCarries
+pub mod CopierScans
 pub mod CopierSettles
 pub mod CopierSettlesMade
 pub mod CopierSteps

@@ -115,7 +115,7 @@ module _ {K P : Type 0} (g : Setting K P) (c : Coding K P) (hashed : IsHashed g 
       others Root different = absurd (different refl)
       others (Next u) different = refl
       others (Aborted u) different = refl
-      others (Done u) different = refl
+      others (Done u b) different = refl
       others (Slot u y) different = refl
 
   -- a word that is put into a slot is the only one that changes
@@ -126,7 +126,7 @@ module _ {K P : Type 0} (g : Setting K P) (c : Coding K P) (hashed : IsHashed g 
       others Root different = refl
       others (Next u) different = refl
       others (Aborted u) different = refl
-      others (Done u) different = refl
+      others (Done u b) different = refl
       others (Slot u y) different = ap (code g c) (put_elsewhere now t x w u y (λ e. different (ap (λ a. Slot a y) (sym e.0) ∙ ap (Slot t) (sym e.1))))
 
   -- an insertion's word is the code of its pair

@@ -181,7 +181,7 @@ module _ (m : Machine) (t : ℕ) where
   opened_in made (Ended reply) answer e = absurd cc
 
   -- of the machine
-  pub machine_opened : (answer : Answer) → ask_of (after m answer) ≡ Ask_exchange Root 0 t → ((answer ≡ Made_number t) × ((slots : ℕ) × (limit : ℕ) × (ask_of m ≡ MakeTable slots limit))) ⊎ (ask_of m ≡ Ask_exchange Root 0 t)
+  pub machine_opened : (answer : Answer) → ask_of (after m answer) ≡ Ask_exchange Root 0 t → ((answer ≡ Made_number t) × ((slots : ℕ) × (limit : ℕ) × (ask_of m ≡ MakeTable slots limit 0))) ⊎ (ask_of m ≡ Ask_exchange Root 0 t)
   machine_opened answer e =
       let then : Machine = after m answer in
       ⊎_elim

@@ -22,7 +22,7 @@ IsSilent (WriteHint t x hint) = Unit {0}
 IsSilent (SameKey n) = Unit {0}
 IsSilent (SizeOf t) = Unit {0}
 IsSilent MakeKey = Unit {0}
-IsSilent (MakeTable slots limit) = Unit {0}
+IsSilent (MakeTable slots limit chunks) = Unit {0}
 IsSilent (AddToShard by) = Unit {0}
 
 module _ (m : Machine) (answer : Answer) (silent : IsSilent (ask_of m)) where

@@ -1,5 +1,6 @@
 -- What a copier rests on: facts of the words alone, which no exchange undoes.
-use Rattle.std.specs.Prelude.{◌≡◌, ◌⊎◌, ℕ, ◌+◌, ◌<◌, ◌≤◌, true, false, Option, Some}
+use Rattle.std.specs.Prelude.{◌≡◌, ◌⊎◌, ℕ, ◌+◌, ◌*◌, ◌<◌, ◌≤◌, true, false, Option, None, Some, MatchBool}
+use Rattle.papaya_words.specs.Chunks.{chunk_of}
 use Rattle.papaya_words.specs.Word.{hint_of, kind_of, pair_of}
 use Rattle.papaya_words.specs.declared.word.Kind.TheVariants as word_kinds
 use Rattle.papaya_ask.specs.declared.ask.At.{At}
@@ -29,6 +30,7 @@ use Rattle.papaya_copy.specs.declared.settle.Settled.{Settled}
 use Rattle.papaya_copy.specs.declared.settle.Settled.TheVariants as settled
 use Rattle.papaya_copy.specs.declared.settle.Slot.{Slot}
 use Rattle.papaya_copy.specs.declared.step.Chunk.{Chunk}
+use Rattle.papaya_copy.specs.declared.step.Scan.{Scan}
 use Rattle.papaya_copy.specs.declared.step.Step.{Step}
 use Rattle.papaya_copy.specs.declared.step.Step.TheVariants as steps
 use Rattle.papaya_copy.specs.declared.step.Stepped.{Stepped}
@@ -37,7 +39,7 @@ use Rattle.papaya_copy.specs.Link.{follows}
 use Rattle.papaya_copy.specs.Step.{slot_of}
 use Rattle.papaya_law.specs.Class.{IsOn}
 use Rattle.papaya_law.specs.Code.{Coding, code}
-use Rattle.papaya_law.specs.Copying.{IsPutting, IsSettled, IsTaker, IsTarget}
+use Rattle.papaya_law.specs.Copying.{IsLinking, IsPutting, IsSettled, IsTaker, IsTarget}
 use Rattle.papaya_law.specs.Hints.{IsHint}
 use Rattle.papaya_law.specs.Exchange.{Word, Closed, Live, Marked, Copied, Setting, State, Exchange, Link as Link_to, Mark, Close, Place as Place_pair, Finish, Advance, Promote, Abort}
 use Rattle.papaya_law.specs.Invariant.{named}
@@ -47,8 +49,48 @@ use Rattle.papaya_rests.specs.Told.{or_last}
 
 -- a made table has a greater number
 abbrev pub Rises_to : Link → Type 0
-Rises_to (links.Linking after table) = after < table
+Rises_to (links.Linking after table chunks) = after < table
 Rises_to _ = Unit {0}
+
+-- the making of a table under way in a copy, if one is
+abbrev pub link_in_carry : Carry → Option Link
+link_in_carry (carries.Linking hash link) = Some link
+link_in_carry _ = None
+
+abbrev pub link_in_settle : Settle → Option Link
+link_in_settle (settles.Carrying word carry) = link_in_carry carry
+link_in_settle _ = None
+
+abbrev pub link_in_step : Step → Option Link
+link_in_step (steps.Linking from link) = Some link
+link_in_step (steps.Settling chunk settle) = link_in_settle settle
+link_in_step _ = None
+
+abbrev pub link_in_copying : Copying → Option Link
+link_in_copying (copyings.Stepping aim step) = link_in_step step
+link_in_copying (copyings.Lone slot settle) = link_in_settle settle
+
+-- a table that was made to be linked has as many words for chunks as were asked for
+abbrev pub HasWords : {K P : Type 0} → Setting K P → Option Link → Type 0
+HasWords g (Some (links.Linking after table chunks)) = chunks ≤ g.chunks table
+HasWords g _ = Unit {0}
+
+-- each slot of the table is in one of so many chunks
+abbrev pub IsCutInto : {K P : Type 0} → Setting K P → (from chunks : ℕ) → Type 0
+IsCutInto g from chunks = (x : ℕ) → x < g.size from → g.chunk_of x < chunks
+
+-- what is known of the table that is copied to the next one
+abbrev pub Measures : {K P : Type 0} → Setting K P → (from : ℕ) → Link → Type 0
+Measures g from (links.Sizing after copied unfit) = copied ≡ from
+Measures g from (links.Measuring after copied unfit len) = copied ≡ from
+Measures g from (links.Counting after unfit len copied) = copied ≡ g.size from
+Measures g from (links.Making after len limit chunks) = IsCutInto g from chunks
+Measures g from (links.Linking after table chunks) = IsCutInto g from chunks
+
+-- the word of this chunk was passed by
+abbrev pub IsPassedBy : Scan → (chunk : ℕ) → Type 0
+IsPassedBy scan chunk = MatchBool scan.wrapped ((scan.start ≤ chunk) ⊎ (chunk < scan.at))
+    ((scan.start ≤ chunk) × (chunk < scan.at))
 
 -- the table that a carry is in
 abbrev pub carried_to : Carry → ℕ
@@ -68,6 +110,9 @@ module _ {K P : Type 0} (g : Setting K P) (c : Coding K P) (s : State P) where
   pub record RestsLink (link : Link) : Type 0 where
     pub on : IsOn s.first s.next (follows link)
     pub rises : Rises_to link
+    pub from : ℕ
+    pub linking : IsLinking g s from (follows link)
+    pub measures : Measures g from link
 
   -- from was the root, and its copies go to n
   pub record IsSource (from n : ℕ) : Type 0 where
@@ -81,14 +126,35 @@ module _ {K P : Type 0} (g : Setting K P) (c : Coding K P) (s : State P) where
     pub given_up : (behind ≡ from) ⊎ ((g.blocking ≡ true) × IsTarget g s from behind
         × (s.aborted behind ≡ true))
 
+  -- each chunk whose word was passed by is copied, and the one whose word is loaded has a slot
+  pub record IsScan (scan : Scan) : Type 0 where
+    pub source : IsSource scan.from scan.to
+    pub len : scan.len ≡ g.size scan.from
+    pub some : 0 < scan.slots
+    pub cut : (x : ℕ) → g.chunk_of x ≡ chunk_of scan.slots x
+    pub begun : scan.begun ≡ scan.at * scan.slots
+    pub within : scan.begun < scan.len
+    pub done : (x : ℕ) → x < g.size scan.from → IsPassedBy scan (g.chunk_of x)
+        → s.done scan.to (g.chunk_of x) ≡ true
+
   -- the slots of the chunk are settled as far as this one
-  pub record IsChunk (chunk : Chunk) (upto : ℕ) : Type 0 where
-    pub source : IsSource chunk.from chunk.to
-    pub len : chunk.len ≡ g.size chunk.from
-    pub some : chunk.begun < chunk.end
-    pub within : chunk.end ≤ chunk.len
-    pub settled : (x : ℕ) → chunk.begun ≤ x → x < upto
-        → IsSettled g s chunk.to (s.slot chunk.from x)
+  pub record IsChunk (chunk : Chunk) : Type 0 where
+    pub scan : IsScan chunk.scan
+    pub at : chunk.at < chunk.end
+    pub within : chunk.end ≤ chunk.scan.len
+    pub whole : (x : ℕ) → x < chunk.scan.len → g.chunk_of x ≡ chunk.scan.at → x < chunk.end
+    pub settled : (x : ℕ) → x < chunk.at → g.chunk_of x ≡ chunk.scan.at
+        → IsSettled g s chunk.scan.to (s.slot chunk.scan.from x)
+
+  -- all slots of the chunk are
+  pub record IsSettledChunk (scan : Scan) : Type 0 where
+    pub scanned : IsScan scan
+    pub settled : (x : ℕ) → x < g.size scan.from → g.chunk_of x ≡ scan.at
+        → IsSettled g s scan.to (s.slot scan.from x)
+
+  -- all slots of the table are copied to this one
+  abbrev pub IsAllDone : (from to : ℕ) → Type 0
+  IsAllDone from to = (x : ℕ) → x < g.size from → s.done to (g.chunk_of x) ≡ true
 
   -- without blocking: the pair of the slot is marked or copied, and goes to the next table first
   pub record IsMoving (slot : Slot) : Type 0 where
@@ -185,11 +251,10 @@ module _ {K P : Type 0} (g : Setting K P) (c : Coding K P) (s : State P)
       × RestsLink g c s link
   RestsStep (steps.Judging from to) = (g.blocking ≡ true) × IsSource g c s from to
   RestsStep (steps.Sizing from to) = IsSource g c s from to
-  RestsStep (steps.Counting from to len) = IsSource g c s from to × (len ≡ g.size from)
-  RestsStep (steps.Settling chunk settle) = IsChunk g c s chunk chunk.at × (chunk.begun ≤ chunk.at)
-      × (chunk.at < chunk.end) × RestsSettle (slot_of chunk) settle
-  RestsStep (steps.Advancing chunk) = IsChunk g c s chunk chunk.end
-  RestsStep (steps.Promoting from to) = IsSource g c s from to × (g.size from ≤ s.done to)
+  RestsStep (steps.Scanning scan) = IsScan g c s scan
+  RestsStep (steps.Settling chunk settle) = IsChunk g c s chunk × RestsSettle (slot_of chunk) settle
+  RestsStep (steps.Advancing scan) = IsSettledChunk g c s scan
+  RestsStep (steps.Promoting from to) = IsSource g c s from to × IsAllDone g c s from to
 
   -- what a call copies for: the slot in which it met its key's pair is one that is moving
   abbrev pub RestsAim : Aim → Type 0
@@ -228,6 +293,7 @@ module _ {K P : Type 0} (g : Setting K P) (c : Coding K P) (s : State P)
   abbrev pub RestsStepped : Stepped → Type 0
   RestsStepped (stepped.On step) = RestsStep step
   RestsStepped (stepped.Root table) = s.root ≡ table
+  RestsStepped (stepped.Further chunk) = IsChunk g c s chunk
   RestsStepped (stepped.Last table) = (s.was_root table ≡ true) × (s.next table ≡ 0)
   RestsStepped stepped.Over = Unit {0}
   RestsStepped (stepped.Refused refused) = Unit {0}
@@ -276,7 +342,7 @@ IsCopyAsked {P = P} c (Some kinds.Place) (Slot_word t x) new s kept e = (p : P) 
     × (c.number p ≡ pair_of new) × (e ≡ Place_pair t x p)
 IsCopyAsked {P = P} c (Some kinds.Finish) (Slot_word t x) new s kept e = (p : P)
     × (s.slot t x ≡ Marked p) × (e ≡ Finish t x p)
-IsCopyAsked c (Some kinds.Advance) (Done n) new s kept e = e ≡ Advance n (s.done n) new
+IsCopyAsked c (Some kinds.Advance) (Done n chunk) new s kept e = e ≡ Advance n chunk
 IsCopyAsked c (Some kinds.Promote) Root new s kept e = e ≡ Promote s.root new
 IsCopyAsked c (Some kinds.Abort) (Aborted n) new s kept e = e ≡ Abort n
 IsCopyAsked c _ _ new s kept e = ⊥
@@ -293,7 +359,7 @@ module _ {K P : Type 0} (g : Setting K P) (c : Coding K P) (s : State P)
   IsThere Root = Unit {0}
   IsThere (Next t) = IsOn s.first s.next t
   IsThere (Aborted t) = IsOn s.first s.next t
-  IsThere (Done t) = IsOn s.first s.next t
+  IsThere (Done t chunk) = IsOn s.first s.next t × (chunk < g.chunks t)
   IsThere (Slot_word t x) = IsOn s.first s.next t × (x < g.size t)
 
   -- what is named in an ask is there: such words, the pair last told of, and the one that is

@@ -86,14 +86,14 @@ MayAsk task kind (Load Root) = Unit {0}
 MayAsk task kind (Load (Next t)) = Unit {0}
 MayAsk task kind (Load (Slot t x)) = Unit {0}
 MayAsk task kind (Load (Aborted t)) = ⊥
-MayAsk task kind (Load (Done_word t)) = ⊥
+MayAsk task kind (Load (Done_word t chunk)) = ⊥
 MayAsk task kind (Exchange Root old new) = MayInsert task × (kind ≡ Some kinds.Open) × (old ≡ 0)
 MayAsk task kind (Exchange (Slot t x) old new) =
     (MayInsert task × ((kind ≡ Some kinds.Claim) ⊎ (kind ≡ Some kinds.Replace)))
     ⊎ (HasClosure task × (kind ≡ Some kinds.Bury))
 MayAsk task kind (Exchange (Next t) old new) = ⊥
 MayAsk task kind (Exchange (Aborted t) old new) = ⊥
-MayAsk task kind (Exchange (Done_word t) old new) = ⊥
+MayAsk task kind (Exchange (Done_word t chunk) old new) = ⊥
 MayAsk task kind (LoadHint t x) = Unit {0}
 MayAsk task kind (WriteHint t x hint) = MayInsert task
 MayAsk task kind (SameKey n) = Unit {0}
@@ -102,7 +102,7 @@ MayAsk task kind (ShowPair n) = HasClosure task
 MayAsk task kind (SizeOf t) = Unit {0}
 MayAsk task kind MakeKey = MayInsert task
 MayAsk task kind MakePair = MayInsert task
-MayAsk task kind (MakeTable slots limit) = MayInsert task
+MayAsk task kind (MakeTable slots limit chunks) = MayInsert task
 MayAsk task kind (AddToShard by) = IsChanger task
 MayAsk task kind (Done reply) = Unit {0}
 

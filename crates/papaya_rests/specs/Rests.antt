@@ -1,6 +1,7 @@
 -- What a machine rests on: facts of the words that stay true whatever exchanges follow, and facts
 -- about a moment since its call began.
 use Rattle.std.specs.Prelude.{◌≡◌, ◌⊎◌, ℕ, ◌+◌, ◌<◌, Bool, true, false, Option, None, Some, List, ◌++◌}
+use Rattle.papaya_words.specs.Chunks.{chunk_len, chunk_of}
 use Rattle.papaya_words.specs.Word.{hint_of, kind_of, pair_of}
 use Rattle.papaya_words.specs.declared.word.Kind.TheVariants as word_kinds
 use Rattle.papaya_words.specs.declared.probe.ResizeMode.{ResizeMode}
@@ -49,6 +50,10 @@ use Rattle.papaya_rests.specs.Told.{Hands, IsOneOf}
 abbrev pub IsModeOf : ResizeMode → Bool → Type 0
 IsModeOf (Incremental chunk) blocking = blocking ≡ false
 IsModeOf Blocking blocking = blocking ≡ true
+
+-- and copies each slot in the same chunk
+abbrev pub IsCutAs : ResizeMode → (ℕ → ℕ) → Type 0
+IsCutAs mode of_slot = (x : ℕ) → of_slot x ≡ chunk_of (chunk_len mode) x
 
 -- a call that may insert needs room or its pair, and a removal its pair alone
 abbrev pub MayNeed : Task → Need → Type 0

@@ -41,7 +41,7 @@ module _ {K P : Type 0} (g : Setting K P) (c : Coding K P) where
   word_of s Root = s.root
   word_of s (Next t) = s.next t
   word_of s (Aborted t) = cond (s.aborted t) 1 0
-  word_of s (Done t) = s.done t
+  word_of s (Done t chunk) = cond (s.done t chunk) 1 0
   word_of s (Slot t x) = code g c (s.slot t x)
 
   -- just the word at this place is another
@@ -118,7 +118,7 @@ module _ {K P : Type 0} (g : Setting K P) (c : Coding K P) (k : K) where
       (IsUnmade answer × Quiet hands es hands')
       ⊎ ((q : P) × (g.key q ≡ k) × (answer ≡ Made_number (c.number q)) × (es ≡ [])
       × (hands' ≡ record hands { made = q ∷ hands.made }))
-  IsTold s kind hands (MakeTable slots limit) answer es hands' =
+  IsTold s kind hands (MakeTable slots limit chunks) answer es hands' =
       (IsUnmade answer ⊎ ((n : ℕ) × (0 < n) × (answer ≡ Made_number n))) × Quiet hands es hands'
   IsTold s kind hands (AddToShard by) answer es hands' = (answer ≡ Ok_done) × Quiet hands es hands'
   IsTold s kind hands (Ask_done reply) answer es hands' = (answer ≡ Ok_done) × Quiet hands es hands'

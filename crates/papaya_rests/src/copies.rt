@@ -17,7 +17,6 @@ ghost use Rattle.papaya_copy.specs.declared.copying.Copying.TheVariants as copyi
 ghost use Rattle.papaya_copy.specs.declared.step.Step.TheVariants as steps;
 ghost use Rattle.papaya_copy.specs.Copying.{at_count, at_exchanged, at_found, at_hash, at_made, at_ok, at_refused};
 ghost use Rattle.papaya_copy.specs.Copying.{at_size, at_word, at_yes, copying_ask, copying_follows, copying_kind};
-ghost use Rattle.papaya_words.specs.Mode.{IsChunked};
 ghost use Rattle.papaya_law.specs.Allows.{AllAllowed, Allows};
 ghost use Rattle.papaya_law.specs.Class.{IsOn};
 ghost use Rattle.papaya_law.specs.Code.{Coding, IsHashed};
@@ -25,8 +24,9 @@ ghost use Rattle.papaya_law.specs.Exchange.{Setting, State, Exchange, after, run
 ghost use Rattle.papaya_law.specs.Grows.{Agrees};
 ghost use Rattle.papaya_law.specs.Hints.{IsHint};
 ghost use Rattle.papaya_law.specs.Invariant.{IsKeeping};
-ghost use Rattle.papaya_rests.specs.Copier.{AreThere, IsCopyAsked, RestsAim, RestsCopied, RestsCopying, aim_of, last_after, told_last};
-ghost use Rattle.papaya_rests.specs.Rests.{IsModeOf};
+ghost use Rattle.papaya_rests.specs.Copier.{AreThere, HasWords, IsCopyAsked, RestsAim, RestsCopied, RestsCopying, aim_of, last_after, link_in_copying};
+ghost use Rattle.papaya_rests.specs.Copier.{told_last};
+ghost use Rattle.papaya_rests.specs.Rests.{IsCutAs, IsModeOf};
 ghost use Rattle.papaya_rests.specs.Told.{IsWritten, word_of};
 
 /// What a copier rests on stays so, whatever others exchange and whichever tables are made.
@@ -41,12 +41,14 @@ pub fn copiers_stay<K, P>()
         → RestsCopying g' c s last kept copying }
 {}
 
-/// An exchange whose old word stands there is one of the law, allowed, and writes just its word.
+/// An exchange whose old word stands there is one of the law, allowed, and writes just its word. A
+/// table that is linked was made with as many words for chunks as were asked for.
 pub fn copiers_may_exchange<K, P>()
     ensures may { (g : Setting K P) (c : Coding K P) → IsHashed g c
         → (s : State P) (m : K → Option P) → IsKeeping g s m
         → (last kept : Option P) (copying : Copying) → RestsCopying g c s last kept copying
-        → (at : At) (old new : ℕ) → copying_ask copying ≡ asks.Exchange at old new
+        → HasWords g (link_in_copying copying) → (at : At) (old new : ℕ)
+        → copying_ask copying ≡ asks.Exchange at old new
         → word_of g c s at ≡ old → (e : Exchange P)
         × IsCopyAsked c (copying_kind copying) at new s kept e × Allows g s e
         × IsWritten g c s at new (after s e) }
@@ -75,8 +77,7 @@ pub fn copiers_name<K, P>()
 /// table in which the call is to look for its key, or the root.
 ///
 /// A load and an exchange are answered by the word that stands there, and the load of a hint by any
-/// that may be there. Asked for a hash, a copier
-/// carries the pair that it was told of last. What makes a table gives it a number above the one
+/// that may be there. Asked for a hash, a copier carries the pair that it was told of last. What makes a table gives it a number above the one
 /// that it follows.
 pub fn copiers_learn<K, P>()
     ensures begins { (g : Setting K P) (c : Coding K P) (s : State P) (last kept : Option P)
@@ -85,7 +86,7 @@ pub fn copiers_learn<K, P>()
     ensures load { (g : Setting K P) (c : Coding K P) → IsHashed g c
         → (s : State P) (m : K → Option P) → IsKeeping g s m → (mode : ResizeMode)
         → IsModeOf mode g.blocking → (last kept : Option P) (copying : Copying)
-        → RestsCopying g c s last kept copying → (at : At) → IsChunked mode
+        → RestsCopying g c s last kept copying → (at : At)
         → copying_ask copying ≡ asks.Load at → RestsCopied g c s (told_last s at last) kept
         (aim_of copying) (at_word copying mode (word_of g c s at)) }
     ensures hint { (g : Setting K P) (c : Coding K P) → IsHashed g c
@@ -103,9 +104,9 @@ pub fn copiers_learn<K, P>()
     ensures exchanged { (g : Setting K P) (c : Coding K P) → IsHashed g c
         → (s : State P) (m : K → Option P) → IsKeeping g s m → (mode : ResizeMode)
         → IsModeOf mode g.blocking → (last kept : Option P) (copying : Copying)
-        → RestsCopying g c s last kept copying → (at : At) (old new : ℕ)
-        → copying_ask copying ≡ asks.Exchange at old new → word_of g c s at ≡ old → (e : Exchange P)
-        → IsCopyAsked c (copying_kind copying) at new s kept e
+        → RestsCopying g c s last kept copying → HasWords g (link_in_copying copying)
+        → (at : At) (old new : ℕ) → copying_ask copying ≡ asks.Exchange at old new
+        → word_of g c s at ≡ old → (e : Exchange P) → IsCopyAsked c (copying_kind copying) at new s kept e
         → RestsCopied g c (after s e) (last_after e last) kept (aim_of copying)
         (at_exchanged copying mode) }
     ensures found { (g : Setting K P) (c : Coding K P) → IsHashed g c
@@ -117,10 +118,11 @@ pub fn copiers_learn<K, P>()
         (at_found copying mode (word_of g c s at)) }
     ensures size { (g : Setting K P) (c : Coding K P) → IsHashed g c
         → (s : State P) (m : K → Option P) → IsKeeping g s m → (mode : ResizeMode)
-        → IsModeOf mode g.blocking → (last kept : Option P) (copying : Copying)
-        → RestsCopying g c s last kept copying → (t limit : ℕ) → copying_ask copying ≡ asks.SizeOf t
-        → limit + 1 ≡ g.places t → (aim_of (at_size copying (g.size t) limit) ≡ aim_of copying)
-        × RestsCopying g c s last kept (at_size copying (g.size t) limit) }
+        → IsModeOf mode g.blocking → IsCutAs mode g.chunk_of → (last kept : Option P)
+        (copying : Copying) → RestsCopying g c s last kept copying → (number t limit : ℕ)
+        → copying_ask copying ≡ asks.SizeOf t → limit + 1 ≡ g.places t
+        → (aim_of (at_size copying mode number (g.size t) limit) ≡ aim_of copying)
+        × RestsCopying g c s last kept (at_size copying mode number (g.size t) limit) }
     ensures hash { (g : Setting K P) (c : Coding K P) → IsHashed g c
         → (s : State P) (m : K → Option P) → IsKeeping g s m → (mode : ResizeMode)
         → IsModeOf mode g.blocking → (last kept : Option P) (copying : Copying)
@@ -136,8 +138,8 @@ pub fn copiers_learn<K, P>()
         (at_yes copying mode (g.same (g.key p) (g.key q))) }
     ensures count { (g : Setting K P) (c : Coding K P) → IsHashed g c
         → (s : State P) (m : K → Option P) → IsKeeping g s m → (mode : ResizeMode)
-        → IsModeOf mode g.blocking → (last kept : Option P) (copying : Copying)
-        → RestsCopying g c s last kept copying → (count initial : ℕ)
+        → IsModeOf mode g.blocking → IsCutAs mode g.chunk_of → (last kept : Option P)
+        (copying : Copying) → RestsCopying g c s last kept copying → (count initial : ℕ)
         → RestsCopied g c s last kept (aim_of copying) (at_count copying mode count initial) }
     ensures made { (g : Setting K P) (c : Coding K P) → IsHashed g c
         → (s : State P) (m : K → Option P) → IsKeeping g s m → (mode : ResizeMode)

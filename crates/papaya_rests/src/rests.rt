@@ -85,7 +85,7 @@ pub fn names<K, P>()
         → (q : P) × IsOneOf hands.made q × (g.key q ≡ k) }
     ensures opened { (m : Machine) (answer : Answer) (t : ℕ)
         → ask_of (after m answer) ≡ Ask.Exchange At.Root 0 t
-        → ((answer ≡ Answer.Made t) × ((len limit : ℕ) × (ask_of m ≡ Ask.MakeTable len limit)))
+        → ((answer ≡ Answer.Made t) × ((len limit : ℕ) × (ask_of m ≡ Ask.MakeTable len limit 0)))
         ⊎ (ask_of m ≡ Ask.Exchange At.Root 0 t) }
 {}
 

@@ -55,8 +55,8 @@ module _ {K V S : Type 0} where
       (answer ≡ answers.Call (Yes (same_keys eq (pair_of s m) (pair_of s n)))) × (s' ≡ s)
   PerformsCopy eq hash refuse Count s answer s' =
       (answer ≡ answers.Count (count_of s.count.sum)) × (s' ≡ s)
-  PerformsCopy eq hash refuse (MakeTable slots limit) s answer s' =
+  PerformsCopy eq hash refuse (MakeTable slots limit chunks) s answer s' =
       IsCallAnswer answer (λ told. MatchBool refuse
       ((told ≡ Was_refused Memory) × (s' ≡ s))
       ((Refuses MAX_TABLES (length s.words.tables) told × (s' ≡ s))
-      ⊎ MakesTable told slots limit s s'))
+      ⊎ MakesTable told slots limit chunks s s'))

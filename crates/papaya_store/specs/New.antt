@@ -10,7 +10,7 @@ use Rattle.papaya_store.specs.Store.{StoreState}
 -- the first table: it is the root, and as long as was asked for, or of the least length
 abbrev pub IsOpened : ℕ → Tables → Type 0
 IsOpened asked words = (limit : ℕ) × IsLimit (max asked LEAST_TABLE_LEN) limit
-    × (words ≡ record { root = 1; tables = new_table 1 (max asked LEAST_TABLE_LEN) limit ∷ [] })
+    × (words ≡ record { root = 1; tables = new_table 1 (max asked LEAST_TABLE_LEN) limit 0 ∷ [] })
 
 -- a capacity of 0 makes no table
 abbrev pub HasCapacity : (capacity initial : ℕ) → Tables → Type 0

@@ -64,13 +64,14 @@ module _ {K V S : Type 0} where
       ((answer ≡ Found_instead found) × (s' ≡ s))
 
   -- the table goes to the end of the tables
-  abbrev pub MakesTable : Answer → (slots limit : ℕ) → StoreState K V S → StoreState K V S → Type 0
-  MakesTable answer slots limit s s' =
+  abbrev pub MakesTable : Answer → (slots limit chunks : ℕ) → StoreState K V S → StoreState K V S
+      → Type 0
+  MakesTable answer slots limit chunks s s' =
       let n = length s.words.tables + 1 in
       (answer ≡ Made_number n) × (length s.words.tables < MAX_TABLES)
       × (s' ≡ record s {
         words = record s.words
-            { tables = s.words.tables ++ new_table n slots limit ∷ [] };
+            { tables = s.words.tables ++ new_table n slots limit chunks ∷ [] };
       })
 
 -- the value of an insertion that a closure answered
@@ -178,10 +179,10 @@ module _ {K V S A : Type 0} where
       MakesOr refuse answer s r s' r'
       ((Refuses MAX_LOG_LEN (length s.pairs) answer × Stays s r s' r')
       ⊎ (HasNoPair answer r × Stays s r s' r') ⊎ LogsPair answer s r s' r')
-  Performs eq says refuse (MakeTable slots limit) s r answer s' r' =
+  Performs eq says refuse (MakeTable slots limit chunks) s r answer s' r' =
       MakesOr refuse answer s r s' r'
       (((Refuses MAX_TABLES (length s.words.tables) answer × (s' ≡ s))
-      ⊎ MakesTable answer slots limit s s') × (r' ≡ r))
+      ⊎ MakesTable answer slots limit chunks s s') × (r' ≡ r))
   Performs eq says refuse (AddToShard by) s r answer s' r' = (answer ≡ Ok_done)
       × ((number : ℕ) × (s' ≡ record s { count = added s.count number by })) × (r' ≡ r)
   Performs eq says refuse (Ask_done reply) s r answer s' r' = (answer ≡ Ok_done) × Stays s r s' r'
@@ -190,5 +191,5 @@ module _ {K V S A : Type 0} where
 abbrev pub IsMake : Ask → Type 0
 IsMake MakeKey = Unit {0}
 IsMake MakePair = Unit {0}
-IsMake (MakeTable slots limit) = Unit {0}
+IsMake (MakeTable slots limit chunks) = Unit {0}
 IsMake _ = ⊥

@@ -22,7 +22,7 @@ abbrev pub word_at : Tables → At → ℕ
 word_at w Root = w.root
 word_at w (Next n) = word_in (λ t. t.next) (table_of w.tables n)
 word_at w (Aborted n) = word_in (λ t. t.aborted) (table_of w.tables n)
-word_at w (Done n) = word_in (λ t. t.done) (table_of w.tables n)
+word_at w (Done n chunk) = word_in (λ t. slice_index t.done chunk) (table_of w.tables n)
 word_at w (Slot n i) = word_in (λ t. slice_index t.slots i) (table_of w.tables n)
 
 -- a table after one of its words was written
@@ -30,7 +30,8 @@ abbrev pub written : At → TableWords → ℕ → TableWords
 written Root t word = t
 written (Next n) t word = record t { next = word }
 written (Aborted n) t word = record t { aborted = word }
-written (Done n) t word = record t { done = word }
+written (Done n chunk) t word = if nat_lt chunk (length t.done)
+    then record t { done = slice_set t.done chunk word } else t
 written (Slot n i) t word = if nat_lt i (length t.slots)
     then record t { slots = slice_set t.slots i word } else t
 
@@ -48,7 +49,7 @@ abbrev pub put : Tables → At → ℕ → Tables
 put w Root word = record w { root = word }
 put w (Next n) word = put_at (Next n) n w word
 put w (Aborted n) word = put_at (Aborted n) n w word
-put w (Done n) word = put_at (Done n) n w word
+put w (Done n chunk) word = put_at (Done n chunk) n w word
 put w (Slot n i) word = put_at (Slot n i) n w word
 
 -- the hint of a slot of a table; 0 where there is no such slot

@@ -57,7 +57,9 @@ impl<K: Hash + Eq + Drop, V: Drop, S: BuildHasher> Store<K, V, S> {
             CopyAsk::MakeTable { .. } if refuse => {
                 Answer::Call(CallAnswer::Refused(Refused::Memory))
             }
-            CopyAsk::MakeTable { len, limit } => Answer::Call(self.make_table(alloc, len, limit)),
+            CopyAsk::MakeTable { len, limit, chunks } => {
+                Answer::Call(self.make_table(alloc, len, limit, chunks))
+            }
         }
     }
 }

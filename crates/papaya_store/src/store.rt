@@ -55,7 +55,11 @@ fn write_in(table: &mut Table, at: At, word: u64)
         At::Root => {}
         At::Next(_) => table.set_next(word),
         At::Aborted(_) => table.set_aborted(word),
-        At::Done(_) => table.set_done(word),
+        At::Done(_, chunk) => {
+            if chunk < table.chunks() {
+                table.set_done(chunk, word);
+            }
+        }
         At::Slot(_, i) => {
             if i < table.len() {
                 table.put(i, word);
@@ -248,7 +252,10 @@ impl<K: Hash + Eq, V, S: BuildHasher> Store<K, V, S> {
             At::Root => self.root,
             At::Next(n) => self.table(n).map_or(0, |table| table.next()),
             At::Aborted(n) => self.table(n).map_or(0, |table| table.aborted()),
-            At::Done(n) => self.table(n).map_or(0, |table| table.done()),
+            At::Done(n, chunk) => match self.table(n) {
+                Some(table) if chunk < table.chunks() => table.done(chunk),
+                _ => 0,
+            },
             At::Slot(n, i) => match self.table(n) {
                 Some(table) if i < table.len() => table.slot(i),
                 _ => 0,
@@ -266,7 +273,7 @@ impl<K: Hash + Eq, V, S: BuildHasher> Store<K, V, S> {
                 self.root = word;
                 return;
             }
-            At::Next(n) | At::Aborted(n) | At::Done(n) | At::Slot(n, _) => n,
+            At::Next(n) | At::Aborted(n) | At::Done(n, _) | At::Slot(n, _) => n,
         };
         if n != 0 {
             put_in(&mut self.tables, n as usize - 1, at, word);
@@ -373,7 +380,7 @@ impl<K: Hash + Eq + Drop, V: Drop, S: BuildHasher + Drop> Store<K, V, S> {
             return Ok(());
         }
         let len = table_len(initial);
-        let table = Table::new(alloc, 1, len, limit(len))?;
+        let table = Table::new(alloc, 1, len, limit(len), 0)?;
         if self.tables.push(table).is_err() {
             return Err(Refused::Memory);
         }
@@ -451,16 +458,22 @@ impl<K: Hash + Eq + Drop, V: Drop, S: BuildHasher> Store<K, V, S> {
         }
     }
 
-    /// Makes a table of empty slots.
-    pub(crate) fn make_table(&mut self, alloc: Global, len: usize, limit: usize) -> Answer
+    /// Makes a table of empty slots, to which a table of so many chunks is copied.
+    pub(crate) fn make_table(
+        &mut self,
+        alloc: Global,
+        len: usize,
+        limit: usize,
+        chunks: usize,
+    ) -> Answer
         ensures { (Refuses MAX_TABLES (length self.old.words.tables) result × (self.new ≡ self.old))
-            ⊎ MakesTable result len limit self.old self.new }
+            ⊎ MakesTable result len limit chunks self.old self.new }
     {
         let n = self.tables.len() as u64;
         if n >= MAX_TABLES {
             return Answer::Refused(Refused::Capacity);
         }
-        match Table::new(alloc, n + 1, len, limit) {
+        match Table::new(alloc, n + 1, len, limit, chunks) {
             Err(refused) => Answer::Refused(refused),
             Ok(table) => match self.tables.push(table) {
                 Ok(()) => Answer::Made(n + 1),
@@ -558,7 +571,7 @@ impl<K: Hash + Eq + Drop, V: Drop, S: BuildHasher> Store<K, V, S> {
         match ask {
             Ask::MakeKey => self.make_key(running),
             Ask::MakePair => self.make_pair(running),
-            Ask::MakeTable { len, limit } => self.make_table(alloc, len, limit),
+            Ask::MakeTable { len, limit, chunks } => self.make_table(alloc, len, limit, chunks),
             _ => unreachable!(),
         }
     }

@@ -1,3 +1,4 @@
+pub mod Chunks
 pub mod Counter
 pub mod Mode
 pub mod Probe

@@ -3,7 +3,8 @@ use Rattle.std.specs.Prelude.{ℕ, ◌*◌, ◌/◌, ◌-◌, Bool, ◌||◌, �
 use Rattle.papaya_words.specs.Probe.{limit_of}
 
 -- a table: its number, how far a search of it goes, its slot words and their hints, the number of the
--- next table or 0, 1 where it was aborted, and how many slots of the table before it are copied
+-- next table or 0, 1 where it was aborted, and a word for each chunk of the table before it, 1 where
+-- that is copied
 pub record TableWords : Type 0 where
   pub number : ℕ
   pub limit : ℕ
@@ -11,18 +12,18 @@ pub record TableWords : Type 0 where
   pub hints : List ℕ
   pub next : ℕ
   pub aborted : ℕ
-  pub done : ℕ
+  pub done : List ℕ
 
 -- a table as it is made: each slot is empty, and all else is 0
-abbrev pub new_table : ℕ → ℕ → ℕ → TableWords
-new_table number len limit = record {
+abbrev pub new_table : (number len limit chunks : ℕ) → TableWords
+new_table number len limit chunks = record {
   number = number;
   limit = limit;
   slots = replicate len 0;
   hints = replicate len 0;
   next = 0;
   aborted = 0;
-  done = 0;
+  done = replicate chunks 0;
 }
 
 -- hints, after one of a slot was written: it stays where there was one

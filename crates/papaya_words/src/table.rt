@@ -22,7 +22,7 @@ pub struct Table {
     hints: Vec<u8>,
     next: u64,
     aborted: u64,
-    done: u64,
+    done: Vec<u64>,
 }
 
 impl Model for Table {
@@ -38,7 +38,7 @@ impl Model for Table {
       hints = t.hints.items;
       next = t.next;
       aborted = t.aborted;
-      done = t.done;
+      done = t.done.items;
     } };
 
     ghost invariant = { λ t. length t.hints.items ≡ length t.slots.items };
@@ -47,22 +47,33 @@ impl Model for Table {
 impl Table {
     ghost use Rattle.papaya_words.specs.Table.{new_table, noted};
 
-    /// A table of this number, with `len` Empty slots, no hints and no next.
+    /// A table of this number, with `len` Empty slots, no hints and no next, to which a table of so
+    /// many chunks is copied.
     ///
     /// `Refused::Memory` where the growth was refused.
-    pub fn new(alloc: Global, number: u64, len: usize, limit: usize) -> Result<Table, Refused>
-        ensures ok { IfOk result (λ table. table ≡ new_table number len limit) }
+    pub fn new(
+        alloc: Global,
+        number: u64,
+        len: usize,
+        limit: usize,
+        chunks: usize,
+    ) -> Result<Table, Refused>
+        ensures ok { IfOk result (λ table. table ≡ new_table number len limit chunks) }
         ensures err { IfErr result (λ refused. refused ≡ Refused.Memory) }
     {
-        match (vec![in alloc; 0; len], vec![in alloc; 0; len]) {
-            (Ok(slots), Ok(hints)) => Ok(Table {
+        match (
+            vec![in alloc; 0; len],
+            vec![in alloc; 0; len],
+            vec![in alloc; 0; chunks],
+        ) {
+            (Ok(slots), Ok(hints), Ok(done)) => Ok(Table {
                 number,
                 limit,
                 slots,
                 hints,
                 next: 0,
                 aborted: 0,
-                done: 0,
+                done,
             }),
             _ => Err(Refused::Memory),
         }
@@ -107,11 +118,19 @@ impl Table {
         self.aborted
     }
 
-    /// How many slots of the table before are copied, counted from its first.
-    pub fn done(&self) -> u64
-        ensures { result ≡ self.now.done }
+    /// In how many chunks the table before is copied to this one.
+    pub fn chunks(&self) -> usize
+        ensures { result ≡ length self.now.done }
     {
-        self.done
+        self.done.len()
+    }
+
+    /// 1 where this chunk of the table before is copied, else 0.
+    pub fn done(&self, chunk: usize) -> u64
+        requires { chunk < length self.now.done }
+        ensures { slice_get self.now.done chunk ≡ Some result }
+    {
+        self.done[chunk]
     }
 
     /// Writes the number of the next table.
@@ -128,11 +147,12 @@ impl Table {
         self.aborted = aborted;
     }
 
-    /// Writes how many slots of the table before are copied.
-    pub fn set_done(&mut self, done: u64)
-        ensures { self.new ≡ record self.old { done = done } }
+    /// Writes whether a chunk of the table before is copied.
+    pub fn set_done(&mut self, chunk: usize, done: u64)
+        requires { chunk < length self.old.done }
+        ensures { self.new ≡ record self.old { done = slice_set self.old.done chunk done } }
     {
-        self.done = done;
+        self.done[chunk] = done;
     }
 
     /// The word of a slot.

@@ -108,14 +108,16 @@ module _ {K P : Type 0} (g : Setting K P) (s : State P) where
       given_up = λ u ab lt.
           let v = holds.given_up u ab lt in
           record { on = v.on; between = v.between; slot = v.slot; pair = v.pair; marked = same s.root v.slot (ap plain v.marked) ∙ v.marked; full = mild_full t x w' (g.key v.pair) (mild (g.key v.pair)) u v.full };
-      done_to = λ u lt some.
-          let v = holds.done_to u lt some in
+      done_to = λ u c lt some.
+          let v = holds.done_to u c lt some in
           record {
             between = v.between;
             settled = λ y h i.
                 let q : IsSettled g s u (s.slot s.root y) = v.settled y h i in
                 subst (IsSettled g (slot_put s t x w') u) (sym (same s.root y (settled_not_plain u (s.slot s.root y) q))) (settled_on t x w' mild u (s.slot s.root y) q);
           };
+      linked_by = holds.linked_by;
+      covered = λ u n was target. holds.covered u n was (record { links = target.links; is = target.is; made = target.made; mode = target.mode; over = target.over });
       class = class;
     }
       where

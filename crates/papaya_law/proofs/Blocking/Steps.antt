@@ -19,12 +19,12 @@ module _ {K P : Type 0} (g : Setting K P) (law : IsLawful g) (blocks : g.blockin
   step_blocking s m holds (Claim t x p) may = claim_blocking g law blocks s m holds t x p may
   step_blocking s m holds (Replace t x p q) may = replace_blocking g law blocks s m holds t x p q may
   step_blocking s m holds (Bury t x p) may = bury_blocking g law blocks s m holds t x p may
-  step_blocking s m holds (Link t n) may = (tt, link_blocking g s m holds t n may.0 may.1 may.2)
+  step_blocking s m holds (Link t n) may = (tt, link_blocking g s m holds blocks t n may)
   step_blocking s m holds (Mark t x p) may = (tt, mark_blocking g law blocks s m holds t x p may)
   step_blocking s m holds (Close t x) may = (tt, close_blocking g law blocks s m holds t x may)
   step_blocking s m holds (Place n x p) may = (tt, place_blocking g law blocks s m holds n x p may)
   step_blocking s m holds (Finish t x p) may = absurd (let b = may.mode in cc (b, blocks))
-  step_blocking s m holds (Advance n a b) may = (tt, advance_blocking g s m holds n a b may)
+  step_blocking s m holds (Advance n c) may = (tt, advance_blocking g s m holds n c may)
   step_blocking s m holds (Promote t n) may = (tt, promote_blocking g s m holds law t n may)
   step_blocking s m holds (Abort n) may = (tt, abort_blocking g s m holds law n may)
 

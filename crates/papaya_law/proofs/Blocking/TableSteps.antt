@@ -1,10 +1,10 @@
 -- The exchanges of the root and of the words of a table keep what is to be kept, with blocking.
-use Rattle.std.proofs.Common.{◌≡◌, ◌⊎◌, inl, inr, ⊎_elim, ℕ, ◌<◌, ◌≤◌, Bool, true, false, ◌==◌, Option, None, Some, refl, sym, ap, ◌∙◌, subst, arith, eqb-true}
+use Rattle.std.proofs.Common.{◌≡◌, ◌⊎◌, inl, inr, ⊎_elim, ℕ, suc, ◌<◌, ◌≤◌, Bool, true, false, ◌==◌, Option, None, Some, refl, sym, ap, ◌∙◌, subst, arith, eqb-true}
 use Rattle.std.proofs.lemmas.Bool.{cases_lt, cases_Bool, cond-true, cond-false}
-use Rattle.papaya_law.specs.Exchange.{Marked, Setting, State, Open, Link, Advance, Promote, Abort, start, after, at_put}
+use Rattle.papaya_law.specs.Exchange.{Marked, Setting, State, Open, Link, Advance, Promote, Abort, start, after, at_put, walk}
 use Rattle.papaya_law.specs.View.{View, Foreign, Here, Leaving, view, look, own, HasWord}
 use Rattle.papaya_law.specs.Copying.{IsTarget, IsSettled}
-use Rattle.papaya_law.specs.Allows.{MayAdvance, MayPromote, MayAbort}
+use Rattle.papaya_law.specs.Allows.{MayAdvance, MayLink, MayPromote, MayAbort}
 use Rattle.papaya_law.specs.Meaning.{IsLawful}
 use Rattle.papaya_law.specs.Class.{IsOn}
 use Rattle.papaya_law.specs.ClassBlocking.{AllAborted, IsBlockingClass, IsRootTied}
@@ -14,8 +14,10 @@ use Rattle.papaya_law.proofs.Class.{longer_base, held_of}
 use Rattle.papaya_law.proofs.Blocking.ClassSteps.{promote_kept_blocking, abort_kept_blocking, longer_kept_blocking}
 use Rattle.papaya_law.proofs.Later.{put_on}
 use Rattle.papaya_law.proofs.Slots.{look_same, view_leaving, view_here}
-use Rattle.papaya_law.proofs.Base.{start_sound, open_sound, link_sound, advance_sound, promote_sound, link_more, link_old, no_root, own_place}
-use Rattle.papaya_law.proofs.Blocking.States.{was_root_of, root_on, root_alive, taker_aborted, target_aborted, settled_not_plain}
+use Rattle.papaya_law.proofs.Base.{start_sound, open_sound, link_sound, advance_sound, promote_sound, link_more, link_old, no_root, own_place, done_cases}
+use Rattle.papaya_law.proofs.Chain.{pos_before}
+use Rattle.papaya_law.proofs.Blocking.Links.{from_root, link_covered, same_target}
+use Rattle.papaya_law.proofs.Blocking.States.{was_root_of, taker_aborted, target_aborted, settled_not_plain}
 
 -- what isn't true with n wasn't without
 put_false : (f : ℕ → Bool) (n u : ℕ) → at_put f n true u ≡ false → f u ≡ false
@@ -44,7 +46,9 @@ module _ {K P : Type 0} (g : Setting K P) where
     fresh = λ t x e. refl;
     copied = λ t x p e. cc;
     given_up = λ t e. absurd cc;
-    done_to = λ t lt h. absurd (omega arith);
+    done_to = λ t c lt h. absurd (cc h);
+    linked_by = λ t h. absurd (omega arith);
+    covered = λ t n e. absurd cc;
     class = λ k. record {
       base = record { same_slot = λ t i j e. refl; on = λ t j e. absurd cc; filled = λ t j lt e. absurd cc; one = λ t i j a b p q. absurd cc };
       ahead = λ u j lt l e. absurd cc;
@@ -79,7 +83,9 @@ module _ {K P : Type 0} (g : Setting K P) where
       fresh = λ u x h. holds.fresh u x (put_false s.was_root t u h);
       copied = holds.copied;
       given_up = λ u a lt. absurd (no_root g s holds.sound e u (holds.given_up u a (omega arith)).on);
-      done_to = λ u lt h. absurd (no_root g s holds.sound e u (holds.done_on u h));
+      done_to = λ u c lt h. absurd (no_root g s holds.sound e u (holds.done_on u c h));
+      linked_by = λ u h. absurd (no_root g s holds.sound e u (holds.linked u h));
+      covered = λ u n h r. absurd (no_root g s holds.sound e u (holds.linked u (pos_before s.next holds.rises 1 (suc r.links) u (omega arith) (subst (λ y. 0 < y) (sym r.is) r.made))));
       class = rootless (IsOn t s.next) (at_put s.was_root t true) s.aborted t e;
     }
       where
@@ -87,15 +93,20 @@ module _ {K P : Type 0} (g : Setting K P) where
         up u h = ⊎_elim (λ (q : u ≡ t). omega arith) (λ w. absurd (no_root g s holds.sound e u (holds.was u w).0)) (put_cases s.was_root t u h)
 
     -- a link is made
-    pub link_blocking : (t n : ℕ) → s.next t ≡ 0 → 0 < t → t < n → IsBlockingState g (after s (Link t n)) m
-    link_blocking t n none some up = record {
-      sound = link_sound g s holds.sound t n none some up;
+    pub link_blocking : g.blocking ≡ true → (t n : ℕ) → MayLink g s t n → IsBlockingState g (after s (Link t n)) m
+    link_blocking blocks t n may = record {
+      sound = link_sound g s holds.sound t n may.last may.on.0 may.rises may.on;
       alive = holds.alive;
       frozen = holds.frozen;
       fresh = holds.fresh;
       copied = holds.copied;
       given_up = λ u a lt. let v = holds.given_up u a lt in record { on = more u v.on; between = between u v.on v.between; slot = v.slot; pair = v.pair; marked = v.marked; full = v.full };
-      done_to = λ u lt h. let v = holds.done_to u lt h in record { between = between u (holds.done_on u h) v.between; settled = v.settled };
+      done_to = λ u c lt h. let v = holds.done_to u c lt h in record { between = between u (holds.done_on u c h) v.between; settled = v.settled };
+      linked_by = λ u h. ⊎_elim
+          (λ (q : (u == t) ≡ true). let e = eqb-true u t q in ⊎_elim (λ l. inl (ap s.was_root e ∙ l.1 blocks)) (λ l. inr (ap s.aborted e ∙ l.3)) may.linking)
+          (λ (q : (u == t) ≡ false). holds.linked_by u (subst (λ y. 0 < y) (cond-false (u == t) n (s.next u) q) h))
+          (cases_Bool (u == t));
+      covered = link_covered g s m holds blocks t n may;
       class = λ k. ⊎_elim
           (λ r. rootless (IsOn s.first (at_put s.next t n)) s.was_root s.aborted s.root r.0 k)
           (λ on. longer_kept_blocking (IsOn s.first s.next) (IsOn s.first (at_put s.next t n)) s.was_root s.aborted s.root g.places (g.place k) (look g s k) (m k) more older on (holds.class k))
@@ -103,60 +114,48 @@ module _ {K P : Type 0} (g : Setting K P) where
     }
       where
         more : (u : ℕ) → IsOn s.first s.next u → IsOn s.first (at_put s.next t n) u
-        more = link_more g s holds.sound t n none some up
+        more = link_more g s holds.sound t n may.last may.on.0 may.rises
 
         older : (l u : ℕ) → IsOn s.first (at_put s.next t n) l → IsOn s.first s.next u → l < u → IsOn s.first s.next l
-        older = link_old g s holds.sound t n none some up
+        older = link_old g s holds.sound t n may.last may.on.0 may.rises
 
         between : (u : ℕ) → IsOn s.first s.next u → AllAborted (IsOn s.first s.next) s.aborted s.root u → AllAborted (IsOn s.first (at_put s.next t n)) s.aborted s.root u
         between u on all l onl lo hi = all l (older l u onl on hi) lo hi
 
-    -- a copy of the root: what was the root, leads to n and has aborted tables between alone is the root, where n lies behind it
-    from_root : (from n : ℕ) → s.was_root from ≡ true → s.root < n → AllAborted (IsOn s.first s.next) s.aborted from n → from ≡ s.root
-    from_root from n was lt all =
-        let w = holds.was from was in
-        ⊎_elim
-        (λ (c : from < s.root). absurd (let a = all s.root (root_on g s m holds from w.0 w.1) c lt in let b = root_alive g s m holds from w.0 w.1 in cc (a, b)))
-        (λ (c : s.root ≤ from). let l = w.1 in omega arith)
-        (cases_lt from s.root)
-
-    -- `done` rises
-    pub advance_blocking : (n a b : ℕ) → MayAdvance g s n a b → IsBlockingState g (after s (Advance n a b)) m
-    advance_blocking n a b may = record {
-      sound = advance_sound g s holds.sound n a b target.0;
+    -- a chunk is done
+    pub advance_blocking : (n c : ℕ) → MayAdvance g s n c → IsBlockingState g (after s (Advance n c)) m
+    advance_blocking n c may = record {
+      sound = advance_sound g s holds.sound n c target.0;
       alive = holds.alive;
       frozen = holds.frozen;
       fresh = holds.fresh;
       copied = holds.copied;
-      given_up = λ u c lt. let v = holds.given_up u c lt in record { on = v.on; between = v.between; slot = v.slot; pair = v.pair; marked = v.marked; full = v.full };
-      done_to = λ u lt h. ⊎_elim
-          (λ (q : (u == n) ≡ true).
-          let e : u ≡ n = eqb-true u n q in
-          let lt-n : s.root < n = subst (λ y. s.root < y) e lt in
-          let same : may.from ≡ s.root = from_root may.from n was lt-n target.2 in
-          record {
-            between = subst (AllAborted (IsOn s.first s.next) s.aborted s.root) (sym e) (subst (λ y. AllAborted (IsOn s.first s.next) s.aborted y n) same target.2);
-            settled = λ x i j.
-                let i' : x < b = subst (λ y. x < y) (cond-true (u == n) b (s.done u) q) i in
-                subst (λ y. IsSettled g s y (s.slot s.root x)) (sym e)
-                (⊎_elim
-                (λ (c : x < a). let d : x < s.done n = subst (λ y. x < y) (sym may.done) c in (holds.done_to n lt-n (omega arith)).settled x d j)
-                (λ (c : a ≤ x). subst (λ y. IsSettled g s n (s.slot y x)) same (may.settled x c i'))
-                (cases_lt x a));
-          })
-          (λ (q : (u == n) ≡ false).
-          let e : at_put s.done n b u ≡ s.done u = cond-false (u == n) b (s.done u) q in
-          let v = holds.done_to u lt (subst (λ y. 0 < y) e h) in
-          record { between = v.between; settled = λ x i j. v.settled x (subst (λ y. x < y) e i) j })
-          (cases_Bool (u == n));
+      given_up = λ u a lt. let v = holds.given_up u a lt in record { on = v.on; between = v.between; slot = v.slot; pair = v.pair; marked = v.marked; full = v.full };
+      done_to = λ u d lt h. record {
+        between = ⊎_elim
+            (λ r. subst (AllAborted (IsOn s.first s.next) s.aborted s.root) (sym r.0) (between (subst (λ y. s.root < y) r.0 lt)))
+            (λ old. (holds.done_to u d lt old).between)
+            (done_cases s.done n c u d h);
+        settled = λ x e i. ⊎_elim
+            (λ r.
+            let same : may.from ≡ s.root = from_root g s m holds may.from n was (subst (λ y. s.root < y) r.0 lt) target.2 in
+            subst (λ y. IsSettled g s y (s.slot s.root x)) (sym r.0) (subst (λ y. IsSettled g s n (s.slot y x)) same (may.settled x (subst (λ y. x < g.size y) (sym same) i) r.1)))
+            (λ old. (holds.done_to u (g.chunk_of x) lt old).settled x old i)
+            (done_cases s.done n c u (g.chunk_of x) e);
+      };
+      linked_by = holds.linked_by;
+      covered = λ u l w r. holds.covered u l w (same_target g s (after s (Advance n c)) refl refl u l r);
       class = holds.class;
     }
       where
         was : s.was_root may.from ≡ true
-        was = was_root_of g s m holds may.from a (s.slot may.from a) refl (settled_not_plain g s n (s.slot may.from a) (may.settled a (omega arith) may.more))
+        was = was_root_of g s m holds may.from may.slot (s.slot may.from may.slot) refl (settled_not_plain g s n (s.slot may.from may.slot) (may.settled may.slot may.within may.in_chunk))
 
         target : IsOn s.first s.next n × (may.from < n) × AllAborted (IsOn s.first s.next) s.aborted may.from n
         target = target_aborted g s holds.sound may.from n (holds.was may.from was).0 may.target
+
+        between : s.root < n → AllAborted (IsOn s.first s.next) s.aborted s.root n
+        between lt = subst (λ y. AllAborted (IsOn s.first s.next) s.aborted y n) (from_root g s m holds may.from n was lt target.2) target.2
 
     module _ (law : IsLawful g) where
       -- the root is promoted
@@ -178,7 +177,15 @@ module _ {K P : Type 0} (g : Setting K P) where
         fresh = λ u x h. holds.fresh u x (put_false s.was_root n u h);
         copied = holds.copied;
         given_up = λ u a lt. let up : s.root < u = omega (arith, target.1) in absurd (let v = (holds.given_up u a up).between n target.0 target.1 lt in cc (v, live));
-        done_to = λ u lt h. let up : s.root < u = omega (arith, target.1) in absurd (let v = (holds.done_to u up h).between n target.0 target.1 lt in cc (v, live));
+        done_to = λ u c lt h. let up : s.root < u = omega (arith, target.1) in absurd (let v = (holds.done_to u c up h).between n target.0 target.1 lt in cc (v, live));
+        linked_by = λ u h. ⊎_elim (λ w. inl (put_on s.was_root n u w)) (λ a. inr a) (holds.linked_by u h);
+        covered = λ u l h r.
+            let old : IsTarget g s u l = same_target g s (after s (Promote t n)) refl refl u l r in
+            let further : 0 < s.next u = pos_before s.next holds.rises 1 (suc r.links) u (omega arith) (subst (λ y. 0 < y) (sym r.is) r.made) in
+            ⊎_elim
+            (λ (e : u ≡ n). ⊎_elim (λ w. holds.covered u l w old) (λ a. absurd (let f = ap s.aborted e in cc (f, a, live))) (holds.linked_by u further))
+            (λ w. holds.covered u l w old)
+            (put_cases s.was_root n u h);
         class = λ k.
             promote_kept_blocking (IsOn s.first s.next) s.was_root (at_put s.was_root n true) s.aborted s.root n g.places (g.place k) (look g s k) (m k) (holds.class k)
             on-root (holds.alive s.root was) target.0 live target.1 target.2 (λ u w. (holds.was u w).1) (put_cases s.was_root n) (none k) (copies k);
@@ -198,8 +205,8 @@ module _ {K P : Type 0} (g : Setting K P) where
 
           settled : (x : ℕ) → x < g.size s.root → IsSettled g s n (s.slot s.root x)
           settled x lt =
-              let whole : g.size s.root ≤ s.done n = subst (λ y. g.size y ≤ s.done n) (sym may.root) may.whole in
-              (holds.done_to n target.1 (omega arith)).settled x (omega arith) lt
+              let whole : s.done n (g.chunk_of x) ≡ true = may.whole x (subst (λ y. x < g.size y) may.root lt) in
+              (holds.done_to n (g.chunk_of x) target.1 whole).settled x whole lt
 
           copies : (k : K) (i : ℕ) (p : P) → i < g.places s.root → look g s k s.root i ≡ Leaving p → HasWord g.places (look g s k) n
           copies k i p lt e =
@@ -225,7 +232,7 @@ module _ {K P : Type 0} (g : Setting K P) where
       -- a table is aborted
       pub abort_blocking : (n : ℕ) → MayAbort g s n → IsBlockingState g (after s (Abort n)) m
       abort_blocking n may = record {
-        sound = record { rises = holds.rises; root = holds.root; was = holds.was; root_was = holds.root_was; done_on = holds.done_on; slots_on = holds.slots_on; placed = holds.placed; further = holds.further };
+        sound = record { rises = holds.rises; root = holds.root; was = holds.was; root_was = holds.root_was; done_on = holds.done_on; slots_on = holds.slots_on; placed = holds.placed; further = holds.further; linked = holds.linked };
         alive = λ u w. put_same s.aborted n true u (λ (e : u ≡ n). let l = (holds.was u w).1 in omega (arith, behind)) ∙ holds.alive u w;
         frozen = holds.frozen;
         fresh = holds.fresh;
@@ -241,7 +248,9 @@ module _ {K P : Type 0} (g : Setting K P) where
             }))
             (λ b. let v = holds.given_up u b lt in record { on = v.on; between = λ l on lo hi. put_on s.aborted n l (v.between l on lo hi); slot = v.slot; pair = v.pair; marked = v.marked; full = v.full })
             (put_cases s.aborted n u a);
-        done_to = λ u lt h. let v = holds.done_to u lt h in record { between = λ l on lo hi. put_on s.aborted n l (v.between l on lo hi); settled = v.settled };
+        done_to = λ u c lt h. let v = holds.done_to u c lt h in record { between = λ l on lo hi. put_on s.aborted n l (v.between l on lo hi); settled = v.settled };
+        linked_by = λ u h. ⊎_elim (λ w. inl w) (λ a. inr (put_on s.aborted n u a)) (holds.linked_by u h);
+        covered = λ u l w r. holds.covered u l w (target_kept u l r);
         class = λ k. abort_kept_blocking (IsOn s.first s.next) s.was_root s.aborted (at_put s.aborted n true) s.root g.places (g.place k) (look g s k) (m k) (holds.class k) (put_on s.aborted n) (λ l le. put_same s.aborted n true l (λ e. omega (arith, behind)));
       }
         where
@@ -271,5 +280,20 @@ module _ {K P : Type 0} (g : Setting K P) where
               absurd (foreign_not_own (look g s (g.key p) n w.0) (may.full w.0 w.1) w.2))
               (cases_lt s.root n)
 
+          -- a root is copied where it was: nothing comes after the table that is given up
+          target_kept : (u l : ℕ) → IsTarget g (after s (Abort n)) u l → IsTarget g s u l
+          target_kept u l r = record {
+            links = r.links;
+            is = r.is;
+            made = r.made;
+            mode = r.mode;
+            over = λ i lt. ⊎_elim
+                (λ (e : walk s.next (suc i) u ≡ n).
+                let further : 0 < s.next n = subst (λ y. 0 < s.next y) e (pos_before s.next holds.rises (suc (suc i)) (suc r.links) u (omega arith) (subst (λ y. 0 < y) (sym r.is) r.made)) in
+                absurd (⊎_elim (λ w. let le = (holds.was n w).1 in let h = behind in omega arith) (λ a. let b = may.before in cc (a, b)) (holds.linked_by n further)))
+                (λ a. a)
+                (put_cases s.aborted n (walk s.next (suc i) u) (r.over i lt));
+          }
+
           same : from ≡ s.root
-          same = from_root from n was behind taker.2
+          same = from_root g s m holds from n was behind taker.2

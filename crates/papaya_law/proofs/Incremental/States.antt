@@ -80,6 +80,7 @@ module _ {K P : Type 0} (g : Setting K P) (law : IsLawful g) (inc : g.blocking �
       sound = slot_sound g s holds.sound t x w' on new next;
       settled = λ u y on lt h. stays u y (holds.settled u y on lt h);
       done = λ u y on lt h. stays u y (holds.done u y on lt h);
+      covered = holds.covered;
       class = class;
     }
       where

@@ -21,12 +21,12 @@ module _ {K P : Type 0} (g : Setting K P) (law : IsLawful g) (inc : g.blocking â
   step_incremental s m holds (Claim t x p) may = claim_incremental g law inc s m holds t x p may
   step_incremental s m holds (Replace t x p q) may = replace_incremental g law inc s m holds t x p q may
   step_incremental s m holds (Bury t x p) may = bury_incremental g law inc s m holds t x p may
-  step_incremental s m holds (Link t n) may = (tt, link_incremental g inc s m holds t n may.0 may.1 may.2)
+  step_incremental s m holds (Link t n) may = (tt, link_incremental g inc s m holds t n may)
   step_incremental s m holds (Mark t x p) may = (tt, mark_incremental g law inc s m holds t x p may)
   step_incremental s m holds (Close t x) may = (tt, close_incremental g law inc s m holds t x may)
   step_incremental s m holds (Place n x p) may = (tt, place_incremental g law inc s m holds n x p may)
   step_incremental s m holds (Finish t x p) may = (tt, finish_incremental g law inc s m holds t x p may)
-  step_incremental s m holds (Advance n a b) may = (tt, advance_incremental g inc s m holds n a b may)
+  step_incremental s m holds (Advance n c) may = (tt, advance_incremental g inc s m holds n c may)
   step_incremental s m holds (Promote t n) may = (tt, promote_incremental g inc s m holds t n may)
   step_incremental s m holds (Abort n) may = absurd (let b = may.mode in cc (b, inc))
 

@@ -1,15 +1,15 @@
 -- The exchanges of the root and of the words of a table keep what is to be kept, without blocking.
 use Rattle.std.proofs.Common.{◌≡◌, ⊎_elim, ℕ, suc, ◌<◌, ◌≤◌, true, false, ◌==◌, Option, None, refl, sym, ap, ◌∙◌, subst, arith, eqb-true}
-use Rattle.std.proofs.lemmas.Bool.{cases_order, cases_lt, cases_Bool, cond-true, cond-false}
+use Rattle.std.proofs.lemmas.Bool.{cases_order, cases_Bool, cond-true, cond-false}
 use Rattle.papaya_law.specs.Exchange.{Word, Empty, Closed, Live, Marked, Copied, Buried, Setting, State, Open, Link, Advance, Promote, start, after, at_put, walk}
 use Rattle.papaya_law.specs.View.{look}
-use Rattle.papaya_law.specs.Copying.{IsTarget, IsSettled}
-use Rattle.papaya_law.specs.Allows.{MayAdvance, MayPromote}
+use Rattle.papaya_law.specs.Copying.{IsTarget, IsSettled, Covers}
+use Rattle.papaya_law.specs.Allows.{MayAdvance, MayLink, MayPromote}
 use Rattle.papaya_law.specs.Class.{IsOn}
 use Rattle.papaya_law.specs.Invariant.{finished, IsIncrementalState}
 use Rattle.papaya_law.proofs.Class.{longer_kept}
 use Rattle.papaya_law.proofs.Chain.{next_on, none_between, has_next, same_before, walk_le}
-use Rattle.papaya_law.proofs.Base.{start_sound, open_sound, link_sound, advance_sound, promote_sound, link_more, link_old, no_root}
+use Rattle.papaya_law.proofs.Base.{start_sound, open_sound, link_sound, advance_sound, promote_sound, link_more, link_old, no_root, done_cases}
 
 module _ {K P : Type 0} (g : Setting K P) (inc : g.blocking ≡ false) where
   -- before the first exchange
@@ -17,7 +17,8 @@ module _ {K P : Type 0} (g : Setting K P) (inc : g.blocking ≡ false) where
   start_incremental = record {
     sound = start_sound g;
     settled = λ t x on lt h. absurd (omega arith);
-    done = λ t x on lt h. absurd (omega arith);
+    done = λ t x on lt h. absurd (cc lt);
+    covered = λ t h. absurd (omega arith);
     class = λ k. record {
       base = record { same_slot = λ t i j e. refl; on = λ t j e. absurd cc; filled = λ t j lt e. absurd cc; one = λ t i j a b p q. absurd cc };
       order = λ t u j on lt l e. absurd cc;
@@ -32,7 +33,8 @@ module _ {K P : Type 0} (g : Setting K P) (inc : g.blocking ≡ false) where
     open_incremental t e some = record {
       sound = open_sound g s holds.sound t e some;
       settled = λ u x on lt h. absurd (early u on lt);
-      done = λ u x on lt h. absurd (no_root g s holds.sound e (s.next u) (holds.done_on (s.next u) (omega arith)));
+      done = λ u x on lt h. absurd (no_root g s holds.sound e (s.next u) (holds.done_on (s.next u) (g.chunk_of x) lt));
+      covered = holds.covered;
       class = λ k. longer_kept (IsOn s.first s.next) (IsOn t s.next) g.places (g.place k) (look g s k) (m k) (λ u on. absurd (no_root g s holds.sound e u on)) (λ l u on onu lt. absurd (no_root g s holds.sound e u onu)) (holds.class k);
     }
       where
@@ -40,30 +42,37 @@ module _ {K P : Type 0} (g : Setting K P) (inc : g.blocking ≡ false) where
         early u (h, (k, w)) lt = let q : walk s.next 0 t ≤ walk s.next k t = walk_le s.next holds.rises 0 k t (omega arith) (subst (λ y. 0 < y) (sym w) h) in omega arith
 
     -- a link is made
-    pub link_incremental : (t n : ℕ) → s.next t ≡ 0 → 0 < t → t < n → IsIncrementalState g (after s (Link t n)) m
-    link_incremental t n none some up = record {
-      sound = link_sound g s holds.sound t n none some up;
+    pub link_incremental : (t n : ℕ) → MayLink g s t n → IsIncrementalState g (after s (Link t n)) m
+    link_incremental t n may = record {
+      sound = link_sound g s holds.sound t n may.last may.on.0 may.rises may.on;
       settled = λ u x on lt h. holds.settled u x (⊎_elim (λ r. absurd (omega (arith, r.0))) (λ onr. older u s.root on onr lt) holds.root) lt h;
       done = λ u x on lt h. ⊎_elim
           (λ (q : (u == t) ≡ true).
-          let b : x < s.done n = subst (λ y. x < s.done y) (cond-true (u == t) n (s.next u) q) lt in
-          let on-n : IsOn s.first s.next n = holds.done_on n (omega arith) in
-          let on-t : IsOn s.first s.next t = older t n (subst (IsOn s.first (at_put s.next t n)) (eqb-true u t q) on) on-n up in
-          absurd (let c = has_next s.next holds.rises s.first t n on-t on-n up in omega arith))
+          let b : s.done n (g.chunk_of x) ≡ true = subst (λ y. s.done y (g.chunk_of x) ≡ true) (cond-true (u == t) n (s.next u) q) lt in
+          let on-n : IsOn s.first s.next n = holds.done_on n (g.chunk_of x) b in
+          let on-t : IsOn s.first s.next t = older t n (subst (IsOn s.first (at_put s.next t n)) (eqb-true u t q) on) on-n may.rises in
+          absurd (let c = has_next s.next holds.rises s.first t n on-t on-n may.rises in let z = may.last in omega arith))
           (λ (q : (u == t) ≡ false).
-          let b : x < s.done (s.next u) = subst (λ y. x < s.done y) (cond-false (u == t) n (s.next u) q) lt in
-          let on-n : IsOn s.first s.next (s.next u) = holds.done_on (s.next u) (omega arith) in
+          let b : s.done (s.next u) (g.chunk_of x) ≡ true = subst (λ y. s.done y (g.chunk_of x) ≡ true) (cond-false (u == t) n (s.next u) q) lt in
+          let on-n : IsOn s.first s.next (s.next u) = holds.done_on (s.next u) (g.chunk_of x) b in
           let lo : u < s.next u = ⊎_elim (λ z. absurd (omega (arith, on-n.0))) (λ r. r.1) (holds.rises u) in
           holds.done u x (older u (s.next u) on on-n lo) b h)
           (cases_Bool (u == t));
-      class = λ k. longer_kept (IsOn s.first s.next) (IsOn s.first (at_put s.next t n)) g.places (g.place k) (look g s k) (m k) (link_more g s holds.sound t n none some up) older (holds.class k);
+      covered = λ u h. ⊎_elim
+          (λ (q : (u == t) ≡ true). subst (Covers g u) (sym (cond-true (u == t) n (s.next u) q)) (subst (λ y. Covers g y n) (sym (eqb-true u t q)) covers))
+          (λ (q : (u == t) ≡ false). subst (Covers g u) (sym (cond-false (u == t) n (s.next u) q)) (holds.covered u (subst (λ y. 0 < y) (cond-false (u == t) n (s.next u) q) h)))
+          (cases_Bool (u == t));
+      class = λ k. longer_kept (IsOn s.first s.next) (IsOn s.first (at_put s.next t n)) g.places (g.place k) (look g s k) (m k) (link_more g s holds.sound t n may.last may.on.0 may.rises) older (holds.class k);
     }
       where
+        covers : Covers g t n
+        covers = ⊎_elim (λ h. subst (λ y. Covers g y n) h.0 may.covers) (λ h. absurd (let b = h.0 in cc (b, inc))) may.linking
+
         older : (l u : ℕ) → IsOn s.first (at_put s.next t n) l → IsOn s.first s.next u → l < u → IsOn s.first s.next l
-        older = link_old g s holds.sound t n none some up
+        older = link_old g s holds.sound t n may.last may.on.0 may.rises
 
     -- without blocking the target is the next table
-    target_next : (t n : ℕ) → IsTarget g s t n → s.next t ≡ n
+    pub target_next : (t n : ℕ) → IsTarget g s t n → s.next t ≡ n
     target_next t n r = ⊎_elim (λ (e : r.links ≡ 0). ap (λ y. walk s.next (suc y) t) (sym e) ∙ r.is) (λ b. absurd (cc (b, inc))) r.mode
 
     -- a settled word is finished
@@ -79,22 +88,18 @@ module _ {K P : Type 0} (g : Setting K P) (inc : g.blocking ≡ false) where
     finished_on : (t x : ℕ) → finished (s.slot t x) ≡ true → IsOn s.first s.next t
     finished_on t x h = holds.slots_on t x (λ e. let f = ap finished e in cc (f, h))
 
-    -- `done` rises
-    pub advance_incremental : (n a b : ℕ) → MayAdvance g s n a b → IsIncrementalState g (after s (Advance n a b)) m
-    advance_incremental n a b may = record {
-      sound = advance_sound g s holds.sound n a b on-n;
+    -- a chunk is done
+    pub advance_incremental : (n c : ℕ) → MayAdvance g s n c → IsIncrementalState g (after s (Advance n c)) m
+    advance_incremental n c may = record {
+      sound = advance_sound g s holds.sound n c on-n;
       settled = holds.settled;
       done = λ u x on lt h. ⊎_elim
-          (λ (q : (s.next u == n) ≡ true).
-          let e : s.next u ≡ n = eqb-true (s.next u) n q in
-          let same : u ≡ may.from = same_before s.next holds.rises s.first u may.from on from-on (e ∙ sym is) (subst (λ y. 0 < y) (sym is) may.target.made) in
-          let below : x < b = subst (λ y. x < y) (cond-true (s.next u == n) b (s.done (s.next u)) q) lt in
-          ⊎_elim
-          (λ (c : x < a). holds.done u x on (subst (λ y. x < y) (sym may.done ∙ ap s.done (sym e)) c) h)
-          (λ (c : a ≤ x). subst (λ y. finished (s.slot y x) ≡ true) (sym same) (settled_finished n (s.slot may.from x) (may.settled x c below)))
-          (cases_lt x a))
-          (λ (q : (s.next u == n) ≡ false). holds.done u x on (subst (λ y. x < y) (cond-false (s.next u == n) b (s.done (s.next u)) q) lt) h)
-          (cases_Bool (s.next u == n));
+          (λ r.
+          let same : u ≡ may.from = same_before s.next holds.rises s.first u may.from on from-on (r.0 ∙ sym is) (subst (λ y. 0 < y) (sym is) may.target.made) in
+          subst (λ y. finished (s.slot y x) ≡ true) (sym same) (settled_finished n (s.slot may.from x) (may.settled x (subst (λ y. x < g.size y) same h) r.1)))
+          (λ old. holds.done u x on old h)
+          (done_cases s.done n c (s.next u) (g.chunk_of x) lt);
+      covered = holds.covered;
       class = holds.class;
     }
       where
@@ -102,7 +107,7 @@ module _ {K P : Type 0} (g : Setting K P) (inc : g.blocking ≡ false) where
         is = target_next may.from n may.target
 
         from-on : IsOn s.first s.next may.from
-        from-on = finished_on may.from a (settled_finished n (s.slot may.from a) (may.settled a (omega arith) may.more))
+        from-on = finished_on may.from may.slot (settled_finished n (s.slot may.from may.slot) (may.settled may.slot may.within may.in_chunk))
 
         on-n : IsOn s.first s.next n
         on-n = subst (IsOn s.first s.next) is (next_on s.next holds.rises s.first may.from from-on (subst (λ y. 0 < y) (sym is) may.target.made))
@@ -112,12 +117,13 @@ module _ {K P : Type 0} (g : Setting K P) (inc : g.blocking ≡ false) where
     promote_incremental t n may = record {
       sound = promote_sound g s holds.sound t n on-n (let r = may.root in let w = up in omega arith);
       settled = λ u x on lt h. ⊎_elim
-          (λ (e : u ≡ t). holds.done u x on (subst (λ y. x < y) (ap s.done (sym is ∙ ap s.next (sym e))) (let w : g.size t ≤ s.done n = may.whole in let h' : x < g.size t = subst (λ y. x < g.size y) e h in omega arith)) h)
+          (λ (e : u ≡ t). holds.done u x on (subst (λ y. s.done y (g.chunk_of x) ≡ true) (sym is ∙ ap s.next (sym e)) (may.whole x (subst (λ y. x < g.size y) e h))) h)
           (⊎_elim
           (λ (c : u < t). holds.settled u x on (subst (λ y. u < y) (sym may.root) c) h)
           (λ (c : t < u). absurd (none_between s.next holds.rises s.first t u on-t on c (subst (λ y. u < y) (sym is) lt))))
           (cases_order u t);
       done = holds.done;
+      covered = holds.covered;
       class = holds.class;
     }
       where

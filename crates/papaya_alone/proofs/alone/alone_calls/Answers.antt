@@ -2,12 +2,12 @@ use Rattle.papaya_alone.proofs.ChainLaw.{call_current, call_nears}
 use Rattle.papaya_alone.proofs.alone.alone_calls.Goals as goal
 
 pub returns-clause-begins : goal.returns-clause-begins
-returns-clause-begins g c = λ words task hash mode initial. (tt, tt)
+returns-clause-begins g c = λ words task hash mode initial number. (tt, tt)
 
 pub returns-clause-nearer : goal.returns-clause-nearer
-returns-clause-nearer g c = λ h d hashed begun since may bounded k m hands r current answer es hands' told served before later spends few standing.
-    call_nears h d hashed begun since may bounded k m hands r current answer es hands' told served before later spends few standing
+returns-clause-nearer g c = λ h d hashed begun since may bounded k m hands r made current answer es hands' told served before later spends few standing.
+    call_nears h d hashed begun since may bounded k m hands r made current answer es hands' told served before later spends few standing
 
 pub returns-clause-current : goal.returns-clause-current
-returns-clause-current g c = λ h d hashed begun since may bounded k m hands r current answer es hands' told served.
-    call_current h d hashed begun since may bounded k m hands r current answer es hands' told served
+returns-clause-current g c = λ h d hashed begun since may bounded k m hands r made current answer es hands' told served.
+    call_current h d hashed begun since may bounded k m hands r made current answer es hands' told served

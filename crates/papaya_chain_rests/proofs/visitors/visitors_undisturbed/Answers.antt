@@ -2,7 +2,7 @@ use Rattle.papaya_chain_rests.proofs.VisitUndisturbed.{begun_at, root_unrefused,
 use Rattle.papaya_chain_rests.proofs.visitors.visitors_undisturbed.Goals as goal
 
 pub returns-clause-begins : goal.returns-clause-begins
-returns-clause-begins g c = λ s visit mode initial. begun_at s mode
+returns-clause-begins g c = λ s visit mode initial number. begun_at s mode
 
 pub returns-clause-stays : goal.returns-clause-stays
 returns-clause-stays g c = λ h d s m since visitor hands r calm at answer es hands' told. state_stands h d s m since visitor hands answer es hands' calm visitor.state r.state at told

@@ -10,7 +10,7 @@ pub returns-clause-keeps : goal.returns-clause-keeps
 returns-clause-keeps g c = λ h h' s m agrees keeps. keeping_carries h h' s m agrees keeps
 
 pub returns-clause-allows : goal.returns-clause-allows
-returns-clause-allows g c = λ h h' s m agrees keeps e may. allows_carries h h' s (keeping_sound h s m keeps) agrees e may
+returns-clause-allows g c = λ h h' s m agrees keeps e chunks may. allows_carries h h' s (keeping_sound h s m keeps) agrees e chunks may
 
 pub returns-clause-reaches : goal.returns-clause-reaches
 returns-clause-reaches g c = λ h h' s m agrees keeps k t r. reached_carries h h' s (keeping_sound h s m keeps) agrees k t r

@@ -1,0 +1,18 @@
+-- The chunks that a table is copied in.
+use Rattle.std.specs.Prelude.{ℕ, ◌+◌, ◌-◌, ◌/◌, max}
+use Rattle.papaya_words.specs.declared.limits.TheConstants.{BLOCKING_CHUNK}
+use Rattle.papaya_words.specs.declared.probe.ResizeMode.{ResizeMode}
+use Rattle.papaya_words.specs.declared.probe.ResizeMode.TheVariants.{Incremental, Blocking}
+
+-- how many slots are copied at a time, one at least
+abbrev pub chunk_len : ResizeMode → ℕ
+chunk_len (Incremental chunk) = max chunk 1
+chunk_len Blocking = BLOCKING_CHUNK
+
+-- in which chunk a slot is copied
+abbrev pub chunk_of : (slots x : ℕ) → ℕ
+chunk_of slots x = x / slots
+
+-- in how many chunks of so many slots a table is copied
+abbrev pub chunk_count : (len slots : ℕ) → ℕ
+chunk_count len slots = (len - 1) / slots + 1
