@@ -89,7 +89,8 @@ step_follows _ = 0
 abbrev pub aimed : (from behind : ℕ) → ResizeMode → (next : ℕ) → Stepped
 aimed from behind (Incremental chunk) next = if next == 0 then Last from else On (Sizing from next)
 aimed from behind Blocking next = if next == 0
-    then On (Linking from (Link_sizing behind from (not (behind == from)))) else On (Judging from next)
+    then On (Linking from (Link_sizing behind from (not (behind == from))))
+    else On (Judging from next)
 
 -- the table was given up, or not
 abbrev pub judged : (from to word : ℕ) → Step

@@ -15,8 +15,8 @@ pub record Agrees {K P : Type 0} (On : ℕ → Type 0) (g g' : Setting K P) : Ty
   pub places : (t : ℕ) → On t → g'.places t ≡ g.places t
   pub place : (k : K) (t j : ℕ) → On t → g'.place k t j ≡ g.place k t j
 
--- All of a setting but its tables' lengths, limits and numbers of words for chunks. A key's places depend on the table's length
--- alone.
+-- All of a setting but its tables' lengths, limits and numbers of words for chunks. A key's places
+-- depend on the table's length alone.
 pub record Plan (K P : Type 0) : Type 0 where
   pub blocking : Bool
   pub chunk_of : ℕ → ℕ

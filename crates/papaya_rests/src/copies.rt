@@ -77,8 +77,8 @@ pub fn copiers_name<K, P>()
 /// table in which the call is to look for its key, or the root.
 ///
 /// A load and an exchange are answered by the word that stands there, and the load of a hint by any
-/// that may be there. Asked for a hash, a copier carries the pair that it was told of last. What makes a table gives it a number above the one
-/// that it follows.
+/// that may be there. Asked for a hash, a copier carries the pair that it was told of last. What makes
+/// a table gives it a number above the one that it follows.
 pub fn copiers_learn<K, P>()
     ensures begins { (g : Setting K P) (c : Coding K P) (s : State P) (last kept : Option P)
         (aim : Aim) → RestsAim g c s last kept aim
@@ -106,7 +106,8 @@ pub fn copiers_learn<K, P>()
         → IsModeOf mode g.blocking → (last kept : Option P) (copying : Copying)
         → RestsCopying g c s last kept copying → HasWords g (link_in_copying copying)
         → (at : At) (old new : ℕ) → copying_ask copying ≡ asks.Exchange at old new
-        → word_of g c s at ≡ old → (e : Exchange P) → IsCopyAsked c (copying_kind copying) at new s kept e
+        → word_of g c s at ≡ old → (e : Exchange P)
+        → IsCopyAsked c (copying_kind copying) at new s kept e
         → RestsCopied g c (after s e) (last_after e last) kept (aim_of copying)
         (at_exchanged copying mode) }
     ensures found { (g : Setting K P) (c : Coding K P) → IsHashed g c

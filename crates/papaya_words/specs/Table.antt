@@ -2,9 +2,9 @@
 use Rattle.std.specs.Prelude.{ℕ, ◌*◌, ◌/◌, ◌-◌, Bool, ◌||◌, ◌==◌, nat_le, if◌then◌else◌, max, List, replicate, slice_index, slice_set}
 use Rattle.papaya_words.specs.Probe.{limit_of}
 
--- a table: its number, how far a search of it goes, its slot words and their hints, the number of the
--- next table or 0, 1 where it was aborted, and a word for each chunk of the table before it, 1 where
--- that is copied
+-- a table: its number, how far a search of it goes, its slot words and their hints, the number of
+-- the next table or 0, 1 where it was aborted, and a word for each chunk of the table before it, 1
+-- where that is copied
 pub record TableWords : Type 0 where
   pub number : ℕ
   pub limit : ℕ
