@@ -399,6 +399,56 @@ def overlap(runs, args, keys, first, second):
             runs.run_one_of(args, lines, printed)
 
 
+# One call of each kind on a map that has the keys below a number: a key that is there, one that is not, or all.
+def each_call(keys):
+    return [f"i {keys} 20", "i 0 20", "g 0", "u 0", "r 0", "walk", "clear"]
+
+
+def each_pair(runs):
+    """For each two calls, in both modes and with both hashers: caller 0 is stopped after each number of its
+    steps, caller 1 makes its call whole, within 1,000,000 steps, and caller 0 goes on. What they answer, what
+    each key has and what a walk gives then comes of one call whole before the other, or of a clear on both
+    sides of the other; a walk beside a clear gives some of the pairs. The map has one key, or its first table
+    is full and an insertion has to go on in a longer one."""
+    for mode in ["inc:2", "block"]:
+        for hasher, full_at in [("id", FULL), ("zero", 26)]:
+            for keys in [1, full_at]:
+                for first in each_call(keys):
+                    stop_at_each(runs, f"core {mode} {hasher}", keys, first, each_call(keys))
+
+
+def stop_at_each(runs, args, keys, first, seconds):
+    """The first call is stopped after each number of its steps, and one of the others is made."""
+    begun = [*filled(keys), f"begin 0 {first}"]
+    looks = [*[f"g {key}" for key in range(keys + 1)], "walk"]
+    outcomes = {}
+    for second in seconds:
+        printed = []
+        for calls in orders_of(first, second):
+            said, after = outcome(keys, calls, looks)
+            printed.append([*(["0: none"] * keys), f"1: {said[1]}", f"0: {said[0]}", *after])
+        outcomes[second] = printed
+    for made in range(steps_of(runs, args, begun, 0)):
+        for second in seconds:
+            lines = [*begun, *["step 0"] * made, *whole(1, second), "finish 0", *wholes(2, looks)]
+            if {first, second} == {"walk", "clear"}:
+                walk_some(runs, args, lines, keys, outcomes[second])
+            else:
+                runs.run_one_of(args, lines, outcomes[second])
+
+
+def walk_some(runs, args, lines, keys, printed):
+    """A walk beside a clear gives some of the pairs, and all else is as one of these lists has it."""
+    got, said, status = runs.printed_by(args, "".join(f"{it}\n" for it in lines).encode())
+    given = [it.split(" ") for it in got.splitlines()]
+    pairs = {f"{key}={key}" for key in range(keys)}
+    walks = [it for it in given[keys : keys + 2] if it[1] == "walk"]
+    is_some = all(len({*walk[2:]}) == len(walk[2:]) and {*walk[2:]} <= pairs for walk in walks)
+    plain = [[it[:2] if it in walks else it for it in given]]
+    wanted = [[it.split(" ")[:2] if " walk" in it else it.split(" ") for it in one] for one in printed]
+    runs.is_so(is_some and plain[0] in wanted and (said, status) == ("", 0), f"{args} on {lines[-200:]} printed {got}")
+
+
 # A first table has so many slots: by `id` so many keys fill it, and the next one asks for a longer table.
 FULL = 32
 
@@ -553,6 +603,7 @@ def main(program):
     walked(runs)
     full(runs)
     overlapping(runs)
+    each_pair(runs)
     stepping_in_turn(runs)
     growing(runs)
     walking(runs)
