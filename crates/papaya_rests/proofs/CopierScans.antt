@@ -3,12 +3,12 @@ use Rattle.std.proofs.Common.{◌≡◌, ◌⊎◌, inl, inr, ⊎_elim, ℕ, ◌
 use Rattle.std.specs.Prelude.{MatchBool}
 use Rattle.std.proofs.Math.Nat.{mod-lt}
 use Rattle.std.proofs.lemmas.Bool.{and_parts, cases_lt, cases_order, cond_both}
-use Rattle.papaya_words.specs.Chunks.{chunk_count, chunk_len, chunk_of}
+use Rattle.papaya_words.specs.Chunks.{chunk_count, chunk_len}
 use Rattle.papaya_words.specs.declared.probe.ResizeMode.{ResizeMode}
 use Rattle.papaya_words.proofs.ChunkLemmas.{chunk_before, chunk_from, chunk_next, chunk_some, chunk_starts, chunk_to}
 use Rattle.papaya_copy.specs.declared.step.Scan.{Scan}
 use Rattle.papaya_copy.specs.declared.step.Step.TheVariants as steps
-use Rattle.papaya_copy.specs.Step.{chunk_at, end_of, first_chunk, first_scan, is_further, next_chunk, next_scan}
+use Rattle.papaya_copy.specs.Step.{chunk_at, first_chunk, first_scan, is_further, next_chunk, next_scan}
 use Rattle.papaya_law.specs.Code.{Coding}
 use Rattle.papaya_law.specs.Exchange.{Setting, State}
 use Rattle.papaya_law.specs.Meaning.{IsLawful}
@@ -116,16 +116,16 @@ module _ {K P : Type 0} (g : Setting K P) (c : Coding K P) (s : State P) where
         len = r.len;
         some = r.some;
         cut = r.cut;
-        begun = refl;
+        begun = let none : 0 ≡ 0 * scan.slots = omega arith in none;
         within = let w = r.within in omega (arith, w);
         done = λ x less passed. ⊎_elim
-            (λ (low : scan.start ≤ g.chunk_of x). done_below x less (λ lt. passed_straight scan (g.chunk_of x) straight low lt) (last_chunk scan r (last e) x less))
+            (λ (low : scan.start ≤ g.chunk_of x). done_below x less (λ lt. passed_straight scan (g.chunk_of x) straight low lt) (last_chunk scan r (none_after e) x less))
             (λ (none : g.chunk_of x < 0). absurd (omega (arith, none)))
             passed;
       }
         where
-          last : is_further scan ≡ false → nat_lt scan.slots (scan.len - scan.begun) ≡ false
-          last e = ⊎_elim (λ f. f) (λ h. absurd (let a = h.0 in cc (a, straight))) (not_further (nat_lt scan.slots (scan.len - scan.begun)) scan.wrapped (nat_le scan.start (scan.at + 1)) e)
+          none_after : is_further scan ≡ false → nat_lt scan.slots (scan.len - scan.begun) ≡ false
+          none_after e = ⊎_elim (λ f. f) (λ h. absurd (let a = h.0 in cc (a, straight))) (not_further (nat_lt scan.slots (scan.len - scan.begun)) scan.wrapped (nat_le scan.start (scan.at + 1)) e)
 
       -- no chunk is left
       rests_over : is_further scan ≡ false → (not scan.wrapped && nat_lt 0 scan.start) ≡ false → IsAllDone g c s scan.from scan.to
