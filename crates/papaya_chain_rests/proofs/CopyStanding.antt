@@ -6,7 +6,7 @@ use Rattle.std.specs.Int.{IsPowerOfTwo}
 use Rattle.papaya_words.specs.Chunks.{chunk_count, chunk_len}
 use Rattle.papaya_words.specs.Probe.{limit_of, log_upto, triangular}
 use Rattle.papaya_words.specs.Table.{length_after, limit_after}
-use Rattle.papaya_words.specs.Word.{kind_of, top_byte, may_hold}
+use Rattle.papaya_words.specs.Word.{kind_of, may_hold}
 use Rattle.papaya_words.specs.declared.probe.Refused.{Refused}
 use Rattle.papaya_words.specs.declared.probe.Refused.TheVariants.{Capacity}
 use Rattle.papaya_words.specs.declared.probe.ResizeMode.{ResizeMode}
@@ -151,7 +151,7 @@ carry_size carry slots limit size stands = stands
 carry_word : (carry : Carry) (mode : ResizeMode) (word : ℕ) → IsStandingCarry carry → IsStandingCarried (carries.at_word carry mode word)
 carry_word (carry_states.Looking hash at) mode word stands = carry_hints hash at mode word stands
 carry_word (carry_states.Reading hash at) mode word stands = carry_looks (kind_of word) hash at mode word stands
-carry_word (carry_states.Passing hash table) mode word stands = cond_both (word == 0) (carry_states.Linking hash (link_states.Sizing table true)) (carry_states.Sizing hash word) IsStandingCarry (λ _. tt) (λ _. tt)
+carry_word (carry_states.Passing hash table) mode word stands = cond_both (word == 0) (carry_states.Linking hash (link_states.Sizing table table true)) (carry_states.Sizing hash word) IsStandingCarry (λ _. tt) (λ _. tt)
 carry_word carry mode word stands = stands
 
 carry_yes : (carry : Carry) (mode : ResizeMode) (same : Bool) → IsStandingCarry carry → IsStandingCarried (carries.at_yes carry mode same)
