@@ -1,8 +1,9 @@
 -- What each answer leaves to a copy of a chunk, of a resize that is pending.
-use Rattle.std.proofs.Common.{◌≡◌, ◌⊎◌, inl, inr, ⊎_elim, ℕ, zero, suc, ◌+◌, ◌<◌, ◌≤◌, ◌==◌, ◌&&◌, nat_lt, not, cond, Bool, true, false, Option, List, refl, sym, ap, ◌∙◌, subst, arith, eq-eqb, eqb-true}
+use Rattle.std.proofs.Common.{◌≡◌, inl, inr, ⊎_elim, ℕ, zero, suc, ◌+◌, ◌-◌, ◌/◌, ◌<◌, ◌≤◌, ◌==◌, ◌&&◌, max, nat_lt, not, cond, Bool, true, false, Option, List, refl, sym, ap, ◌∙◌, subst, arith, eq-eqb, eqb-true}
+use Rattle.std.proofs.Math.Nat.{add-div_right}
 use Rattle.std.specs.Prelude.{MatchBool}
-use Rattle.std.proofs.lemmas.Bool.{cases_Bool, cases_lt, cond_both, not-false}
-use Rattle.papaya_words.specs.Chunks.{chunk_count, chunk_len, chunk_of}
+use Rattle.std.proofs.lemmas.Bool.{cases_lt, cond_both, not-false}
+use Rattle.papaya_words.specs.Chunks.{chunk_len, chunk_of}
 use Rattle.papaya_words.specs.declared.probe.ResizeMode.TheVariants.{Incremental}
 use Rattle.papaya_words.proofs.ChunkLemmas.{chunk_counted, chunk_first, chunk_some}
 use Rattle.papaya_ask.specs.declared.ask.At.{At}
@@ -249,6 +250,13 @@ module _ {K P : Type 0} (g : Setting K P) (c : Coding K P) (hashed : IsHashed g 
   stage_copies Done r made read goes answer es hands' told = let asked = told.1 in absurd cc
   stage_copies (Refused refused) r made read goes answer es hands' told = let asked = told.1 in absurd cc
   stage_copies _ r made read goes answer es hands' told = absurd goes
+
+-- a table's chunks are its slots by those of a chunk, rounded up
+pub chunks_rounded : (len slots : ℕ) → 0 < len → 0 < slots → chunks_of len slots ≡ (len + (slots - 1)) / slots
+chunks_rounded len slots full some =
+    let most : max slots 1 ≡ slots = omega (arith, some) in
+    let same : len - 1 + slots ≡ len + (slots - 1) = omega (arith, full, some) in
+    ap (λ n. (len - 1) / n + 1) most ∙ sym (add-div_right (len - 1) some) ∙ ap (λ n. n / slots) same
 
 -- so many copies leave so many chunks fewer
 left_falls : (left : ℕ → ℕ) (copies : ℕ) → AllFallShort left copies → left copies + copies ≤ left 0
