@@ -3,7 +3,7 @@ use Rattle.std.proofs.Common.{◌≡◌, ⊎_elim, ℕ, ◌+◌, ◌*◌, ◌-�
 use Rattle.std.specs.Prelude.{MatchBool}
 use Rattle.std.proofs.lemmas.Bool.{cond_both, eq-eqb, ltb-true}
 use Rattle.std.proofs.lemmas.Bool.Decides.{when_true}
-use Rattle.papaya_words.specs.Word.{kind_of, pair_of, top_byte, may_hold}
+use Rattle.papaya_words.specs.Word.{kind_of, pair_of, may_hold}
 use Rattle.papaya_words.specs.declared.probe.Refused.{Refused}
 use Rattle.papaya_words.specs.declared.probe.ResizeMode.{ResizeMode}
 use Rattle.papaya_words.specs.declared.probe.ResizeMode.TheVariants.{Incremental, Blocking}

@@ -3,12 +3,12 @@ use Rattle.std.proofs.Common.{◌≡◌, ◌⊎◌, inl, inr, ⊎_elim, ℕ, ◌
 use Rattle.std.specs.Prelude.{MatchBool}
 use Rattle.std.proofs.Math.Nat.{mod-lt}
 use Rattle.std.proofs.lemmas.Bool.{and_parts, cases_lt, cases_order, cond_both}
-use Rattle.papaya_words.specs.Chunks.{chunk_count, chunk_len, chunk_of}
+use Rattle.papaya_words.specs.Chunks.{chunk_count, chunk_len}
 use Rattle.papaya_words.specs.declared.probe.ResizeMode.{ResizeMode}
 use Rattle.papaya_words.proofs.ChunkLemmas.{chunk_before, chunk_from, chunk_next, chunk_some, chunk_starts, chunk_to}
 use Rattle.papaya_copy.specs.declared.step.Scan.{Scan}
 use Rattle.papaya_copy.specs.declared.step.Step.TheVariants as steps
-use Rattle.papaya_copy.specs.Step.{chunk_at, end_of, first_chunk, first_scan, is_further, next_chunk, next_scan}
+use Rattle.papaya_copy.specs.Step.{chunk_at, first_chunk, first_scan, is_further, next_chunk, next_scan}
 use Rattle.papaya_law.specs.Code.{Coding}
 use Rattle.papaya_law.specs.Exchange.{Setting, State}
 use Rattle.papaya_law.specs.Meaning.{IsLawful}

@@ -1,10 +1,10 @@
 -- What a copier rests on stays so, whatever is exchanged.
-use Rattle.std.proofs.Common.{◌≡◌, ◌⊎◌, inl, inr, ⊎_elim, ℕ, Option, subst, arith}
+use Rattle.std.proofs.Common.{◌≡◌, ◌⊎◌, inl, inr, ⊎_elim, ℕ, Option, subst}
 use Rattle.papaya_words.specs.Word.{hint_of}
 use Rattle.papaya_law.specs.Class.{IsOn}
 use Rattle.papaya_law.specs.Code.{Coding, IsHashed}
 use Rattle.papaya_law.specs.Copying.{IsLinking, IsPutting}
-use Rattle.papaya_law.specs.Exchange.{Closed, Marked, Copied, Setting, State}
+use Rattle.papaya_law.specs.Exchange.{Marked, Copied, Setting, State}
 use Rattle.papaya_law.specs.Later.{Becomes, IsLater, IsLasting}
 use Rattle.papaya_copy.specs.declared.copying.Aim.{Aim}
 use Rattle.papaya_copy.specs.declared.copying.Aim.TheVariants as aims

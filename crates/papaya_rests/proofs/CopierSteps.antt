@@ -1,5 +1,5 @@
 -- What the copy of a chunk rests on after each answer.
-use Rattle.std.proofs.Common.{◌≡◌, cond, inl, inr, ⊎_elim, ℕ, ◌+◌, ◌-◌, ◌<◌, ◌≤◌, ◌==◌, nat_lt, nat_le, not, ltb-true, ltb-false, leb-true, leb-false, true, Option, Some, refl, sym, ap, ◌∙◌, subst, arith, eq-eqb, eqb-true}
+use Rattle.std.proofs.Common.{◌≡◌, cond, inl, inr, ⊎_elim, ℕ, ◌+◌, ◌<◌, ◌≤◌, ◌==◌, nat_lt, not, ltb-true, ltb-false, true, Option, Some, refl, sym, ap, ◌∙◌, subst, arith, eq-eqb, eqb-true}
 use Rattle.std.proofs.lemmas.Bool.{cases_lt, cond_both}
 use Rattle.papaya_words.specs.declared.probe.Refused.{Refused}
 use Rattle.papaya_words.specs.declared.probe.ResizeMode.{ResizeMode}
@@ -33,7 +33,7 @@ use Rattle.papaya_law.specs.Meaning.{map_after}
 use Rattle.papaya_law.proofs.Copies.{first_target, next_target}
 use Rattle.papaya_law.proofs.CopierFacts.{target_on}
 use Rattle.papaya_law.proofs.OneMap.{keeping_sound}
-use Rattle.papaya_rests.specs.Copier.{IsAimed, IsChunk, IsCopyAsked, IsScan, IsSource, RestsLinked, RestsSettled, RestsStep, RestsStepped, last_after, told_last}
+use Rattle.papaya_rests.specs.Copier.{IsAimed, IsChunk, IsCopyAsked, IsScan, RestsLinked, RestsSettled, RestsStep, RestsStepped, last_after, told_last}
 use Rattle.papaya_rests.specs.Rests.{IsCutAs, IsModeOf}
 use Rattle.papaya_rests.specs.Told.{word_of}
 use Rattle.papaya_rests.proofs.CopierCarries.{above, links_next, no_hash, no_hint, no_load, no_note, no_same}

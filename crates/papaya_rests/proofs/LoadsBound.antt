@@ -1,5 +1,5 @@
 -- A lookup's loads are bounded: by induction over the answers.
-use Rattle.std.proofs.Common.{◌≡◌, ⊎_elim, ℕ, ◌≤◌, None, List, [], ◌∷◌, sym, subst, refl, arith, true, false, Bool}
+use Rattle.std.proofs.Common.{◌≡◌, ⊎_elim, ℕ, ◌≤◌, None, List, [], ◌∷◌, sym, subst, refl, arith, true, false}
 use Rattle.std.specs.List.{All}
 use Rattle.std.proofs.lemmas.List.Elements.{All-cons, All-nil}
 use Rattle.papaya_words.specs.Word.{kind_of, may_hold}

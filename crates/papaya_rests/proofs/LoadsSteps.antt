@@ -1,9 +1,9 @@
 -- What one answer leaves a lookup to load.
-use Rattle.std.proofs.Common.{◌≡◌, ◌⊎◌, inl, inr, ⊎_elim, ℕ, ◌+◌, ◌-◌, ◌<◌, ◌≤◌, ◌==◌, nat_lt, Bool, true, false, None, List, ◌∷◌, refl, sym, subst, arith, Option, Some}
+use Rattle.std.proofs.Common.{◌≡◌, ◌⊎◌, inl, inr, ⊎_elim, ℕ, ◌+◌, ◌-◌, ◌<◌, ◌≤◌, ◌==◌, nat_lt, Bool, true, false, None, List, ◌∷◌, refl, sym, subst, arith, Option}
 use Rattle.std.specs.List.{All, Contains, cons_option}
 use Rattle.std.proofs.lemmas.Bool.{ltb-true, eq-eqb}
 use Rattle.std.proofs.lemmas.List.Elements.{All-cons}
-use Rattle.papaya_words.specs.Word.{kind_of, pair_of, top_byte}
+use Rattle.papaya_words.specs.Word.{kind_of, pair_of}
 use Rattle.papaya_words.specs.declared.word.Kind.{Kind}
 use Rattle.papaya_words.specs.declared.word.Kind.TheVariants as kinds
 use Rattle.papaya_words.specs.declared.probe.ResizeMode.{ResizeMode}

@@ -1,6 +1,6 @@
 -- The exchange that a machine asks for: where its old word stands there it may be made, and it writes just its word.
-use Rattle.std.proofs.Common.{◌≡◌, ⊎_elim, ℕ, ◌<◌, ◌^◌, ◌==◌, eqb-true, eq-eqb, Bool, true, false, cond, Option, Some, List, ◌++◌, refl, sym, ap, ◌∙◌, subst}
-use Rattle.papaya_words.specs.Word.{kind_of, pair_of, live_word, buried_word, top_byte}
+use Rattle.std.proofs.Common.{◌≡◌, ⊎_elim, ℕ, ◌<◌, ◌==◌, eqb-true, eq-eqb, Bool, true, false, cond, Option, Some, List, ◌++◌, refl, sym, ap, ◌∙◌, subst}
+use Rattle.papaya_words.specs.Word.{kind_of, live_word, buried_word}
 use Rattle.papaya_words.specs.declared.word.Kind.TheVariants as word_kinds
 use Rattle.papaya_ask.specs.declared.ask.Ask.TheVariants.{Exchange as Ask_exchange}
 use Rattle.papaya_ask.specs.declared.ask.At.{At}

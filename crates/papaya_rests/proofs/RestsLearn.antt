@@ -34,7 +34,7 @@ use Rattle.papaya_rests.specs.Told.{IsAsked, IsSaying, IsTold, IsUnmade, Hands}
 use Rattle.papaya_law.specs.Code.{IsHashed}
 use Rattle.papaya_call.specs.Write.{write_kind}
 use Rattle.papaya_call.specs.Remove.{grave_word}
-use Rattle.papaya_rests.specs.Rests.{IsAt, IsModeOf, IsOwnPair, Rests, RestsFill, MayNeed, RestsHands, RestsLeaving, RestsStage, RestsWriting, HasComeTo, HasMet, HasClaimed}
+use Rattle.papaya_rests.specs.Rests.{IsAt, IsModeOf, Rests, RestsFill, MayNeed, RestsHands, RestsLeaving, RestsStage, RestsWriting, HasComeTo, HasMet, HasClaimed}
 use Rattle.papaya_law.proofs.Codes.{code_pair}
 use Rattle.papaya_rests.proofs.RestsLearnMoments.{no_root, next_come, over_last, root_come}
 use Rattle.papaya_rests.proofs.RestsLearnPlaces.{first}

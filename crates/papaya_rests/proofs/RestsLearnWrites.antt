@@ -1,6 +1,5 @@
 -- After an exchange of its own a machine rests again, and the exchange was allowed.
 use Rattle.std.proofs.Common.{◌≡◌, ⊎_elim, ℕ, ◌<◌, ◌==◌, eqb-true, eq-eqb, Bool, true, false, cond, Option, Some, List, [], ◌∷◌, ◌++◌, append_assoc, refl, sym, ap, ◌∙◌, subst}
-use Rattle.std.proofs.lemmas.Bool.{cond_both}
 use Rattle.papaya_words.specs.Word.{pair_of, hint_of}
 use Rattle.papaya_ask.specs.declared.ask.At.TheVariants.{Root, Slot}
 use Rattle.papaya_ask.specs.declared.ask.StepKind.{StepKind}

@@ -67,7 +67,8 @@ IsPrompt task words (SizeOf t) answer words' =
     × IsSame words words'
 IsPrompt task words MakeKey answer words' = IsMaking answer × IsSame words words'
 IsPrompt task words MakePair answer words' = IsMaking answer × IsSame words words'
-IsPrompt task words (MakeTable slots limit chunks) answer words' = IsMaking answer × IsSame words words'
+IsPrompt task words (MakeTable slots limit chunks) answer words' = IsMaking answer
+    × IsSame words words'
 IsPrompt task words (AddToShard by) answer words' = (answer ≡ Ok_done) × IsSame words words'
 IsPrompt task words (Done reply) answer words' = ⊥
 

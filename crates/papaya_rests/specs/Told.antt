@@ -88,7 +88,6 @@ module _ {K P : Type 0} (g : Setting K P) (c : Coding K P) (k : K) where
       ⊎ ((kind : OpKind) × (answer ≡ Op kind)) ⊎ (answer ≡ Ok_done)
 
   -- The answer to an ask is true of the words in s, for a call with key k: a load and an exchange
-  -- The answer to an ask is true of the words in s, for a call with key k: a load and an exchange
   -- are answered by the word that stands there, and the load of a hint by one that may be there. es
   -- has the exchange, if one was made.
   abbrev pub IsTold : State P → Option StepKind → Hands P → Ask → Answer → List (Exchange P)

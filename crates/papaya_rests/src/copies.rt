@@ -3,8 +3,7 @@
 //! The machines of a resize ask and are answered as those of calls are. What they rest on are facts
 //! of the words alone, which no exchange undoes, so no list of exchanges and no moment comes into
 //! these laws. `last` is the pair that a copier was told of last, `kept` the one that it carries.
-//! The
-//! functions do nothing: their contracts are the laws.
+//! The functions do nothing: their contracts are the laws.
 ghost use Rattle.std.specs.Prelude.{◌≡◌, ℕ, ◌+◌, ◌<◌, List, Option, Some};
 ghost use Rattle.papaya_words.specs.declared.probe.Refused.{Refused};
 ghost use Rattle.papaya_words.specs.declared.probe.ResizeMode.{ResizeMode};
@@ -24,8 +23,8 @@ ghost use Rattle.papaya_law.specs.Exchange.{Setting, State, Exchange, after, run
 ghost use Rattle.papaya_law.specs.Grows.{Agrees};
 ghost use Rattle.papaya_law.specs.Hints.{IsHint};
 ghost use Rattle.papaya_law.specs.Invariant.{IsKeeping};
-ghost use Rattle.papaya_rests.specs.Copier.{AreThere, HasWords, IsCopyAsked, RestsAim, RestsCopied, RestsCopying, aim_of, last_after, link_in_copying};
-ghost use Rattle.papaya_rests.specs.Copier.{told_last};
+ghost use Rattle.papaya_rests.specs.Copier.{AreThere, HasWords, IsCopyAsked, RestsAim, RestsCopied, RestsCopying};
+ghost use Rattle.papaya_rests.specs.Copier.{aim_of, last_after, link_in_copying, told_last};
 ghost use Rattle.papaya_rests.specs.Rests.{IsCutAs, IsModeOf};
 ghost use Rattle.papaya_rests.specs.Told.{IsWritten, word_of};
 
@@ -77,8 +76,9 @@ pub fn copiers_name<K, P>()
 /// table in which the call is to look for its key, or the root.
 ///
 /// A load and an exchange are answered by the word that stands there, and the load of a hint by any
-/// that may be there. Asked for a hash, a copier carries the pair that it was told of last. What makes a table gives it a number above the one
-/// that it follows.
+/// that may be there. Asked for a hash, a copier carries the pair that it was told of last. What
+/// makes a table gives it a number above the one that it follows, and where the table is linked, as
+/// many words for chunks as were asked for.
 pub fn copiers_learn<K, P>()
     ensures begins { (g : Setting K P) (c : Coding K P) (s : State P) (last kept : Option P)
         (aim : Aim) → RestsAim g c s last kept aim
@@ -106,7 +106,8 @@ pub fn copiers_learn<K, P>()
         → IsModeOf mode g.blocking → (last kept : Option P) (copying : Copying)
         → RestsCopying g c s last kept copying → HasWords g (link_in_copying copying)
         → (at : At) (old new : ℕ) → copying_ask copying ≡ asks.Exchange at old new
-        → word_of g c s at ≡ old → (e : Exchange P) → IsCopyAsked c (copying_kind copying) at new s kept e
+        → word_of g c s at ≡ old → (e : Exchange P)
+        → IsCopyAsked c (copying_kind copying) at new s kept e
         → RestsCopied g c (after s e) (last_after e last) kept (aim_of copying)
         (at_exchanged copying mode) }
     ensures found { (g : Setting K P) (c : Coding K P) → IsHashed g c
