@@ -21,9 +21,9 @@ use papaya_ask::ask::At;
 use papaya_chain::ask::Answer;
 use papaya_chain::resizer::Resizer;
 
-/// A copy of a chunk that is not refused ends the resize that is pending, or copies a chunk more and
-/// leaves one that is not copied. So the resize is ended by at most as many of them as the root has
-/// chunks: its slots by those of a chunk, rounded up.
+/// A copy of a chunk that is not refused ends the resize that is pending, or copies a chunk more
+/// and leaves one that is not copied. So the resize is ended by at most as many of them as the root
+/// has chunks: its slots by those of a chunk, rounded up.
 pub fn alone_chunks<K, P>()
     ensures begins { (words : At → ℕ) (size : ℕ → ℕ) (from to slots due initial number : ℕ)
         → IsDue words from to (chunks_of (size from) slots) due
