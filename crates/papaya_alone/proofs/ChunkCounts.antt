@@ -1,8 +1,9 @@
 -- What each answer leaves to a copy of a chunk, of a resize that is pending.
-use Rattle.std.proofs.Common.{◌≡◌, ◌⊎◌, inl, inr, ⊎_elim, ℕ, zero, suc, ◌+◌, ◌<◌, ◌≤◌, ◌==◌, ◌&&◌, nat_lt, not, cond, Bool, true, false, Option, List, refl, sym, ap, ◌∙◌, subst, arith, eq-eqb, eqb-true}
+use Rattle.std.proofs.Common.{◌≡◌, inl, inr, ⊎_elim, ℕ, zero, suc, ◌+◌, ◌-◌, ◌/◌, ◌<◌, ◌≤◌, ◌==◌, ◌&&◌, max, nat_lt, not, cond, Bool, true, false, Option, List, refl, sym, ap, ◌∙◌, subst, arith, eq-eqb, eqb-true}
+use Rattle.std.proofs.Math.Nat.{add-div_right}
 use Rattle.std.specs.Prelude.{MatchBool}
-use Rattle.std.proofs.lemmas.Bool.{cases_Bool, cases_lt, cond_both, not-false}
-use Rattle.papaya_words.specs.Chunks.{chunk_count, chunk_len, chunk_of}
+use Rattle.std.proofs.lemmas.Bool.{cases_lt, cond_both, not-false}
+use Rattle.papaya_words.specs.Chunks.{chunk_len, chunk_of}
 use Rattle.papaya_words.specs.declared.probe.ResizeMode.TheVariants.{Incremental}
 use Rattle.papaya_words.proofs.ChunkLemmas.{chunk_counted, chunk_first, chunk_some}
 use Rattle.papaya_ask.specs.declared.ask.At.{At}
@@ -234,7 +235,7 @@ module _ {K P : Type 0} (g : Setting K P) (c : Coding K P) (hashed : IsHashed g 
       let copying = copyings.Stepping aims.Chunk step in
       let h = told_of_ask g c s hands (Copying began copying) (copying_ask copying) refl answer es hands' told in
       let answers_so = prompt g c hashed s m keeps bounded (Incremental slots) initial number hands copying r made read.0 answer es hands' h in
-      let may = (stage_learns g c hashed s m keeps Chunk (Incremental slots) initial number hands moded cut (Copying began copying) (own, r) made answer es hands' told).0 in
+      let may = (stage_learns g c hashed s m keeps Chunk (Incremental slots) initial number hands moded cut (Copying began copying) (own, r) answer (λ _. made) es hands' told).0 in
       let later = later_run g hashed.lawful es s may in
       let is : s.next from ≡ to = d.pending.next in
       let some : 0 < to = d.pending.more in
@@ -242,13 +243,20 @@ module _ {K P : Type 0} (g : Setting K P) (c : Coding K P) (hashed : IsHashed g 
       subst (λ y. WillCopyIn (word_of g c (run es s)) from to (chunks_of (g.size from) slots) due (copied Chunk began y)) (sym (copying_steps (Incremental slots) initial number aims.Chunk step answer))
       (step_leads g c s hands.call.last hands.kept (word_of g c (run es s)) slots initial number began from to due moded cut d rises (later.next from (omega (arith, is, some)) ∙ is) (λ chunk. undone (s.done to chunk) ((run es s).done to chunk) (later.done to chunk)) step answer r.1 read.0.1 goes answers_so)
     where
-      undone : (before after : Bool) → (before ≡ true → after ≡ true) → cond after 1 0 ≡ 0 → cond before 1 0 ≡ 0
+      undone : (before after : Bool) → (before ≡ true → after ≡ true) → ◌≡◌ {A = ℕ} (cond after 1 0) 0 → ◌≡◌ {A = ℕ} (cond before 1 0) 0
       undone true true keeps e = e
       undone true false keeps e = let no = keeps refl in absurd (cc no)
       undone false after keeps e = refl
   stage_copies Done r made read goes answer es hands' told = let asked = told.1 in absurd cc
   stage_copies (Refused refused) r made read goes answer es hands' told = let asked = told.1 in absurd cc
   stage_copies _ r made read goes answer es hands' told = absurd goes
+
+-- a table's chunks are its slots by those of a chunk, rounded up
+pub chunks_rounded : (len slots : ℕ) → 0 < len → 0 < slots → chunks_of len slots ≡ (len + (slots - 1)) / slots
+chunks_rounded len slots full some =
+    let most : max slots 1 ≡ slots = omega (arith, some) in
+    let same : len - 1 + slots ≡ len + (slots - 1) = omega (arith, full, some) in
+    ap (λ n. (len - 1) / n + 1) most ∙ sym (add-div_right (len - 1) some) ∙ ap (λ n. n / slots) same
 
 -- so many copies leave so many chunks fewer
 left_falls : (left : ℕ → ℕ) (copies : ℕ) → AllFallShort left copies → left copies + copies ≤ left 0

@@ -47,7 +47,8 @@ pub fn alone_copiers<K, P>()
         (copying_ask copying) answer es hands' → (before later : Budget)
         → SpendsCopy (copying_ask copying) answer before later
         → IsSpent before later ⊎ ((later ≡ before)
-        × (left_of_copied (copying_after copying mode initial number answer) < left_of_copying copying)) }
+        × (left_of_copied (copying_after copying mode initial number answer)
+        < left_of_copying copying)) }
     ensures current { (g : Setting K P) (c : Coding K P) → IsHashed g c
         → (s : State P) (m : K → Option P) → IsKeeping g s m → IsBounded g s
         → (mode : ResizeMode) (initial number : ℕ) (hands : Hands P) (copying : Copying)

@@ -1,6 +1,6 @@
 //! How many copies of a chunk end a resize without blocking, with no other caller beside them. The
 //! function does nothing: its contract is the law.
-ghost use Rattle.std.specs.Prelude.{◌≡◌, ℕ, ◌<◌, List, Option, Some};
+ghost use Rattle.std.specs.Prelude.{◌≡◌, ℕ, ◌+◌, ◌-◌, ◌/◌, ◌<◌, List, Option, Some};
 ghost use Rattle.papaya_words.specs.declared.probe.ResizeMode.TheVariants.{Incremental};
 ghost use Rattle.papaya_ask.specs.declared.call.Reply.TheVariants.{Done as Reply_done};
 ghost use Rattle.papaya_law.specs.Code.{Coding, IsHashed};
@@ -21,9 +21,9 @@ use papaya_ask::ask::At;
 use papaya_chain::ask::Answer;
 use papaya_chain::resizer::Resizer;
 
-/// A copy of a chunk that is not refused ends the resize that is pending, or copies a chunk more and
-/// leaves one that is not copied. So the resize is ended by at most as many of them as the root has
-/// chunks: its slots by those of a chunk, rounded up.
+/// A copy of a chunk that is not refused ends the resize that is pending, or copies a chunk more
+/// and leaves one that is not copied. So the resize is ended by at most as many of them as the root
+/// has chunks: its slots by those of a chunk, rounded up.
 pub fn alone_chunks<K, P>()
     ensures begins { (words : At → ℕ) (size : ℕ → ℕ) (from to slots due initial number : ℕ)
         → IsDue words from to (chunks_of (size from) slots) due
@@ -40,6 +40,8 @@ pub fn alone_chunks<K, P>()
     ensures ends { (words : At → ℕ) (size : ℕ → ℕ) (from to slots due : ℕ) (resizer : Resizer)
         → WillCopy words size from to slots due resizer → reply_of resizer ≡ Some Reply_done
         → HasCopied words from to (chunks_of (size from) slots) due }
+    ensures rounded_up { (len slots : ℕ) → 0 < len → 0 < slots
+        → chunks_of len slots ≡ (len + (slots - 1)) / slots }
     ensures fewer { (left : ℕ → ℕ) (copies : ℕ) → 0 < left 0 → AllFallShort left copies
         → copies < left 0 }
     ensures at_most { (words : ℕ → At → ℕ) (size : ℕ → ℕ) (from to slots copies : ℕ)

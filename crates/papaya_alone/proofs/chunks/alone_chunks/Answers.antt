@@ -7,7 +7,7 @@ use Rattle.papaya_rests.specs.Rests.{IsCutAs, IsModeOf}
 use Rattle.papaya_rests.specs.Told.{word_of}
 use Rattle.papaya_alone.specs.Chunks.{WillCopyIn, chunks_of}
 use Rattle.papaya_alone.specs.Resizers.{IsStageRead}
-use Rattle.papaya_alone.proofs.ChunkCounts.{copies_fewer, copies_leave, stage_copies}
+use Rattle.papaya_alone.proofs.ChunkCounts.{chunks_rounded, copies_fewer, copies_leave, stage_copies}
 use Rattle.papaya_alone.proofs.chunks.alone_chunks.Goals as goal
 
 pub returns-clause-goes_on : goal.returns-clause-goes_on
@@ -22,6 +22,9 @@ returns-clause-goes_on g c = λ h d hashed s m keeps bounded resizer hands r mad
       stage = subst (λ y. WillCopyIn (word_of h d (run es s)) from to (chunks_of (h.size from) slots) due (after_in y resizer.mode resizer.initial resizer.number answer resizer.state)) (sym will.resize)
           (subst (λ y. WillCopyIn (word_of h d (run es s)) from to (chunks_of (h.size from) slots) due (after_in Chunk y resizer.initial resizer.number answer resizer.state)) (sym will.mode) leads);
     }
+
+pub returns-clause-rounded_up : goal.returns-clause-rounded_up
+returns-clause-rounded_up g c = λ len slots full some. chunks_rounded len slots full some
 
 pub returns-clause-fewer : goal.returns-clause-fewer
 returns-clause-fewer g c = λ left copies some all. copies_fewer left copies some all
