@@ -37,16 +37,16 @@ changes_of_word word = changes_of (kind_of word)
 abbrev pub links_of : ℕ → ℕ
 links_of next = if next == 0 then 1 else 0
 
--- how many slots may still be counted as copied, and how often a table may be given up
+-- how often a chunk's word may still change, and how often a table may be given up
 abbrev pub copies_of : ℕ → ℕ
-copies_of done = 2 ^ 32 - done
+copies_of done = 1 - done
 
 abbrev pub ends_of : ℕ → ℕ
 ends_of aborted = 1 - aborted
 
 -- how often the words of a table may still change
 abbrev pub exchanges_of : TableWords → ℕ
-exchanges_of t = sum_by changes_of_word t.slots + links_of t.next + copies_of t.done
+exchanges_of t = sum_by changes_of_word t.slots + links_of t.next + sum_by copies_of t.done
     + ends_of t.aborted
 
 -- the words of all tables, and the root, which goes to later tables alone

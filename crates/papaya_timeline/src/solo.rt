@@ -60,7 +60,7 @@ pub fn one_call_ends<K: Hash + Eq, V, S: BuildHasher, A>()
         S.Hasher.write S.Hasher.finish s.store.hasher) s 0 call s' → IsLoneWork K.eq
         (hash_of K.hash_input S.build_hasher S.Hasher.write S.Hasher.finish) s'
         (begun_work (hash_of K.hash_input S.build_hasher S.Hasher.write S.Hasher.finish
-        s.store.hasher) s.mode s.initial call) }
+        s.store.hasher) s.mode s.initial 0 call) }
     ensures nearer { (refuse : Bool) (s s' : CoreState K V S A) (r : Running K V A)
         (event : Event) → IsLone K.eq
         (hash_of K.hash_input S.build_hasher S.Hasher.write S.Hasher.finish) s r
