@@ -80,12 +80,13 @@ module _ {K V A : Type 0} (hash : K → ℕ) (mode : ResizeMode) (initial number
   begun_work (Retain a) = works.Visit (visitor_begun mode initial number visits.Retain (Some a))
   begun_work Walk = works.Visit (visitor_begun mode initial number visits.Walk None)
 
--- a begin changes no word, no log and no other caller's call; the caller's number is the call's
+-- a begin changes no word, no log and no other caller's call
 pub record Begins {K V S A : Type 0} (hash : K → ℕ) (s : CoreState K V S A) (caller : ℕ)
     (call : Call K V A) (s' : CoreState K V S A) : Type 0 where
+  pub number : ℕ
   pub store : s'.store ≡ s.store
   pub callers : s'.callers ≡ with_work (with_seat s.callers caller) caller
-      (Some (begun_work hash s.mode s.initial caller call))
+      (Some (begun_work hash s.mode s.initial number call))
   pub mode : s'.mode ≡ s.mode
   pub initial : s'.initial ≡ s.initial
   -- the hash of its key, if it has one, has 64 bits
