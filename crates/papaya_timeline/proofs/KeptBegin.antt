@@ -107,7 +107,7 @@ module _ {K V S A : Type 0} (eq : K → K → Bool) (hash : K → ℕ) where
       last = λ p l. absurd cc;
       carried = λ p l. absurd cc;
       opens = λ t l. absurd (unopened x.resize t l);
-      links = λ behind t l. absurd (unlinked x.resize (Linking behind t) l);
+      links = λ behind t l. absurd (unlinked x.resize (Linking behind t chunks) l);
     })
       where
         unopened : (resize : Resize) (t : ℕ) → begun_in resize ≡ Opening t → ⊥

@@ -46,7 +46,7 @@ module _ {Q K V S A : Type 0} (eq : K → K → Bool) (hashes : S → K → ℕ)
     (last : (p : Stored K V) → tale.hands.call.last ≡ Some p → pair_of store p.number ≡ Some p)
     (carried : (p : Stored K V) → tale.hands.kept ≡ Some p → pair_of store p.number ≡ Some p)
     (opens : (t : ℕ) → ask_of r.machine ≡ asks.Call (Ask_exchange Root 0 t) → IsMade store t)
-    (links : (behind t : ℕ) → link_in r.machine.phase ≡ Some (Linking behind t) → IsMade store t)
+    (links : (behind t chunks : ℕ) → link_in r.machine.phase ≡ Some (Linking behind t chunks) → IsMade store t)
     (owns : own_key store r ≡ own)
     (suits : Suits eq hashes g c store) where
   -- what an answer leaves, where it is this
@@ -58,8 +58,8 @@ module _ {Q K V S A : Type 0} (eq : K → K → Bool) (hashes : S → K → ℕ)
   asker ask e = record {
     names = subst (λ l. AreThere g c (run l start) tale.hands.call.last tale.hands.kept ask) split (copies_there g c hashed tale.begun tale.since may key r.machine tale.hands rests ask e);
     may = λ at old new is stands. asked_copy g c store r es tale own hashed key split may rests coded there opens links owns suits.sizes at old new (e ∙ ap asks.Copy is) stands;
-    low = λ slots limit is.
-        let on = machine_follows g c tale.begun tale.since key r.machine tale.hands rests slots limit (e ∙ ap asks.Copy is) in
+    low = λ slots limit chunks is.
+        let on = machine_follows g c tale.begun tale.since key r.machine tale.hands rests slots limit chunks (e ∙ ap asks.Copy is) in
         let words = on_there g c store r es tale own hashed key split may rests coded there opens links owns suits.sizes (follows_of r.machine) on in
         table_low store.words.tables (follows_of r.machine) words.0 words.1;
     links = λ behind old t is. links behind t (machine_links r.machine behind old t (e ∙ ap asks.Copy is));

@@ -160,27 +160,27 @@ module _ {K V S A : Type 0} (eq : K → K → Bool) (hash : K → ℕ) (law : Is
       opened_made t some (inr linked) = there t some (inr linked)
 
   -- it asks as a copy may
-  follows_low : (stage : Stage) → z.state ≡ stage → (slots limit : ℕ) → asks_in stage ≡ Some (MakeTable slots limit) → follows_in stage ≤ length s.store.words.tables
-  follows_low (stages.Linking link) is slots limit e = on_low _ (subst (λ y. RestsStage g c now tale.hands y) is resizing.rests.stage).on
-  follows_low (stages.Copying from copying) is slots limit e = on_low _ (copying_follows g c now tale.hands.call.last tale.hands.kept slots limit copying (subst (λ y. RestsStage g c now tale.hands y) is resizing.rests.stage).1 (same_item _ _ e))
-  follows_low stages.AtRoot is slots limit e = omega arith
-  follows_low (stages.Making room) is slots limit e = omega arith
-  follows_low (stages.Opening table) is slots limit e = omega arith
-  follows_low (stages.Sizing root) is slots limit e = omega arith
-  follows_low (stages.Counting root len) is slots limit e = omega arith
-  follows_low (stages.Looking root room) is slots limit e = omega arith
-  follows_low stages.Done is slots limit e = omega arith
-  follows_low (stages.Refused refused) is slots limit e = omega arith
+  follows_low : (stage : Stage) → z.state ≡ stage → (slots limit chunks : ℕ) → asks_in stage ≡ Some (MakeTable slots limit chunks) → follows_in stage ≤ length s.store.words.tables
+  follows_low (stages.Linking link) is slots limit chunks e = on_low _ (subst (λ y. RestsStage g c now tale.hands y) is resizing.rests.stage).on
+  follows_low (stages.Copying from copying) is slots limit chunks e = on_low _ (copying_follows g c now tale.hands.call.last tale.hands.kept slots limit chunks copying (subst (λ y. RestsStage g c now tale.hands y) is resizing.rests.stage).1 (same_item _ _ e))
+  follows_low stages.AtRoot is slots limit chunks e = omega arith
+  follows_low (stages.Making room) is slots limit chunks e = omega arith
+  follows_low (stages.Opening table) is slots limit chunks e = omega arith
+  follows_low (stages.Sizing root) is slots limit chunks e = omega arith
+  follows_low (stages.Counting root len) is slots limit chunks e = omega arith
+  follows_low (stages.Looking root len room) is slots limit chunks e = omega arith
+  follows_low stages.Done is slots limit chunks e = omega arith
+  follows_low (stages.Refused refused) is slots limit chunks e = omega arith
 
   linked_made : (stage : Stage) → z.state ≡ stage → (behind old t : ℕ) → asks_in stage ≡ Some (Copy_exchange (Next behind) old t) → IsMade s.store t
-  linked_made (stages.Linking link) is behind old t e = resizing.links behind t (subst (λ y. HasLink y (links.Linking behind t)) (sym is) (same_item _ _ (link_asks link behind old t (same_item _ _ e))))
-  linked_made (stages.Copying from copying) is behind old t e = resizing.links behind t (subst (λ y. HasLink y (links.Linking behind t)) (sym is) (copying_asks copying behind old t (same_item _ _ e)))
+  linked_made (stages.Linking link) is behind old t e = resizing.links behind t (subst (λ y. HasLink y (links.Linking behind t chunks)) (sym is) (same_item _ _ (link_asks link behind old t (same_item _ _ e))))
+  linked_made (stages.Copying from copying) is behind old t e = resizing.links behind t (subst (λ y. HasLink y (links.Linking behind t chunks)) (sym is) (copying_asks copying behind old t (same_item _ _ e)))
   linked_made stages.AtRoot is behind old t e = absurd cc
   linked_made (stages.Making room) is behind old t e = absurd cc
   linked_made (stages.Opening table) is behind old t e = absurd cc
   linked_made (stages.Sizing root) is behind old t e = absurd cc
   linked_made (stages.Counting root len) is behind old t e = absurd cc
-  linked_made (stages.Looking root room) is behind old t e = absurd cc
+  linked_made (stages.Looking root len room) is behind old t e = absurd cc
   linked_made stages.Done is behind old t e = absurd cc
   linked_made (stages.Refused refused) is behind old t e = absurd cc
 
@@ -204,7 +204,7 @@ module _ {K V S A : Type 0} (eq : K → K → Bool) (hash : K → ℕ) (law : Is
       (λ ask e. record {
         names = resizer_names g c hashed now (map_left g es) keeps z tale.hands resizing.rests ask (ap asks_in is ∙ e);
         may = λ at old new same stands. stage_asks stage is at old new (e ∙ ap (λ y. Some y) same) stands;
-        low = λ slots limit same. follows_low stage is slots limit (e ∙ ap (λ y. Some y) same);
+        low = λ slots limit chunks same. follows_low stage is slots limit chunks (e ∙ ap (λ y. Some y) same);
         links = λ behind old t same. linked_made stage is behind old t (e ∙ ap (λ y. Some y) same);
         reads = λ t x same. hints t x;
         writes = λ t x n same. resizer_may_hint g c hashed now (map_left g es) keeps z tale.hands resizing.rests t x n (ap asks_in is ∙ e ∙ ap (λ y. Some y) same);

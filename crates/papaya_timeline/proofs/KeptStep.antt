@@ -158,11 +158,11 @@ module _ {K V S A : Type 0} (eq : K → K → Bool) (hash : K → ℕ) (law : Is
   own_opens : (t : ℕ) → ask_of (after before.machine a) ≡ asks.Call (Ask_exchange Root 0 t) → IsMade s'.store t
   own_opens t opening = elim (chain_opens before.machine a t opening order) [
     | inl old ↦ still_there t (call.opens t old)
-    | inr (is, slots, limit, making) ↦ left.opens t is (inl (slots, limit, making))
+    | inr (is, slots, limit, chunks, making) ↦ left.opens t is (inl (slots, limit, chunks, making))
   ]
 
   -- and so is the one that it is about to link
-  own_links : (behind t : ℕ) → link_in (after before.machine a).phase ≡ Some (Linking behind t) → IsMade s'.store t
+  own_links : (behind t chunks : ℕ) → link_in (after before.machine a).phase ≡ Some (Linking behind t chunks) → IsMade s'.store t
   own_links behind t =
       is_made (IsMade s'.store) (link_in (after before.machine a).phase)
       (machine_made (IsMade s'.store) before.machine a

@@ -41,7 +41,7 @@ module _ {Q K V S A : Type 0} (g : Setting Q (Stored K V)) (c : Coding Q (Stored
     (coded : (at : At) → word_of g c (run es start) at ≡ word_at store.words at)
     (there : (t : ℕ) → 0 < t → Comes (run es start) t → IsMade store t)
     (opens : (t : ℕ) → ask_of r.machine ≡ asks.Call (Ask_exchange Root 0 t) → IsMade store t)
-    (links : (behind t : ℕ) → link_in r.machine.phase ≡ Some (Linking behind t) → IsMade store t)
+    (links : (behind t chunks : ℕ) → link_in r.machine.phase ≡ Some (Linking behind t chunks) → IsMade store t)
     (owns : own_key store r ≡ own)
     (sizes : (t : ℕ) → g.size t ≡ slots_in (table_of store.words.tables t)) where
   -- the words as the law has them

@@ -46,7 +46,7 @@ opens_at call (Linking made) t e = absurd cc
 opens_at call (Copying_root goes) t e = absurd cc
 
 pub chain_opens : (m : Machine) (answer : Answer) (t : ℕ) → machine.ask_of (machine.after m answer) ≡ asks.Call (Own_exchange Root 0 t) → IsInOrder m answer m.phase
-    → (machine.ask_of m ≡ asks.Call (Own_exchange Root 0 t)) ⊎ ((answer ≡ answers.Call (Made_number t)) × (slots : ℕ) × (limit : ℕ) × (machine.ask_of m ≡ asks.Call (MakeTable slots limit)))
+    → (machine.ask_of m ≡ asks.Call (Own_exchange Root 0 t)) ⊎ ((answer ≡ answers.Call (Made_number t)) × (slots : ℕ) × (limit : ℕ) × (chunks : ℕ) × (machine.ask_of m ≡ asks.Call (MakeTable slots limit chunks)))
 chain_opens m answer t opening order = elim (machine_goes m answer order) [
   | inl waits ↦ (let f : Load (Next waits.from) ≡ Own_exchange Root 0 t = sym (aside_asks m.call.made m.call.hash m.call.state waits.from waits.left) ∙ asked m.call waits.call in absurd cc)
   | inr (inl own) ↦ own_step own (machine_opens m.call own.told t (asked (call_machine.after m.call own.told) own.call))
@@ -58,10 +58,10 @@ chain_opens m answer t opening order = elim (machine_goes m answer order) [
     asked : (call : Call_machine) → (machine.after m answer).call ≡ call → call_machine.ask_of call ≡ Own_exchange Root 0 t
     asked call is = ap call_machine.ask_of (sym is) ∙ opens_at (machine.after m answer).call (machine.after m answer).phase t opening
 
-    own_step : (own : IsOwnStep m answer) → (call_machine.ask_of m.call ≡ Own_exchange Root 0 t) ⊎ ((own.told ≡ Made_number t) × (slots : ℕ) × (limit : ℕ) × (call_machine.ask_of m.call ≡ MakeTable slots limit))
-        → (machine.ask_of m ≡ asks.Call (Own_exchange Root 0 t)) ⊎ ((answer ≡ answers.Call (Made_number t)) × (slots : ℕ) × (limit : ℕ) × (machine.ask_of m ≡ asks.Call (MakeTable slots limit)))
+    own_step : (own : IsOwnStep m answer) → (call_machine.ask_of m.call ≡ Own_exchange Root 0 t) ⊎ ((own.told ≡ Made_number t) × (slots : ℕ) × (limit : ℕ) × (chunks : ℕ) × (call_machine.ask_of m.call ≡ MakeTable slots limit chunks))
+        → (machine.ask_of m ≡ asks.Call (Own_exchange Root 0 t)) ⊎ ((answer ≡ answers.Call (Made_number t)) × (slots : ℕ) × (limit : ℕ) × (chunks : ℕ) × (machine.ask_of m ≡ asks.Call (MakeTable slots limit chunks)))
     own_step own (inl before) = inl (ap (machine.asks_in m.call) own.phase ∙ ap asks.Call before)
-    own_step own (inr (made, slots, limit, making)) = inr (own.is ∙ ap answers.Call made, slots, limit, ap (machine.asks_in m.call) own.phase ∙ ap asks.Call making)
+    own_step own (inr (made, slots, limit, chunks, making)) = inr (own.is ∙ ap answers.Call made, slots, limit, chunks, ap (machine.asks_in m.call) own.phase ∙ ap asks.Call making)
 
 module _ {K V S A : Type 0} (eq : K → K → Bool) (says : Says K V A) (hash : S → K → ℕ) (refuse : Bool) (s : StoreState K V S) (r : Running K V A) (a : Answer) (s' : StoreState K V S) (r' : Running K V A) where
   -- a number that a copier is told of one that was made is that of a table
@@ -84,16 +84,16 @@ module _ {K V S A : Type 0} (eq : K → K → Bool) (says : Says K V A) (hash : 
       by_pair (Some p) e = absurd cc
   copier_made (copies.SamePair i j) (is, same) n made = let f = sym is ∙ made in absurd cc
   copier_made copies.Count (is, same) n made = let f = sym is ∙ made in absurd cc
-  copier_made (copies.MakeTable slots limit) (told, is, h) n made =
+  copier_made (copies.MakeTable slots limit chunks) (told, is, h) n made =
       let f : told ≡ Made_number n = (let g : answers.Call told ≡ answers.Call (Made_number n) = sym is ∙ made in cc) in
       matched (IsMade s' n) refuse _ _ h (λ _ none. let g = sym none.0 ∙ f in absurd cc) (λ _ makes. by_cases makes f)
     where
-      by_cases : {told : Call_answer} → (Refuses MAX_TABLES (length s.words.tables) told × (s' ≡ s)) ⊎ MakesTable told slots limit s s' → told ≡ Made_number n → IsMade s' n
+      by_cases : {told : Call_answer} → (Refuses MAX_TABLES (length s.words.tables) told × (s' ≡ s)) ⊎ MakesTable told slots limit chunks s s' → told ≡ Made_number n → IsMade s' n
       by_cases (inl (inl refused, same)) f = let g = sym refused ∙ f in absurd cc
       by_cases (inl (inr (refused, full), same)) f = let g = sym refused ∙ f in absurd cc
       by_cases (inr (e, few, grown)) f =
           let number : length s.words.tables + 1 ≡ n = (let g : Made_number (length s.words.tables + 1) ≡ Made_number n = sym e ∙ f in cc) in
-          (new_table (length s.words.tables + 1) slots limit, ap (λ (y : StoreState K V S). table_of y.words.tables n) grown ∙ ap (table_of (s.words.tables ++ new_table (length s.words.tables + 1) slots limit ∷ [])) (sym number) ∙ made-there s.words (length s.words.tables + 1) slots limit)
+          (new_table (length s.words.tables + 1) slots limit chunks, ap (λ (y : StoreState K V S). table_of y.words.tables n) grown ∙ ap (table_of (s.words.tables ++ new_table (length s.words.tables + 1) slots limit chunks ∷ [])) (sym number) ∙ made-there s.words (length s.words.tables + 1) slots limit chunks)
 
   -- so it is where a call was set aside
   pub copy_made : (m : Machine) → (m.phase ≡ Calling → ⊥) → PerformsAsk eq says hash refuse (machine.ask_of m) s r a s' r' → (n : ℕ) → a ≡ answers.Call (Made_number n) → IsMade s' n

@@ -66,8 +66,8 @@ next_stands root room next stands = cond_both (next == 0) (at_last root room) (c
 
 root_stands : (resize : Resize) (root : ℕ) → IsStandingIn (at_root resize root)
 root_stands (resizes.Reserve more) root = cond_both (root == 0) (makes (room_of more)) (stages.Sizing root) IsStandingIn (λ _. makes_stands (room_of more) (room_stands more)) (λ _. tt)
-root_stands resizes.Chunk root = cond_both (root == 0) stages.Done (stages.Looking root None) IsStandingIn (λ _. tt) (λ _. tt)
-root_stands resizes.CopyAll root = cond_both (root == 0) stages.Done (stages.Looking root None) IsStandingIn (λ _. tt) (λ _. tt)
+root_stands resizes.Chunk root = cond_both (root == 0) stages.Done (stages.Looking root 0 None) IsStandingIn (λ _. tt) (λ _. tt)
+root_stands resizes.CopyAll root = cond_both (root == 0) stages.Done (stages.Looking root 0 None) IsStandingIn (λ _. tt) (λ _. tt)
 
 count_stands : (resize : Resize) (root len count : ℕ) → IsStandingIn (at_count resize root len count)
 count_stands (resizes.Reserve more) root len count = judges_stands root len (room_of (count + more)) (room_stands (count + more))
@@ -82,7 +82,7 @@ told_stands resize (stages.Making room) (told.Refused refused) stands = tt
 told_stands resize (stages.Opening table) told.Exchanged stands = tt
 told_stands resize (stages.Opening table) (told.Found word) stands = tt
 told_stands resize (stages.Sizing root) (told.Size slots limit) stands = tt
-told_stands resize (stages.Looking root room) (told.Word next) stands = next_stands root room next stands
+told_stands resize (stages.Looking root len room) (told.Word next) stands = next_stands root room next stands
 told_stands resize stage a stands = stands
 
 counted_stands : (resize : Resize) (stage : State) (count : ℕ) → IsStandingIn stage → IsStandingIn (counted resize stage count)
@@ -120,7 +120,7 @@ after_stands resize mode initial a (stages.Making room) chunked power fit stands
 after_stands resize mode initial a (stages.Opening table) chunked power fit stands = called_stands resize (stages.Opening table) a stands
 after_stands resize mode initial a (stages.Sizing root) chunked power fit stands = called_stands resize (stages.Sizing root) a stands
 after_stands resize mode initial a (stages.Counting root len) chunked power fit stands = called_stands resize (stages.Counting root len) a stands
-after_stands resize mode initial a (stages.Looking root room) chunked power fit stands = called_stands resize (stages.Looking root room) a stands
+after_stands resize mode initial a (stages.Looking root len room) chunked power fit stands = called_stands resize (stages.Looking root len room) a stands
 after_stands resize mode initial a stages.Done chunked power fit stands = called_stands resize stages.Done a stands
 after_stands resize mode initial a (stages.Refused refused) chunked power fit stands = called_stands resize (stages.Refused refused) a stands
 
@@ -135,7 +135,7 @@ fits_in (stages.Making room) stands ask e = subst IsFitCopyAsk (same_item _ ask 
 fits_in (stages.Opening table) stands ask e = subst IsFitCopyAsk (same_item _ ask e) tt
 fits_in (stages.Sizing root) stands ask e = subst IsFitCopyAsk (same_item _ ask e) tt
 fits_in (stages.Counting root len) stands ask e = subst IsFitCopyAsk (same_item _ ask e) tt
-fits_in (stages.Looking root room) stands ask e = subst IsFitCopyAsk (same_item _ ask e) tt
+fits_in (stages.Looking root len room) stands ask e = subst IsFitCopyAsk (same_item _ ask e) tt
 fits_in (stages.Linking link) stands ask e = subst IsFitCopyAsk (same_item _ ask e) (link_fits link stands)
 fits_in (stages.Copying from copying) stands ask e = subst IsFitCopyAsk (same_item _ ask e) (copying_fits copying stands)
 fits_in stages.Done stands ask e = let f : None ≡ Some ask = e in absurd cc

@@ -36,7 +36,7 @@ module _ (Made : ℕ → Type 0) where
   IsMadeStage _ = Unit {0}
 
   -- in other words
-  pub stage_is : (stage : State) → ((t : ℕ) → stage ≡ stages.Opening t → Made t) → ((behind t : ℕ) → HasLink stage (links.Linking behind t) → Made t) → IsMadeStage stage
+  pub stage_is : (stage : State) → ((t : ℕ) → stage ≡ stages.Opening t → Made t) → ((behind t chunks : ℕ) → HasLink stage (links.Linking behind t chunks) → Made t) → IsMadeStage stage
   stage_is (stages.Opening table) opens link = opens table refl
   stage_is (stages.Linking made) opens link = made_is Made (Some made) (λ behind t e. link behind t (let f : made ≡ links.Linking behind t = cc in f))
   stage_is (stages.Copying from copying) opens link = made_is Made (link_in_copying copying) link
@@ -44,14 +44,14 @@ module _ (Made : ℕ → Type 0) where
   stage_is (stages.Making room) opens link = tt
   stage_is (stages.Sizing root) opens link = tt
   stage_is (stages.Counting root len) opens link = tt
-  stage_is (stages.Looking root room) opens link = tt
+  stage_is (stages.Looking root len room) opens link = tt
   stage_is stages.Done opens link = tt
   stage_is (stages.Refused refused) opens link = tt
 
   pub stage_opens : (stage : State) → IsMadeStage stage → (t : ℕ) → stage ≡ stages.Opening t → Made t
   stage_opens stage h t e = subst IsMadeStage e h
 
-  pub stage_links : (stage : State) → IsMadeStage stage → (behind t : ℕ) → HasLink stage (links.Linking behind t) → Made t
+  pub stage_links : (stage : State) → IsMadeStage stage → (behind t chunks : ℕ) → HasLink stage (links.Linking behind t chunks) → Made t
   stage_links (stages.Linking made) h behind t e = subst (IsMadeLink Made) e h
   stage_links (stages.Copying from copying) h behind t e = is_made Made (link_in_copying copying) h behind t e
   stage_links (stages.Opening table) h behind t e = absurd e
@@ -59,7 +59,7 @@ module _ (Made : ℕ → Type 0) where
   stage_links (stages.Making room) h behind t e = absurd e
   stage_links (stages.Sizing root) h behind t e = absurd e
   stage_links (stages.Counting root len) h behind t e = absurd e
-  stage_links (stages.Looking root room) h behind t e = absurd e
+  stage_links (stages.Looking root len room) h behind t e = absurd e
   stage_links stages.Done h behind t e = absurd e
   stage_links (stages.Refused refused) h behind t e = absurd e
 
@@ -81,8 +81,8 @@ module _ (Made : ℕ → Type 0) where
 
   root_made : (resize : Resize) (root : ℕ) → IsMadeStage (at_root resize root)
   root_made (resizes.Reserve more) root = cond_both (root == 0) (makes (room_of more)) (stages.Sizing root) IsMadeStage (λ _. makes_made (room_of more)) (λ _. tt)
-  root_made resizes.Chunk root = cond_both (root == 0) stages.Done (stages.Looking root None) IsMadeStage (λ _. tt) (λ _. tt)
-  root_made resizes.CopyAll root = cond_both (root == 0) stages.Done (stages.Looking root None) IsMadeStage (λ _. tt) (λ _. tt)
+  root_made resizes.Chunk root = cond_both (root == 0) stages.Done (stages.Looking root 0 None) IsMadeStage (λ _. tt) (λ _. tt)
+  root_made resizes.CopyAll root = cond_both (root == 0) stages.Done (stages.Looking root 0 None) IsMadeStage (λ _. tt) (λ _. tt)
 
   count_made : (resize : Resize) (root len count : ℕ) → IsMadeStage (at_count resize root len count)
   count_made (resizes.Reserve more) root len count = judges_made root len (room_of (count + more))
@@ -96,7 +96,7 @@ module _ (Made : ℕ → Type 0) where
   told_made resize (stages.Opening table) told.Exchanged new h = tt
   told_made resize (stages.Opening table) (told.Found word) new h = tt
   told_made resize (stages.Sizing root) (told.Size slots limit) new h = tt
-  told_made resize (stages.Looking root room) (told.Word next) new h = next_made root room next
+  told_made resize (stages.Looking root len room) (told.Word next) new h = next_made root room next
   told_made resize stage a new h = h
 
   counted_made : (resize : Resize) (stage : State) (count : ℕ) → IsMadeStage stage → IsMadeStage (counted resize stage count)
@@ -136,13 +136,13 @@ module _ (Made : ℕ → Type 0) where
   new_of_link (Some link) n h = h
 
   pub stage_made : (resize : Resize) (mode : ResizeMode) (initial : ℕ) (a : Answer) (stage : State) → ((n : ℕ) → a ≡ answers.Call (told.Made n) → Made n) → IsMadeStage stage → IsMadeStage (after_in resize mode initial a stage)
-  stage_made resize mode initial a (stages.Linking link) new h = linked_made (follows link) (machine.link_after link initial a) (link_after (IsMadeLink Made) (Told Made) (New Made) (stable Made) link initial a (λ slots limit e. told_of_link (Some link) slots) (λ n e. new_of_link (Some link) n (new n e)) h)
-  stage_made resize mode initial a (stages.Copying from copying) new h = copied_made resize from (machine.copying_after copying mode initial a) (copying_after (IsMadeLink Made) (Told Made) (New Made) (stable Made) copying mode initial a (λ slots limit e. told_of_link (link_in_copying copying) slots) (λ n e. new_of_link (link_in_copying copying) n (new n e)) h)
+  stage_made resize mode initial a (stages.Linking link) new h = linked_made (follows link) (machine.link_after link initial a) (link_after (IsMadeLink Made) (Told Made) (New Made) (stable Made) link initial a (λ slots limit chunks e. told_of_link (Some link) slots) (λ n e. new_of_link (Some link) n (new n e)) h)
+  stage_made resize mode initial a (stages.Copying from copying) new h = copied_made resize from (machine.copying_after copying mode initial a) (copying_after (IsMadeLink Made) (Told Made) (New Made) (stable Made) copying mode initial a (λ slots limit chunks e. told_of_link (link_in_copying copying) slots) (λ n e. new_of_link (link_in_copying copying) n (new n e)) h)
   stage_made resize mode initial a stages.AtRoot new h = called_made resize stages.AtRoot a new h
   stage_made resize mode initial a (stages.Making room) new h = called_made resize (stages.Making room) a new h
   stage_made resize mode initial a (stages.Opening table) new h = called_made resize (stages.Opening table) a new h
   stage_made resize mode initial a (stages.Sizing root) new h = called_made resize (stages.Sizing root) a new h
   stage_made resize mode initial a (stages.Counting root len) new h = called_made resize (stages.Counting root len) a new h
-  stage_made resize mode initial a (stages.Looking root room) new h = called_made resize (stages.Looking root room) a new h
+  stage_made resize mode initial a (stages.Looking root len room) new h = called_made resize (stages.Looking root len room) a new h
   stage_made resize mode initial a stages.Done new h = called_made resize stages.Done a new h
   stage_made resize mode initial a (stages.Refused refused) new h = called_made resize (stages.Refused refused) a new h

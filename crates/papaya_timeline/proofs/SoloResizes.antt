@@ -73,7 +73,7 @@ counts eq hash refuse (copies.SizeOf n) s a s' (is, same) count e = let f = sym 
 counts eq hash refuse (copies.HashOf n) s a s' (is, fits, same) count e = absurd (no_hash (hash s.hasher) count (pair_of s n) (sym is ∙ e))
 counts eq hash refuse (copies.SamePair m n) s a s' (is, same) count e = let f = sym is ∙ e in absurd cc
 counts eq hash refuse copies.Count s a s' (is, same) count e = let f : answers.Count count ≡ answers.Count (count_of s.count.sum) = sym e ∙ is in (cc, same)
-counts eq hash refuse (copies.MakeTable slots limit) s a s' (told, is, h) count e = let f = sym is ∙ e in absurd cc
+counts eq hash refuse (copies.MakeTable slots limit chunks) s a s' (told, is, h) count e = let f = sym is ∙ e in absurd cc
 
 module _ {K V S A : Type 0} (eq : K → K → Bool) (hash : S → K → ℕ) (refuse : Bool) (s : CoreState K V S A) (law : IsLawfulKeys eq (hash s.store.hasher)) (s' : CoreState K V S A) (event : Event) (reply : Option Reply) (x : Resizes eq hash refuse s 0 s' event reply) (core : IsCore s.store s.callers s.mode) (es : List (Exchange (Stored K V))) (tales : ℕ → Tale K V) (kept : IsKept eq (hash s.store.hasher) s.mode s.store s.callers es tales) (read : IsResizerRead (word_at s.store.words) x.before) where
   -- the setting, the coding and the words
@@ -176,14 +176,14 @@ module _ {K V S A : Type 0} (eq : K → K → Bool) (hash : S → K → ℕ) (re
       let none : s.store.words.root ≡ 0 = eqb-true s.store.words.root 0 (subst (λ o. (word_at s.store.words Root == o) ≡ true) (sym from) (subst (λ a. (word_at s.store.words a == old) ≡ true) (sym at_root) hit)) in
       let some : 0 < table = subst (RestsStage g c now (tales 0).hands) is resizing_now.rests.stage in
       let low : table ≤ length s.store.words.tables = made_low eq (hash s.store.hasher) law s.mode s.store s.callers core es tales kept table (resizing_now.opens table is) in
-      subst (λ a. IsSpent a new) at_root (subst (IsSpent Root) to (write_spends s.store.words Root table tt (omega (arith, none, some, low))))
+      subst (λ a. IsSpent a new) at_root (subst (IsSpent Root) to (write_spends s.store.words Root table tt tt (omega (arith, none, some, low))))
   stage_spends (stages.Linking link) is at old new asked hit = copy_spends (stages.Linking link) is (λ at new e h. h) at old new asked hit
   stage_spends (stages.Copying from copying) is at old new asked hit = copy_spends (stages.Copying from copying) is (λ at new e h. h) at old new asked hit
   stage_spends stages.AtRoot is at old new asked hit = absurd cc
   stage_spends (stages.Making room) is at old new asked hit = absurd cc
   stage_spends (stages.Sizing root) is at old new asked hit = absurd cc
   stage_spends (stages.Counting root len) is at old new asked hit = absurd cc
-  stage_spends (stages.Looking root room) is at old new asked hit = absurd cc
+  stage_spends (stages.Looking root len room) is at old new asked hit = absurd cc
   stage_spends stages.Done is at old new asked hit = absurd cc
   stage_spends (stages.Refused refused) is at old new asked hit = absurd cc
 

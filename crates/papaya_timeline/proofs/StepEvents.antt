@@ -66,7 +66,7 @@ linking_kind : (link : Link) → IsCopyKind (link_kind link)
 linking_kind (links.Sizing after unfit) = tt
 linking_kind (links.Counting after unfit len) = tt
 linking_kind (links.Making after len limit) = tt
-linking_kind (links.Linking after table) = tt
+linking_kind (links.Linking after table chunks) = tt
 
 carrying_kind : (carry : Carry) → IsCopyKind (carry_kind carry)
 carrying_kind (carries.Placing hash at) = tt
@@ -138,7 +138,7 @@ copied_cases P other kind exchanged (SizeOf t) (answers.Call told) = other
 copied_cases P other kind exchanged (HashOf n) (answers.Call told) = other
 copied_cases P other kind exchanged (SamePair m n) (answers.Call told) = other
 copied_cases P other kind exchanged Count (answers.Call told) = other
-copied_cases P other kind exchanged (MakeTable slots limit) (answers.Call told) = other
+copied_cases P other kind exchanged (MakeTable slots limit chunks) (answers.Call told) = other
 copied_cases P other kind exchanged ask (answers.Hash hash) = other
 copied_cases P other kind exchanged ask (answers.Count count) = other
 
@@ -252,7 +252,7 @@ module _ {K P : Type 0} (g : Setting K P) (c : Coding K P) (s : State P) (kind :
   copy_told (HashOf n) answer es hands' h = inl h.1
   copy_told (SamePair m n) answer es hands' h = inl h.1.0
   copy_told Count answer es hands' h = inl h.1.0
-  copy_told (MakeTable slots limit) answer es hands' h = inl h.1.0
+  copy_told (MakeTable slots limit chunks) answer es hands' h = inl h.1.0
 
 -- so at most one exchange
 pub one_exchange : {K P : Type 0} (g : Setting K P) (c : Coding K P) (k : K) (s : State P) (kind : Option StepKind) (follows : ℕ) (hands : Hands P) (ask : Ask) (answer : Answer) (es : List (Exchange P)) (hands' : Hands P) → IsTold g c k s kind follows hands ask answer es hands' → (es ≡ []) ⊎ ((e : Exchange P) × (es ≡ e ∷ []))

@@ -98,7 +98,7 @@ module _ {K V S A : Type 0} (eq : K → K → Bool) (hash : K → ℕ) (law : Is
       (subst (λ w. AreThere g c w tale.hands.copy.call.last tale.hands.copy.kept (copies.Exchange at old new)) same (state_named g c hashed first m keeps_first tale.since may_since v.visitor.visit tale.hands state r (Copy (copies.Exchange at old new)) e))
 
   bury_spends : (spot : Spot) (at : At) (new : ℕ) (e : Exchange (Stored K V)) → at ≡ words_at.Slot spot.table spot.slot → (p : Stored K V) → now.slot spot.table spot.slot ≡ Live p → e ≡ Bury spot.table spot.slot p → Allows g now e → IsWritten g c now at new (state_after now e) → IsPlaced s.store.words.tables at → IsSpent at new
-  bury_spends spot at new e is p live buries may written here = write_spends s.store.words at new here (less spot at new e is p live buries may written)
+  bury_spends spot at new e is p live buries may written here = write_spends s.store.words at new here tt (less spot at new e is p live buries may written)
     where
       less : (spot : Spot) (at : At) (new : ℕ) (e : Exchange (Stored K V)) → at ≡ words_at.Slot spot.table spot.slot → (p : Stored K V) → now.slot spot.table spot.slot ≡ Live p → e ≡ Bury spot.table spot.slot p → Allows g now e → IsWritten g c now at new (state_after now e) → changes_at (length s.store.words.tables) at new < changes_at (length s.store.words.tables) at (word_at s.store.words at)
       less spot at new e is p live buries may written =
@@ -116,7 +116,7 @@ module _ {K V S A : Type 0} (eq : K → K → Bool) (hash : K → ℕ) (law : Is
       by_state (Copying (stages.Copying from copying)) r asks e asked may written here =
           copy_spent eq hash law s.mode s.store s.callers core es tales kept at new (resizers.kind_in (stages.Copying from copying)) tale.hands.copy.kept e (subst (λ w. IsCopyAsked c (resizers.kind_in (stages.Copying from copying)) at new w tale.hands.copy.kept e) same asked) may written here
       by_state (Copying stages.AtRoot) r asks e asked may written here = absurd cc
-      by_state (Copying (stages.Looking root room)) r asks e asked may written here = absurd cc
+      by_state (Copying (stages.Looking root len room)) r asks e asked may written here = absurd cc
       by_state (Copying (stages.Making room)) r asks e asked may written here = absurd r.1
       by_state (Copying (stages.Opening table)) r asks e asked may written here = absurd r.1
       by_state (Copying (stages.Sizing root)) r asks e asked may written here = absurd r.1

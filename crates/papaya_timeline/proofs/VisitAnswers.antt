@@ -103,7 +103,7 @@ module _ {K V S A : Type 0} (eq : K → K → Bool) (hash : K → ℕ) (law : Is
     (last : (p : Stored K V) → hands.copy.call.last ≡ Some p → IsLogged s.store p)
     (carried : (p : Stored K V) → hands.copy.kept ≡ Some p → IsLogged s.store p)
     (given_is : v.given ≡ numbers_of hands.given)
-    (linked : (behind t : ℕ) → IsVisitLink v.visitor.state (links.Linking behind t) → IsMade s.store t) where
+    (linked : (behind t chunks : ℕ) → IsVisitLink v.visitor.state (links.Linking behind t chunks) → IsMade s.store t) where
   -- the setting, the coding and the words
   abbrev g : Setting K (Stored K V)
   g = setting_of eq (low hash) s.mode s.store.words.tables
@@ -167,7 +167,7 @@ module _ {K V S A : Type 0} (eq : K → K → Bool) (hash : K → ℕ) (law : Is
     last = last;
     carried = carried;
     opens = λ t e. absurd (subst (IsOfAll g c first m since) e r.1);
-    links = λ behind t e. linked behind t (subst (λ y. IsVisitLink y (links.Linking behind t)) (sym is) e);
+    links = λ behind t e. linked behind t (subst (λ y. IsVisitLink y (links.Linking behind t chunks)) (sym is) e);
   }
 
   copy_left : (stage : Stage) → v.visitor.state ≡ Copying stage → Rests (Copying stage) → (ask : CopyAsk) → resizers.asks_in stage ≡ Some ask → (a : Answer) (store' : StoreState K V S) → PerformsCopy eq hashes refuse ask s.store a store' → (v' : Visiting A) → v' ≡ v → IsVisitLeft (Copying stage) a store' v'
@@ -198,12 +198,12 @@ module _ {K V S A : Type 0} (eq : K → K → Bool) (hash : K → ℕ) (law : Is
   loads : (at : At) → Named (Load at) → (a : Answer) (store' : StoreState K V S) → PerformsCopy eq hashes refuse (Load at) s.store a store' → Hears (Load at) a store'
   loads at named a store' performs =
       copied_left g c s.store (begun ++ since) hands.copy coded there eq hashes last carried suits None 0 refuse (Load at)
-      (record { names = named; may = λ at old new e stands. absurd cc; low = λ slots limit e. absurd cc; links = λ behind old t e. absurd cc; reads = λ t x e. absurd cc; writes = λ t x n e. absurd cc }) a store' performs
+      (record { names = named; may = λ at old new e stands. absurd cc; low = λ slots limit chunks e. absurd cc; links = λ behind old t e. absurd cc; reads = λ t x e. absurd cc; writes = λ t x n e. absurd cc }) a store' performs
 
   sizes : (t : ℕ) → Named (SizeOf t) → (a : Answer) (store' : StoreState K V S) → PerformsCopy eq hashes refuse (SizeOf t) s.store a store' → Hears (SizeOf t) a store'
   sizes t named a store' performs =
       copied_left g c s.store (begun ++ since) hands.copy coded there eq hashes last carried suits None 0 refuse (SizeOf t)
-      (record { names = named; may = λ at old new e stands. absurd cc; low = λ slots limit e. absurd cc; links = λ behind old t e. absurd cc; reads = λ t x e. absurd cc; writes = λ t x n e. absurd cc }) a store' performs
+      (record { names = named; may = λ at old new e stands. absurd cc; low = λ slots limit chunks e. absurd cc; links = λ behind old t e. absurd cc; reads = λ t x e. absurd cc; writes = λ t x n e. absurd cc }) a store' performs
 
   -- so it is told of the word, or the size
   word_left : (state : State) (before : List (Exchange (Stored K V)) → List (Exchange (Stored K V))) → (ask : CopyAsk) → asks_in state ≡ Some (Copy ask) → (a : Answer) (store' : StoreState K V S) → (left : Hears ask a store')

@@ -25,7 +25,7 @@ mode_of (Incremental chunk) = refl
 mode_of Blocking = refl
 
 -- a visit that begins is about to link no table
-begun_none : (mode : ResizeMode) (behind t : ℕ) → IsVisitLink (begun_in mode) (links.Linking behind t) → ⊥
+begun_none : (mode : ResizeMode) (behind t chunks : ℕ) → IsVisitLink (begun_in mode) (links.Linking behind t chunks) → ⊥
 begun_none (Incremental chunk) behind t h = h
 begun_none Blocking behind t h = h
 
@@ -57,5 +57,5 @@ module _ {K V S A : Type 0} (eq : K → K → Bool) (hash : K → ℕ) (s : Core
     last = λ p e. absurd cc;
     carried = λ p e. absurd cc;
     shown = λ p h. absurd h;
-    links = λ behind t h. absurd (begun_none s.mode behind t (subst (λ (w : Visitor). IsVisitLink w.state (links.Linking behind t)) is h));
+    links = λ behind t h. absurd (begun_none s.mode behind t (subst (λ (w : Visitor). IsVisitLink w.state (links.Linking behind t chunks)) is h));
   }

@@ -80,22 +80,22 @@ copied_link from (stages.Making room) link h = h
 copied_link from (stages.Opening table) link h = h
 copied_link from (stages.Sizing root) link h = h
 copied_link from (stages.Counting root len) link h = h
-copied_link from (stages.Looking root room) link h = h
+copied_link from (stages.Looking root len room) link h = h
 copied_link from (stages.Linking other) link h = h
 copied_link from (stages.Copying root copying) link h = h
 
 module _ (Made : ℕ → Type 0) (visit : Visit) (mode : ResizeMode) (initial : ℕ) (answer : Answer) (new : (n : ℕ) → answer ≡ answers.Call (Made_number n) → Made n) where
   -- the table that it is about to link was made
   abbrev pub LinksMade : State → Type 0
-  LinksMade state = (behind t : ℕ) → IsVisitLink state (links.Linking behind t) → Made t
+  LinksMade state = (behind t chunks : ℕ) → IsVisitLink state (links.Linking behind t chunks) → Made t
 
   no_links : (state : State) → LinksNone state → LinksMade state
-  no_links state none behind t h = absurd (none (links.Linking behind t) h)
+  no_links state none behind t h = absurd (none (links.Linking behind t chunks) h)
 
   copied_made : (stage : Stage) → ((t : ℕ) → stage ≡ stages.Opening t → Made t) → LinksMade (Copying stage) → LinksMade (after_in visit mode initial answer (Copying stage))
   copied_made stage opens links_are behind t h =
       let to : Stage = resizers.after_in CopyAll mode initial answer stage in
-      stage_links Made to (stage_made Made CopyAll mode initial answer stage new (stage_is Made stage opens links_are)) behind t (copied_link stage to (links.Linking behind t) h)
+      stage_links Made to (stage_made Made CopyAll mode initial answer stage new (stage_is Made stage opens links_are)) behind t (copied_link stage to (links.Linking behind t chunks) h)
 
   pub links_made : (state : State) → ((stage : Stage) → state ≡ Copying stage → (t : ℕ) → stage ≡ stages.Opening t → Made t) → LinksMade state → LinksMade (after_in visit mode initial answer state)
   links_made (Copying stage) opens links_are = copied_made stage (opens stage refl) links_are

@@ -88,7 +88,7 @@ copied_stands from (stages.Making room) stands = stands
 copied_stands from (stages.Opening table) stands = stands
 copied_stands from (stages.Sizing root) stands = stands
 copied_stands from (stages.Counting root len) stands = stands
-copied_stands from (stages.Looking root room) stands = stands
+copied_stands from (stages.Looking root len room) stands = stands
 copied_stands from (stages.Linking link) stands = stands
 copied_stands from (stages.Copying root copying) stands = stands
 
