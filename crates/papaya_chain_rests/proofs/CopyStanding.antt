@@ -151,7 +151,7 @@ carry_size carry slots limit size stands = stands
 carry_word : (carry : Carry) (mode : ResizeMode) (word : ℕ) → IsStandingCarry carry → IsStandingCarried (carries.at_word carry mode word)
 carry_word (carry_states.Looking hash at) mode word stands = carry_hints hash at mode word stands
 carry_word (carry_states.Reading hash at) mode word stands = carry_looks (kind_of word) hash at mode word stands
-carry_word (carry_states.Passing hash table) mode word stands = cond_both (word == 0) (carry_states.Linking hash (link_states.Sizing table true)) (carry_states.Sizing hash word) IsStandingCarry (λ _. tt) (λ _. tt)
+carry_word (carry_states.Passing hash table) mode word stands = cond_both (word == 0) (carry_states.Linking hash (link_states.Sizing table table true)) (carry_states.Sizing hash word) IsStandingCarry (λ _. tt) (λ _. tt)
 carry_word carry mode word stands = stands
 
 carry_yes : (carry : Carry) (mode : ResizeMode) (same : Bool) → IsStandingCarry carry → IsStandingCarried (carries.at_yes carry mode same)

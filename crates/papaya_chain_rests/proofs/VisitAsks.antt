@@ -47,7 +47,7 @@ slot_written g c s t x w = record { here = ap (code g c) (put_there s t x w t x 
     others Root different = refl
     others (Next u) different = refl
     others (Aborted u) different = refl
-    others (Done_word u) different = refl
+    others (Done_word u chunk) different = refl
     others (Slot u y) different = ap (code g c) (put_elsewhere s t x w u y (λ e. different (ap (λ a. Slot a y) (sym e.0) ∙ ap (Slot t) (sym e.1))))
 
 module _ {K P : Type 0} (g : Setting K P) (c : Coding K P) (hashed : IsHashed g c) (s : Words P) (m : K → Option P) (keeps : IsKeeping g s m) (since : List (Exchange P)) (may : AllAllowed g s since) where

@@ -69,7 +69,7 @@ module _ {K P : Type 0} (g : Setting K P) (law : IsLawful g) where
   one_leaves s m keeps (Close t x) legal k = inr (inr refl)
   one_leaves s m keeps (Place n x p) legal k = inr (inr refl)
   one_leaves s m keeps (Finish t x p) legal k = inr (inr refl)
-  one_leaves s m keeps (Advance n a b) legal k = inr (inr refl)
+  one_leaves s m keeps (Advance n chunk) legal k = inr (inr refl)
   one_leaves s m keeps (Promote t n) legal k = inr (inr refl)
   one_leaves s m keeps (Abort n) legal k = inr (inr refl)
 

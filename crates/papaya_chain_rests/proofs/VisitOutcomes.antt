@@ -115,7 +115,7 @@ module _ {K P : Type 0} (g : Setting K P) (c : Coding K P) where
   copy_leaves (Some steps.Close) (Slot t x) new s kept e is = subst (LeavesMap g) (sym is) (λ m k. refl)
   copy_leaves (Some steps.Place) (Slot t x) new s kept e (p, carried, number, is) = subst (LeavesMap g) (sym is) (λ m k. refl)
   copy_leaves (Some steps.Finish) (Slot t x) new s kept e (p, there, is) = subst (LeavesMap g) (sym is) (λ m k. refl)
-  copy_leaves (Some steps.Advance) (Done_word n) new s kept e is = subst (LeavesMap g) (sym is) (λ m k. refl)
+  copy_leaves (Some steps.Advance) (Done_word n chunk) new s kept e is = subst (LeavesMap g) (sym is) (λ m k. refl)
   copy_leaves (Some steps.Promote) Root new s kept e is = subst (LeavesMap g) (sym is) (λ m k. refl)
   copy_leaves (Some steps.Abort) (Aborted n) new s kept e is = subst (LeavesMap g) (sym is) (λ m k. refl)
   copy_leaves kind at new s kept e is = absurd is

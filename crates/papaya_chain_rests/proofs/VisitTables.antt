@@ -40,7 +40,7 @@ module _ {K P : Type 0} (g g' : Setting K P) (On : ℕ → Type 0) (agrees : Agr
   takes_carries (Close t x) k = refl
   takes_carries (Place n x p) k = refl
   takes_carries (Finish t x p) k = refl
-  takes_carries (Advance n a b) k = refl
+  takes_carries (Advance n chunk) k = refl
   takes_carries (Promote t n) k = refl
   takes_carries (Abort n) k = refl
 

@@ -41,7 +41,7 @@ module _ {K P : Type 0} (g : Setting K P) (law : IsLawful g) where
   takes_same k l h (Close t x) out = absurd cc
   takes_same k l h (Place n x p) out = absurd cc
   takes_same k l h (Finish t x p) out = absurd cc
-  takes_same k l h (Advance n a b) out = absurd cc
+  takes_same k l h (Advance n chunk) out = absurd cc
   takes_same k l h (Promote t n) out = absurd cc
   takes_same k l h (Abort n) out = absurd cc
 
@@ -52,7 +52,7 @@ module _ {K P : Type 0} (g : Setting K P) (law : IsLawful g) where
   one : (s : State P) (t x : ℕ) (p : P) (e : Exchange P) → Allows g s e → s.slot t x ≡ Live p → ((after s e).slot t x ≡ Live p) ⊎ (takes_out g e (g.key p) ≡ true) ⊎ ((after s e).slot t x ≡ Marked p)
   one s t x p (Open u) may live = inl live
   one s t x p (Link u n) may live = inl live
-  one s t x p (Advance n a b) may live = inl live
+  one s t x p (Advance n chunk) may live = inl live
   one s t x p (Promote u n) may live = inl live
   one s t x p (Abort n) may live = inl live
   one s t x p (Claim u y q) may live = ⊎_elim (λ h. inl (h.0 ∙ live)) (λ h. absurd (let a = h.0 in let b = h.1 in let m = may.empty in cc (a, b, m, live))) (slot_cases s u y (Live q) t x)

@@ -13,7 +13,7 @@ takes_out g (Mark t x p) k = false
 takes_out g (Close t x) k = false
 takes_out g (Place n x p) k = false
 takes_out g (Finish t x p) k = false
-takes_out g (Advance n a b) k = false
+takes_out g (Advance n chunk) k = false
 takes_out g (Promote t n) k = false
 takes_out g (Abort n) k = false
 

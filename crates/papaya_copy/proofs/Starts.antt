@@ -1,5 +1,5 @@
 -- The chunk from which on a table is copied.
-use Rattle.std.proofs.Common.{◌≡◌, ℕ, ◌*◌, ◌%◌, ◌<◌, ◌≤◌, ◌^◌, arith}
+use Rattle.std.proofs.Common.{ℕ, ◌*◌, ◌%◌, ◌<◌, ◌≤◌, ◌^◌, arith}
 use Rattle.std.proofs.Math.Nat.{le-mul_of_pos_right, mod-lt}
 use Rattle.std.proofs.Math.Pow.{pow_mono}
 use Rattle.std.specs.Int.{IsPowerOfTwo}

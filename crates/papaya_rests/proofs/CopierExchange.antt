@@ -174,7 +174,7 @@ module _ {K P : Type 0} (g : Setting K P) (c : Coding K P) (hashed : IsHashed g 
       link_may (links.Measuring behind copied unfit len) r words at old new e = absurd cc
       link_may (links.Counting behind unfit len copied) r words at old new e = absurd cc
       link_may (links.Making behind len limit chunks) r words at old new e = absurd cc
-      link_may (links.Linking behind table chunks) r at old new e = same_ask (Some kinds.Link) (Next behind) at 0 old table new e (λ none. (Link_to behind table, refl, links_on g c s m keeps behind table chunks r words none, next_written g c s behind table))
+      link_may (links.Linking behind table chunks) r words at old new e = same_ask (Some kinds.Link) (Next behind) at 0 old table new e (λ none. (Link_to behind table, refl, links_on g c s m keeps behind table chunks r words none, next_written g c s behind table))
 
       -- a pair is put into a table, or the table is given up
       carry_may : (slot : Slot) (word : ℕ) (p : P) → word ≡ code g c (Marked p) → (carry : Carry) → RestsCarry g c s last kept slot p carry → HasWords g (link_in_carry carry) → (at : At) (old new : ℕ) → carry_ask carry word ≡ Ask_exchange at old new → MayDo (carry_kind carry) at old new

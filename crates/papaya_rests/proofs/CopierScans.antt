@@ -116,16 +116,16 @@ module _ {K P : Type 0} (g : Setting K P) (c : Coding K P) (s : State P) where
         len = r.len;
         some = r.some;
         cut = r.cut;
-        begun = refl;
+        begun = let none : 0 ≡ 0 * scan.slots = omega arith in none;
         within = let w = r.within in omega (arith, w);
         done = λ x less passed. ⊎_elim
-            (λ (low : scan.start ≤ g.chunk_of x). done_below x less (λ lt. passed_straight scan (g.chunk_of x) straight low lt) (last_chunk scan r (last e) x less))
+            (λ (low : scan.start ≤ g.chunk_of x). done_below x less (λ lt. passed_straight scan (g.chunk_of x) straight low lt) (last_chunk scan r (none_after e) x less))
             (λ (none : g.chunk_of x < 0). absurd (omega (arith, none)))
             passed;
       }
         where
-          last : is_further scan ≡ false → nat_lt scan.slots (scan.len - scan.begun) ≡ false
-          last e = ⊎_elim (λ f. f) (λ h. absurd (let a = h.0 in cc (a, straight))) (not_further (nat_lt scan.slots (scan.len - scan.begun)) scan.wrapped (nat_le scan.start (scan.at + 1)) e)
+          none_after : is_further scan ≡ false → nat_lt scan.slots (scan.len - scan.begun) ≡ false
+          none_after e = ⊎_elim (λ f. f) (λ h. absurd (let a = h.0 in cc (a, straight))) (not_further (nat_lt scan.slots (scan.len - scan.begun)) scan.wrapped (nat_le scan.start (scan.at + 1)) e)
 
       -- no chunk is left
       rests_over : is_further scan ≡ false → (not scan.wrapped && nat_lt 0 scan.start) ≡ false → IsAllDone g c s scan.from scan.to

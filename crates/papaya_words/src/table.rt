@@ -23,6 +23,7 @@ pub struct Table {
     next: u64,
     aborted: u64,
     done: Vec<u64>,
+    begin: usize,
 }
 
 impl Model for Table {
@@ -74,6 +75,7 @@ impl Table {
                 next: 0,
                 aborted: 0,
                 done,
+                begin: 0,
             }),
             _ => Err(Refused::Memory),
         }
@@ -133,6 +135,12 @@ impl Table {
         self.done[chunk]
     }
 
+    /// A chunk after the one whose word was written last: where a copy by one caller finds the next
+    /// word at 0.
+    pub fn begin(&self) -> usize {
+        self.begin
+    }
+
     /// Writes the number of the next table.
     pub fn set_next(&mut self, next: u64)
         ensures { self.new ≡ record self.old { next = next } }
@@ -153,6 +161,7 @@ impl Table {
         ensures { self.new ≡ record self.old { done = slice_set self.old.done chunk done } }
     {
         self.done[chunk] = done;
+        self.begin = chunk + 1;
     }
 
     /// The word of a slot.
