@@ -6,7 +6,7 @@ use Rattle.std.specs.Int.{IsPowerOfTwo}
 use Rattle.papaya_words.specs.Chunks.{chunk_count, chunk_len}
 use Rattle.papaya_words.specs.Probe.{limit_of, log_upto, triangular}
 use Rattle.papaya_words.specs.Table.{length_after, limit_after}
-use Rattle.papaya_words.specs.Word.{kind_of, top_byte, may_hold}
+use Rattle.papaya_words.specs.Word.{kind_of, may_hold}
 use Rattle.papaya_words.specs.declared.probe.Refused.{Refused}
 use Rattle.papaya_words.specs.declared.probe.Refused.TheVariants.{Capacity}
 use Rattle.papaya_words.specs.declared.probe.ResizeMode.{ResizeMode}

@@ -55,58 +55,58 @@ module _ {K P : Type 0} (g : Setting K P) (c : Coding K P) (hashed : IsHashed g 
       → RestsCopied g c s hands''.call.last hands''.kept (aim_of copying) (copying_after copying mode initial number answer') → HasCopied copying answer es hands'
   quiet copying answer answer' es hands' hands'' a e h r = answered copying answer answer' es [] hands' hands'' a e h (tt, r)
 
-  module _ (copying : Copying) (r : RestsCopying g c s last kept copying) (words : HasWords g (link_in_copying copying)) where
+  module _ (copying : Copying) (r : RestsCopying g c s last kept copying) where
     -- what it names is there
     there : (ask : CopyAsk) → copying_ask copying ≡ ask → AreThere g c s last kept ask
     there ask is = subst (AreThere g c s last kept) is (copying_there g c hashed s m keeps last kept copying r)
 
     -- a word was exchanged
-    put_there : (at : At) (old new : ℕ) → copying_ask copying ≡ Ask_exchange at old new → word_of g c s at ≡ old → (e : Exchange P) → IsCopyAsked c (copying_kind copying) at new s kept e
+    put_there : HasWords g (link_in_copying copying) → (at : At) (old new : ℕ) → copying_ask copying ≡ Ask_exchange at old new → word_of g c s at ≡ old → (e : Exchange P) → IsCopyAsked c (copying_kind copying) at new s kept e
         → HasCopied copying (answers.Call Exchanged) (e ∷ []) (told_of (last_after e last) hands)
-    put_there at old new is stands e asked =
+    put_there words at old new is stands e asked =
         let allows : Allows g s e = asked_allowed g c hashed s m keeps last kept copying r words at old new is stands e asked in
         ((allows, tt), copying_exchanged g c hashed s m keeps mode moded last kept e allows copying r at old new is stands asked)
 
     -- after each answer
-    learns_of : (answer : Answer) (es : List (Exchange P)) (hands' : Hands P) (ask : CopyAsk) → copying_ask copying ≡ ask → IsCopyTold g c s (copying_kind copying) (copying_follows copying) hands ask answer es hands' → HasCopied copying answer es hands'
-    learns_of answer es hands' (Load at) is h =
+    learns_of : (answer : Answer) → (answer ≡ answers.Call Exchanged → HasWords g (link_in_copying copying)) → (es : List (Exchange P)) (hands' : Hands P) (ask : CopyAsk) → copying_ask copying ≡ ask → IsCopyTold g c s (copying_kind copying) (copying_follows copying) hands ask answer es hands' → HasCopied copying answer es hands'
+    learns_of answer words es hands' (Load at) is h =
         quiet copying answer (answers.Call (Word_read (word_of g c s at))) es hands' (told_of (told_last s at last) hands) h.0 h.1 h.2
         (copying_loaded g c hashed s m keeps mode moded last kept copying r at is)
-    learns_of answer es hands' (Ask_exchange at old new) is h =
+    learns_of answer words es hands' (Ask_exchange at old new) is h =
         by_test (word_of g c s at == old)
         ((answer ≡ answers.Call Exchanged) × ((e : Exchange P) × IsCopyAsked c (copying_kind copying) at new s kept e × (es ≡ e ∷ []) × (hands' ≡ told_of (last_after e last) hands)))
         ((answer ≡ answers.Call (Found_instead (word_of g c s at))) × (es ≡ []) × (hands' ≡ told_of (told_last s at last) hands))
         (HasCopied copying answer es hands') h
         (λ stands (a, (e, asked, one, h')).
-        answered copying answer (answers.Call Exchanged) es (e ∷ []) hands' (told_of (last_after e last) hands) a one h' (put_there at old new is (eqb-true (word_of g c s at) old stands) e asked))
+        answered copying answer (answers.Call Exchanged) es (e ∷ []) hands' (told_of (last_after e last) hands) a one h' (put_there (words a) at old new is (eqb-true (word_of g c s at) old stands) e asked))
         (λ other (a, none, h').
         quiet copying answer (answers.Call (Found_instead (word_of g c s at))) es hands' (told_of (told_last s at last) hands) a none h'
         (copying_found g c hashed s m keeps mode moded last kept copying r at old new is (eqb-false (word_of g c s at) old other)))
-    learns_of answer es hands' (LoadHint t x) is h =
+    learns_of answer words es hands' (LoadHint t x) is h =
         let hint : ℕ = h.0.0 in
         quiet copying answer (answers.Call (Word_read hint)) es hands' hands h.0.2 h.1.0 h.1.1
         (copying_hinted g c hashed s m keeps mode moded last kept copying r t x is hint h.0.1)
-    learns_of answer es hands' (WriteHint t x n) is h =
+    learns_of answer words es hands' (WriteHint t x n) is h =
         quiet copying answer (answers.Call Ok_done) es hands' hands h.0 h.1.0 h.1.1
         (copying_noted g c hashed s m keeps mode moded last kept copying r t x n is).1
-    learns_of answer es hands' (SizeOf t) is h =
+    learns_of answer words es hands' (SizeOf t) is h =
         let size = h.0 in
         let sized = copying_sized g c hashed s m keeps mode moded last kept cut number copying r t size.0 is size.1 in
         quiet copying answer (answers.Call (Size (g.size t) size.0)) es hands' hands size.2 h.1.0 h.1.1
         (same_still (aim_of copying) (aim_of (at_size copying mode number (g.size t) size.0)) sized.0, sized.1)
-    learns_of answer es hands' (HashOf n) is h =
+    learns_of answer words es hands' (HashOf n) is h =
         let (p, told, number) = there (HashOf n) is in
         let hashed_as = copying_hashed g c hashed s m keeps mode moded last kept copying r n is p told in
         quiet copying answer (answers.Hash (c.hash (g.key p))) es hands' (record hands { kept = last }) (h.0 p told number) h.1 h.2
         (same_still (aim_of copying) (aim_of (at_hash copying (c.hash (g.key p)))) hashed_as.0, hashed_as.1)
-    learns_of answer es hands' (SamePair i n) is h =
+    learns_of answer words es hands' (SamePair i n) is h =
         let (o, q, carried, told, first, second) = there (SamePair i n) is in
         quiet copying answer (answers.Call (Yes (g.same (g.key o) (g.key q)))) es hands' hands (h.0 o q carried first told second) h.1.0 h.1.1
         (copying_compared g c hashed s m keeps mode moded last kept copying r i n is o q carried told)
-    learns_of answer es hands' Count is h =
+    learns_of answer words es hands' Count is h =
         quiet copying answer (answers.Count h.0.0) es hands' hands h.0.1 h.1.0 h.1.1
         (copying_counted g c hashed s m keeps mode moded last kept cut copying r h.0.0 initial)
-    learns_of answer es hands' (MakeTable slots limit chunks) is h =
+    learns_of answer words es hands' (MakeTable slots limit chunks) is h =
         ⊎_elim
         (λ (u : (refused : Refused) × (answer ≡ answers.Call (Was_refused refused))).
         quiet copying answer (answers.Call (Was_refused u.0)) es hands' hands u.1 h.1.0 h.1.1
@@ -117,5 +117,5 @@ module _ {K P : Type 0} (g : Setting K P) (c : Coding K P) (hashed : IsHashed g 
         (same_still (aim_of copying) (aim_of (at_made copying n.0)) made.0, made.1))
         h.0
 
-    pub copying_learns : (answer : Answer) (es : List (Exchange P)) (hands' : Hands P) → IsCopyTold g c s (copying_kind copying) (copying_follows copying) hands (copying_ask copying) answer es hands' → HasCopied copying answer es hands'
-    copying_learns answer es hands' h = learns_of answer es hands' (copying_ask copying) refl h
+    pub copying_learns : (answer : Answer) → (answer ≡ answers.Call Exchanged → HasWords g (link_in_copying copying)) → (es : List (Exchange P)) (hands' : Hands P) → IsCopyTold g c s (copying_kind copying) (copying_follows copying) hands (copying_ask copying) answer es hands' → HasCopied copying answer es hands'
+    copying_learns answer words es hands' h = learns_of answer words es hands' (copying_ask copying) refl h

@@ -206,29 +206,29 @@ module _ {K P : Type 0} (g : Setting K P) (c : Coding K P) (hashed : IsHashed g 
           subst (λ h. calls.Rests g c begun (since ++ es) k call h) (sym told)
           (record { hash = later.hash; mode = later.mode; made = hands_told g c begun (since ++ es) k hands.call call.made call.remembered later.made last; stage = aside_stage g c begun (since ++ es) k hands.call (record hands.call { last = last }) call.task call.state t left later.stage })
 
-      link_rests : (link : Link) → IsLinking g c begun since k (at_phase call (Linking link)) link → HasWords g (Some link) → (answer : Answer) → IsCopyTold g c now (link_kind link) (follows link) hands (link_ask link) answer es hands'
+      link_rests : (link : Link) → IsLinking g c begun since k (at_phase call (Linking link)) link → (answer : Answer) → (answer ≡ answers.Call Exchanged → HasWords g (Some link)) → IsCopyTold g c now (link_kind link) (follows link) hands (link_ask link) answer es hands'
           → Learned (after (at_phase call (Linking link)) answer) es hands'
-      link_rests link at words answer h =
-          let out = link_learns_all g c hashed begun since may call.mode cut call.initial hands link at.rests words answer es hands' h in
+      link_rests link at answer words h =
+          let out = link_learns_all g c hashed begun since may call.mode cut call.initial hands link at.rests answer words es hands' h in
           let told = copy_hands g c now (link_kind link) (follows link) hands (link_ask link) answer es hands' h in (
             out.0,
             linked_rests g c hashed begun (since ++ es) out.0 k at.mode (at_phase call (Linking link)) hands' cut (aside_later out.0 (follows link) at.left told.0 told.1) at.changes (follows link) at.left (link_after link call.mode call.initial answer) out.1,
           )
 
       -- what a copier learns, after all exchanges
-      copied_in_all : (copying : Copying) → RestsCopying g c now hands.call.last hands.kept copying → HasWords g (link_in_copying copying) → (answer : Answer) → IsCopyTold g c now (copying_kind copying) (copying_follows copying) hands (copying_ask copying) answer es hands'
+      copied_in_all : (copying : Copying) → RestsCopying g c now hands.call.last hands.kept copying → (answer : Answer) → (answer ≡ answers.Call Exchanged → HasWords g (link_in_copying copying)) → IsCopyTold g c now (copying_kind copying) (copying_follows copying) hands (copying_ask copying) answer es hands'
           → AllAllowed g start (begun ++ (since ++ es)) × RestsCopied g c (run (begun ++ (since ++ es)) start) hands'.call.last hands'.kept (aim_of copying) (copying_after copying call.mode call.initial number answer)
-      copied_in_all copying rests words answer h =
-          let out = copying_learns g c hashed now (map_left g (begun ++ since)) (keeping g hashed.lawful (begun ++ since) may) call.mode r.mode cut call.initial number hands copying rests words answer es hands' h in
+      copied_in_all copying rests answer words h =
+          let out = copying_learns g c hashed now (map_left g (begun ++ since)) (keeping g hashed.lawful (begun ++ since) may) call.mode r.mode cut call.initial number hands copying rests answer words es hands' h in
           let reaches : run es now ≡ run (begun ++ (since ++ es)) start = sym (run-append (begun ++ since) es start) ∙ ap (λ l. run l start) (append_assoc begun since es) in (
             subst (AllAllowed g start) (append_assoc begun since es) (allowed_append g (begun ++ since) es start may out.0),
             subst (λ s. RestsCopied g c s hands'.call.last hands'.kept (aim_of copying) (copying_after copying call.mode call.initial number answer)) reaches out.1,
           )
 
-      helping_rests : (copying : Copying) → IsHelping g c begun since k (at_phase call (Copying_root copying)) hands copying → HasWords g (link_in_copying copying) → (answer : Answer)
+      helping_rests : (copying : Copying) → IsHelping g c begun since k (at_phase call (Copying_root copying)) hands copying → (answer : Answer) → (answer ≡ answers.Call Exchanged → HasWords g (link_in_copying copying))
           → IsCopyTold g c now (copying_kind copying) (copying_follows copying) hands (copying_ask copying) answer es hands' → Learned (after (at_phase call (Copying_root copying)) answer) es hands'
-      helping_rests copying at words answer h =
-          let out = copied_in_all copying at.rests words answer h in
+      helping_rests copying at answer words h =
+          let out = copied_in_all copying at.rests answer words h in
           let told = copy_hands g c now (copying_kind copying) (copying_follows copying) hands (copying_ask copying) answer es hands' h in
           let same : (run (begun ++ (since ++ es)) start).next at.table ≡ now.next at.table = next_stays g c hashed begun since es out.0 k at.table at.next in (
             out.0,
@@ -237,10 +237,10 @@ module _ {K P : Type 0} (g : Setting K P) (c : Coding K P) (hashed : IsHashed g 
                 (subst (λ aim. RestsCopied g c (run (begun ++ (since ++ es)) start) hands'.call.last hands'.kept aim (copying_after copying call.mode call.initial number answer)) (at.aim ∙ ap (aim_for call.state) (sym same)) out.1),
           )
 
-      copying_all_rests : (copying : Copying) → IsCopyingAll g c begun since k (at_phase call (Copying_root copying)) hands copying → HasWords g (link_in_copying copying) → (answer : Answer)
+      copying_all_rests : (copying : Copying) → IsCopyingAll g c begun since k (at_phase call (Copying_root copying)) hands copying → (answer : Answer) → (answer ≡ answers.Call Exchanged → HasWords g (link_in_copying copying))
           → IsCopyTold g c now (copying_kind copying) (copying_follows copying) hands (copying_ask copying) answer es hands' → Learned (after (at_phase call (Copying_root copying)) answer) es hands'
-      copying_all_rests copying at words answer h =
-          let out = copied_in_all copying at.rests words answer h in
+      copying_all_rests copying at answer words h =
+          let out = copied_in_all copying at.rests answer words h in
           let told = copy_hands g c now (copying_kind copying) (copying_follows copying) hands (copying_ask copying) answer es hands' h in (
             out.0,
             all_rests g c hashed begun (since ++ es) out.0 k (at_phase call (Copying_root copying)) hands' cut (aside_later out.0 at.table at.left told.0 told.1) at.changes at.mode at.table at.left at.met
@@ -249,19 +249,19 @@ module _ {K P : Type 0} (g : Setting K P) (c : Coding K P) (hashed : IsHashed g 
           )
 
   -- in each phase
-  learns_in : (call : Call_machine) → calls.IsCutAs call.mode g.chunk_of → calls.Rests g c begun since k call hands.call → (phase : Phase) → RestsPhase g c begun since k (at_phase call phase) hands phase → HasWords g (link_in phase) → (answer : Answer) (es : List (Exchange P)) (hands' : Hands P)
+  learns_in : (call : Call_machine) → calls.IsCutAs call.mode g.chunk_of → calls.Rests g c begun since k call hands.call → (phase : Phase) → RestsPhase g c begun since k (at_phase call phase) hands phase → (answer : Answer) → (answer ≡ answers.Call Exchanged → HasWords g (link_in phase)) → (es : List (Exchange P)) (hands' : Hands P)
       → IsTold g c k now (kind_in call phase) (follows_in phase) hands (asks_in call phase) answer es hands' → Learned (after (at_phase call phase) answer) es hands'
-  learns_in call cut r Calling at words answer es hands' h =
+  learns_in call cut r Calling at answer words es hands' h =
       subst (λ a. Learned (answered (at_phase call Calling) a) es hands') (sym h.is)
       (called_learns call cut call.state r h.told es h.call hands' h.handed h.tells
       (λ told is. steps_on call cut call.state told es h.call hands' h.handed
       (machine_learns g c hashed begun since may k call hands.call r told es h.call (subst (λ a. call_told.IsTold g c k now (call_machine.kind_of_ask call) hands.call (call_machine.ask_of call) a es h.call) is h.tells))))
-  learns_in call cut r (Linking link) at words answer es hands' h = link_rests call cut r es hands' link at words answer h
-  learns_in call cut r (Copying_root copying) (inl at) words answer es hands' h = helping_rests call cut r es hands' copying at words answer h
-  learns_in call cut r (Copying_root copying) (inr at) words answer es hands' h = copying_all_rests call cut r es hands' copying at words answer h
+  learns_in call cut r (Linking link) at answer words es hands' h = link_rests call cut r es hands' link at answer words h
+  learns_in call cut r (Copying_root copying) (inl at) answer words es hands' h = helping_rests call cut r es hands' copying at answer words h
+  learns_in call cut r (Copying_root copying) (inr at) answer words es hands' h = copying_all_rests call cut r es hands' copying at answer words h
 
 module _ {K P : Type 0} (g : Setting K P) (c : Coding K P) (hashed : IsHashed g c) (begun since : List (Exchange P)) (may : AllAllowed g start (begun ++ since)) (k : K) where
   -- of the machine
-  pub all_learns : (m : Machine) (hands : Hands P) → Rests g c begun since k m hands → HasWords g (link_in m.phase) → (answer : Answer) (es : List (Exchange P)) (hands' : Hands P)
+  pub all_learns : (m : Machine) (hands : Hands P) → Rests g c begun since k m hands → (answer : Answer) → (answer ≡ answers.Call Exchanged → HasWords g (link_in m.phase)) → (es : List (Exchange P)) (hands' : Hands P)
       → IsTold g c k (run (begun ++ since) start) (kind_of_ask m) (follows_of m) hands (ask_of m) answer es hands' → AllAllowed g start (begun ++ (since ++ es)) × Rests g c begun (since ++ es) k (after m answer) hands'
-  all_learns m hands r words answer es hands' h = learns_in g c hashed begun since may k hands m.number m.helped m.call r.cut r.call m.phase r.phase words answer es hands' h
+  all_learns m hands r answer words es hands' h = learns_in g c hashed begun since may k hands m.number m.helped m.call r.cut r.call m.phase r.phase answer words es hands' h

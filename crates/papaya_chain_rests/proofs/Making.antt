@@ -50,18 +50,18 @@ module _ {K P : Type 0} (g : Setting K P) (c : Coding K P) (s : State P) (m : K 
   )
 
   -- after each answer
-  pub link_learns : (link : Link) → RestsLink g c s link → HasWords g (Some link) → (answer : Answer) (es : List (Exchange P)) (hands' : Hands P)
+  pub link_learns : (link : Link) → RestsLink g c s link → (answer : Answer) → (answer ≡ answers.Call Exchanged → HasWords g (Some link)) → (es : List (Exchange P)) (hands' : Hands P)
       → IsCopyTold g c s (link_kind link) (follows link) hands (link_ask link) answer es hands' → HasLinked link answer es hands'
-  link_learns (links.Sizing behind copied unfit) r words answer es hands' h =
+  link_learns (links.Sizing behind copied unfit) r answer words es hands' h =
       quiet (links.Sizing behind copied unfit) answer (answers.Call (Size (g.size behind) h.0.0)) es hands' hands h.0.2 h.1.0 h.1.1
       (sized_follows g c s hands.call.last hands.kept (links.Sizing behind copied unfit) (g.size behind), link_sized g c s hands.call.last hands.kept (links.Sizing behind copied unfit) r behind refl)
-  link_learns (links.Measuring behind copied unfit len) r words answer es hands' h =
+  link_learns (links.Measuring behind copied unfit len) r answer words es hands' h =
       quiet (links.Measuring behind copied unfit len) answer (answers.Call (Size (g.size copied) h.0.0)) es hands' hands h.0.2 h.1.0 h.1.1
       (refl, link_sized g c s hands.call.last hands.kept (links.Measuring behind copied unfit len) r copied refl)
-  link_learns (links.Counting behind unfit len copied) r words answer es hands' h =
+  link_learns (links.Counting behind unfit len copied) r answer words es hands' h =
       quiet (links.Counting behind unfit len copied) answer (answers.Count h.0.0) es hands' hands h.0.1 h.1.0 h.1.1
       (link_counted g c s hands.call.last hands.kept mode cut (links.Counting behind unfit len copied) r h.0.0 initial)
-  link_learns (links.Making behind len limit chunks) r words answer es hands' h =
+  link_learns (links.Making behind len limit chunks) r answer words es hands' h =
       ⊎_elim
       (λ (u : (refused : Refused) × (answer ≡ answers.Call (Was_refused refused))).
       quiet (links.Making behind len limit chunks) answer (answers.Call (Was_refused u.0)) es hands' hands u.1 h.1.0 h.1.1
@@ -70,24 +70,24 @@ module _ {K P : Type 0} (g : Setting K P) (c : Coding K P) (s : State P) (m : K 
       quiet (links.Making behind len limit chunks) answer (answers.Call (Made_number n.0)) es hands' hands n.2 h.1.0 h.1.1
       (refl, link_made g c s hands.call.last hands.kept (links.Making behind len limit chunks) r n.0 n.1))
       h.0
-  link_learns (links.Linking behind table chunks) r words answer es hands' h =
+  link_learns (links.Linking behind table chunks) r answer words es hands' h =
       by_test (s.next behind == 0)
       ((answer ≡ answers.Call Exchanged) × ((e : Exchange P) × IsCopyAsked c (Some kinds.Link) (Next behind) table s hands.kept e × (es ≡ e ∷ []) × (hands' ≡ told_of (last_after e hands.call.last) hands)))
       ((answer ≡ answers.Call (Found_instead (s.next behind))) × (es ≡ []) × (hands' ≡ told_of (told_last s (Next behind) hands.call.last) hands))
       (HasLinked (links.Linking behind table chunks) answer es hands') h
       (λ none (a, (e, asked, is, h')).
       answered (links.Linking behind table chunks) answer (answers.Call Exchanged) es (e ∷ []) hands' (told_of (last_after e hands.call.last) hands) a is h'
-      (linked_there behind table chunks r words (eqb-true (s.next behind) 0 none) e asked))
+      (linked_there behind table chunks r (words a) (eqb-true (s.next behind) 0 none) e asked))
       (λ some (a, is, h').
       quiet (links.Linking behind table chunks) answer (answers.Call (Found_instead (s.next behind))) es hands' hands a is h'
       (link_found g c s hands.call.last hands.kept (links.Linking behind table chunks) r (Next behind) 0 table refl (eqb-false (s.next behind) 0 some)))
 
 module _ {K P : Type 0} (g : Setting K P) (c : Coding K P) (hashed : IsHashed g c) (begun since : List (Exchange P)) (may : AllAllowed g start (begun ++ since)) (mode : ResizeMode) (cut : IsCutAs mode g.chunk_of) (initial : ℕ) (hands : Hands P) where
   -- the same after all exchanges
-  pub link_learns_all : (link : Link) → RestsLink g c (run (begun ++ since) start) link → HasWords g (Some link) → (answer : Answer) (es : List (Exchange P)) (hands' : Hands P) → IsCopyTold g c (run (begun ++ since) start) (link_kind link) (follows link) hands (link_ask link) answer es hands'
+  pub link_learns_all : (link : Link) → RestsLink g c (run (begun ++ since) start) link → (answer : Answer) → (answer ≡ answers.Call Exchanged → HasWords g (Some link)) → (es : List (Exchange P)) (hands' : Hands P) → IsCopyTold g c (run (begun ++ since) start) (link_kind link) (follows link) hands (link_ask link) answer es hands'
       → AllAllowed g start (begun ++ (since ++ es)) × RestsLinked g c (run (begun ++ (since ++ es)) start) hands'.call.last hands'.kept (follows link) (link_after link mode initial answer)
-  link_learns_all link r words answer es hands' h =
-      let out = link_learns g c (run (begun ++ since) start) (map_left g (begun ++ since)) (keeping g hashed.lawful (begun ++ since) may) mode cut initial hands link r words answer es hands' h in
+  link_learns_all link r answer words es hands' h =
+      let out = link_learns g c (run (begun ++ since) start) (map_left g (begun ++ since)) (keeping g hashed.lawful (begun ++ since) may) mode cut initial hands link r answer words es hands' h in
       let reaches : run es (run (begun ++ since) start) ≡ run (begun ++ (since ++ es)) start = sym (run-append (begun ++ since) es start) ∙ ap (λ l. run l start) (append_assoc begun since es) in (
         subst (AllAllowed g start) (append_assoc begun since es) (allowed_append g (begun ++ since) es start may out.0),
         subst (λ s. RestsLinked g c s hands'.call.last hands'.kept (follows link) (link_after link mode initial answer)) reaches out.1,

@@ -215,42 +215,42 @@ module _ {K P : Type 0} (g : Setting K P) (c : Coding K P) where
         ⊎_elim (λ none. absurd (some none.0)) (λ on. (on, sound.root_was on.0)) sound.root
 
     -- after each answer
-    pub stage_learns : IsModeOf mode g.blocking → IsCutAs mode g.chunk_of → (stage : Stage) → RestsStage g c s hands stage → HasWords g (link_of stage) → (answer : Answer) (es : List (Exchange P)) (hands' : Hands P) → IsStageTold g c s stage hands answer es hands' → HasGone stage answer es hands'
-    stage_learns moded cut AtRoot r words answer es hands' told =
+    pub stage_learns : IsModeOf mode g.blocking → IsCutAs mode g.chunk_of → (stage : Stage) → RestsStage g c s hands stage → (answer : Answer) → (answer ≡ answers.Call Exchanged → HasWords g (link_of stage)) → (es : List (Exchange P)) (hands' : Hands P) → IsStageTold g c s stage hands answer es hands' → HasGone stage answer es hands'
+    stage_learns moded cut AtRoot r answer words es hands' told =
         let h = told_of_ask s hands AtRoot (Load Root) refl answer es hands' told in
         quiet AtRoot answer (answers.Call (Word_read s.root)) es hands' h.0 h.1 (root_rests s hands' s.root on_root resize)
-    stage_learns moded cut (Making room) r words answer es hands' told =
+    stage_learns moded cut (Making room) r answer words es hands' told =
         let h = told_of_ask s hands (Making room) (MakeTable room.len room.limit 0) refl answer es hands' told in
         ⊎_elim
         (λ (u : (refused : Refused) × (answer ≡ answers.Call (Was_refused refused))). quiet (Making room) answer (answers.Call (Was_refused u.0)) es hands' u.1 h.1.0 tt)
         (λ (n : (n : ℕ) × (0 < n) × (answer ≡ answers.Call (Made_number n))). quiet (Making room) answer (answers.Call (Made_number n.0)) es hands' n.2 h.1.0 n.1)
         h.0
-    stage_learns moded cut (Opening table) r words answer es hands' told =
+    stage_learns moded cut (Opening table) r answer words es hands' told =
         by_test (s.root == 0)
         ((answer ≡ answers.Call Exchanged) × (es ≡ Open table ∷ []) × (hands' ≡ hands))
         ((answer ≡ answers.Call (Found_instead s.root)) × Quiet g c hands es hands')
         (HasGone (Opening table) answer es hands') told
         (λ none (a, e, h). subst (λ y. HasGone (Opening table) y es hands') (sym a) (subst (λ y. HasGone (Opening table) (answers.Call Exchanged) y hands') (sym e) (((eqb-true s.root 0 none, r), tt), tt)))
         (λ some (a, h). quiet (Opening table) answer (answers.Call (Found_instead s.root)) es hands' a h.0 tt)
-    stage_learns moded cut (Sizing root) r words answer es hands' told =
+    stage_learns moded cut (Sizing root) r answer words es hands' told =
         let h = told_of_ask s hands (Sizing root) (SizeOf root) refl answer es hands' told in
         quiet (Sizing root) answer (answers.Call (Size (g.size root) h.0.0)) es hands' h.0.2 h.1.0 (r.0, r.1, refl)
-    stage_learns moded cut (Counting root len) r words answer es hands' told =
+    stage_learns moded cut (Counting root len) r answer words es hands' told =
         let h = told_of_ask s hands (Counting root len) Count refl answer es hands' told in
         quiet (Counting root len) answer (answers.Count h.0.0) es hands' h.0.1 h.1.0 (count_rests s hands' root len h.0.0 r resize)
-    stage_learns moded cut (Looking root len None) r words answer es hands' told =
+    stage_learns moded cut (Looking root len None) r answer words es hands' told =
         let h = told_of_ask s hands (Looking root len None) (Load (Next root)) refl answer es hands' told in
         quiet (Looking root len None) answer (answers.Call (Word_read (s.next root))) es hands' h.0 h.1 (next_rests s hands' mode cut root len None r (s.next root))
-    stage_learns moded cut (Looking root len (Some room)) r words answer es hands' told =
+    stage_learns moded cut (Looking root len (Some room)) r answer words es hands' told =
         let h = told_of_ask s hands (Looking root len (Some room)) (Load (Next root)) refl answer es hands' told in
         quiet (Looking root len (Some room)) answer (answers.Call (Word_read (s.next root))) es hands' h.0 h.1 (next_rests s hands' mode cut root len (Some room) r (s.next root))
-    stage_learns moded cut (Linking link) r words answer es hands' told =
+    stage_learns moded cut (Linking link) r answer words es hands' told =
         let h = told_of_ask s hands (Linking link) (link_ask link) refl answer es hands' told in
-        let out = link_learns g c s m keeps mode cut initial hands link r words answer es hands' h in
+        let out = link_learns g c s m keeps mode cut initial hands link r answer words es hands' h in
         (out.0, linked_rests (run es s) hands' (follows link) (link_after link mode initial answer) out.1)
-    stage_learns moded cut (Copying from copying) (own, r) words answer es hands' told =
+    stage_learns moded cut (Copying from copying) (own, r) answer words es hands' told =
         let h = told_of_ask s hands (Copying from copying) (copying_ask copying) refl answer es hands' told in
-        let out = copying_learns g c hashed s m keeps mode moded cut initial number hands copying r words answer es hands' h in
+        let out = copying_learns g c hashed s m keeps mode moded cut initial number hands copying r answer words es hands' h in
         (out.0, copied_rests (run es s) hands' resize from (aim_of copying) own (copying_after copying mode initial number answer) out.1)
-    stage_learns moded cut Done r words answer es hands' told = let e = told.1 in absurd cc
-    stage_learns moded cut (Ended_refused refused) r words answer es hands' told = let e = told.1 in absurd cc
+    stage_learns moded cut Done r answer words es hands' told = let e = told.1 in absurd cc
+    stage_learns moded cut (Ended_refused refused) r answer words es hands' told = let e = told.1 in absurd cc

@@ -365,7 +365,7 @@ module _ {K P : Type 0} (g : Setting K P) (c : Coding K P) (hashed : IsHashed g 
       root_was : (now.root ≡ 0 → ⊥) → now.was_root now.root ≡ true
       root_was some = (keeping_sound g now (map_of g m since) (keeps_since g c hashed s m keeps since may)).root_was (⊎_elim (λ a. a) (λ b. absurd (some (omega (arith, b)))) (cases_lt 0 now.root))
 
-      copy_learns : (stage : Stage) → Rests hands (Copying stage) → HasWords g (link_of stage) → IsCopyAnswer g c now since stage hands answer es hands' → Learned (Copying stage) answer es hands'
+      copy_learns : (stage : Stage) → Rests hands (Copying stage) → (answer ≡ answers.Call Exchanged → HasWords g (link_of stage)) → IsCopyAnswer g c now since stage hands answer es hands' → Learned (Copying stage) answer es hands'
       copy_learns stages.AtRoot r words t =
           let h = told_of_ask g c now hands.copy stages.AtRoot (Load Root) refl answer es t.copy t.told in
           let then' : Hands P = record hands { copy = t.copy; before = since } in
@@ -383,7 +383,7 @@ module _ {K P : Type 0} (g : Setting K P) (c : Coding K P) (hashed : IsHashed g 
           (λ some. (r.0, tt, (tt, (tt, tt)))))
       copy_learns (stages.Looking root len (Some room)) r words t = let no = r.1.1 in absurd (cc no)
       copy_learns (stages.Copying from copying) r words t =
-          let out = stage_learns g c hashed now (map_of g m since) (keeps_since g c hashed s m keeps since may) CopyAll mode initial number hands.copy moded cut (stages.Copying from copying) r.2 words answer es t.copy t.told in
+          let out = stage_learns g c hashed now (map_of g m since) (keeps_since g c hashed s m keeps since may) CopyAll mode initial number hands.copy moded cut (stages.Copying from copying) r.2 answer words es t.copy t.told in
           let rests = subst (λ w. RestsStage g c w t.copy (resizers.copied CopyAll from (copying_after copying mode initial number answer))) (sym (run-append since es s)) out.1 in
           (allowed_append g since es s may out.0, subst (λ y. RestsState g c s m (since ++ es) visit y (after_in visit mode initial number answer (Copying (stages.Copying from copying)))) (sym t.handed) (copied_all t.copy r.0 from copying (copying_after copying mode initial number answer) rests))
       copy_learns (stages.Making room) r words t = absurd r.1
@@ -395,7 +395,7 @@ module _ {K P : Type 0} (g : Setting K P) (c : Coding K P) (hashed : IsHashed g 
       copy_learns (stages.Refused refused) r words t = absurd r.1
 
       -- in each state
-      pub state_learns : GivesNone g c s m since visit hands → (state : State) → Rests hands state → HasWords g (link_in_visit state) → IsVisitTold g c now since state hands answer es hands' → Learned state answer es hands'
+      pub state_learns : GivesNone g c s m since visit hands → (state : State) → Rests hands state → (answer ≡ answers.Call Exchanged → HasWords g (link_in_visit state)) → IsVisitTold g c now since state hands answer es hands' → Learned state answer es hands'
       state_learns gives (Copying stage) r words told = copy_learns stage r words told
       state_learns gives AtRoot r words told = root_learns r told
       state_learns gives (Sizing table) r words told = size_learns table r told

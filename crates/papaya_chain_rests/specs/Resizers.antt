@@ -75,7 +75,7 @@ link_of (Linking link) = Some link
 link_of (Copying from copying) = link_in_copying copying
 link_of _ = None
 
--- the same of one
+-- this is the one that is under way
 abbrev pub HasLink : Stage → Link → Type 0
 HasLink (Linking link) other = link ≡ other
 HasLink (Copying from copying) link = link_in_copying copying ≡ Some link

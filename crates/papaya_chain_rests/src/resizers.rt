@@ -3,6 +3,7 @@
 ghost use Rattle.std.specs.Prelude.{◌≡◌, ℕ, List, None, Option, Some};
 ghost use Rattle.papaya_words.specs.declared.probe.Refused.{Refused};
 ghost use Rattle.papaya_words.specs.declared.probe.ResizeMode.{ResizeMode};
+ghost use Rattle.papaya_ask.specs.declared.ask.Answer.TheVariants.{Exchanged};
 ghost use Rattle.papaya_ask.specs.declared.call.Reply.TheVariants.{Refused as Reply_refused};
 ghost use Rattle.papaya_ask.specs.declared.copy_ask.CopyAsk.TheVariants.{Exchange as Copy_exchange};
 ghost use Rattle.papaya_law.specs.Allows.{AllAllowed, Allows};
@@ -44,7 +45,7 @@ pub fn resizers_rest<K, P>()
 /// and writes just its word. A hint that it writes may be there. After an answer that is true of the
 /// words it rests again, and what was exchanged was allowed. It is refused for one of three reasons: a
 /// table was refused, the next one would be longer than a table may be, or room was asked for that no
-/// table has. A table that is linked was made with as many words for chunks as were asked for.
+/// table has. A table that is linked has to have as many words for chunks as were asked for.
 pub fn resizers_go_on<K, P>()
     ensures names { (g : Setting K P) (c : Coding K P) → IsHashed g c
         → (s : State P) (m : K → Option P) → IsKeeping g s m → (resizer : Resizer) (hands : Hands P)
@@ -63,8 +64,9 @@ pub fn resizers_go_on<K, P>()
         → ask_of resizer ≡ Some (CopyAsk.WriteHint t x n) → IsHint g c s t x n }
     ensures learns { (g : Setting K P) (c : Coding K P) → IsHashed g c
         → (s : State P) (m : K → Option P) → IsKeeping g s m → (resizer : Resizer) (hands : Hands P)
-        → RestsResizer g c s resizer hands → HasWords g (link_of resizer.state)
-        → (answer : Answer) (es : List (Exchange P)) (hands' : Hands P)
+        → RestsResizer g c s resizer hands → (answer : Answer)
+        → (answer ≡ Answer.Call Exchanged → HasWords g (link_of resizer.state))
+        → (es : List (Exchange P)) (hands' : Hands P)
         → IsStageTold g c s resizer.state hands answer es hands'
         → AllAllowed g s es × RestsResizer g c (run es s) (after resizer answer) hands' }
     ensures refusals { (g : Setting K P) (c : Coding K P) (s : State P) (resizer : Resizer)

@@ -2,6 +2,7 @@
 //! laws.
 ghost use Rattle.std.specs.Prelude.{◌≡◌, ◌⊎◌, ℕ, List, [], Option, ◌++◌};
 ghost use Rattle.papaya_words.specs.declared.probe.ResizeMode.{ResizeMode};
+ghost use Rattle.papaya_ask.specs.declared.ask.Answer.TheVariants.{Exchanged};
 ghost use Rattle.papaya_ask.specs.declared.copy_ask.CopyAsk.TheVariants.{Exchange as Copy_exchange};
 ghost use Rattle.papaya_call.specs.Machine.{IsStanding, ask_of as call_ask_of, kind_of_ask as call_kind};
 ghost use Rattle.papaya_law.specs.Allows.{AllAllowed, Allows};
@@ -62,8 +63,9 @@ pub fn names<K, P>()
 {}
 
 /// An exchange of a copy whose old word stands there is one of the law, allowed, and writes just
-/// its word. A table that is linked was made with as many words for chunks as were asked for. It is a link, a mark, a shut slot, a placed copy, a finished slot, counted slots, a new
-/// root or a table that is given up, and never a change of the map.
+/// its word. It is a link, a mark, a shut slot, a placed copy, a finished slot, the word of a chunk, a
+/// new root or a table that is given up, and never a change of the map. A table that is linked has
+/// to have as many words for chunks as were asked for.
 pub fn copies_may_exchange<K, P>()
     ensures { (g : Setting K P) (c : Coding K P) → IsHashed g c → (begun since : List (Exchange P))
         → AllAllowed g start (begun ++ since) → (k : K) (m : Machine) (hands : Hands P)
@@ -86,13 +88,14 @@ pub fn copies_may_hint<K, P>()
 {}
 
 /// After an answer that is true of the words the call rests again, and what was exchanged was
-/// allowed.
+/// allowed. Where a table was linked, it has to have as many words for chunks as were asked for.
 pub fn learns<K, P>()
     ensures { (g : Setting K P) (c : Coding K P) → IsHashed g c → (begun since : List (Exchange P))
         → AllAllowed g start (begun ++ since) → (k : K) (m : Machine) (hands : Hands P)
-        → Rests g c begun since k m hands → HasWords g (link_in m.phase) → (answer : Answer)
-        (es : List (Exchange P)) (hands' : Hands P) → IsTold g c k (run (begun ++ since) start) (kind_of_ask m)
-        (follows_of m) hands (ask_of m) answer es hands'
+        → Rests g c begun since k m hands → (answer : Answer)
+        → (answer ≡ Answer.Call Exchanged → HasWords g (link_in m.phase))
+        → (es : List (Exchange P)) (hands' : Hands P) → IsTold g c k (run (begun ++ since) start)
+        (kind_of_ask m) (follows_of m) hands (ask_of m) answer es hands'
         → AllAllowed g start (begun ++ (since ++ es))
         × Rests g c begun (since ++ es) k (after m answer) hands' }
 {}

@@ -3,6 +3,7 @@
 ghost use Rattle.std.specs.Prelude.{◌≡◌, ◌++◌, ℕ, List, [], Option, Some};
 ghost use Rattle.papaya_words.specs.declared.probe.ResizeMode.{ResizeMode};
 ghost use Rattle.papaya_words.specs.declared.probe.Refused.{Refused};
+ghost use Rattle.papaya_ask.specs.declared.ask.Answer.TheVariants.{Exchanged};
 ghost use Rattle.papaya_ask.specs.declared.ask.StepKind.TheVariants.{Bury};
 ghost use Rattle.papaya_ask.specs.declared.call.Reply.TheVariants.{Done, Refused as Reply_refused};
 ghost use Rattle.papaya_ask.specs.declared.copy_ask.CopyAsk.TheVariants.{Exchange as Ask_exchange, WriteHint};
@@ -49,7 +50,8 @@ pub fn visitors_rest<K, P>()
 
 /// A visitor names only what is there. An exchange of it whose old word stands there is allowed and
 /// writes just its word: it is one of the copy, or buries the pair that stands in its slot. A hint
-/// that it writes may be there.
+/// that it writes may be there. A table that is linked has to have as many words for chunks as were
+/// asked for.
 pub fn visitors_ask<K, P>()
     ensures names { (g : Setting K P) (c : Coding K P) → IsHashed g c
         → (s : State P) (m : K → Option P) → IsKeeping g s m → (since : List (Exchange P))
@@ -74,13 +76,14 @@ pub fn visitors_ask<K, P>()
 {}
 
 /// After an answer that is true of the words a visitor rests again, and what was exchanged was
-/// allowed.
+/// allowed. Where a table was linked, it has to have as many words for chunks as were asked for.
 pub fn visitors_learn<K, P>()
     ensures { (g : Setting K P) (c : Coding K P) → IsHashed g c
         → (s : State P) (m : K → Option P) → IsKeeping g s m → (since : List (Exchange P))
         → AllAllowed g s since → (visitor : Visitor) (hands : Hands P)
-        → RestsVisitor g c s m since visitor hands → HasWords g (link_in_visit visitor.state)
-        → (answer : Answer) (es : List (Exchange P)) (hands' : Hands P)
+        → RestsVisitor g c s m since visitor hands → (answer : Answer)
+        → (answer ≡ Answer.Call Exchanged → HasWords g (link_in_visit visitor.state))
+        → (es : List (Exchange P)) (hands' : Hands P)
         → IsVisitTold g c (run since s) since visitor.state hands answer es hands'
         → AllAllowed g s (since ++ es)
         × RestsVisitor g c s m (since ++ es) (after visitor answer) hands' }

@@ -12,8 +12,8 @@ pub returns-clause-may_hint : goal.returns-clause-may_hint
 returns-clause-may_hint g c = λ h d hashed s m keeps resizer hands r t x n e. stage_may_hint h d hashed s m keeps hands resizer.mode r.mode resizer.state r.stage t x n e
 
 pub returns-clause-learns : goal.returns-clause-learns
-returns-clause-learns g c = λ h d hashed s m keeps resizer hands r words answer es hands' told.
-    let out = stage_learns h d hashed s m keeps resizer.resize resizer.mode resizer.initial resizer.number hands r.mode r.cut resizer.state r.stage words answer es hands' told in
+returns-clause-learns g c = λ h d hashed s m keeps resizer hands r answer words es hands' told.
+    let out = stage_learns h d hashed s m keeps resizer.resize resizer.mode resizer.initial resizer.number hands r.mode r.cut resizer.state r.stage answer words es hands' told in
     (out.0, record { mode = r.mode; cut = r.cut; stage = out.1 })
 
 pub returns-clause-refusals : goal.returns-clause-refusals
