@@ -197,8 +197,8 @@ module _ {K V S A : Type 0} (eq : K → K → Bool) (hash : K → ℕ) (law : Is
     call_exchanges at old new e hit =
         let stood : word_at store.words at ≡ old = eqb-true (word_at store.words at) old hit in
         let stands : word_of g c now at ≡ old = kept.coded at ∙ stood in
-        let x = asked_call g c store r es tale (Some call.key) hashed call.key call.split may call.rests kept.coded kept.made call.opens call.links call.own (λ t. refl) at old new e stands in
-        let placed = placed_call g c store r es tale (Some call.key) hashed call.key call.split may call.rests kept.coded kept.made call.opens call.links call.own (λ t. refl) at old new e (changes now tale.hands.call new c (kind_of_ask r.machine) at x.0 x.1).place in
+        let x = asked_call g c store r es tale (Some call.key) hashed call.key call.split may call.rests kept.coded kept.made call.opens call.links call.own (λ t. refl) (λ t. refl) at old new e stands in
+        let placed = placed_call g c store r es tale (Some call.key) hashed call.key call.split may call.rests kept.coded kept.made call.opens call.links call.own (λ t. refl) (λ t. refl) at old new e (changes now tale.hands.call new c (kind_of_ask r.machine) at x.0 x.1).place in
         let opened : at ≡ Root → new ≤ length store.words.tables = λ root.
         let none : now.root ≡ 0 = root_empty g c now tale.hands.call new (kind_of_ask r.machine) x.0 (subst (λ y. IsAsked c (kind_of_ask r.machine) y new now tale.hands.call x.0) root x.1) x.2 in
         let zero : old ≡ 0 = sym stands ∙ ap (word_of g c now) root ∙ none in
@@ -212,8 +212,8 @@ module _ {K V S A : Type 0} (eq : K → K → Bool) (hash : K → ℕ) (law : Is
     copy_exchanges : (at : At) (old new : ℕ) → ask_of r.machine ≡ asks.Copy (copies.Exchange at old new) → (word_at store.words at == old) ≡ true → ((budget_in (put store.words at new)).tables ≡ (budget_of store).tables) × ((budget_in (put store.words at new)).exchanges < (budget_of store).exchanges)
     copy_exchanges at old new e hit =
         let stands : word_of g c now at ≡ old = kept.coded at ∙ eqb-true (word_at store.words at) old hit in
-        let x = asked_copy g c store r es tale (Some call.key) hashed call.key call.split may call.rests kept.coded kept.made call.opens call.links call.own (λ t. refl) at old new e stands in
-        let placed = placed_copy g c store r es tale (Some call.key) hashed call.key call.split may call.rests kept.coded kept.made call.opens call.links call.own (λ t. refl) at old new e in
+        let x = asked_copy g c store r es tale (Some call.key) hashed call.key call.split may call.rests kept.coded kept.made call.opens call.links call.own (λ t. refl) (λ t. refl) at old new e stands in
+        let placed = placed_copy g c store r es tale (Some call.key) hashed call.key call.split may call.rests kept.coded kept.made call.opens call.links call.own (λ t. refl) (λ t. refl) at old new e in
         copy_spent at new (kind_of_ask r.machine) tale.hands.kept x.0 x.1 x.2 x.3 placed
 
     module _ (says : Says K V A) (refuse : Bool) (store' : StoreState K V S) (later : Running K V A) where

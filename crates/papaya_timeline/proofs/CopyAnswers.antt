@@ -29,7 +29,7 @@ use Rattle.papaya_store.specs.Copies.{IsHash, PerformsCopy, hash_in, same_keys}
 use Rattle.papaya_store.specs.Performs.{Exchanges, MakesTable, Refuses, size_of}
 use Rattle.papaya_store.specs.Store.{StoreState, Stored, pair_of, stored_in}
 use Rattle.papaya_store.specs.Tables.{hint_at, note, table_of, word_at, put}
-use Rattle.papaya_timeline.specs.Kept.{IsMade, slots_in, places_in}
+use Rattle.papaya_timeline.specs.Kept.{IsMade, chunks_in, slots_in, places_in}
 use Rattle.papaya_timeline.proofs.KeptAnswer.{Stands}
 use Rattle.papaya_timeline.proofs.KeptExchange.{IsCopied_on, copies}
 use Rattle.papaya_timeline.proofs.KeptMade.{refusal}
@@ -42,6 +42,7 @@ use Rattle.papaya_law.specs.Hints.{IsHint}
 pub record Suits {Q K V S : Type 0} (eq : K → K → Bool) (hashes : S → K → ℕ) (g : Setting Q (Stored K V)) (c : Coding Q (Stored K V)) (store : StoreState K V S) : Type 0 where
   pub sizes : (t : ℕ) → g.size t ≡ slots_in (table_of store.words.tables t)
   pub places : (t : ℕ) → g.places t ≡ places_in (table_of store.words.tables t)
+  pub chunks : (t : ℕ) → g.chunks t ≡ chunks_in (table_of store.words.tables t)
   pub numbers : (p : Stored K V) → c.number p ≡ p.number
   pub hashes_of : (p : Stored K V) → c.hash (g.key p) ≡ hashes store.hasher p.key % 2 ^ 64
   pub sames : (p q : Stored K V) → g.same (g.key p) (g.key q) ≡ eq p.key q.key
@@ -202,7 +203,7 @@ module _ {Q K V S : Type 0} (g : Setting Q (Stored K V)) (c : Coding Q (Stored K
     told_stood Root p h = inl h
     told_stood (Next t) p h = inl h
     told_stood (Aborted t) p h = inl h
-    told_stood (Done t) p h = inl h
+    told_stood (Done t chunk) p h = inl h
     told_stood (Slot t x) p h = named_last t x p (named (now.slot t x)) refl h
 
     -- Who asks for this names what is there, and may make the exchange; the table that it follows and the one that it links are there. A hint that it reads, and one that it writes, may be there.
@@ -228,7 +229,7 @@ module _ {Q K V S : Type 0} (g : Setting Q (Stored K V)) (c : Coding Q (Stored K
       placed Root h = tt
       placed (Next t) on = on_there t on
       placed (Aborted t) on = on_there t on
-      placed (Done t) on = on_there t on
+      placed (Done t chunk) h = let words = on_there t h.0 in (words.0, words.1, subst (λ n. chunk < n) (suits.chunks t ∙ ap chunks_in words.1) h.1)
       placed (Slot t x) h = let words = on_there t h.0 in (words.0, words.1, subst (λ n. x < n) (suits.sizes t ∙ ap slots_in words.1) h.1)
 
       -- an exchange, made or lost

@@ -590,16 +590,16 @@ module _ {K V S A : Type 0} (eq : K → K → Bool) (hash : K → ℕ) (law : Is
           ))
     ];
     resized = λ d z other now e.
-        let begun_callers = with_work (with_seat s.callers c) c (Some (begun_work hash s.mode s.initial call)) in
+        let begun_callers = with_work (with_seat s.callers c) c (Some (begun_work hash s.mode s.initial x.number call)) in
         let before : resizing begun_callers d ≡ Some z = sym (ap (λ (y : List (Seat K V A)). resizing y d) x.callers) ∙ now in
         elim (cases_same d c) [
           | inl same ↦
-              let is = resize_begun hash s.mode s.initial call z (same_item (begun_work hash s.mode s.initial call) (works.Resize z) (resizing-here (with_seat s.callers c) c (Some (begun_work hash s.mode s.initial call)) z (ap (resizing begun_callers) (sym same) ∙ before))) in
+              let is = resize_begun hash s.mode s.initial call z (same_item (begun_work hash s.mode s.initial x.number call) (works.Resize z) (resizing-here (with_seat s.callers c) c (Some (begun_work hash s.mode s.initial x.number call)) z (ap (resizing begun_callers) (sym same) ∙ before))) in
               let is_call : call ≡ other = same_item call other (sym (open_call-own schedule c turn Begun h ∙ ap begun_by at) ∙ sym (ap (λ y. open_call schedule y (entry turn c Begun ∷ h)) same) ∙ e) in
               (subst IsResize is_call is, subst (λ y. change_of y (entry turn c Begun ∷ h) ≡ None) (sym same) (change_of-own c turn Begun h))
           | inr differ ↦
               let ne : c ≢ d = λ y. differ (sym y) in
-              let was = good.resized d z other (sym (resizing-with_seat s.callers c d) ∙ sym (resizing-elsewhere (with_seat s.callers c) c d (Some (begun_work hash s.mode s.initial call)) differ) ∙ before) (sym (open_call-other schedule c d turn Begun h ne) ∙ e) in
+              let was = good.resized d z other (sym (resizing-with_seat s.callers c d) ∙ sym (resizing-elsewhere (with_seat s.callers c) c d (Some (begun_work hash s.mode s.initial x.number call)) differ) ∙ before) (sym (open_call-other schedule c d turn Begun h ne) ∙ e) in
               (was.0, change_of-other c d turn Begun h ne ∙ was.1)
         ];
     visited = visited;
@@ -623,11 +623,11 @@ module _ {K V S A : Type 0} (eq : K → K → Bool) (hash : K → ℕ) (law : Is
 
       run_other : (d : ℕ) (r : Running K V A) → d ≢ c → running s'.callers d ≡ Some r → running s.callers d ≡ Some r
       run_other d r differ now =
-          sym (running-with_seat s.callers c d) ∙ sym (running-elsewhere (with_seat s.callers c) c d (Some (begun_work hash s.mode s.initial call)) differ) ∙ sym (ap (λ (y : List (Seat K V A)). running y d) x.callers) ∙ now
+          sym (running-with_seat s.callers c d) ∙ sym (running-elsewhere (with_seat s.callers c) c d (Some (begun_work hash s.mode s.initial x.number call)) differ) ∙ sym (ap (λ (y : List (Seat K V A)). running y d) x.callers) ∙ now
 
       run_same : (d : ℕ) (r : Running K V A) → d ≡ c → running s'.callers d ≡ Some r → IsBegun hash s.mode s.initial call r
       run_same d r same now =
-          call_begun hash s.mode s.initial call r (same_item (begun_work hash s.mode s.initial call) (works.Call r) (running-here (with_seat s.callers c) c (Some (begun_work hash s.mode s.initial call)) r (sym (ap (λ (y : List (Seat K V A)). running y c) x.callers) ∙ ap (running s'.callers) (sym same) ∙ now)))
+          call_begun hash s.mode s.initial call r (same_item (begun_work hash s.mode s.initial x.number call) (works.Call r) (running-here (with_seat s.callers c) c (Some (begun_work hash s.mode s.initial x.number call)) r (sym (ap (λ (y : List (Seat K V A)). running y c) x.callers) ∙ ap (running s'.callers) (sym same) ∙ now)))
 
       tale_other : (d : ℕ) → d ≢ c → tales d ≡ good.tales d
       tale_other d differ = ap (λ b. cond b (record { begun = good.es; since = []; hands = no_hands; visit = visits.no_hands }) (good.tales d)) (differs d c differ)
@@ -644,11 +644,11 @@ module _ {K V S A : Type 0} (eq : K → K → Bool) (hash : K → ℕ) (law : Is
 
       visits_other : (d : ℕ) (v : Visiting A) → d ≢ c → visiting s'.callers d ≡ Some v → visiting s.callers d ≡ Some v
       visits_other d v differ now =
-          sym (visiting-with_seat s.callers c d) ∙ sym (visiting-elsewhere (with_seat s.callers c) c d (Some (begun_work hash s.mode s.initial call)) differ) ∙ sym (ap (λ (y : List (Seat K V A)). visiting y d) x.callers) ∙ now
+          sym (visiting-with_seat s.callers c d) ∙ sym (visiting-elsewhere (with_seat s.callers c) c d (Some (begun_work hash s.mode s.initial x.number call)) differ) ∙ sym (ap (λ (y : List (Seat K V A)). visiting y d) x.callers) ∙ now
 
-      visits_same : (d : ℕ) (v : Visiting A) → d ≡ c → visiting s'.callers d ≡ Some v → begun_work hash s.mode s.initial call ≡ works.Visit v
+      visits_same : (d : ℕ) (v : Visiting A) → d ≡ c → visiting s'.callers d ≡ Some v → begun_work hash s.mode s.initial x.number call ≡ works.Visit v
       visits_same d v same now =
-          same_item (begun_work hash s.mode s.initial call) (works.Visit v) (visiting-here (with_seat s.callers c) c (Some (begun_work hash s.mode s.initial call)) v (sym (ap (λ (y : List (Seat K V A)). visiting y c) x.callers) ∙ ap (visiting s'.callers) (sym same) ∙ now))
+          same_item (begun_work hash s.mode s.initial x.number call) (works.Visit v) (visiting-here (with_seat s.callers c) c (Some (begun_work hash s.mode s.initial x.number call)) v (sym (ap (λ (y : List (Seat K V A)). visiting y c) x.callers) ∙ ap (visiting s'.callers) (sym same) ∙ now))
 
       visited : (d : ℕ) (v : Visiting A) (other : Call K V A) → visiting s'.callers d ≡ Some v → open_call schedule d (entry turn c Begun ∷ h) ≡ Some other → IsVisitTied eq says s'.store schedule v other d (visit_tale (tales d)) (entry turn c Begun ∷ h) (replay eq good.es ∷ replay eq good.es ∷ good.maps) (None ∷ good.answers)
       visited d v other now e = elim (cases_same d c) [

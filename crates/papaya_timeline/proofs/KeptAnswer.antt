@@ -217,7 +217,7 @@ module _ {Q K V S A : Type 0} (g : Setting Q (Stored K V)) (c : Coding Q (Stored
   told_last Root p h = inl h
   told_last (Next t) p h = inl h
   told_last (Aborted t) p h = inl h
-  told_last (Done t) p h = inl h
+  told_last (Done t chunk) p h = inl h
   told_last (Slot t x) p h = named_last tale.hands.call.last t x p (named (words_now.slot t x)) refl h
 
   -- and so it is for a copier
@@ -225,7 +225,7 @@ module _ {Q K V S A : Type 0} (g : Setting Q (Stored K V)) (c : Coding Q (Stored
   copy_last Root p h = inl h
   copy_last (Next t) p h = inl h
   copy_last (Aborted t) p h = inl h
-  copy_last (Done t) p h = inl h
+  copy_last (Done t chunk) p h = inl h
   copy_last (Slot t x) p h = named_last tale.hands.call.last t x p (named (words_now.slot t x)) refl h
 
   -- what stands at a place says nothing of the pair that the call made
@@ -233,5 +233,5 @@ module _ {Q K V S A : Type 0} (g : Setting Q (Stored K V)) (c : Coding Q (Stored
   told_made Root = refl
   told_made (Next t) = refl
   told_made (Aborted t) = refl
-  told_made (Done t) = refl
+  told_made (Done t chunk) = refl
   told_made (Slot t x) = refl

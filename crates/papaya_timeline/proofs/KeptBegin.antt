@@ -65,7 +65,7 @@ module _ {K V S A : Type 0} (eq : K → K → Bool) (hash : K → ℕ) where
   module _ (s : CoreState K V S A) (caller : ℕ) (call : Call K V A) (fits : (k : K) → key_of call ≡ Some k → hash k < 2 ^ 64) (chunked : IsChunked s.mode) (es : List (Exchange (Stored K V))) (tales : ℕ → Tale K V) (kept : IsKept eq hash s.mode s.store s.callers es tales) where
     -- the call as it begins, what is told of it, and the callers then
     abbrev work : Work K V A
-    work = begun_work hash s.mode s.initial call
+    work = begun_work hash s.mode s.initial x.number call
 
     -- what is told of it: nothing was exchanged since
     abbrev new_tale : Tale K V

@@ -28,7 +28,7 @@ use Rattle.papaya_chain_rests.specs.Rests.{Rests}
 use Rattle.papaya_chain_rests.proofs.Names.{call_asks}
 use Rattle.papaya_copy.specs.declared.link.Link.TheVariants.{Linking}
 use Rattle.papaya_store.specs.declared.pairs.Running.{Running}
-use Rattle.papaya_timeline.specs.Kept.{IsMade, Tale, coding_of, low, places_in, setting_of, slots_in}
+use Rattle.papaya_timeline.specs.Kept.{IsMade, IsMadeFor, Tale, coding_of, low, places_in, setting_of, slots_in}
 use Rattle.papaya_store.specs.Performs.{Exchanges, MakesTable, Performs, Refuses, own_key, same, size_of}
 use Rattle.papaya_store.specs.Store.{StoreState, Stored, pair_of}
 use Rattle.papaya_store.specs.Tables.{hint_at, note, word_at, put}
@@ -58,7 +58,7 @@ module _ {K V S A : Type 0} (eq : K → K → Bool) (says : Says K V A) (hash : 
     (hints : (t x : ℕ) → IsHint (law_setting eq hash mode store) (law_coding hash) (run es start) t x (hint_at store.words t x))
     (last : (p : Stored K V) → tale.hands.call.last ≡ Some p → pair_of store p.number ≡ Some p)
     (opens : (t : ℕ) → ask_of r.machine ≡ asks.Call (Ask_exchange Root 0 t) → IsMade store t)
-    (links : (behind t chunks : ℕ) → link_in r.machine.phase ≡ Some (Linking behind t chunks) → IsMade store t)
+    (links : (behind t chunks : ℕ) → link_in r.machine.phase ≡ Some (Linking behind t chunks) → IsMadeFor store t chunks)
     (own : own_key store r ≡ Some key) where
   -- what an answer leaves, where it is this
   abbrev Leaves : Call_ask → Call_answer → StoreState K V S → Running K V A → Type 0
@@ -101,7 +101,7 @@ module _ {K V S A : Type 0} (eq : K → K → Bool) (says : Says K V A) (hash : 
       matched (Leaves (Ask_exchange at old new) a store' later) (word_at store.words at == old) _ _ h
       (λ hit done. subst (λ y. Leaves (Ask_exchange at old new) y store' later) (sym done.0)
       (subst (λ y. Leaves (Ask_exchange at old new) Exchanged y later) (sym done.1) (subst (Leaves (Ask_exchange at old new) Exchanged (record store { words = put store.words at new })) (sym same_call)
-      (call_exchanged (law_setting eq hash mode store) (law_coding hash) store r es tale (Some key) hashed key split may rests coded there opens links own (λ t. refl) at old new e hit))))
+      (call_exchanged (law_setting eq hash mode store) (law_coding hash) store r es tale (Some key) hashed key split may rests coded there opens links own (λ t. refl) (λ t. refl) at old new e hit))))
       (λ miss lost.
       let g = law_setting eq hash mode store in
       let c = law_coding hash in
@@ -174,7 +174,7 @@ module _ {K V S A : Type 0} (eq : K → K → Bool) (says : Says K V A) (hash : 
       let c = law_coding hash in
       let m = r.machine.call in
       let on : IsOn (run (tale.begun ++ tale.since) start).first (run (tale.begun ++ tale.since) start).next n = subst (IsNamed g c hashed tale.begun tale.since may key) (call_asks r.machine (SizeOf n) e).1 (ask_named g c hashed tale.begun tale.since may key tale.hands.call m.task m.hash m.made m.state rests.call.stage) in
-      let words = on_there (law_setting eq hash mode store) (law_coding hash) store r es tale (Some key) hashed key split may rests coded there opens links own (λ t. refl) n on in
+      let words = on_there (law_setting eq hash mode store) (law_coding hash) store r es tale (Some key) hashed key split may rests coded there opens links own (λ t. refl) (λ t. refl) n on in
       answered_quietly (SizeOf n) e a store' later tale.hands.call stays.0 stays.1
       ((words.0.limit, sym (ap places_in words.1), is ∙ ap size_of words.1 ∙ ap (λ y. Size y words.0.limit) (sym (ap slots_in words.1))), (refl, refl)) refl
       (λ p h. inl h) refl

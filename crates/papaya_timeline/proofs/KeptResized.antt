@@ -114,7 +114,7 @@ module _ {K V S A : Type 0} (eq : K → K → Bool) (hash : K → ℕ) (law : Is
   keeps = keeping g hashed.lawful es may
 
   suits : Suits eq hashes g c s.store
-  suits = record { sizes = λ t. refl; places = λ t. refl; numbers = λ p. refl; hashes_of = λ p. ap (λ (f : K → ℕ). f p.key % 2 ^ 64) (sym hasher); sames = λ p q. refl }
+  suits = record { sizes = λ t. refl; places = λ t. refl; chunks = λ t. refl; numbers = λ p. refl; hashes_of = λ p. ap (λ (f : K → ℕ). f p.key % 2 ^ 64) (sym hasher); sames = λ p q. refl }
 
   -- a table of the chain has a number no greater than how many there are
   on_low : (t : ℕ) → IsOn now.first now.next t → t ≤ length s.store.words.tables

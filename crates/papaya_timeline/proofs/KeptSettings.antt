@@ -8,11 +8,13 @@ use Rattle.papaya_words.specs.Table.{TableWords}
 use Rattle.papaya_words.specs.Probe.{place}
 use Rattle.papaya_words.specs.declared.probe.ResizeMode.{ResizeMode}
 use Rattle.papaya_ask.specs.Search.{IsSize}
+use Rattle.papaya_law.specs.Exchange.{Setting}
 use Rattle.papaya_law.specs.Grows.{Agrees}
 use Rattle.papaya_law.specs.Hashing.{hashed}
 use Rattle.papaya_law.specs.Code.{IsHashed}
 use Rattle.papaya_law.proofs.Hashing.{hashed_lawful}
 use Rattle.papaya_law.proofs.Logs.{planned_lawful}
+use Rattle.papaya_rests.specs.Rests.{IsCutAs}
 use Rattle.papaya_timeline.specs.Kept.{chunks_in, is_blocking, setting_of, coding_of, low, slots_in, places_in}
 use Rattle.papaya_store.specs.Store.{Stored}
 use Rattle.papaya_store.specs.Tables.{table_of}
@@ -48,6 +50,10 @@ module _ {K V : Type 0} (eq : K → K → Bool) (hash : K → ℕ) where
         places = λ k t j. refl;
       }
 
+  -- the setting copies each slot in the chunk in which the mode does
+  pub setting_cut : (mode : ResizeMode) (tables : List TableWords) → IsCutAs mode (setting_of {V = V} eq (low hash) mode tables).chunk_of
+  setting_cut mode tables x = refl
+
   -- where tables grow, the setting says of the made ones what it said
   pub grown_agrees : (mode mode' : ResizeMode) (tables tables' : List TableWords) → mode' ≡ mode → HasMoreTables tables tables' → (On : ℕ → Type 0) → ((t : ℕ) → On t → (words : TableWords) × (table_of tables t ≡ Some words)) → Agrees On (setting_of {V = V} eq (low hash) mode tables) (setting_of {V = V} eq (low hash) mode' tables')
   grown_agrees mode mode' tables tables' same grown On made =
@@ -73,3 +79,7 @@ module _ {K V : Type 0} (eq : K → K → Bool) (hash : K → ℕ) where
           let m = made t on in
           let g = grown t m.0 m.1 in
           ap chunks_in g.1 ∙ g.4 ∙ sym (ap chunks_in m.1)
+
+-- what copies as one of two settings that agree does so as the other
+pub cut_carries : {K P : Type 0} {On : ℕ → Type 0} {g g' : Setting K P} → Agrees On g g' → (mode : ResizeMode) → IsCutAs mode g.chunk_of → IsCutAs mode g'.chunk_of
+cut_carries agrees mode cut x = agrees.chunk_of x ∙ cut x

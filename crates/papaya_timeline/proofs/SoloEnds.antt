@@ -76,14 +76,14 @@ module _ {K V A : Type 0} where
 
 module _ {K V S A : Type 0} (eq : K → K → Bool) (hash : S → K → ℕ) (s : CoreState K V S A) (law : IsLawfulKeys eq (hash s.store.hasher)) where
   -- a call that begins alone is so
-  pub lone_begin : (call : Call K V A) (s' : CoreState K V S A) → s.callers ≡ [] → IsLawfulCore eq (hash s.store.hasher) s.store s.callers s.mode → Begins (hash s.store.hasher) s 0 call s' → IsLoneWork eq hash s' (begun_work (hash s.store.hasher) s.mode s.initial call)
-  lone_begin call s' idle lawful x = by_work (begun_work (hash s.store.hasher) s.mode s.initial call) refl
+  pub lone_begin : (call : Call K V A) (s' : CoreState K V S A) → s.callers ≡ [] → IsLawfulCore eq (hash s.store.hasher) s.store s.callers s.mode → Begins (hash s.store.hasher) s 0 call s' → IsLoneWork eq hash s' (begun_work (hash s.store.hasher) s.mode s.initial x.number call)
+  lone_begin call s' idle lawful x = by_work (begun_work (hash s.store.hasher) s.mode s.initial x.number call) refl
     where
       f : Follows eq hash s law whatever s'
       f = follows_begin eq hash s law whatever call s' idle lawful.core lawful.law.0 lawful.law.1.0 lawful.law.1.1 x
 
-      alone : (work : Work K V A) → begun_work (hash s.store.hasher) s.mode s.initial call ≡ work → s'.callers ≡ one_seat (Some work)
-      alone work e = x.callers ∙ ap (λ (l : List (Seat K V A)). with_work (with_seat l 0) 0 (Some (begun_work (hash s.store.hasher) s.mode s.initial call))) idle ∙ ap (λ w. one_seat (Some w)) e
+      alone : (work : Work K V A) → begun_work (hash s.store.hasher) s.mode s.initial x.number call ≡ work → s'.callers ≡ one_seat (Some work)
+      alone work e = x.callers ∙ ap (λ (l : List (Seat K V A)). with_work (with_seat l 0) 0 (Some (begun_work (hash s.store.hasher) s.mode s.initial x.number call))) idle ∙ ap (λ w. one_seat (Some w)) e
 
       in_order' : IsLawfulCore eq (hash s'.store.hasher) s'.store s'.callers s'.mode
       in_order' = record { core = f.core; law = subst (λ y. (es : _) × ((tales : _) × IsKept eq (hash y) s'.mode s'.store s'.callers es tales)) (sym f.hasher_is) (f.es, (f.tales, f.kept)) }
@@ -92,7 +92,7 @@ module _ {K V S A : Type 0} (eq : K → K → Bool) (hash : S → K → ℕ) (s 
       visit_read (Incremental chunk) visit = tt
       visit_read Blocking visit = tt
 
-      by_work : (work : Work K V A) → begun_work (hash s.store.hasher) s.mode s.initial call ≡ work → IsLoneWork eq hash s' work
+      by_work : (work : Work K V A) → begun_work (hash s.store.hasher) s.mode s.initial x.number call ≡ work → IsLoneWork eq hash s' work
       by_work (works.Call r) e =
           let is = call_begun (hash s.store.hasher) s.mode s.initial call r e in
           record {

@@ -154,7 +154,7 @@ module _ {K V S A : Type 0} (eq : K → K → Bool) (hash : S → K → ℕ) (re
 
   -- an exchange that is made spends one
   suits : Suits eq hash g c s.store
-  suits = record { sizes = λ t. refl; places = λ t. refl; numbers = λ p. refl; hashes_of = λ p. refl; sames = λ p q. refl }
+  suits = record { sizes = λ t. refl; places = λ t. refl; chunks = λ t. refl; numbers = λ p. refl; hashes_of = λ p. refl; sames = λ p q. refl }
 
   abbrev IsSpent : At → ℕ → Type 0
   IsSpent at new = IsSpentAt eq (hash s.store.hasher) law s.mode s.store s.callers core es tales kept s'.store hash refuse at new

@@ -82,7 +82,7 @@ module _ {K V S A : Type 0} (eq : K → K → Bool) (hash : K → ℕ) (law : Is
   same = sym (run-append tale.begun tale.since start)
 
   suits : Suits eq hashes g c s.store
-  suits = record { sizes = λ t. refl; places = λ t. refl; numbers = λ p. refl; hashes_of = λ p. ap (λ (f : K → ℕ). f p.key % 2 ^ 64) (sym hasher); sames = λ p q. refl }
+  suits = record { sizes = λ t. refl; places = λ t. refl; chunks = λ t. refl; numbers = λ p. refl; hashes_of = λ p. ap (λ (f : K → ℕ). f p.key % 2 ^ 64) (sym hasher); sames = λ p q. refl }
 
   -- an exchange that is made spends one
   abbrev IsSpent : At → ℕ → Type 0
