@@ -570,7 +570,7 @@ module _ {K V S A : Type 0} (eq : K → K → Bool) (hash : K → ℕ) (law : Is
     maps = replay eq good.es ∷ good.maps;
     answers = None ∷ good.answers;
     core = core';
-    kept = kept_begin eq hash law s c call s' x good.core.chunked good.es good.tales good.kept;
+    kept = kept_begin eq hash law s c call s' x good.es good.tales good.kept;
     timeline = (λ j. refl, refl, good.timeline);
     logged = (logged.0, logged);
     given = (
@@ -594,7 +594,7 @@ module _ {K V S A : Type 0} (eq : K → K → Bool) (hash : K → ℕ) (law : Is
         let before : resizing begun_callers d ≡ Some z = sym (ap (λ (y : List (Seat K V A)). resizing y d) x.callers) ∙ now in
         elim (cases_same d c) [
           | inl same ↦
-              let is = resize_begun hash s.mode s.initial call z (same_item (begun_work hash s.mode s.initial x.number call) (works.Resize z) (resizing-here (with_seat s.callers c) c (Some (begun_work hash s.mode s.initial x.number call)) z (ap (resizing begun_callers) (sym same) ∙ before))) in
+              let is = resize_begun hash s.mode s.initial x.number call z (same_item (begun_work hash s.mode s.initial x.number call) (works.Resize z) (resizing-here (with_seat s.callers c) c (Some (begun_work hash s.mode s.initial x.number call)) z (ap (resizing begun_callers) (sym same) ∙ before))) in
               let is_call : call ≡ other = same_item call other (sym (open_call-own schedule c turn Begun h ∙ ap begun_by at) ∙ sym (ap (λ y. open_call schedule y (entry turn c Begun ∷ h)) same) ∙ e) in
               (subst IsResize is_call is, subst (λ y. change_of y (entry turn c Begun ∷ h) ≡ None) (sym same) (change_of-own c turn Begun h))
           | inr differ ↦
@@ -625,9 +625,9 @@ module _ {K V S A : Type 0} (eq : K → K → Bool) (hash : K → ℕ) (law : Is
       run_other d r differ now =
           sym (running-with_seat s.callers c d) ∙ sym (running-elsewhere (with_seat s.callers c) c d (Some (begun_work hash s.mode s.initial x.number call)) differ) ∙ sym (ap (λ (y : List (Seat K V A)). running y d) x.callers) ∙ now
 
-      run_same : (d : ℕ) (r : Running K V A) → d ≡ c → running s'.callers d ≡ Some r → IsBegun hash s.mode s.initial call r
+      run_same : (d : ℕ) (r : Running K V A) → d ≡ c → running s'.callers d ≡ Some r → IsBegun hash s.mode s.initial x.number call r
       run_same d r same now =
-          call_begun hash s.mode s.initial call r (same_item (begun_work hash s.mode s.initial x.number call) (works.Call r) (running-here (with_seat s.callers c) c (Some (begun_work hash s.mode s.initial x.number call)) r (sym (ap (λ (y : List (Seat K V A)). running y c) x.callers) ∙ ap (running s'.callers) (sym same) ∙ now)))
+          call_begun hash s.mode s.initial x.number call r (same_item (begun_work hash s.mode s.initial x.number call) (works.Call r) (running-here (with_seat s.callers c) c (Some (begun_work hash s.mode s.initial x.number call)) r (sym (ap (λ (y : List (Seat K V A)). running y c) x.callers) ∙ ap (running s'.callers) (sym same) ∙ now)))
 
       tale_other : (d : ℕ) → d ≢ c → tales d ≡ good.tales d
       tale_other d differ = ap (λ b. cond b (record { begun = good.es; since = []; hands = no_hands; visit = visits.no_hands }) (good.tales d)) (differs d c differ)
@@ -653,7 +653,7 @@ module _ {K V S A : Type 0} (eq : K → K → Bool) (hash : K → ℕ) (law : Is
       visited : (d : ℕ) (v : Visiting A) (other : Call K V A) → visiting s'.callers d ≡ Some v → open_call schedule d (entry turn c Begun ∷ h) ≡ Some other → IsVisitTied eq says s'.store schedule v other d (visit_tale (tales d)) (entry turn c Begun ∷ h) (replay eq good.es ∷ replay eq good.es ∷ good.maps) (None ∷ good.answers)
       visited d v other now e = elim (cases_same d c) [
         | inl same ↦
-            let begins = visit_begun hash s.mode s.initial call v (visits_same d v same now) in
+            let begins = visit_begun hash s.mode s.initial x.number call v (visits_same d v same now) in
             let is_call : call ≡ other = same_item call other (sym (open_call-own schedule c turn Begun h ∙ ap begun_by at) ∙ sym (ap (λ y. open_call schedule y (entry turn c Begun ∷ h)) same) ∙ e) in
             subst (λ y. IsVisitTied eq says s'.store schedule v other y (visit_tale (tales y)) (entry turn c Begun ∷ h) (replay eq good.es ∷ replay eq good.es ∷ good.maps) (None ∷ good.answers)) (sym same)
             (subst (λ y. IsVisitTied eq says s'.store schedule v y c (visit_tale (tales c)) (entry turn c Begun ∷ h) (replay eq good.es ∷ replay eq good.es ∷ good.maps) (None ∷ good.answers)) is_call
@@ -684,7 +684,7 @@ module _ {K V S A : Type 0} (eq : K → K → Bool) (hash : K → ℕ) (law : Is
             subst (λ y. IsTied eq s'.store r other y (tales y) (entry turn c Begun ∷ h) (replay eq good.es ∷ replay eq good.es ∷ good.maps) (None ∷ good.answers)) (sym same)
             (subst (λ y. IsTied eq s'.store r y c (tales c) (entry turn c Begun ∷ h) (replay eq good.es ∷ replay eq good.es ∷ good.maps) (None ∷ good.answers)) is_call
             (subst (λ y. IsTied eq s'.store y call c (tales c) (entry turn c Begun ∷ h) (replay eq good.es ∷ replay eq good.es ∷ good.maps) (None ∷ good.answers)) (sym is.is)
-            (subst (λ y. IsTied eq s'.store (begun hash s.mode s.initial is.task is.key (value_of_call call) (answers_of_call call)) call c y (entry turn c Begun ∷ h) (replay eq good.es ∷ replay eq good.es ∷ good.maps) (None ∷ good.answers)) (sym tale_same) (tied_begun r is))))
+            (subst (λ y. IsTied eq s'.store (begun hash s.mode s.initial x.number is.task is.key (value_of_call call) (answers_of_call call)) call c y (entry turn c Begun ∷ h) (replay eq good.es ∷ replay eq good.es ∷ good.maps) (None ∷ good.answers)) (sym tale_same) (tied_begun r is))))
         | inr differ ↦
             let ne : c ≢ d = λ z. differ (sym z) in
             subst (λ y. IsTied eq s'.store r other d y (entry turn c Begun ∷ h) (replay eq good.es ∷ replay eq good.es ∷ good.maps) (None ∷ good.answers)) (sym (tale_other d differ))
@@ -696,7 +696,7 @@ module _ {K V S A : Type 0} (eq : K → K → Bool) (hash : K → ℕ) (law : Is
           nothing_before [] rest none = refl
           nothing_before (y ∷ so_far) rest none = cc
 
-          tied_begun : (r : Running K V A) (is : IsBegun hash s.mode s.initial call r) → IsTied eq s'.store (begun hash s.mode s.initial is.task is.key (value_of_call call) (answers_of_call call)) call c (record { begun = good.es; since = []; hands = no_hands; visit = visits.no_hands }) (entry turn c Begun ∷ h) (replay eq good.es ∷ replay eq good.es ∷ good.maps) (None ∷ good.answers)
+          tied_begun : (r : Running K V A) (is : IsBegun hash s.mode s.initial x.number call r) → IsTied eq s'.store (begun hash s.mode s.initial x.number is.task is.key (value_of_call call) (answers_of_call call)) call c (record { begun = good.es; since = []; hands = no_hands; visit = visits.no_hands }) (entry turn c Begun ∷ h) (replay eq good.es ∷ replay eq good.es ∷ good.maps) (None ∷ good.answers)
           tied_begun r is = record {
             own = is.key;
             key = refl;

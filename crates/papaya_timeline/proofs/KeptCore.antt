@@ -117,7 +117,7 @@ module _ {K V S A H : Type 0} (eq : K → K → Bool) (input : K → List (List 
   pub begin_lawful : (s : CoreState K V S A) (caller : ℕ) (call : Call K V A) (s' : CoreState K V S A) → Begins (hash_of input build write finish s.store.hasher) s caller call s' → IsCore s'.store s'.callers s'.mode → Lawful s → Lawful s'
   begin_lawful s caller call s' begins core lawful =
       let (es, (tales, kept)) = lawful.law in
-      let kept' = kept_begin eq (hash_of input build write finish s.store.hasher) (keys_lawful eq input build write finish classes respects s.store.hasher) s caller call s' begins lawful.core.chunked es tales kept in
+      let kept' = kept_begin eq (hash_of input build write finish s.store.hasher) (keys_lawful eq input build write finish classes respects s.store.hasher) s caller call s' begins es tales kept in
       let same : s.store.hasher ≡ s'.store.hasher = ap (λ (y : StoreState K V S). y.hasher) (sym begins.store) in
       record { core = core; law = subst (λ h. (es : _) × ((tales : _) × IsKept eq (hash_of input build write finish h) s'.mode s'.store s'.callers es tales)) same (es, (_, kept')) }
 

@@ -107,7 +107,7 @@ machine_making m behind slots limit chunks e = by_phase m.phase e
 le-of-eq : (a b : ℕ) → a ≡ b → a ≤ b
 le-of-eq a b e = omega (arith, e)
 
-module _ {K V S A : Type 0} (eq : K → K → Bool) (says : Says K V A) (hash : S → K → ℕ) (refuse : Bool) (s : StoreState K V S) (r : Running K V A) (a : Answer) (s' : StoreState K V S) (r' : Running K V A) where
+module _ {K V S : Type 0} (eq : K → K → Bool) (hash : S → K → ℕ) (refuse : Bool) (s : StoreState K V S) (a : Answer) (s' : StoreState K V S) where
   -- a number that a copier is told of a table is that of one with as many words as were asked for
   pub copier_made : (slots limit chunks : ℕ) → PerformsCopy eq hash refuse (copies.MakeTable slots limit chunks) s a s' → (n : ℕ) → a ≡ answers.Call (Made_number n) → IsMadeFor s' n chunks
   copier_made slots limit chunks (told, is, h) n made =
@@ -122,8 +122,9 @@ module _ {K V S A : Type 0} (eq : K → K → Bool) (says : Says K V A) (hash : 
           let new = new_table (length s.words.tables + 1) slots limit chunks in
           (new, ap (λ (y : StoreState K V S). table_of y.words.tables n) grown ∙ ap (table_of (s.words.tables ++ new ∷ [])) (sym number) ∙ made-there s.words (length s.words.tables + 1) slots limit chunks, le-of-eq chunks (length new.done) (sym (length-replicate chunks 0)))
 
+module _ {K V S A : Type 0} (eq : K → K → Bool) (says : Says K V A) (hash : S → K → ℕ) (refuse : Bool) (s : StoreState K V S) (r : Running K V A) (a : Answer) (s' : StoreState K V S) (r' : Running K V A) where
   -- so it is where a call was set aside
   pub copy_made : (m : Machine) (behind slots limit chunks : ℕ) → link_in m.phase ≡ Some (links.Making behind slots limit chunks) → PerformsAsk eq says hash refuse (machine.ask_of m) s r a s' r' → (n : ℕ) → a ≡ answers.Call (Made_number n) → IsMadeFor s' n chunks
   copy_made m behind slots limit chunks making h n made =
       let performs = subst (λ ask. PerformsAsk eq says hash refuse ask s r a s' r') (machine_making m behind slots limit chunks making) h in
-      copier_made slots limit chunks performs.0 n made
+      copier_made eq hash refuse s a s' slots limit chunks performs.0 n made

@@ -94,7 +94,7 @@ module _ {K V S A : Type 0} (eq : K → K → Bool) (hash : S → K → ℕ) (s 
 
       by_work : (work : Work K V A) → begun_work (hash s.store.hasher) s.mode s.initial x.number call ≡ work → IsLoneWork eq hash s' work
       by_work (works.Call r) e =
-          let is = call_begun (hash s.store.hasher) s.mode s.initial call r e in
+          let is = call_begun (hash s.store.hasher) s.mode s.initial x.number call r e in
           record {
             callers = alone (works.Call r) e;
             lawful = in_order';
@@ -102,14 +102,14 @@ module _ {K V S A : Type 0} (eq : K → K → Bool) (hash : S → K → ℕ) (s 
             current = subst (λ (y : Running K V A). IsCurrent (word_at s'.store.words) y.machine) (sym is.is) (tt, tt);
           }
       by_work (works.Resize z) e =
-          let is = resizer_begun_is (hash s.store.hasher) s.mode s.initial call z e in
+          let is = resizer_begun_is (hash s.store.hasher) s.mode s.initial x.number call z e in
           record {
             callers = alone (works.Resize z) e;
             lawful = in_order';
             read = subst (IsResizerRead (word_at s'.store.words)) (sym is.is) (begun_read s.mode (word_at s'.store.words) is.resize);
           }
       by_work (works.Visit v) e =
-          let is = visitor_begun_is (hash s.store.hasher) s.mode s.initial call v e in
+          let is = visitor_begun_is (hash s.store.hasher) s.mode s.initial x.number call v e in
           record {
             callers = alone (works.Visit v) e;
             lawful = in_order';

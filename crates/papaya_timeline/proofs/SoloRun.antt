@@ -121,7 +121,7 @@ module _ {K V S A : Type 0} (eq : K → K → Bool) (hash : S → K → ℕ) (s 
     es = es;
     tales = begun_tales tales 0 es;
     core = begin-core (hash s.store.hasher) s 0 call s' x core;
-    kept = kept_begin eq (hash s.store.hasher) law s 0 call s' x core.chunked es tales kept;
+    kept = kept_begin eq (hash s.store.hasher) law s 0 call s' x es tales kept;
     counted = counted_begin eq (hash s.store.hasher) s 0 call s' x (ap (λ (l : List (Seat K V A)). working l 0) idle);
     hasher_is = ap (λ (y : StoreState K V S). y.hasher) x.store;
     mode_is = x.mode;
