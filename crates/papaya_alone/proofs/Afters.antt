@@ -68,13 +68,13 @@ settle_after settle slot mode initial (answers.Count count) = settle_specs.at_co
 -- the copy of a chunk
 abbrev pub step_called : Step → ResizeMode → (number : ℕ) → Call_answer → Stepped
 step_called step mode number (Word_read word) = step_specs.at_word step mode word
-step_called step mode Exchanged = step_specs.at_exchanged step mode
+step_called step mode number Exchanged = step_specs.at_exchanged step mode
 step_called step mode number (Found_instead word) = step_specs.at_found step mode word
 step_called step mode number (Yes same) = step_specs.at_yes step mode same
 step_called step mode number (Size slots limit) = stepped.On (step_specs.at_size step mode number slots limit)
 step_called step mode number (Made_number n) = stepped.On (step_specs.at_made step n)
 step_called step mode number (Was_refused refused) = step_specs.at_refused step mode refused
-step_called step mode Ok_done = step_specs.at_ok step mode
+step_called step mode number Ok_done = step_specs.at_ok step mode
 step_called step mode number _ = stepped.On step
 
 abbrev pub step_after : Step → ResizeMode → (initial number : ℕ) → Answer → Stepped

@@ -94,6 +94,7 @@ module _ (words words' : At → ℕ) (bare : IsBare words) (bare' : IsBare words
       (⊎_elim (λ (h : IsSpent before later). inl h) (λ (h : (later ≡ before) × (0 < left_of_step step)). inr (h.0, omega arith)) nears, (tt, tt))
   led_lowers aim step left (stepped.Root root) goes nears read = absurd goes
   led_lowers aim step left (stepped.Last table) goes nears read = absurd goes
+  led_lowers aim step left (stepped.Further chunk) goes nears read = absurd goes
   led_lowers aim step left stepped.Over goes nears read = absurd goes
 
   -- a chunk that is not over yet
@@ -168,7 +169,8 @@ module _ (words words' : At → ℕ) (bare : IsBare words) (bare' : IsBare words
       → (rank_of (words' words_at.Root) (after_copied m (further_of aim chunk)) < rank 5 0 left) × IsCurrent words' (after_copied m (further_of aim chunk))
   further_lowers (aims.Search t) chunk left which behind least read less = (omega arith, overs_current (aims.Search t) which least)
   further_lowers (aims.Settle slot) chunk left which behind least read less = (omega arith, overs_current (aims.Settle slot) which least)
-  further_lowers aims.Chunk chunk left which behind least read less = absurd (⊎_elim (λ h. h.1.1.0) (λ h. let e = h.1.1 in absurd (cc e)) which)
+  further_lowers aims.Chunk chunk left (inl which) behind least read less = absurd which.1.1
+  further_lowers aims.Chunk chunk left (inr which) behind least read less = let e = which.1.1 in absurd (cc e)
   further_lowers (aims.All met) chunk left which behind least read less = (omega (arith, less), ((tt, read), behind))
 
   round_lowers : (aim : Aim) (scan : Scan) (answer : Answer) → scan.copied ≡ true → IsFor m aim → IsBehind words → IsCopyingRead mode words (copyings.Stepping aim (steps.Scanning scan)) → IsCopyPrompt words (step_ask (steps.Scanning scan)) answer words' → SpendsCopy (step_ask (steps.Scanning scan)) answer before later
@@ -206,12 +208,12 @@ module _ (words words' : At → ℕ) (bare : IsBare words) (bare' : IsBare words
           (scanned_within mode words' scan (same_scan mode m.call.initial m.number words words' bare' scan read.1 told.1) done (told.1 (words_at.Done scan.to scan.at)))
 
   -- the word of a chunk is loaded
-  scanning_lowers : (aim : Aim) (scan : Scan) (answer : Answer) → IsFor m aim → IsBehind words → IsCopyingRead mode words (copyings.Stepping aim (steps.Scanning scan)) → IsCopyPrompt words (step_ask (steps.Scanning scan)) answer words' → SpendsCopy (step_ask (steps.Scanning scan)) answer before later
+  scanning_lowers : (aim : Aim) (scan : Scan) (answer : Answer) → IsFor m aim → HasNext mode words (steps.Scanning scan) → IsBehind words → IsCopyingRead mode words (copyings.Stepping aim (steps.Scanning scan)) → IsCopyPrompt words (step_ask (steps.Scanning scan)) answer words' → SpendsCopy (step_ask (steps.Scanning scan)) answer before later
       → Lowers words words' before later m (rank_of_step (words words_at.Root) aim (steps.Scanning scan)) (after_copied m (copying_after (copyings.Stepping aim (steps.Scanning scan)) mode m.call.initial m.number answer))
-  scanning_lowers aim scan answer which left read told spends =
+  scanning_lowers aim scan answer which next left read told spends =
       ⊎_elim
       (λ (e : scan.copied ≡ true). subst (λ b. Lowers words words' before later m (cond b (rank 5 0 (left_of_step (steps.Scanning scan))) (rank 1 0 (left_of_step (steps.Scanning scan)))) (after_copied m (copying_after (copyings.Stepping aim (steps.Scanning scan)) mode m.call.initial m.number answer))) (sym e) (round_lowers aim scan answer e which left read told spends))
-      (λ (e : scan.copied ≡ false). midway_lowers aim (steps.Scanning scan) answer e e tt left read told spends)
+      (λ (e : scan.copied ≡ false). midway_lowers aim (steps.Scanning scan) answer e e next left read told spends)
       (cases_Bool scan.copied)
 
   -- all was copied, and the other table becomes the root
@@ -280,7 +282,7 @@ module _ (words words' : At → ℕ) (bare : IsBare words) (bare' : IsBare words
   copying_lowers (copyings.Stepping aim (steps.Linking from link)) answer which left read known told spends = midway_lowers aim (steps.Linking from link) answer tt tt known left read told spends
   copying_lowers (copyings.Stepping aim (steps.Judging from to)) answer which left read known told spends = midway_lowers aim (steps.Judging from to) answer tt tt known left read told spends
   copying_lowers (copyings.Stepping aim (steps.Sizing from to)) answer which left read known told spends = midway_lowers aim (steps.Sizing from to) answer tt tt known left read told spends
-  copying_lowers (copyings.Stepping aim (steps.Scanning scan)) answer which left read known told spends = scanning_lowers aim scan answer which left read told spends
+  copying_lowers (copyings.Stepping aim (steps.Scanning scan)) answer which left read known told spends = scanning_lowers aim scan answer which known left read told spends
   copying_lowers (copyings.Stepping aim (steps.Settling chunk settle)) answer which left read known told spends = midway_lowers aim (steps.Settling chunk settle) answer tt tt known left read told spends
   copying_lowers (copyings.Stepping aim (steps.Advancing scan)) answer which left read known told spends = advancing_lowers aim scan answer left read told spends
   copying_lowers (copyings.Stepping aim (steps.Promoting from to)) answer which left read known told spends = promoting_lowers aim from to answer which known read told spends

@@ -44,10 +44,10 @@ module _ (before later : Budget) where
   call_spent kind (call_asks.Exchange at old new) Exchanged h = exchange_spent kind h
   call_spent kind ask answer h = inr h
 
-module _ (words words' : At → ℕ) (bare : IsBare words) (before later : Budget) (number : ℕ) (helped : Bool) (call : Call_machine) where
+module _ (words words' : At → ℕ) (bare : IsBare words) (before later : Budget) (start : ℕ) (helped : Bool) (call : Call_machine) where
   -- the machine in a stage of its call
   abbrev in_stage : Stage → Machine
-  in_stage stage = record { call = record call { state = stage }; number = number; helped = helped; phase = Calling }
+  in_stage stage = record { call = record call { state = stage }; number = start; helped = helped; phase = Calling }
 
   -- the budget is spent, or less is left; and what was read stands there still
   abbrev pub Lowered : Stage → Machine → Type 0

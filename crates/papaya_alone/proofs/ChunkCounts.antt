@@ -234,7 +234,7 @@ module _ {K P : Type 0} (g : Setting K P) (c : Coding K P) (hashed : IsHashed g 
       let copying = copyings.Stepping aims.Chunk step in
       let h = told_of_ask g c s hands (Copying began copying) (copying_ask copying) refl answer es hands' told in
       let answers_so = prompt g c hashed s m keeps bounded (Incremental slots) initial number hands copying r made read.0 answer es hands' h in
-      let may = (stage_learns g c hashed s m keeps Chunk (Incremental slots) initial number hands moded cut (Copying began copying) (own, r) made answer es hands' told).0 in
+      let may = (stage_learns g c hashed s m keeps Chunk (Incremental slots) initial number hands moded cut (Copying began copying) (own, r) answer (λ _. made) es hands' told).0 in
       let later = later_run g hashed.lawful es s may in
       let is : s.next from ≡ to = d.pending.next in
       let some : 0 < to = d.pending.more in
@@ -242,7 +242,7 @@ module _ {K P : Type 0} (g : Setting K P) (c : Coding K P) (hashed : IsHashed g 
       subst (λ y. WillCopyIn (word_of g c (run es s)) from to (chunks_of (g.size from) slots) due (copied Chunk began y)) (sym (copying_steps (Incremental slots) initial number aims.Chunk step answer))
       (step_leads g c s hands.call.last hands.kept (word_of g c (run es s)) slots initial number began from to due moded cut d rises (later.next from (omega (arith, is, some)) ∙ is) (λ chunk. undone (s.done to chunk) ((run es s).done to chunk) (later.done to chunk)) step answer r.1 read.0.1 goes answers_so)
     where
-      undone : (before after : Bool) → (before ≡ true → after ≡ true) → cond after 1 0 ≡ 0 → cond before 1 0 ≡ 0
+      undone : (before after : Bool) → (before ≡ true → after ≡ true) → ◌≡◌ {A = ℕ} (cond after 1 0) 0 → ◌≡◌ {A = ℕ} (cond before 1 0) 0
       undone true true keeps e = e
       undone true false keeps e = let no = keeps refl in absurd (cc no)
       undone false after keeps e = refl

@@ -138,7 +138,7 @@ module _ {K P : Type 0} (g : Setting K P) (c : Coding K P) (hashed : IsHashed g 
       (link_there g c hashed now (map_left g (begun ++ since)) keeps hands.call.last hands.kept link at.rests)
       (link_may g c hashed now (map_left g (begun ++ since)) keeps hands.call.last hands.kept link at.rests made) answer es hands' told
       in
-      let out = link_learns_all g c hashed begun since may call.mode cut call.initial hands link at.rests made answer es hands' told in
+      let out = link_learns_all g c hashed begun since may call.mode cut call.initial hands link at.rests answer (λ _. made) es hands' told in
       let later_sound : IsSound g (run (begun ++ (since ++ es)) start) = keeping_sound g (run (begun ++ (since ++ es)) start) (map_left g (begun ++ (since ++ es))) (keeping g hashed.lawful (begun ++ (since ++ es)) out.0) in
       linking_lowers words words' before later (at_phase (Linking link)) read.0 link read.1 read.2 at.left answer prompt spends
       (λ table e.

@@ -417,14 +417,14 @@ module _ {K P : Type 0} (g : Setting K P) (c : Coding K P) (hashed : IsHashed g 
   stage_current (Linking link) r made read answer es hands' told =
       let h = told_of_ask g c s hands (Linking link) (link_ask link) refl answer es hands' told in
       let answers_so = link_prompt link r made answer es hands' h in
-      let out = link_learns g c s m keeps mode initial hands link r made answer es hands' h in
+      let out = link_learns g c s m keeps mode cut initial hands link r answer (λ _. made) es hands' h in
       linked_read es hands' (follows link) (stays_at words (words_after es) answer (link_ask link) answers_so words_at.Root (link_puts link words_at.Root tt) ∙ read.0.0) read.0.1 (link_after link mode initial answer) (link_ends mode words (words_after es) initial link answer read.1 answers_so).1 out.1
   stage_current (Copying from copying) (own, r) made read answer es hands' told =
       let h = told_of_ask g c s hands (Copying from copying) (copying_ask copying) refl answer es hands' told in
       let answers_so = prompt g c hashed s m keeps bounded mode initial number hands copying r made read.0 answer es hands' h in
       let bare = words_bare g c (run es s) in
       let end : Copied = copying_after copying mode initial number answer in
-      let may = (stage_learns g c hashed s m keeps resize mode initial number hands moded cut (Copying from copying) (own, r) made answer es hands' told).0 in
+      let may = (stage_learns g c hashed s m keeps resize mode initial number hands moded cut (Copying from copying) (own, r) answer (λ _. made) es hands' told).0 in
       copied_read mode (words_after es) resize from end (copying_ends mode initial number words (words_after es) bare copying answer read.0 answers_so).1
       (⊎_elim (λ (chunk : (resize ≡ Chunk) × (from ≡ 0)). λ (goes_on : Root_copying) (is : end ≡ copied_to.On goes_on). inl chunk)
       (λ (all : IsFrom words from copying).

@@ -22,7 +22,7 @@ pub record IsPending (words : At → ℕ) (from to : ℕ) : Type 0 where
   pub more : 0 < to
 
 -- how many of the first so many chunks are not copied: their words are 0
-pub due_of : (words : At → ℕ) (to chunks : ℕ) → ℕ
+abbrev pub due_of : (words : At → ℕ) (to chunks : ℕ) → ℕ
 due_of words to zero = 0
 due_of words to (suc n) = if words (words_at.Done to n) == 0 then due_of words to n + 1
     else due_of words to n

@@ -263,6 +263,14 @@ impl<K: Hash + Eq, V, S: BuildHasher> Store<K, V, S> {
         }
     }
 
+    /// Where the next copy of a chunk to table `n` may begin; 0 where there is no such table.
+    pub fn begin(&self, n: u64) -> usize {
+        match self.table(n) {
+            Some(table) => table.begin(),
+            None => 0,
+        }
+    }
+
     /// Writes the word at a place, where there is such a place.
     #[inline(always)]
     fn put(&mut self, at: At, word: u64)
