@@ -38,8 +38,12 @@ sum-set f xs i x y there =
 pub sum-set_word : (f : ℕ → ℕ) (xs : List ℕ) (i y : ℕ) → i < length xs → sum_by f (slice_set xs i y) + f (slice_index xs i) ≡ sum_by f xs + f y
 sum-set_word f xs i y within = sum_by-set f xs i y 0 within
 
--- and the same of so many of the first words
-pub sum-set_first : (f : ℕ → ℕ) (n : ℕ) (xs : List ℕ) (i y : ℕ) → i < length xs → i < n → sum_by f (take n (slice_set xs i y)) + f (slice_index xs i) ≡ sum_by f (take n xs) + f y
+-- each item of a list is within a bound
+all_within : {X : Type 0} (f : X → ℕ) (m : ℕ) (xs : List X) → ((x : X) → f x ≤ m) → All (λ x. f x ≤ m) xs
+all_within f m xs h = λ k d lt. h _
+
+-- the same of so many of the first words
+sum-set_first : (f : ℕ → ℕ) (n : ℕ) (xs : List ℕ) (i y : ℕ) → i < length xs → i < n → sum_by f (take n (slice_set xs i y)) + f (slice_index xs i) ≡ sum_by f (take n xs) + f y
 sum-set_first f n xs i y within first =
     let long = length-take n xs in
     let here : i < length (take n xs) = subst (λ m. i < m) (sym long) (le-min {k = suc i} {a = n} {b = length xs} first within) in
@@ -47,6 +51,22 @@ sum-set_first f n xs i y within first =
     ap (λ zs. sum_by f zs + f (slice_index xs i)) (take-set-lt n xs i y first)
     ∙ ap (λ z. sum_by f (slice_set (take n xs) i y) + f z) (sym same)
     ∙ sum_by-set f (take n xs) i y 0 here
+
+-- so many words change as often at most
+first_few : (n : ℕ) (xs : List ℕ) → sum_by copies_of (take n xs) ≤ n
+first_few n xs =
+    let words = sum_by-le copies_of 1 (take n xs) (all_within copies_of 1 (take n xs) (λ word. omega arith)) in
+    let few : length (take n xs) ≤ n = subst (λ m. m ≤ n) (sym (length-take n xs)) (min-le_left n (length xs)) in
+    omega (arith, words, few)
+
+-- of the words of chunks one was set
+copies-set : (done : List ℕ) (chunk word : ℕ) → chunk < length done → chunk < 2 ^ 32 → copies_in (slice_set done chunk word) + copies_of (slice_index done chunk) ≡ copies_in done + copies_of word
+unfolding copies_in
+copies-set done chunk word within few = sum-set_first copies_of (2 ^ 32) done chunk word within few
+
+few_copies : (done : List ℕ) → copies_in done ≤ 2 ^ 32
+unfolding copies_in
+few_copies done = first_few (2 ^ 32) done
 
 -- the word is not one of a chunk beyond those that a table may have
 abbrev pub IsChunkOf : At → Type 0
@@ -83,7 +103,7 @@ placed-changes w (Aborted n) new (t, there) chunk_is =
 placed-changes w (Done n chunk) new (t, there, lt) chunk_is =
     subst (λ y. exchanges_in (put w (Done n chunk) new) + copies_of y ≡ exchanges_in w + copies_of new) (sym (ap (word_in (λ v. slice_index v.done chunk)) there))
     (put-changes w (Done n chunk) n new t there (copies_of (slice_index t.done chunk)) (copies_of new)
-    (let words = sum-set_first copies_of (2 ^ 32) t.done chunk new lt chunk_is in
+    (let words = copies-set t.done chunk new lt chunk_is in
     let is : exchanges_of (written (Done n chunk) t new) ≡ exchanges_of (record t { done = slice_set t.done chunk new }) = ap (λ v. exchanges_of v) (done-written w n chunk new t there lt) in
     omega (arith, words, is)))
 placed-changes w (Slot n i) new (t, there, lt) chunk_is =
@@ -119,18 +139,13 @@ few_links : (b : Bool) → cond b 1 0 ≤ 1
 few_links true = omega arith
 few_links false = omega arith
 
--- each item of a list is within a bound
-all_within : {X : Type 0} (f : X → ℕ) (m : ℕ) (xs : List X) → ((x : X) → f x ≤ m) → All (λ x. f x ≤ m) xs
-all_within f m xs h = λ k d lt. h _
-
 -- the words of a table of so many slots change so often at most
 pub few_exchanges : (t : TableWords) → length t.slots ≤ 2 ^ 32 → exchanges_of t ≤ 2 ^ 35
 few_exchanges t most =
     let slots = sum_by-le changes_of_word 3 t.slots (all_within changes_of_word 3 t.slots (λ word. few_changes (kind_of word))) in
     let link = few_links (t.next == 0) in
-    let words = sum_by-le copies_of 1 (take (2 ^ 32) t.done) (all_within copies_of 1 (take (2 ^ 32) t.done) (λ word. omega arith)) in
-    let few : length (take (2 ^ 32) t.done) ≤ 2 ^ 32 = subst (λ n. n ≤ 2 ^ 32) (sym (length-take (2 ^ 32) t.done)) (min-le_left (2 ^ 32) (length t.done)) in
-    omega (arith, slots, link, words, few)
+    let words = few_copies t.done in
+    omega (arith, slots, link, words)
 
 -- All words change less often than a bound, where tables are few and have sizes of tables.
 pub exchanges_few : (w : Tables) → length w.tables ≤ 2 ^ 32 → ((n : ℕ) (t : TableWords) → table_of w.tables n ≡ Some t → length t.slots ≤ 2 ^ 32) → exchanges_in w < 2 ^ 128

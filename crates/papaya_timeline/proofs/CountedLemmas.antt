@@ -103,7 +103,7 @@ pub counted_begin : {K V S A : Type 0} (eq : K → K → Bool) (hash : K → ℕ
 counted_begin {K} {V} {S} {A} eq hash s caller call s' begins free counted =
     subst (λ (y : StoreState K V S). IsCounted eq y s'.callers) (sym begins.store)
     (ap (λ (l : List (Seat K V A)). int_wrap w64 (s.store.count.sum +ℤ owed_in l)) begins.callers
-    ∙ ap (λ z. int_wrap w64 (s.store.count.sum +ℤ z)) (owed-begun s.callers caller free (Some (begun_work hash s.mode s.initial x.number call)) ∙ ap (λ z. owed_in s.callers +ℤ z) (begun_owes hash s.mode s.initial x.number call) ∙ omega (arith, ints))
+    ∙ ap (λ z. int_wrap w64 (s.store.count.sum +ℤ z)) (owed-begun s.callers caller free (Some (begun_work hash s.mode s.initial begins.number call)) ∙ ap (λ z. owed_in s.callers +ℤ z) (begun_owes hash s.mode s.initial begins.number call) ∙ omega (arith, ints))
     ∙ counted)
 
 module _ {K V S A : Type 0} (eq : K → K → Bool) (hash : K → ℕ) (law : IsLawfulKeys eq hash) {says : Says K V A} {hashes : S → K → ℕ} (refuse : Bool) (s : CoreState K V S A) (caller : ℕ) (s' : CoreState K V S A) (event : Event) (reply : Option Reply)

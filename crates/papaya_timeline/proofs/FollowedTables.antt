@@ -41,7 +41,7 @@ module _ {K P : Type 0} (g : Setting K P) (c : Coding K P) (s : State P) (last k
 
   step_follows : (goes : Step) → RestsStep g c s last kept goes → step.step_ask goes ≡ MakeTable slots limit chunks → On (step.step_follows goes)
   step_follows (steps.Linking from made) rests e = rests.2.on
-  step_follows (steps.Settling chunk goes) rests e = settle_follows (step.slot_of chunk) goes rests.3 e
+  step_follows (steps.Settling chunk goes) rests e = settle_follows (step.slot_of chunk) goes rests.1 e
   step_follows other rests e = absurd cc
 
   pub copying_follows : (goes : Copying) → RestsCopying g c s last kept goes → copying.copying_ask goes ≡ MakeTable slots limit chunks → On (copying.copying_follows goes)

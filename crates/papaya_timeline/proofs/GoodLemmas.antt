@@ -106,9 +106,9 @@ computed Clear is v = absurd cc
 computed (Retain a) is v = absurd cc
 computed Walk is v = absurd cc
 
-module _ {K V A : Type 0} (hash : K → ℕ) (mode : ResizeMode) (initial : ℕ) where
+module _ {K V A : Type 0} (hash : K → ℕ) (mode : ResizeMode) (initial number : ℕ) where
   -- a resizer begins for a call that resizes the map
-  resize_begun : (call : Call K V A) (z : Resizer) → begun_work hash mode initial call ≡ works.Resize z → IsResize call
+  resize_begun : (call : Call K V A) (z : Resizer) → begun_work hash mode initial number call ≡ works.Resize z → IsResize call
   resize_begun (Reserve more) z e = tt
   resize_begun CopyAll z e = tt
   resize_begun (Get k) z e = let f : None ≡ Some z = ap (λ (w : Work K V A). resizer_in (Some w)) e in absurd cc
@@ -121,12 +121,12 @@ module _ {K V A : Type 0} (hash : K → ℕ) (mode : ResizeMode) (initial : ℕ)
   resize_begun Walk z e = let f : None ≡ Some z = ap (λ (w : Work K V A). resizer_in (Some w)) e in absurd cc
 
   -- and a visitor for one that visits a table, with the answers of its closure
-  visit_is : (call : Call K V A) (visit : Visit) (answers : Option A) (v : Visiting A) → IsVisitOf call visit → works.Visit (visitor_begun mode initial visit answers) ≡ begun_work hash mode initial call → answers ≡ answers_of_call call → begun_work hash mode initial call ≡ works.Visit v → IsVisitOf call v.visitor.visit × (v.answers ≡ answers_of_call call)
+  visit_is : (call : Call K V A) (visit : Visit) (answers : Option A) (v : Visiting A) → IsVisitOf call visit → works.Visit (visitor_begun mode initial number visit answers) ≡ begun_work hash mode initial number call → answers ≡ answers_of_call call → begun_work hash mode initial number call ≡ works.Visit v → IsVisitOf call v.visitor.visit × (v.answers ≡ answers_of_call call)
   visit_is call visit answers v of begins are e =
-      let same : visitor_begun mode initial visit answers ≡ v = same_item (visitor_begun mode initial visit answers) v (ap (λ (w : Work K V A). visitor_in (Some w)) (begins ∙ e)) in
+      let same : visitor_begun mode initial number visit answers ≡ v = same_item (visitor_begun mode initial number visit answers) v (ap (λ (w : Work K V A). visitor_in (Some w)) (begins ∙ e)) in
       (subst (λ (u : Visiting A). IsVisitOf call u.visitor.visit) same of, ap (λ (u : Visiting A). u.answers) (sym same) ∙ are)
 
-  visit_begun : (call : Call K V A) (v : Visiting A) → begun_work hash mode initial call ≡ works.Visit v → IsVisitOf call v.visitor.visit × (v.answers ≡ answers_of_call call)
+  visit_begun : (call : Call K V A) (v : Visiting A) → begun_work hash mode initial number call ≡ works.Visit v → IsVisitOf call v.visitor.visit × (v.answers ≡ answers_of_call call)
   visit_begun Clear v e = visit_is Clear visit_kinds.Clear None v tt refl refl e
   visit_begun (Retain a) v e = visit_is (Retain a) visit_kinds.Retain (Some a) v tt refl refl e
   visit_begun Walk v e = visit_is Walk visit_kinds.Walk None v tt refl refl e

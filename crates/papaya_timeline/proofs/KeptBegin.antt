@@ -37,7 +37,7 @@ use Rattle.papaya_store.specs.Tables.{Tables, hint_at, slot_hint, table_of, word
 use Rattle.papaya_timeline.proofs.CallersLemmas.{differs, resizing-elsewhere, resizing-here, resizing-with_seat, running-elsewhere, running-here, running-with_seat, same_item, visiting-elsewhere, visiting-here, visiting-with_seat}
 use Rattle.papaya_timeline.proofs.CoreLemmas.{cases_same}
 use Rattle.papaya_timeline.proofs.KeptClosures.{begun_answers}
-use Rattle.papaya_timeline.proofs.KeptSettings.{setting_cut}
+use Rattle.papaya_timeline.proofs.KeptSettings.{mode_cut}
 use Rattle.papaya_timeline.proofs.KeptTables.{word-made}
 use Rattle.papaya_timeline.proofs.VisitBegins.{visit_begins}
 use Rattle.papaya_chain_rests.specs.VisitTold as visits
@@ -87,7 +87,7 @@ module _ {K V S A : Type 0} (eq : K → K → Bool) (hash : K → ℕ) where
       answers = begun_answers call x.task x.task_is;
       split = append-nil es;
       rests = record {
-        cut = setting_cut {V = V} eq hash s.mode s.store.words.tables;
+        cut = mode_cut s.mode;
         call = record { hash = sym (mod-eq_of_lt (fits x.key x.key_is)); mode = mode_of s.mode; made = record { keys = λ q l. absurd l; made_is = tt; fill_is = tt; choice_is = tt }; stage = tt };
         phase = tt;
       };
@@ -103,7 +103,7 @@ module _ {K V S A : Type 0} (eq : K → K → Bool) (hash : K → ℕ) where
     -- a call that resizes the map rests on nothing
     new_resizer : (z : Resizer) → IsResizeBegun hash s.mode s.initial number call z → IsResizing eq hash s.mode s.store z es new_tale
     new_resizer z x = subst (λ (y : Resizer). IsResizing eq hash s.mode s.store y es new_tale) (sym x.is) (record {
-      rests = resizer_begins (setting_of eq (low hash) s.mode s.store.words.tables) (coding_of (low hash)) (run es start) no_hands x.resize s.mode s.initial number (mode_of s.mode) (setting_cut {V = V} eq hash s.mode s.store.words.tables);
+      rests = resizer_begins (setting_of eq (low hash) s.mode s.store.words.tables) (coding_of (low hash)) (run es start) no_hands x.resize s.mode s.initial number (mode_of s.mode) (mode_cut s.mode);
       last = λ p l. absurd cc;
       carried = λ p l. absurd cc;
       opens = λ t l. absurd (unopened x.resize t l);

@@ -35,6 +35,10 @@ some_place : (o : Option TableWords) → 0 < places_in o
 some_place None = omega arith
 some_place (Some t) = omega arith
 
+-- a mode cuts as it does
+pub mode_cut : (mode : ResizeMode) → IsCutAs mode (chunk_of (chunk_len mode))
+mode_cut mode x = refl
+
 module _ {K V : Type 0} (eq : K → K → Bool) (hash : K → ℕ) where
   -- keys are placed by their hashes
   pub tables_hashed : IsLawfulKeys eq hash → (mode : ResizeMode) (tables : List TableWords) → ((n : ℕ) (t : TableWords) → table_of tables n ≡ Some t → IsSize (length t.slots) t.limit) → IsHashed (setting_of {V = V} eq (low hash) mode tables) (coding_of (low hash))
@@ -49,10 +53,6 @@ module _ {K V : Type 0} (eq : K → K → Bool) (hash : K → ℕ) where
         coding = record { respects = alike; hash_fits = λ k. mod-lt (hash k) (omega arith) };
         places = λ k t j. refl;
       }
-
-  -- the setting copies each slot in the chunk in which the mode does
-  pub setting_cut : (mode : ResizeMode) (tables : List TableWords) → IsCutAs mode (setting_of {V = V} eq (low hash) mode tables).chunk_of
-  setting_cut mode tables x = refl
 
   -- where tables grow, the setting says of the made ones what it said
   pub grown_agrees : (mode mode' : ResizeMode) (tables tables' : List TableWords) → mode' ≡ mode → HasMoreTables tables tables' → (On : ℕ → Type 0) → ((t : ℕ) → On t → (words : TableWords) × (table_of tables t ≡ Some words)) → Agrees On (setting_of {V = V} eq (low hash) mode tables) (setting_of {V = V} eq (low hash) mode' tables')

@@ -142,7 +142,7 @@ module _ {K V S A : Type 0} (eq : K → K → Bool) (says : Says K V A) (hash : 
     -- in each stage
     served_in : (made : Made) (stage : Stage) (told : Call_answer) → asks.Call (call_asks made call.hash stage) ≡ ask_of r.machine → IsStandingState call.task stage → Makes call.task made stage r.key r.value → Performs eq says refuse (call_asks made call.hash stage) s r told s' r' → IsServed call.task (call_asks made call.hash stage) told
     served_in made AtRoot told e stands had h = tt
-    served_in made Making told e stands had h = table_served told FIRST_TABLE_LEN FIRST_TABLE_LIMIT h
+    served_in made Making told e stands had h = table_served told FIRST_TABLE_LEN FIRST_TABLE_LIMIT 0 h
     served_in made (Opening t) told e stands had h = tt
     served_in made (Searching (Sizing t)) told e stands had h = tt
     served_in made (Searching (Looking at)) told e stands had h = tt

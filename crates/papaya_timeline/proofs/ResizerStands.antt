@@ -76,12 +76,12 @@ count_stands resizes.CopyAll root len count = tt
 -- what is told while nothing is linked or copied
 told_stands : (resize : Resize) (mode : ResizeMode) (stage : State) (a : Call_answer) → IsStandingIn stage → IsStandingIn (told_root resize mode stage a)
 told_stands resize mode stages.AtRoot (told.Word root) stands = root_stands resize root
-told_stands resize (stages.Making room) (told.Made table) stands = tt
-told_stands resize (stages.Making room) (told.Refused refused) stands = tt
-told_stands resize (stages.Opening table) told.Exchanged stands = tt
-told_stands resize (stages.Opening table) (told.Found word) stands = tt
-told_stands resize (stages.Sizing root) (told.Size slots limit) stands = tt
-told_stands resize (stages.Looking root len room) (told.Word next) stands = next_stands mode root len room next stands
+told_stands resize mode (stages.Making room) (told.Made table) stands = tt
+told_stands resize mode (stages.Making room) (told.Refused refused) stands = tt
+told_stands resize mode (stages.Opening table) told.Exchanged stands = tt
+told_stands resize mode (stages.Opening table) (told.Found word) stands = tt
+told_stands resize mode (stages.Sizing root) (told.Size slots limit) stands = tt
+told_stands resize mode (stages.Looking root len room) (told.Word next) stands = next_stands mode root len room next stands
 told_stands resize mode stage a stands = stands
 
 counted_stands : (resize : Resize) (stage : State) (count : ℕ) → IsStandingIn stage → IsStandingIn (counted resize stage count)

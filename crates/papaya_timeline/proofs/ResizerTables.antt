@@ -40,7 +40,7 @@ module _ (Made : (table chunks : ℕ) → Type 0) where
   -- in other words
   pub stage_is : (stage : State) → ((t : ℕ) → stage ≡ stages.Opening t → Made t 0) → ((behind t chunks : ℕ) → HasLink stage (links.Linking behind t chunks) → Made t chunks) → IsMadeStage stage
   stage_is (stages.Opening table) opens link = opens table refl
-  stage_is (stages.Linking made) opens link = made_is Made (Some made) (λ behind t chunks e. link behind t chunks (let f : made ≡ links.Linking behind t = cc in f))
+  stage_is (stages.Linking made) opens link = made_is Made (Some made) (λ behind t chunks e. link behind t chunks (let f : made ≡ links.Linking behind t chunks = cc in f))
   stage_is (stages.Copying from copying) opens link = made_is Made (link_in_copying copying) link
   stage_is stages.AtRoot opens link = tt
   stage_is (stages.Making room) opens link = tt

@@ -63,9 +63,10 @@ IsCopyKind _ = Unit {0}
 
 -- a copy asks for no other
 linking_kind : (link : Link) → IsCopyKind (link_kind link)
-linking_kind (links.Sizing after unfit) = tt
-linking_kind (links.Counting after unfit len) = tt
-linking_kind (links.Making after len limit) = tt
+linking_kind (links.Sizing after copied unfit) = tt
+linking_kind (links.Measuring after copied unfit len) = tt
+linking_kind (links.Counting after unfit len copied) = tt
+linking_kind (links.Making after len limit chunks) = tt
 linking_kind (links.Linking after table chunks) = tt
 
 carrying_kind : (carry : Carry) → IsCopyKind (carry_kind carry)
@@ -85,7 +86,7 @@ settling_kind (settles.Finishing word) = tt
 stepping_kind : (step : Step) → IsCopyKind (step_kind step)
 stepping_kind (steps.Linking from link) = linking_kind link
 stepping_kind (steps.Settling chunk settle) = settling_kind settle
-stepping_kind (steps.Advancing chunk) = tt
+stepping_kind (steps.Advancing scan) = tt
 stepping_kind (steps.Promoting from to) = tt
 stepping_kind step = tt
 

@@ -9,7 +9,7 @@ use Rattle.papaya_law.specs.Meaning.{map_left}
 use Rattle.papaya_rests.specs.Rests.{IsModeOf}
 use Rattle.papaya_store.specs.Store.{Stored}
 use Rattle.papaya_timeline.specs.Core.{CoreState}
-use Rattle.papaya_timeline.proofs.KeptSettings.{setting_cut}
+use Rattle.papaya_timeline.proofs.KeptSettings.{mode_cut}
 use Rattle.papaya_timeline.specs.Kept.{HasAnswers, IsVisitLink, IsVisiting, coding_of, is_blocking, low, setting_of}
 use Rattle.papaya_chain.specs.declared.visitor.Visit.{Visit}
 use Rattle.papaya_chain.specs.declared.visitor.Visit.TheVariants.{Clear, Retain, Walk}
@@ -51,7 +51,7 @@ module _ {K V S A : Type 0} (eq : K → K → Bool) (hash : K → ℕ) (s : Core
   visit_begins v is answers none = record {
     split = append-nil es;
     rests = subst (λ w. RestsVisitor g_now c_now (run es start) (map_left g_now es) [] w no_hands) (sym is)
-        (record { mode = mode_of s.mode; cut = setting_cut {V = V} eq hash s.mode s.store.words.tables; gives = gives_none visit; state = state_begins s.mode (mode_of s.mode) });
+        (record { mode = mode_of s.mode; cut = mode_cut s.mode; gives = gives_none visit; state = state_begins s.mode (mode_of s.mode) });
     answers = subst (λ (w : Visitor). HasAnswers w.visit v.answers) (sym is) answers;
     given = none;
     last = λ p e. absurd cc;

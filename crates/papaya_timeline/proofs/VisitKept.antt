@@ -4,6 +4,7 @@ use Rattle.papaya_words.specs.declared.limits.TheConstants.{MAX_LOG_LEN, MAX_TAB
 use Rattle.papaya_ask.specs.declared.ask.At.{At}
 use Rattle.papaya_call.specs.Answers.{Says}
 use Rattle.papaya_chain.specs.declared.ask.Answer.{Answer}
+use Rattle.papaya_chain.specs.declared.ask.Answer.TheVariants as answers
 use Rattle.papaya_chain.specs.declared.resizer.State.{State as Stage}
 use Rattle.papaya_chain.specs.declared.resizer.State.TheVariants as stages
 use Rattle.papaya_chain_rests.specs.Told as copies

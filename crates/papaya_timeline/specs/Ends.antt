@@ -42,7 +42,7 @@ abbrev pub copies_of : ℕ → ℕ
 copies_of done = 1 - done
 
 -- a table has no more chunks than it may have slots
-abbrev pub copies_in : List ℕ → ℕ
+unfoldable pub copies_in : List ℕ → ℕ
 copies_in done = sum_by copies_of (take (2 ^ 32) done)
 
 abbrev pub ends_of : ℕ → ℕ
