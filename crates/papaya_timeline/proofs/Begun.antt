@@ -47,27 +47,27 @@ task_is_own Clear task e = let f : None ≡ Some task = e in absurd cc
 task_is_own (Retain a) task e = let f : None ≡ Some task = e in absurd cc
 task_is_own Walk task e = let f : None ≡ Some task = e in absurd cc
 
-module _ {K V A : Type 0} (hash : K → ℕ) (mode : ResizeMode) (initial : ℕ) where
+module _ {K V A : Type 0} (hash : K → ℕ) (mode : ResizeMode) (initial number : ℕ) where
   -- a call on a key
   pub record IsBegun (call : Call K V A) (r : Running K V A) : Type 0 where
     pub key : K
     pub task : Task
     pub key_is : key_of call ≡ Some key
     pub task_is : task_of_call call ≡ Some task
-    pub is : r ≡ begun hash mode initial task key (value_of_call call) (answers_of_call call)
+    pub is : r ≡ begun hash mode initial number task key (value_of_call call) (answers_of_call call)
 
   -- a call that resizes the map
   pub record IsResizeBegun (call : Call K V A) (z : Resizer) : Type 0 where
     pub resize : Resize
     pub no_key : key_of call ≡ None
-    pub is : z ≡ resizer.begun resize mode initial
+    pub is : z ≡ resizer.begun resize mode initial number
 
   -- a call that visits a table
   pub record IsVisitBegun (call : Call K V A) (v : Visiting A) : Type 0 where
     pub visit : Visit
     pub no_key : key_of call ≡ None
     pub has : HasAnswers visit (answers_of_call call)
-    pub is : v ≡ visitor_begun mode initial visit (answers_of_call call)
+    pub is : v ≡ visitor_begun mode initial number visit (answers_of_call call)
 
   -- what was put into a seat is what it is
   same_call : (q r : Running K V A) (w : Work K V A) → w ≡ works.Call q → w ≡ works.Call r → r ≡ q
@@ -97,38 +97,38 @@ module _ {K V A : Type 0} (hash : K → ℕ) (mode : ResizeMode) (initial : ℕ)
   visit_not_resizer : (z : Resizer) (v : Visiting A) (w : Work K V A) → w ≡ works.Resize z → w ≡ works.Visit v → ⊥
   visit_not_resizer z v w is e = let f : None ≡ Some v = ap (λ (w : Work K V A). visitor_in (Some w)) (sym is ∙ e) in absurd cc
 
-  pub call_begun : (call : Call K V A) (r : Running K V A) → begun_work hash mode initial call ≡ works.Call r → IsBegun call r
-  call_begun (Get k) r e = record { key = k; task = tasks.Get; key_is = refl; task_is = refl; is = same_call (begun hash mode initial tasks.Get k None None) r _ refl e }
-  call_begun (Insert k v) r e = record { key = k; task = tasks.Insert true; key_is = refl; task_is = refl; is = same_call (begun hash mode initial (tasks.Insert true) k (Some v) None) r _ refl e }
-  call_begun (TryInsert k v) r e = record { key = k; task = tasks.Insert false; key_is = refl; task_is = refl; is = same_call (begun hash mode initial (tasks.Insert false) k (Some v) None) r _ refl e }
-  call_begun (RemoveIf k a) r e = record { key = k; task = tasks.RemoveIf; key_is = refl; task_is = refl; is = same_call (begun hash mode initial tasks.RemoveIf k None (Some a)) r _ refl e }
-  call_begun (Compute k a) r e = record { key = k; task = tasks.Compute; key_is = refl; task_is = refl; is = same_call (begun hash mode initial tasks.Compute k None (Some a)) r _ refl e }
-  call_begun (Reserve more) r e = absurd (no_call (resizer.begun (resizes.Reserve more) mode initial) r _ refl e)
-  call_begun CopyAll r e = absurd (no_call (resizer.begun resizes.CopyAll mode initial) r _ refl e)
-  call_begun Clear r e = absurd (call_not_visit (visitor_begun mode initial visits.Clear None) r _ refl e)
-  call_begun (Retain a) r e = absurd (call_not_visit (visitor_begun mode initial visits.Retain (Some a)) r _ refl e)
-  call_begun Walk r e = absurd (call_not_visit (visitor_begun mode initial visits.Walk None) r _ refl e)
+  pub call_begun : (call : Call K V A) (r : Running K V A) → begun_work hash mode initial number call ≡ works.Call r → IsBegun call r
+  call_begun (Get k) r e = record { key = k; task = tasks.Get; key_is = refl; task_is = refl; is = same_call (begun hash mode initial number tasks.Get k None None) r _ refl e }
+  call_begun (Insert k v) r e = record { key = k; task = tasks.Insert true; key_is = refl; task_is = refl; is = same_call (begun hash mode initial number (tasks.Insert true) k (Some v) None) r _ refl e }
+  call_begun (TryInsert k v) r e = record { key = k; task = tasks.Insert false; key_is = refl; task_is = refl; is = same_call (begun hash mode initial number (tasks.Insert false) k (Some v) None) r _ refl e }
+  call_begun (RemoveIf k a) r e = record { key = k; task = tasks.RemoveIf; key_is = refl; task_is = refl; is = same_call (begun hash mode initial number tasks.RemoveIf k None (Some a)) r _ refl e }
+  call_begun (Compute k a) r e = record { key = k; task = tasks.Compute; key_is = refl; task_is = refl; is = same_call (begun hash mode initial number tasks.Compute k None (Some a)) r _ refl e }
+  call_begun (Reserve more) r e = absurd (no_call (resizer.begun (resizes.Reserve more) mode initial number) r _ refl e)
+  call_begun CopyAll r e = absurd (no_call (resizer.begun resizes.CopyAll mode initial number) r _ refl e)
+  call_begun Clear r e = absurd (call_not_visit (visitor_begun mode initial number visits.Clear None) r _ refl e)
+  call_begun (Retain a) r e = absurd (call_not_visit (visitor_begun mode initial number visits.Retain (Some a)) r _ refl e)
+  call_begun Walk r e = absurd (call_not_visit (visitor_begun mode initial number visits.Walk None) r _ refl e)
 
-  pub resizer_begun_is : (call : Call K V A) (z : Resizer) → begun_work hash mode initial call ≡ works.Resize z → IsResizeBegun call z
-  resizer_begun_is (Get k) z e = absurd (no_resizer (begun hash mode initial tasks.Get k None None) z _ refl e)
-  resizer_begun_is (Insert k v) z e = absurd (no_resizer (begun hash mode initial (tasks.Insert true) k (Some v) None) z _ refl e)
-  resizer_begun_is (TryInsert k v) z e = absurd (no_resizer (begun hash mode initial (tasks.Insert false) k (Some v) None) z _ refl e)
-  resizer_begun_is (RemoveIf k a) z e = absurd (no_resizer (begun hash mode initial tasks.RemoveIf k None (Some a)) z _ refl e)
-  resizer_begun_is (Compute k a) z e = absurd (no_resizer (begun hash mode initial tasks.Compute k None (Some a)) z _ refl e)
-  resizer_begun_is (Reserve more) z e = record { resize = resizes.Reserve more; no_key = refl; is = same_resizer (resizer.begun (resizes.Reserve more) mode initial) z _ refl e }
-  resizer_begun_is CopyAll z e = record { resize = resizes.CopyAll; no_key = refl; is = same_resizer (resizer.begun resizes.CopyAll mode initial) z _ refl e }
-  resizer_begun_is Clear z e = absurd (resizer_not_visit (visitor_begun mode initial visits.Clear None) z _ refl e)
-  resizer_begun_is (Retain a) z e = absurd (resizer_not_visit (visitor_begun mode initial visits.Retain (Some a)) z _ refl e)
-  resizer_begun_is Walk z e = absurd (resizer_not_visit (visitor_begun mode initial visits.Walk None) z _ refl e)
+  pub resizer_begun_is : (call : Call K V A) (z : Resizer) → begun_work hash mode initial number call ≡ works.Resize z → IsResizeBegun call z
+  resizer_begun_is (Get k) z e = absurd (no_resizer (begun hash mode initial number tasks.Get k None None) z _ refl e)
+  resizer_begun_is (Insert k v) z e = absurd (no_resizer (begun hash mode initial number (tasks.Insert true) k (Some v) None) z _ refl e)
+  resizer_begun_is (TryInsert k v) z e = absurd (no_resizer (begun hash mode initial number (tasks.Insert false) k (Some v) None) z _ refl e)
+  resizer_begun_is (RemoveIf k a) z e = absurd (no_resizer (begun hash mode initial number tasks.RemoveIf k None (Some a)) z _ refl e)
+  resizer_begun_is (Compute k a) z e = absurd (no_resizer (begun hash mode initial number tasks.Compute k None (Some a)) z _ refl e)
+  resizer_begun_is (Reserve more) z e = record { resize = resizes.Reserve more; no_key = refl; is = same_resizer (resizer.begun (resizes.Reserve more) mode initial number) z _ refl e }
+  resizer_begun_is CopyAll z e = record { resize = resizes.CopyAll; no_key = refl; is = same_resizer (resizer.begun resizes.CopyAll mode initial number) z _ refl e }
+  resizer_begun_is Clear z e = absurd (resizer_not_visit (visitor_begun mode initial number visits.Clear None) z _ refl e)
+  resizer_begun_is (Retain a) z e = absurd (resizer_not_visit (visitor_begun mode initial number visits.Retain (Some a)) z _ refl e)
+  resizer_begun_is Walk z e = absurd (resizer_not_visit (visitor_begun mode initial number visits.Walk None) z _ refl e)
 
-  pub visitor_begun_is : (call : Call K V A) (v : Visiting A) → begun_work hash mode initial call ≡ works.Visit v → IsVisitBegun call v
-  visitor_begun_is (Get k) v e = absurd (visit_not_call (begun hash mode initial tasks.Get k None None) v _ refl e)
-  visitor_begun_is (Insert k w) v e = absurd (visit_not_call (begun hash mode initial (tasks.Insert true) k (Some w) None) v _ refl e)
-  visitor_begun_is (TryInsert k w) v e = absurd (visit_not_call (begun hash mode initial (tasks.Insert false) k (Some w) None) v _ refl e)
-  visitor_begun_is (RemoveIf k a) v e = absurd (visit_not_call (begun hash mode initial tasks.RemoveIf k None (Some a)) v _ refl e)
-  visitor_begun_is (Compute k a) v e = absurd (visit_not_call (begun hash mode initial tasks.Compute k None (Some a)) v _ refl e)
-  visitor_begun_is (Reserve more) v e = absurd (visit_not_resizer (resizer.begun (resizes.Reserve more) mode initial) v _ refl e)
-  visitor_begun_is CopyAll v e = absurd (visit_not_resizer (resizer.begun resizes.CopyAll mode initial) v _ refl e)
-  visitor_begun_is Clear v e = record { visit = visits.Clear; no_key = refl; has = tt; is = same_visitor (visitor_begun mode initial visits.Clear None) v _ refl e }
-  visitor_begun_is (Retain a) v e = record { visit = visits.Retain; no_key = refl; has = (a, refl); is = same_visitor (visitor_begun mode initial visits.Retain (Some a)) v _ refl e }
-  visitor_begun_is Walk v e = record { visit = visits.Walk; no_key = refl; has = tt; is = same_visitor (visitor_begun mode initial visits.Walk None) v _ refl e }
+  pub visitor_begun_is : (call : Call K V A) (v : Visiting A) → begun_work hash mode initial number call ≡ works.Visit v → IsVisitBegun call v
+  visitor_begun_is (Get k) v e = absurd (visit_not_call (begun hash mode initial number tasks.Get k None None) v _ refl e)
+  visitor_begun_is (Insert k w) v e = absurd (visit_not_call (begun hash mode initial number (tasks.Insert true) k (Some w) None) v _ refl e)
+  visitor_begun_is (TryInsert k w) v e = absurd (visit_not_call (begun hash mode initial number (tasks.Insert false) k (Some w) None) v _ refl e)
+  visitor_begun_is (RemoveIf k a) v e = absurd (visit_not_call (begun hash mode initial number tasks.RemoveIf k None (Some a)) v _ refl e)
+  visitor_begun_is (Compute k a) v e = absurd (visit_not_call (begun hash mode initial number tasks.Compute k None (Some a)) v _ refl e)
+  visitor_begun_is (Reserve more) v e = absurd (visit_not_resizer (resizer.begun (resizes.Reserve more) mode initial number) v _ refl e)
+  visitor_begun_is CopyAll v e = absurd (visit_not_resizer (resizer.begun resizes.CopyAll mode initial number) v _ refl e)
+  visitor_begun_is Clear v e = record { visit = visits.Clear; no_key = refl; has = tt; is = same_visitor (visitor_begun mode initial number visits.Clear None) v _ refl e }
+  visitor_begun_is (Retain a) v e = record { visit = visits.Retain; no_key = refl; has = (a, refl); is = same_visitor (visitor_begun mode initial number visits.Retain (Some a)) v _ refl e }
+  visitor_begun_is Walk v e = record { visit = visits.Walk; no_key = refl; has = tt; is = same_visitor (visitor_begun mode initial number visits.Walk None) v _ refl e }

@@ -14,7 +14,7 @@ use Rattle.papaya_law.proofs.Codes.{code_kind}
 use Rattle.papaya_rests.specs.Copier.{IsCopyAsked}
 use Rattle.papaya_rests.specs.Told.{Hands, IsAsked, word_of}
 use Rattle.papaya_timeline.specs.Ends.{changes_of, changes_of_word, links_of}
-use Rattle.papaya_timeline.proofs.BudgetTables.{changes_at}
+use Rattle.papaya_timeline.proofs.BudgetTables.{IsChunkOf, changes_at}
 use Rattle.papaya_timeline.proofs.CallersLemmas.{differs}
 
 -- the changes are fewer, or for a pair that takes the place of another as many
@@ -57,7 +57,15 @@ module _ {K P : Type 0} (g : Setting K P) (c : Coding K P) (s : State P) (tables
       slot_fewer t x new (Live p) (Buried p) live (subst (λ y. new ≡ word_of g c (after s y) (Slot t x)) is written) (omega arith)
   call_fewer _ _ new hands e is may written made = absurd is
 
-  module _ (sound : IsSound g s) (sizes : (t : ℕ) → g.size t ≤ 2 ^ 32) (low : (t : ℕ) → IsOn s.first s.next t → t ≤ tables) where
+  -- a call asks for no word of a chunk
+  pub call_chunk : (kind : Option StepKind) (at : At) (new : ℕ) (hands : Hands P) (e : Exchange P) → IsAsked c kind at new s hands e → IsChunkOf at
+  call_chunk (Some kinds.Open) Root new hands e is = tt
+  call_chunk (Some kinds.Claim) (Slot t x) new hands e is = tt
+  call_chunk (Some kinds.Replace) (Slot t x) new hands e is = tt
+  call_chunk (Some kinds.Bury) (Slot t x) new hands e is = tt
+  call_chunk _ _ new hands e is = absurd is
+
+  module _ (sound : IsSound g s) (sizes : (t : ℕ) → g.size t ≤ 2 ^ 32) (cut : (x : ℕ) → g.chunk_of x ≤ x) (low : (t : ℕ) → IsOn s.first s.next t → t ≤ tables) where
     -- a table to which the root goes is a later one
     promoted : (n : ℕ) → Allows g s (Promote s.root n) → (s.root < n) × (n ≤ tables)
     promoted n may =
@@ -70,8 +78,8 @@ module _ {K P : Type 0} (g : Setting K P) (c : Coding K P) (s : State P) (tables
     pub copy_fewer : (kind : Option StepKind) (at : At) (new : ℕ) (kept : Option P) (e : Exchange P) → IsCopyAsked c kind at new s kept e → Allows g s e → new ≡ word_of g c (after s e) at → changes_at tables at new < changes_at tables at (word_of g c s at)
     copy_fewer (Some kinds.Link) (Next t) new kept e is may written =
         let links = subst (Allows g s) is may in
-        let none : links_of (s.next t) ≡ 1 = ap links_of links.0 in
-        let more = links.2 in
+        let none : links_of (s.next t) ≡ 1 = ap links_of links.last in
+        let more = links.rises in
         let some : links_of new ≡ 0 = ap (λ b. cond b 1 0) (differs new 0 (λ z. let e : new ≡ 0 = z in absurd (omega (arith, more, e)))) in
         omega (arith, none, some)
     copy_fewer (Some kinds.Mark) (Slot t x) new kept e (p, live, is) may written =
@@ -82,12 +90,10 @@ module _ {K P : Type 0} (g : Setting K P) (c : Coding K P) (s : State P) (tables
         slot_fewer t x new Empty (Live p) (subst (Allows g s) is may).empty (subst (λ y. new ≡ word_of g c (after s y) (Slot t x)) is written) (omega arith)
     copy_fewer (Some kinds.Finish) (Slot t x) new kept e (p, marked, is) may written =
         slot_fewer t x new (Marked p) (Copied p) marked (subst (λ y. new ≡ word_of g c (after s y) (Slot t x)) is written) (omega arith)
-    copy_fewer (Some kinds.Advance) (Done n) new kept e is may written =
-        let goes = subst (Allows g s) is may in
-        let more = goes.more in
-        let within = goes.within in
-        let most = sizes goes.from in
-        omega (arith, more, within, most)
+    copy_fewer (Some kinds.Advance) (Done n chunk) new kept e is may written =
+        let before : word_of g c s (Done n chunk) ≡ 0 = ap (λ b. one_if b) (subst (Allows g s) is may).done in
+        let one : new ≡ 1 = subst (λ y. new ≡ word_of g c (after s y) (Done n chunk)) is written ∙ ap (λ b. one_if (cond b true (s.done n chunk))) (ap (λ b. b && (chunk == chunk)) (eq-eqb n n refl) ∙ eq-eqb chunk chunk refl) in
+        omega (arith, before, one)
     copy_fewer (Some kinds.Promote) Root new kept e is may written =
         let later = promoted new (subst (Allows g s) is may) in
         let more = later.0 in
@@ -98,3 +104,21 @@ module _ {K P : Type 0} (g : Setting K P) (c : Coding K P) (s : State P) (tables
         let one : new ≡ 1 = subst (λ y. new ≡ word_of g c (after s y) (Aborted n)) is written ∙ ap (λ b. one_if (cond b true (s.aborted n))) (eq-eqb n n refl) in
         omega (arith, before, one)
     copy_fewer _ _ new kept e is may written = absurd is
+
+    -- and the word of a chunk is one of those that a table may have
+    pub copy_chunk : (kind : Option StepKind) (at : At) (new : ℕ) (kept : Option P) (e : Exchange P) → IsCopyAsked c kind at new s kept e → Allows g s e → IsChunkOf at
+    copy_chunk (Some kinds.Link) (Next t) new kept e is may = tt
+    copy_chunk (Some kinds.Mark) (Slot t x) new kept e is may = tt
+    copy_chunk (Some kinds.Close) (Slot t x) new kept e is may = tt
+    copy_chunk (Some kinds.Place) (Slot t x) new kept e is may = tt
+    copy_chunk (Some kinds.Finish) (Slot t x) new kept e is may = tt
+    copy_chunk (Some kinds.Advance) (Done n chunk) new kept e is may =
+        let goes = subst (Allows g s) is may in
+        let within = goes.within in
+        let most = sizes goes.from in
+        let low_chunk = cut goes.slot in
+        let same = goes.in_chunk in
+        omega (arith, within, most, low_chunk, same)
+    copy_chunk (Some kinds.Promote) Root new kept e is may = tt
+    copy_chunk (Some kinds.Abort) (Aborted n) new kept e is may = tt
+    copy_chunk _ _ new kept e is may = absurd is

@@ -1,5 +1,7 @@
 -- An answered ask spends of the budget what the law of a call that is alone counts on.
 use Rattle.std.proofs.Common.{◌≡◌, ◌⊎◌, inl, inr, ℕ, ◌+◌, ◌-◌, ◌^◌, ◌==◌, ◌<◌, ◌≤◌, Bool, true, Option, Some, None, List, [], ◌∷◌, ◌++◌, length, refl, sym, ◌∙◌, ap, subst, arith, eqb-true, length-append}
+use Rattle.std.proofs.Math.Nat.{div-le_self}
+use Rattle.papaya_words.specs.Chunks.{chunk_len}
 use Rattle.papaya_words.specs.Table.{TableWords, new_table}
 use Rattle.papaya_words.specs.declared.limits.TheConstants.{MAX_TABLES, MAX_LOG_LEN}
 use Rattle.papaya_words.specs.declared.probe.ResizeMode.{ResizeMode}
@@ -43,8 +45,8 @@ use Rattle.papaya_timeline.specs.Callers.{running}
 use Rattle.papaya_timeline.specs.Core.{IsCore}
 use Rattle.papaya_timeline.specs.Ends.{budget_in, budget_of, exchanges_in}
 use Rattle.papaya_timeline.specs.Kept.{IsCall, IsKept, IsMade, Tale, coding_of, low, places_in, setting_of, slots_in}
-use Rattle.papaya_timeline.proofs.BudgetLaw.{IsFewer, call_fewer, copy_fewer}
-use Rattle.papaya_timeline.proofs.BudgetTables.{changes_at, exchanges_few, noted-budget, placed-changes}
+use Rattle.papaya_timeline.proofs.BudgetLaw.{IsFewer, call_chunk, call_fewer, copy_chunk, copy_fewer}
+use Rattle.papaya_timeline.proofs.BudgetTables.{IsChunkOf, changes_at, exchanges_few, noted-budget, placed-changes}
 use Rattle.papaya_timeline.proofs.KeptExchange.{changes, root_empty}
 use Rattle.papaya_timeline.proofs.KeptMade.{refusal}
 use Rattle.papaya_timeline.proofs.KeptSettings.{IsLawfulKeys, tables_hashed}
@@ -53,20 +55,20 @@ use Rattle.papaya_timeline.proofs.KeptWritten.{asked_call, asked_copy, placed_ca
 use Rattle.papaya_timeline.proofs.ShowLemmas.{none_shown, pair_shown}
 use Rattle.papaya_timeline.proofs.StoreLemmas.{matched}
 
-module _ (w : Tables) (at : At) (new : ℕ) (placed : IsPlaced w.tables at) where
+module _ (w : Tables) (at : At) (new : ℕ) (placed : IsPlaced w.tables at) (chunk_is : IsChunkOf at) where
   -- a write spends no table
   write_tables : (budget_in (put w at new)).tables ≡ (budget_in w).tables
   write_tables = ap (λ n. 2 ^ 32 - n) (placed-many w at new placed)
 
   -- it spends an exchange where its word may change less often then
   pub write_spends : changes_at (length w.tables) at new < changes_at (length w.tables) at (word_at w at) → ((budget_in (put w at new)).tables ≡ (budget_in w).tables) × ((budget_in (put w at new)).exchanges < (budget_in w).exchanges)
-  write_spends less = (write_tables, let change = placed-changes w at new placed in omega (arith, change, less))
+  write_spends less = (write_tables, let change = placed-changes w at new placed chunk_is in omega (arith, change, less))
 
   -- and leaves the budget where it may change as often
   write_leaves : changes_at (length w.tables) at new ≡ changes_at (length w.tables) at (word_at w at) → budget_in (put w at new) ≡ budget_in w
   write_leaves same =
       let many = write_tables in
-      let as_many : exchanges_in (put w at new) ≡ exchanges_in w = let change = placed-changes w at new placed in omega (arith, change, same) in
+      let as_many : exchanges_in (put w at new) ≡ exchanges_in w = let change = placed-changes w at new placed chunk_is in omega (arith, change, same) in
       ap (λ n. record { tables = n; exchanges = exchanges_in (put w at new) }) many ∙ ap (λ n. record { tables = 2 ^ 32 - length w.tables; exchanges = n }) as_many
 
   -- by its kind
@@ -75,8 +77,8 @@ module _ (w : Tables) (at : At) (new : ℕ) (placed : IsPlaced w.tables at) wher
   write_spends_kind kind h = write_spends h
 
 -- a table that is made is spent
-made_spends : (w : Tables) (n slots limit : ℕ) → length w.tables < MAX_TABLES → (budget_in (record w { tables = w.tables ++ new_table n slots limit ∷ [] })).tables < (budget_in w).tables
-made_spends w n slots limit few = let more : length (w.tables ++ new_table n slots limit ∷ []) ≡ length w.tables + 1 = length-append w.tables (new_table n slots limit ∷ []) in omega (arith, more, few)
+made_spends : (w : Tables) (n slots limit chunks : ℕ) → length w.tables < MAX_TABLES → (budget_in (record w { tables = w.tables ++ new_table n slots limit chunks ∷ [] })).tables < (budget_in w).tables
+made_spends w n slots limit chunks few = let more : length (w.tables ++ new_table n slots limit chunks ∷ []) ≡ length w.tables + 1 = length-append w.tables (new_table n slots limit chunks ∷ []) in omega (arith, more, few)
 
 module _ {K V S A : Type 0} (eq : K → K → Bool) (hash : K → ℕ) (law : IsLawfulKeys eq hash) (mode : ResizeMode) (store : StoreState K V S) (callers : List (Seat K V A)) (core : IsCore store callers mode)
     (es : List (Exchange (Stored K V))) (tales : ℕ → Tale K V) (kept : IsKept eq hash mode store callers es tales) where
@@ -112,6 +114,10 @@ module _ {K V S A : Type 0} (eq : K → K → Bool) (hash : K → ℕ) (law : Is
       by_table None e = omega arith
       by_table (Some words) e = (core.sizes t words e).most
 
+  -- a slot's chunk has no greater number than the slot
+  cut_low : (x : ℕ) → g.chunk_of x ≤ x
+  cut_low x = div-le_self x (chunk_len mode)
+
   -- the words are within bounds
   pub kept_bounded : IsBounded g now
   kept_bounded = record {
@@ -137,10 +143,10 @@ module _ {K V S A : Type 0} (eq : K → K → Bool) (hash : K → ℕ) (law : Is
     noted_words t x hint same = ap (λ (y : StoreState K V S). budget_of y) same ∙ noted-budget store.words t x hint
 
     -- a table, made or refused
-    pub made_or : (told : Call_answer) (slots limit : ℕ) (R : Call_answer → Type 0) → ((n : ℕ) → (budget_of store').tables < (budget_of store).tables → R (Made_number n)) → ((refused : _) → budget_of store' ≡ budget_of store → R (Was_refused refused)) → (Refuses MAX_TABLES (length store.words.tables) told × (store' ≡ store)) ⊎ MakesTable told slots limit store store' → R told
-    made_or told slots limit R made none (inl (refuses, same)) = let no = refusal _ _ told refuses in subst R (sym no.1) (none no.0 (same_words same))
-    made_or told slots limit R made none (inr (is, few, grown)) =
-        subst R (sym is) (made (length store.words.tables + 1) (subst (λ (y : StoreState K V S). (budget_of y).tables < (budget_of store).tables) (sym grown) (made_spends store.words (length store.words.tables + 1) slots limit few)))
+    pub made_or : (told : Call_answer) (slots limit chunks : ℕ) (R : Call_answer → Type 0) → ((n : ℕ) → (budget_of store').tables < (budget_of store).tables → R (Made_number n)) → ((refused : _) → budget_of store' ≡ budget_of store → R (Was_refused refused)) → (Refuses MAX_TABLES (length store.words.tables) told × (store' ≡ store)) ⊎ MakesTable told slots limit chunks store store' → R told
+    made_or told slots limit chunks R made none (inl (refuses, same)) = let no = refusal _ _ told refuses in subst R (sym no.1) (none no.0 (same_words same))
+    made_or told slots limit chunks R made none (inr (is, few, grown)) =
+        subst R (sym is) (made (length store.words.tables + 1) (subst (λ (y : StoreState K V S). (budget_of y).tables < (budget_of store).tables) (sym grown) (made_spends store.words (length store.words.tables + 1) slots limit chunks few)))
 
     -- what is asked for a copy, where an exchange that is made spends one
     module _ (hashes : S → K → ℕ) (refuse : Bool) where
@@ -162,18 +168,18 @@ module _ {K V S A : Type 0} (eq : K → K → Bool) (hash : K → ℕ) (law : Is
       copied_spends (copies.HashOf n) spent answer (is, fits, same) = same_words same
       copied_spends (copies.SamePair m n) spent answer (is, same) = same_words same
       copied_spends copies.Count spent answer (is, same) = same_words same
-      copied_spends (copies.MakeTable slots limit) spent answer (told, is, h) =
-          subst (λ y. SpendsCopy (copies.MakeTable slots limit) y (budget_of store) (budget_of store')) (sym is)
-          (matched (SpendsCopy (copies.MakeTable slots limit) (answers.Call told) (budget_of store) (budget_of store')) refuse _ _ h
-          (λ _ none. subst (λ y. SpendsCopy (copies.MakeTable slots limit) (answers.Call y) (budget_of store) (budget_of store')) (sym none.0) (same_words none.1))
-          (λ _ makes. made_or told slots limit (λ y. SpendsCopy (copies.MakeTable slots limit) (answers.Call y) (budget_of store) (budget_of store')) (λ n less. less) (λ refused same. same) makes))
+      copied_spends (copies.MakeTable slots limit chunks) spent answer (told, is, h) =
+          subst (λ y. SpendsCopy (copies.MakeTable slots limit chunks) y (budget_of store) (budget_of store')) (sym is)
+          (matched (SpendsCopy (copies.MakeTable slots limit chunks) (answers.Call told) (budget_of store) (budget_of store')) refuse _ _ h
+          (λ _ none. subst (λ y. SpendsCopy (copies.MakeTable slots limit chunks) (answers.Call y) (budget_of store) (budget_of store')) (sym none.0) (same_words none.1))
+          (λ _ makes. made_or told slots limit chunks (λ y. SpendsCopy (copies.MakeTable slots limit chunks) (answers.Call y) (budget_of store) (budget_of store')) (λ n less. less) (λ refused same. same) makes))
 
   -- an exchange of a copy that was made, wherever it was asked for
   pub copy_spent : (at : At) (new : ℕ) (kind : _) (kept_pair : Option (Stored K V)) (e : Exchange (Stored K V)) → IsCopyAsked c kind at new now kept_pair e → Allows g now e → IsWritten g c now at new (state_after now e) → IsPlaced store.words.tables at → ((budget_in (put store.words at new)).tables ≡ (budget_of store).tables) × ((budget_in (put store.words at new)).exchanges < (budget_of store).exchanges)
   copy_spent at new kind kept_pair e is allows written placed =
-      write_spends store.words at new placed
+      write_spends store.words at new placed (copy_chunk g c now (length store.words.tables) sound slots_most cut_low (λ t on. made_low t (on_made t on)) kind at new kept_pair e is allows)
       (subst (λ y. changes_at (length store.words.tables) at new < changes_at (length store.words.tables) at y) (kept.coded at)
-      (copy_fewer g c now (length store.words.tables) sound slots_most (λ t on. made_low t (on_made t on)) kind at new kept_pair e is allows (sym written.here)))
+      (copy_fewer g c now (length store.words.tables) sound slots_most cut_low (λ t on. made_low t (on_made t on)) kind at new kept_pair e is allows (sym written.here)))
 
   module _ (caller : ℕ) (r : Running K V A) (was : running callers caller ≡ Some r) where
     -- the call's own facts
@@ -191,14 +197,14 @@ module _ {K V S A : Type 0} (eq : K → K → Bool) (hash : K → ℕ) (law : Is
     call_exchanges at old new e hit =
         let stood : word_at store.words at ≡ old = eqb-true (word_at store.words at) old hit in
         let stands : word_of g c now at ≡ old = kept.coded at ∙ stood in
-        let x = asked_call g c store r es tale (Some call.key) hashed call.key call.split may call.rests kept.coded kept.made call.opens call.links call.own (λ t. refl) at old new e stands in
-        let placed = placed_call g c store r es tale (Some call.key) hashed call.key call.split may call.rests kept.coded kept.made call.opens call.links call.own (λ t. refl) at old new e (changes now tale.hands.call new c (kind_of_ask r.machine) at x.0 x.1).place in
+        let x = asked_call g c store r es tale (Some call.key) hashed call.key call.split may call.rests kept.coded kept.made call.opens call.links call.own (λ t. refl) (λ t. refl) at old new e stands in
+        let placed = placed_call g c store r es tale (Some call.key) hashed call.key call.split may call.rests kept.coded kept.made call.opens call.links call.own (λ t. refl) (λ t. refl) at old new e (changes now tale.hands.call new c (kind_of_ask r.machine) at x.0 x.1).place in
         let opened : at ≡ Root → new ≤ length store.words.tables = λ root.
         let none : now.root ≡ 0 = root_empty g c now tale.hands.call new (kind_of_ask r.machine) x.0 (subst (λ y. IsAsked c (kind_of_ask r.machine) y new now tale.hands.call x.0) root x.1) x.2 in
         let zero : old ≡ 0 = sym stands ∙ ap (word_of g c now) root ∙ none in
         made_low new (call.opens new (e ∙ ap (λ y. asks.Call (Ask_exchange y old new)) root ∙ ap (λ y. asks.Call (Ask_exchange Root y new)) zero))
         in
-        write_spends_kind store.words at new placed (kind_of_ask r.machine)
+        write_spends_kind store.words at new placed (call_chunk g c now (length store.words.tables) (kind_of_ask r.machine) at new tale.hands.call x.0 x.1) (kind_of_ask r.machine)
         (subst (λ y. IsFewer (kind_of_ask r.machine) (changes_at (length store.words.tables) at new) (changes_at (length store.words.tables) at y)) (kept.coded at)
         (call_fewer g c now (length store.words.tables) (kind_of_ask r.machine) at new tale.hands.call x.0 x.1 x.2 (sym x.3.here) opened))
 
@@ -206,8 +212,8 @@ module _ {K V S A : Type 0} (eq : K → K → Bool) (hash : K → ℕ) (law : Is
     copy_exchanges : (at : At) (old new : ℕ) → ask_of r.machine ≡ asks.Copy (copies.Exchange at old new) → (word_at store.words at == old) ≡ true → ((budget_in (put store.words at new)).tables ≡ (budget_of store).tables) × ((budget_in (put store.words at new)).exchanges < (budget_of store).exchanges)
     copy_exchanges at old new e hit =
         let stands : word_of g c now at ≡ old = kept.coded at ∙ eqb-true (word_at store.words at) old hit in
-        let x = asked_copy g c store r es tale (Some call.key) hashed call.key call.split may call.rests kept.coded kept.made call.opens call.links call.own (λ t. refl) at old new e stands in
-        let placed = placed_copy g c store r es tale (Some call.key) hashed call.key call.split may call.rests kept.coded kept.made call.opens call.links call.own (λ t. refl) at old new e in
+        let x = asked_copy g c store r es tale (Some call.key) hashed call.key call.split may call.rests kept.coded kept.made call.opens call.links call.own (λ t. refl) (λ t. refl) at old new e stands in
+        let placed = placed_copy g c store r es tale (Some call.key) hashed call.key call.split may call.rests kept.coded kept.made call.opens call.links call.own (λ t. refl) (λ t. refl) at old new e in
         copy_spent at new (kind_of_ask r.machine) tale.hands.kept x.0 x.1 x.2 x.3 placed
 
     module _ (says : Says K V A) (refuse : Bool) (store' : StoreState K V S) (later : Running K V A) where
@@ -241,10 +247,10 @@ module _ {K V S A : Type 0} (eq : K → K → Bool) (hash : K → ℕ) (law : Is
           pair_spends (inl (refuses, stays)) = same_words store' stays.0
           pair_spends (inr (inl (has, stays))) = same_words store' stays.0
           pair_spends (inr (inr (n, v, key, value, is, few, grown, moved))) = ap (λ (y : StoreState K V S). budget_of y) grown
-      spends_call (MakeTable slots limit) e told h =
-          matched (SpendsCall (kind_of_ask r.machine) (MakeTable slots limit) told (budget_of store) (budget_of store')) refuse _ _ h
-          (λ _ none. subst (λ y. SpendsCall (kind_of_ask r.machine) (MakeTable slots limit) y (budget_of store) (budget_of store')) (sym none.0) (same_words store' none.1.0))
-          (λ _ makes. made_or store' told slots limit (λ y. SpendsCall (kind_of_ask r.machine) (MakeTable slots limit) y (budget_of store) (budget_of store')) (λ n less. less) (λ refused same. same) makes.0)
+      spends_call (MakeTable slots limit chunks) e told h =
+          matched (SpendsCall (kind_of_ask r.machine) (MakeTable slots limit chunks) told (budget_of store) (budget_of store')) refuse _ _ h
+          (λ _ none. subst (λ y. SpendsCall (kind_of_ask r.machine) (MakeTable slots limit chunks) y (budget_of store) (budget_of store')) (sym none.0) (same_words store' none.1.0))
+          (λ _ makes. made_or store' told slots limit chunks (λ y. SpendsCall (kind_of_ask r.machine) (MakeTable slots limit chunks) y (budget_of store) (budget_of store')) (λ n less. less) (λ refused same. same) makes.0)
       spends_call (AddToShard by) e told (is, (number, grown), as_was) = ap (λ (y : StoreState K V S). budget_of y) grown
       spends_call (Ask_done reply) e told (is, stays) = same_words store' stays.0
 

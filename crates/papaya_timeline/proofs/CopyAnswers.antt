@@ -29,7 +29,7 @@ use Rattle.papaya_store.specs.Copies.{IsHash, PerformsCopy, hash_in, same_keys}
 use Rattle.papaya_store.specs.Performs.{Exchanges, MakesTable, Refuses, size_of}
 use Rattle.papaya_store.specs.Store.{StoreState, Stored, pair_of, stored_in}
 use Rattle.papaya_store.specs.Tables.{hint_at, note, table_of, word_at, put}
-use Rattle.papaya_timeline.specs.Kept.{IsMade, slots_in, places_in}
+use Rattle.papaya_timeline.specs.Kept.{IsMade, chunks_in, slots_in, places_in}
 use Rattle.papaya_timeline.proofs.KeptAnswer.{Stands}
 use Rattle.papaya_timeline.proofs.KeptExchange.{IsCopied_on, copies}
 use Rattle.papaya_timeline.proofs.KeptMade.{refusal}
@@ -42,6 +42,7 @@ use Rattle.papaya_law.specs.Hints.{IsHint}
 pub record Suits {Q K V S : Type 0} (eq : K → K → Bool) (hashes : S → K → ℕ) (g : Setting Q (Stored K V)) (c : Coding Q (Stored K V)) (store : StoreState K V S) : Type 0 where
   pub sizes : (t : ℕ) → g.size t ≡ slots_in (table_of store.words.tables t)
   pub places : (t : ℕ) → g.places t ≡ places_in (table_of store.words.tables t)
+  pub chunks : (t : ℕ) → g.chunks t ≡ chunks_in (table_of store.words.tables t)
   pub numbers : (p : Stored K V) → c.number p ≡ p.number
   pub hashes_of : (p : Stored K V) → c.hash (g.key p) ≡ hashes store.hasher p.key % 2 ^ 64
   pub sames : (p q : Stored K V) → g.same (g.key p) (g.key q) ≡ eq p.key q.key
@@ -165,13 +166,13 @@ module _ {Q K V S : Type 0} (g : Setting Q (Stored K V)) (c : Coding Q (Stored K
     })
 
     -- a table that was made, or refused
-    pub table_left : (Tells : List (Exchange (Stored K V)) → Hands (Stored K V) → Type 0) (slots limit : ℕ) (a : Call_answer) (store' : StoreState K V S) → Tells [] hands → (Refuses MAX_TABLES (length store.words.tables) a × (store' ≡ store)) ⊎ MakesTable a slots limit store store' → IsLeft Tells (answers.Call a) store'
-    table_left Tells slots limit a store' told (inl (refuses, same)) =
+    pub table_left : (Tells : List (Exchange (Stored K V)) → Hands (Stored K V) → Type 0) (slots limit chunks : ℕ) (a : Call_answer) (store' : StoreState K V S) → Tells [] hands → (Refuses MAX_TABLES (length store.words.tables) a × (store' ≡ store)) ⊎ MakesTable a slots limit chunks store store' → IsLeft Tells (answers.Call a) store'
+    table_left Tells slots limit chunks a store' told (inl (refuses, same)) =
         let no = refusal _ _ a refuses in
         quiet_left Tells (answers.Call a) store' hands same told (λ p h. inl h) (λ p h. inl h) refl (λ t is. let f : answers.Call (Was_refused no.0) ≡ answers.Call (Made_number t) = sym (ap answers.Call no.1) ∙ is in absurd cc)
-    table_left Tells slots limit a store' told (inr (is, few, grown)) =
+    table_left Tells slots limit chunks a store' told (inr (is, few, grown)) =
         let n : ℕ = length store.words.tables + 1 in
-        let wider : StoreState K V S = record store { words = record store.words { tables = store.words.tables ++ new_table n slots limit ∷ [] } } in
+        let wider : StoreState K V S = record store { words = record store.words { tables = store.words.tables ++ new_table n slots limit chunks ∷ [] } } in
         subst (IsLeft Tells (answers.Call a)) (sym grown) (record {
           made = [];
           hands' = hands;
@@ -180,16 +181,16 @@ module _ {Q K V S : Type 0} (g : Setting Q (Stored K V)) (c : Coding Q (Stored K
           keys_are = refl;
           pairs_are = refl;
           sum_is = refl;
-          tables_few = λ h. let more : length (store.words.tables ++ new_table n slots limit ∷ []) ≡ length store.words.tables + 1 = length-append store.words.tables (new_table n slots limit ∷ []) in omega (arith, more, few);
-          grown = made-grown store.words n slots limit;
-          coded = λ at. ap (λ z. word_of g c z at) none_made ∙ coded at ∙ sym (word-made store.words n slots limit at);
-          hints = λ m i. inl (made-hints store.words n slots limit m i);
+          tables_few = λ h. let more : length (store.words.tables ++ new_table n slots limit chunks ∷ []) ≡ length store.words.tables + 1 = length-append store.words.tables (new_table n slots limit chunks ∷ []) in omega (arith, more, few);
+          grown = made-grown store.words n slots limit chunks;
+          coded = λ at. ap (λ z. word_of g c z at) none_made ∙ coded at ∙ sym (word-made store.words n slots limit chunks at);
+          hints = λ m i. inl (made-hints store.words n slots limit chunks m i);
           there = λ t some comes. there t some (subst (λ z. Comes z t) none_made comes);
           slots = λ t x p h. (t, x, ap (λ z. named (z.slot t x)) (sym none_made) ∙ h);
           last = λ p h. inl h;
           carried = λ p h. inl h;
           same_made = refl;
-          opens = λ t is'. let f : answers.Call (Made_number n) ≡ answers.Call (Made_number t) = sym (ap answers.Call is) ∙ is' in let e : n ≡ t = cc in (new_table n slots limit, subst (λ y. table_of wider.words.tables y ≡ Some (new_table n slots limit)) e (made-there store.words n slots limit));
+          opens = λ t is'. let f : answers.Call (Made_number n) ≡ answers.Call (Made_number t) = sym (ap answers.Call is) ∙ is' in let e : n ≡ t = cc in (new_table n slots limit chunks, subst (λ y. table_of wider.words.tables y ≡ Some (new_table n slots limit chunks)) e (made-there store.words n slots limit chunks));
         })
 
     -- the pair that the word at a place names
@@ -202,14 +203,14 @@ module _ {Q K V S : Type 0} (g : Setting Q (Stored K V)) (c : Coding Q (Stored K
     told_stood Root p h = inl h
     told_stood (Next t) p h = inl h
     told_stood (Aborted t) p h = inl h
-    told_stood (Done t) p h = inl h
+    told_stood (Done t chunk) p h = inl h
     told_stood (Slot t x) p h = named_last t x p (named (now.slot t x)) refl h
 
     -- Who asks for this names what is there, and may make the exchange; the table that it follows and the one that it links are there. A hint that it reads, and one that it writes, may be there.
     pub record IsAsker (kind : Option StepKind) (follows : ℕ) (ask : CopyAsk) : Type 0 where
       pub names : AreThere g c now hands.call.last hands.kept ask
       pub may : (at : At) (old new : ℕ) → ask ≡ Copy_exchange at old new → word_of g c now at ≡ old → (e : Exchange (Stored K V)) × IsCopyAsked c kind at new now hands.kept e × Allows g now e × IsWritten g c now at new (state_after now e)
-      pub low : (slots limit : ℕ) → ask ≡ MakeTable slots limit → follows ≤ length store.words.tables
+      pub low : (slots limit chunks : ℕ) → ask ≡ MakeTable slots limit chunks → follows ≤ length store.words.tables
       pub links : (behind old t : ℕ) → ask ≡ Copy_exchange (Next behind) old t → IsMade store t
       pub reads : (t x : ℕ) → ask ≡ LoadHint t x → IsHint g c now t x (hint_at store.words t x)
       pub writes : (t x n : ℕ) → ask ≡ WriteHint t x n → IsHint g c now t x n
@@ -228,7 +229,7 @@ module _ {Q K V S : Type 0} (g : Setting Q (Stored K V)) (c : Coding Q (Stored K
       placed Root h = tt
       placed (Next t) on = on_there t on
       placed (Aborted t) on = on_there t on
-      placed (Done t) on = on_there t on
+      placed (Done t chunk) h = let words = on_there t h.0 in (words.0, words.1, subst (λ n. chunk < n) (suits.chunks t ∙ ap chunks_in words.1) h.1)
       placed (Slot t x) h = let words = on_there t h.0 in (words.0, words.1, subst (λ n. x < n) (suits.sizes t ∙ ap slots_in words.1) h.1)
 
       -- an exchange, made or lost
@@ -264,9 +265,9 @@ module _ {Q K V S : Type 0} (g : Setting Q (Stored K V)) (c : Coding Q (Stored K
           (told_stood at) (λ p h. inl h) refl (λ t made. let f = sym (ap answers.Call lost.0) ∙ made in absurd cc))
 
       -- a table was made, with a greater number than the one that it is to follow, or none
-      table_told : (slots limit : ℕ) → IsAsker kind follows (MakeTable slots limit) → (a : Call_answer) (store' : StoreState K V S) → (Refuses MAX_TABLES (length store.words.tables) a × (store' ≡ store)) ⊎ MakesTable a slots limit store store' → ((refused : Refused) × (answers.Call a ≡ answers.Call (Was_refused refused))) ⊎ ((n : ℕ) × (follows < n) × (answers.Call a ≡ answers.Call (Made_number n)))
-      table_told slots limit asker a store' (inl (refuses, same_store)) = let no = refusal _ _ a refuses in inl (no.0, ap answers.Call no.1)
-      table_told slots limit asker a store' (inr (is, few, grown)) = let low = asker.low slots limit refl in inr (length store.words.tables + 1, omega (arith, low), ap answers.Call is)
+      table_told : (slots limit chunks : ℕ) → IsAsker kind follows (MakeTable slots limit chunks) → (a : Call_answer) (store' : StoreState K V S) → (Refuses MAX_TABLES (length store.words.tables) a × (store' ≡ store)) ⊎ MakesTable a slots limit chunks store store' → ((refused : Refused) × (answers.Call a ≡ answers.Call (Was_refused refused))) ⊎ ((n : ℕ) × (follows < n) × (answers.Call a ≡ answers.Call (Made_number n)))
+      table_told slots limit chunks asker a store' (inl (refuses, same_store)) = let no = refusal _ _ a refuses in inl (no.0, ap answers.Call no.1)
+      table_told slots limit chunks asker a store' (inr (is, few, grown)) = let low = asker.low slots limit chunks refl in inr (length store.words.tables + 1, omega (arith, low), ap answers.Call is)
 
       -- each ask
       pub copied_left : (refuse : Bool) (ask : CopyAsk) → IsAsker kind follows ask → (a : Answer) (store' : StoreState K V S) → PerformsCopy eq hashes refuse ask store a store' → IsLeft (Hears ask a) a store'
@@ -313,9 +314,9 @@ module _ {Q K V S : Type 0} (g : Setting Q (Stored K V)) (c : Coding Q (Stored K
           (λ p h. inl h) (λ p h. inl h) refl (λ t made. let f = sym is ∙ made in absurd cc)
       copied_left refuse Count asker a store' (is, same) =
           quiet_left (Hears Count a) a store' hands same ((_, is), (refl, refl)) (λ p h. inl h) (λ p h. inl h) refl (λ t made. let f = sym is ∙ made in absurd cc)
-      copied_left refuse (MakeTable slots limit) asker a store' (told, is, h) =
-          subst (λ y. IsLeft (Hears (MakeTable slots limit) y) y store') (sym is)
-          (matched (IsLeft (Hears (MakeTable slots limit) (answers.Call told)) (answers.Call told) store') refuse _ _ h
-          (λ _ none. quiet_left (Hears (MakeTable slots limit) (answers.Call told)) (answers.Call told) store' hands none.1 (inl (Memory, ap answers.Call none.0), (refl, refl)) (λ p h. inl h) (λ p h. inl h) refl
+      copied_left refuse (MakeTable slots limit chunks) asker a store' (told, is, h) =
+          subst (λ y. IsLeft (Hears (MakeTable slots limit chunks) y) y store') (sym is)
+          (matched (IsLeft (Hears (MakeTable slots limit chunks) (answers.Call told)) (answers.Call told) store') refuse _ _ h
+          (λ _ none. quiet_left (Hears (MakeTable slots limit chunks) (answers.Call told)) (answers.Call told) store' hands none.1 (inl (Memory, ap answers.Call none.0), (refl, refl)) (λ p h. inl h) (λ p h. inl h) refl
           (λ t made. let f : answers.Call (Was_refused Memory) ≡ answers.Call (Made_number t) = sym (ap answers.Call none.0) ∙ made in absurd cc))
-          (λ _ makes. table_left (Hears (MakeTable slots limit) (answers.Call told)) slots limit told store' (table_told slots limit asker told store' makes, (refl, refl)) makes))
+          (λ _ makes. table_left (Hears (MakeTable slots limit chunks) (answers.Call told)) slots limit chunks told store' (table_told slots limit chunks asker told store' makes, (refl, refl)) makes))

@@ -56,13 +56,13 @@ reply_asked (asks.Call (Ask_done r)) reply e = let same : r ≡ reply = cc in ap
 reply_asked ask reply e = let f : None ≡ Some reply = e in absurd cc
 
 -- a call that begins stands, and has not replied
-pub begun-core : {K V A : Type 0} (hash : K → ℕ) (mode : ResizeMode) (initial : ℕ) (call : Call K V A) → IsChunked mode → IsPowerOfTwo initial
-    → ((r : Running K V A) → begun_work hash mode initial call ≡ works.Call r → IsStanding r.machine × IsGoing r.machine) × ((z : Resizer) → begun_work hash mode initial call ≡ works.Resize z → IsStandingResizer z × (reply_of z ≡ None))
-begun-core {K} {V} {A} hash mode initial call chunked power = (
-  λ r e. let is = call_begun hash mode initial call r e in
+pub begun-core : {K V A : Type 0} (hash : K → ℕ) (mode : ResizeMode) (initial number : ℕ) (call : Call K V A) → IsChunked mode → IsPowerOfTwo initial
+    → ((r : Running K V A) → begun_work hash mode initial number call ≡ works.Call r → IsStanding r.machine × IsGoing r.machine) × ((z : Resizer) → begun_work hash mode initial number call ≡ works.Resize z → IsStandingResizer z × (reply_of z ≡ None))
+begun-core {K} {V} {A} hash mode initial number call chunked power = (
+  λ r e. let is = call_begun hash mode initial number call r e in
       subst (λ (y : Running K V A). IsStanding y.machine × IsGoing y.machine) (sym is.is)
-      (started_stands is.task (hash is.key) mode initial chunked power, still_going (started is.task (hash is.key) mode initial) refl),
-  λ z e. let is = resizer_begun_is hash mode initial call z e in
+      (started_stands is.task (hash is.key) mode initial number chunked power, still_going (started is.task (hash is.key) mode initial number) refl),
+  λ z e. let is = resizer_begun_is hash mode initial number call z e in
       subst (λ (y : Resizer). IsStandingResizer y × (reply_of y ≡ None)) (sym is.is)
       (record { chunked = chunked; initial = power; state = standing_begun is.resize }, unreplied is.resize),
 )
@@ -78,9 +78,9 @@ begun-core {K} {V} {A} hash mode initial call chunked power = (
     unreplied (resizes.Reserve more) = refl
 
 -- and so does one that visits a table
-pub begun-visitor : {K V A : Type 0} (hash : K → ℕ) (mode : ResizeMode) (initial : ℕ) (call : Call K V A) → IsChunked mode → IsPowerOfTwo initial → (v : Visiting A) → begun_work hash mode initial call ≡ works.Visit v → visitors.IsStandingVisitor v.visitor × (visitors.reply_of v.visitor ≡ None)
-begun-visitor {A = A} hash mode initial call chunked power v e =
-    let is = visitor_begun_is hash mode initial call v e in
+pub begun-visitor : {K V A : Type 0} (hash : K → ℕ) (mode : ResizeMode) (initial number : ℕ) (call : Call K V A) → IsChunked mode → IsPowerOfTwo initial → (v : Visiting A) → begun_work hash mode initial number call ≡ works.Visit v → visitors.IsStandingVisitor v.visitor × (visitors.reply_of v.visitor ≡ None)
+begun-visitor {A = A} hash mode initial number call chunked power v e =
+    let is = visitor_begun_is hash mode initial number call v e in
     subst (λ (y : Visiting A). visitors.IsStandingVisitor y.visitor × (visitors.reply_of y.visitor ≡ None)) (sym is.is)
     (record { chunked = chunked; initial = power; state = standing_in mode }, unreplied mode)
   where
@@ -160,7 +160,7 @@ no-tables words e i t there = let f : None ≡ Some t = sym (ap (λ (w : Tables)
 pub new-sized : (capacity initial : ℕ) (words : Tables) → IsPowerOfTwo initial → initial ≤ 2 ^ 32 → HasCapacity capacity initial words → AllSized words.tables
 new-sized zero initial words power most e = no-tables words e
 new-sized (suc n) initial words power most (limit, is, e) =
-    subst (λ (w : Tables). AllSized w.tables) (sym e) (append-sized [] 1 (max initial 8) limit (table_size initial limit power most is) (no-tables (record { root = 0; tables = [] }) refl))
+    subst (λ (w : Tables). AllSized w.tables) (sym e) (append-sized [] 1 (max initial 8) limit 0 (table_size initial limit power most is) (no-tables (record { root = 0; tables = [] }) refl))
 
 pub new-core : {K V S A : Type 0} (store : StoreState K V S) (callers : List (Seat K V A)) (mode : ResizeMode) (capacity initial : ℕ) → IsChunked mode → IsPowerOfTwo initial → initial ≤ 2 ^ 32 → HasCapacity capacity initial store.words → callers ≡ [] → IsCore store callers mode
 new-core store callers mode capacity initial chunked power most words none = record {

@@ -86,24 +86,24 @@ visit_owes (Incremental chunk) = refl
 visit_owes Blocking = refl
 
 -- nor does any other
-begun_owes : {K V A : Type 0} (hash : K → ℕ) (mode : ResizeMode) (initial : ℕ) (call : Call K V A) → owed_work (Some (begun_work hash mode initial call)) ≡ pos 0
-begun_owes hash mode initial (Get k) = refl
-begun_owes hash mode initial (Insert k v) = refl
-begun_owes hash mode initial (TryInsert k v) = refl
-begun_owes hash mode initial (RemoveIf k a) = refl
-begun_owes hash mode initial (Compute k a) = refl
-begun_owes hash mode initial (Reserve more) = refl
-begun_owes hash mode initial CopyAll = refl
-begun_owes hash mode initial Clear = visit_owes mode
-begun_owes hash mode initial (Retain a) = visit_owes mode
-begun_owes hash mode initial Walk = visit_owes mode
+begun_owes : {K V A : Type 0} (hash : K → ℕ) (mode : ResizeMode) (initial number : ℕ) (call : Call K V A) → owed_work (Some (begun_work hash mode initial number call)) ≡ pos 0
+begun_owes hash mode initial number (Get k) = refl
+begun_owes hash mode initial number (Insert k v) = refl
+begun_owes hash mode initial number (TryInsert k v) = refl
+begun_owes hash mode initial number (RemoveIf k a) = refl
+begun_owes hash mode initial number (Compute k a) = refl
+begun_owes hash mode initial number (Reserve more) = refl
+begun_owes hash mode initial number CopyAll = refl
+begun_owes hash mode initial number Clear = visit_owes mode
+begun_owes hash mode initial number (Retain a) = visit_owes mode
+begun_owes hash mode initial number Walk = visit_owes mode
 
 -- a begin leaves the sum and the pairs, and its call owes nothing
 pub counted_begin : {K V S A : Type 0} (eq : K → K → Bool) (hash : K → ℕ) (s : CoreState K V S A) (caller : ℕ) (call : Call K V A) (s' : CoreState K V S A) → Begins hash s caller call s' → work_of s caller ≡ None → IsCounted eq s.store s.callers → IsCounted eq s'.store s'.callers
 counted_begin {K} {V} {S} {A} eq hash s caller call s' begins free counted =
     subst (λ (y : StoreState K V S). IsCounted eq y s'.callers) (sym begins.store)
     (ap (λ (l : List (Seat K V A)). int_wrap w64 (s.store.count.sum +ℤ owed_in l)) begins.callers
-    ∙ ap (λ z. int_wrap w64 (s.store.count.sum +ℤ z)) (owed-begun s.callers caller free (Some (begun_work hash s.mode s.initial call)) ∙ ap (λ z. owed_in s.callers +ℤ z) (begun_owes hash s.mode s.initial call) ∙ omega (arith, ints))
+    ∙ ap (λ z. int_wrap w64 (s.store.count.sum +ℤ z)) (owed-begun s.callers caller free (Some (begun_work hash s.mode s.initial begins.number call)) ∙ ap (λ z. owed_in s.callers +ℤ z) (begun_owes hash s.mode s.initial begins.number call) ∙ omega (arith, ints))
     ∙ counted)
 
 module _ {K V S A : Type 0} (eq : K → K → Bool) (hash : K → ℕ) (law : IsLawfulKeys eq hash) {says : Says K V A} {hashes : S → K → ℕ} (refuse : Bool) (s : CoreState K V S A) (caller : ℕ) (s' : CoreState K V S A) (event : Event) (reply : Option Reply)

@@ -29,7 +29,7 @@ module _ {K V A : Type 0} where
   owed-goes_on (Call (SizeOf n)) r e = e
   owed-goes_on (Call MakeKey) r e = e
   owed-goes_on (Call MakePair) r e = e
-  owed-goes_on (Call (MakeTable slots limit)) r e = e
+  owed-goes_on (Call (MakeTable slots limit chunks)) r e = e
   owed-goes_on (Call (AddToShard by)) r e = e
   owed-goes_on (Copy ask) r e = e
 

@@ -45,9 +45,9 @@ module _ {K V S : Type 0} where
   quiet : (s s' : StoreState K V S) → s' ≡ s → Adds (pos 0) s s'
   quiet s s' e = same_count s s' (ap (λ (y : StoreState K V S). y.count.sum) e)
 
-  table_made : (slots limit : ℕ) (s : StoreState K V S) (a : Call_answer) (s' : StoreState K V S) (Not : Type 0) → (Not × (s' ≡ s)) ⊎ MakesTable a slots limit s s' → Adds (pos 0) s s'
-  table_made slots limit s a s' Not (inl h) = quiet s s' h.1
-  table_made slots limit s a s' Not (inr (is, few, grown)) = same_count s s' (ap (λ (y : StoreState K V S). y.count.sum) grown)
+  table_made : (slots limit chunks : ℕ) (s : StoreState K V S) (a : Call_answer) (s' : StoreState K V S) (Not : Type 0) → (Not × (s' ≡ s)) ⊎ MakesTable a slots limit chunks s s' → Adds (pos 0) s s'
+  table_made slots limit chunks s a s' Not (inl h) = quiet s s' h.1
+  table_made slots limit chunks s a s' Not (inr (is, few, grown)) = same_count s s' (ap (λ (y : StoreState K V S). y.count.sum) grown)
 
 module _ {K V S A : Type 0} where
   -- nor does a key or a pair that was made
@@ -77,7 +77,7 @@ module _ {K V S A : Type 0} (eq : K → K → Bool) (says : Says K V A) where
   sum_called refuse (SizeOf n) s r a s' r' h = quiet s s' h.1.0
   sum_called refuse MakeKey s r a s' r' h = matched (Adds (pos 0) s s') refuse _ _ h (λ _ none. quiet s s' none.1.0) (λ _ makes. key_made s r a s' r' _ _ makes)
   sum_called refuse MakePair s r a s' r' h = matched (Adds (pos 0) s s') refuse _ _ h (λ _ none. quiet s s' none.1.0) (λ _ makes. pair_made s r a s' r' _ _ makes)
-  sum_called refuse (MakeTable slots limit) s r a s' r' h = matched (Adds (pos 0) s s') refuse _ _ h (λ _ none. quiet s s' none.1.0) (λ _ makes. table_made slots limit s a s' _ makes.0)
+  sum_called refuse (MakeTable slots limit chunks) s r a s' r' h = matched (Adds (pos 0) s s') refuse _ _ h (λ _ none. quiet s s' none.1.0) (λ _ makes. table_made slots limit chunks s a s' _ makes.0)
   sum_called refuse (AddToShard by) s r a s' r' h =
       let sum : ℤ = s.count.sum +ℤ by in
       ap (λ (y : StoreState K V S). int_wrap w64 y.count.sum) h.1.1 ∙ int_wrap_fits w64 (int_wrap w64 sum) (SFits-int_wrap w64 sum)
@@ -97,7 +97,7 @@ module _ {K V S A : Type 0} (eq : K → K → Bool) (says : Says K V A) where
     sum_copied refuse (copies.HashOf n) s a s' h = quiet s s' h.2
     sum_copied refuse (copies.SamePair m n) s a s' h = quiet s s' h.1
     sum_copied refuse copies.Count s a s' h = quiet s s' h.1
-    sum_copied refuse (copies.MakeTable slots limit) s a s' (told, is, h) = matched (Adds (pos 0) s s') refuse _ _ h (λ _ none. quiet s s' none.1) (λ _ makes. table_made slots limit s told s' _ makes)
+    sum_copied refuse (copies.MakeTable slots limit chunks) s a s' (told, is, h) = matched (Adds (pos 0) s s') refuse _ _ h (λ _ none. quiet s s' none.1) (λ _ makes. table_made slots limit chunks s told s' _ makes)
 
     -- each ask
     pub sum_performed : (refuse : Bool) (ask : Ask) (s : StoreState K V S) (r : Running K V A) (a : Answer) (s' : StoreState K V S) (r' : Running K V A) → PerformsAsk eq says hash refuse ask s r a s' r' → Adds (owed_in ask) s s'
@@ -124,7 +124,7 @@ copy_grows c (Some kinds.Mark) (Slot t x) new s kept e (p, stood, is) = subst (G
 copy_grows c (Some kinds.Close) (Slot t x) new s kept e is = subst (Grows (pos 0)) (sym is) (λ before now count. omega (arith, ints, count))
 copy_grows c (Some kinds.Place) (Slot t x) new s kept e (p, carried, number, is) = subst (Grows (pos 0)) (sym is) (λ before now count. omega (arith, ints, count))
 copy_grows c (Some kinds.Finish) (Slot t x) new s kept e (p, stood, is) = subst (Grows (pos 0)) (sym is) (λ before now count. omega (arith, ints, count))
-copy_grows c (Some kinds.Advance) (Done n) new s kept e is = subst (Grows (pos 0)) (sym is) (λ before now count. omega (arith, ints, count))
+copy_grows c (Some kinds.Advance) (Done n chunk) new s kept e is = subst (Grows (pos 0)) (sym is) (λ before now count. omega (arith, ints, count))
 copy_grows c (Some kinds.Promote) Root new s kept e is = subst (Grows (pos 0)) (sym is) (λ before now count. omega (arith, ints, count))
 copy_grows c (Some kinds.Abort) (Aborted n) new s kept e is = subst (Grows (pos 0)) (sym is) (λ before now count. omega (arith, ints, count))
 copy_grows c _ _ new s kept e h = absurd h
@@ -150,7 +150,7 @@ module _ {K P : Type 0} (g : Setting K P) (c : Coding K P) (k : K) (s : State P)
   call_grows hands MakeKey a es hands' h = inl (h.1.0, refl)
   call_grows hands MakePair a es hands' (inl h) = inl (h.1.0, refl)
   call_grows hands MakePair a es hands' (inr (q, key, is, none, made)) = inl (none, refl)
-  call_grows hands (MakeTable slots limit) a es hands' h = inl (h.1.0, refl)
+  call_grows hands (MakeTable slots limit chunks) a es hands' h = inl (h.1.0, refl)
   call_grows hands (AddToShard by) a es hands' h = inl (h.1.0, refl)
   call_grows hands (Ask_done reply) a es hands' h = inl (h.1.0, refl)
 
@@ -167,7 +167,7 @@ module _ {K P : Type 0} (g : Setting K P) (c : Coding K P) (k : K) (s : State P)
   copied_grows follows hands (copies.HashOf n) a es hands' h = inl (h.1, refl)
   copied_grows follows hands (copies.SamePair m n) a es hands' h = inl (h.1.0, refl)
   copied_grows follows hands copies.Count a es hands' h = inl (h.1.0, refl)
-  copied_grows follows hands (copies.MakeTable slots limit) a es hands' h = inl (h.1.0, refl)
+  copied_grows follows hands (copies.MakeTable slots limit chunks) a es hands' h = inl (h.1.0, refl)
 
   -- an answer told of an exchange by which the map grew so, or of none
   pub told_grows : (follows : ℕ) (hands : chain_told.Hands P) (ask : Ask) (a : Answer) (es : List (Exchange P)) (hands' : chain_told.Hands P) → chain_told.IsTold g c k s kind follows hands ask a es hands' → IsGrowth (grown_by kind ask a) es

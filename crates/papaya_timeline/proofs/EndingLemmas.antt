@@ -93,7 +93,7 @@ module _ {K V S A : Type 0} (eq : K → K → Bool) (says : Says K V A) (refuse 
       by_cases (inl (refuses, stays)) = growth_unrefused _ _ a refuses is
       by_cases (inr (inl (has, stays))) = let e = has.0 in cc
       by_cases (inr (inr (i, v, key, value, e, few, same, later))) = cc
-  call_unrefused (MakeTable slots limit) h is =
+  call_unrefused (MakeTable slots limit chunks) h is =
       matched ⊥ refuse _ _ h
       (λ _ none. let e = none.0 in cc)
       (λ _ makes. ⊎_elim
@@ -121,7 +121,7 @@ module _ {K V S : Type 0} (eq : K → K → Bool) (hash : S → K → ℕ) (refu
       hash_unrefused (Some p) e = cc
   copy_unrefused (copies.SamePair m n) (e, same) is = cc
   copy_unrefused copies.Count (e, same) is = cc
-  copy_unrefused (copies.MakeTable slots limit) (told, e, makes) is =
+  copy_unrefused (copies.MakeTable slots limit chunks) (told, e, makes) is =
       let refused : told ≡ Was_refused RemoveNothing = cc in
       matched ⊥ refuse _ _ makes
       (λ _ none. let f = none.0 in cc)

@@ -80,7 +80,7 @@ module _ {K P : Type 0} (g : Setting K P) (c : Coding K P) (k : K) (s : State P)
   told_cases (SizeOf t) answer es hands' h = inl (h.1.0, refl)
   told_cases MakeKey answer es hands' h = inl (h.1.0, refl)
   told_cases MakePair answer es hands' h = ⊎_elim (λ quiet. inl (quiet.1.0, refl)) (λ made. inl (made.3, refl)) h
-  told_cases (MakeTable slots limit) answer es hands' h = inl (h.1.0, refl)
+  told_cases (MakeTable slots limit chunks) answer es hands' h = inl (h.1.0, refl)
   told_cases (AddToShard by) answer es hands' h = inl (h.1.0, refl)
   told_cases (Ask_done reply) answer es hands' h = inl (h.1.0, refl)
 
@@ -145,7 +145,7 @@ event_cases P other changed moved asked shown kind (WriteHint t x hint) answer =
 event_cases P other changed moved asked shown kind (SizeOf n) answer = other
 event_cases P other changed moved asked shown kind MakeKey answer = other
 event_cases P other changed moved asked shown kind MakePair answer = other
-event_cases P other changed moved asked shown kind (MakeTable slots limit) answer = other
+event_cases P other changed moved asked shown kind (MakeTable slots limit chunks) answer = other
 event_cases P other changed moved asked shown kind (AddToShard by) answer = other
 event_cases P other changed moved asked shown kind (Ask_done reply) answer = other
 
@@ -191,7 +191,7 @@ event_none before kind (WriteHint t x hint) answer e = inl e
 event_none before kind (SizeOf n) answer e = inl e
 event_none before kind MakeKey answer e = inl e
 event_none before kind MakePair answer e = inl e
-event_none before kind (MakeTable slots limit) answer e = inl e
+event_none before kind (MakeTable slots limit chunks) answer e = inl e
 event_none before kind (AddToShard by) answer e = inl e
 event_none before kind (Ask_done reply) answer e = inl e
 
@@ -240,7 +240,7 @@ event_change before kind (WriteHint t x hint) answer once = refl
 event_change before kind (SizeOf n) answer once = refl
 event_change before kind MakeKey answer once = refl
 event_change before kind MakePair answer once = refl
-event_change before kind (MakeTable slots limit) answer once = refl
+event_change before kind (MakeTable slots limit chunks) answer once = refl
 event_change before kind (AddToShard by) answer once = refl
 event_change before kind (Ask_done reply) answer once = refl
 
@@ -256,6 +256,6 @@ unchanged_before before kind (WriteHint t x hint) answer once e = e
 unchanged_before before kind (SizeOf n) answer once e = e
 unchanged_before before kind MakeKey answer once e = e
 unchanged_before before kind MakePair answer once e = e
-unchanged_before before kind (MakeTable slots limit) answer once e = e
+unchanged_before before kind (MakeTable slots limit chunks) answer once e = e
 unchanged_before before kind (AddToShard by) answer once e = e
 unchanged_before before kind (Ask_done reply) answer once e = e

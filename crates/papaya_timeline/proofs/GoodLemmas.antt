@@ -106,9 +106,9 @@ computed Clear is v = absurd cc
 computed (Retain a) is v = absurd cc
 computed Walk is v = absurd cc
 
-module _ {K V A : Type 0} (hash : K → ℕ) (mode : ResizeMode) (initial : ℕ) where
+module _ {K V A : Type 0} (hash : K → ℕ) (mode : ResizeMode) (initial number : ℕ) where
   -- a resizer begins for a call that resizes the map
-  resize_begun : (call : Call K V A) (z : Resizer) → begun_work hash mode initial call ≡ works.Resize z → IsResize call
+  resize_begun : (call : Call K V A) (z : Resizer) → begun_work hash mode initial number call ≡ works.Resize z → IsResize call
   resize_begun (Reserve more) z e = tt
   resize_begun CopyAll z e = tt
   resize_begun (Get k) z e = let f : None ≡ Some z = ap (λ (w : Work K V A). resizer_in (Some w)) e in absurd cc
@@ -121,12 +121,12 @@ module _ {K V A : Type 0} (hash : K → ℕ) (mode : ResizeMode) (initial : ℕ)
   resize_begun Walk z e = let f : None ≡ Some z = ap (λ (w : Work K V A). resizer_in (Some w)) e in absurd cc
 
   -- and a visitor for one that visits a table, with the answers of its closure
-  visit_is : (call : Call K V A) (visit : Visit) (answers : Option A) (v : Visiting A) → IsVisitOf call visit → works.Visit (visitor_begun mode initial visit answers) ≡ begun_work hash mode initial call → answers ≡ answers_of_call call → begun_work hash mode initial call ≡ works.Visit v → IsVisitOf call v.visitor.visit × (v.answers ≡ answers_of_call call)
+  visit_is : (call : Call K V A) (visit : Visit) (answers : Option A) (v : Visiting A) → IsVisitOf call visit → works.Visit (visitor_begun mode initial number visit answers) ≡ begun_work hash mode initial number call → answers ≡ answers_of_call call → begun_work hash mode initial number call ≡ works.Visit v → IsVisitOf call v.visitor.visit × (v.answers ≡ answers_of_call call)
   visit_is call visit answers v of begins are e =
-      let same : visitor_begun mode initial visit answers ≡ v = same_item (visitor_begun mode initial visit answers) v (ap (λ (w : Work K V A). visitor_in (Some w)) (begins ∙ e)) in
+      let same : visitor_begun mode initial number visit answers ≡ v = same_item (visitor_begun mode initial number visit answers) v (ap (λ (w : Work K V A). visitor_in (Some w)) (begins ∙ e)) in
       (subst (λ (u : Visiting A). IsVisitOf call u.visitor.visit) same of, ap (λ (u : Visiting A). u.answers) (sym same) ∙ are)
 
-  visit_begun : (call : Call K V A) (v : Visiting A) → begun_work hash mode initial call ≡ works.Visit v → IsVisitOf call v.visitor.visit × (v.answers ≡ answers_of_call call)
+  visit_begun : (call : Call K V A) (v : Visiting A) → begun_work hash mode initial number call ≡ works.Visit v → IsVisitOf call v.visitor.visit × (v.answers ≡ answers_of_call call)
   visit_begun Clear v e = visit_is Clear visit_kinds.Clear None v tt refl refl e
   visit_begun (Retain a) v e = visit_is (Retain a) visit_kinds.Retain (Some a) v tt refl refl e
   visit_begun Walk v e = visit_is Walk visit_kinds.Walk None v tt refl refl e
@@ -570,7 +570,7 @@ module _ {K V S A : Type 0} (eq : K → K → Bool) (hash : K → ℕ) (law : Is
     maps = replay eq good.es ∷ good.maps;
     answers = None ∷ good.answers;
     core = core';
-    kept = kept_begin eq hash law s c call s' x good.core.chunked good.es good.tales good.kept;
+    kept = kept_begin eq hash law s c call s' x good.es good.tales good.kept;
     timeline = (λ j. refl, refl, good.timeline);
     logged = (logged.0, logged);
     given = (
@@ -590,16 +590,16 @@ module _ {K V S A : Type 0} (eq : K → K → Bool) (hash : K → ℕ) (law : Is
           ))
     ];
     resized = λ d z other now e.
-        let begun_callers = with_work (with_seat s.callers c) c (Some (begun_work hash s.mode s.initial call)) in
+        let begun_callers = with_work (with_seat s.callers c) c (Some (begun_work hash s.mode s.initial x.number call)) in
         let before : resizing begun_callers d ≡ Some z = sym (ap (λ (y : List (Seat K V A)). resizing y d) x.callers) ∙ now in
         elim (cases_same d c) [
           | inl same ↦
-              let is = resize_begun hash s.mode s.initial call z (same_item (begun_work hash s.mode s.initial call) (works.Resize z) (resizing-here (with_seat s.callers c) c (Some (begun_work hash s.mode s.initial call)) z (ap (resizing begun_callers) (sym same) ∙ before))) in
+              let is = resize_begun hash s.mode s.initial x.number call z (same_item (begun_work hash s.mode s.initial x.number call) (works.Resize z) (resizing-here (with_seat s.callers c) c (Some (begun_work hash s.mode s.initial x.number call)) z (ap (resizing begun_callers) (sym same) ∙ before))) in
               let is_call : call ≡ other = same_item call other (sym (open_call-own schedule c turn Begun h ∙ ap begun_by at) ∙ sym (ap (λ y. open_call schedule y (entry turn c Begun ∷ h)) same) ∙ e) in
               (subst IsResize is_call is, subst (λ y. change_of y (entry turn c Begun ∷ h) ≡ None) (sym same) (change_of-own c turn Begun h))
           | inr differ ↦
               let ne : c ≢ d = λ y. differ (sym y) in
-              let was = good.resized d z other (sym (resizing-with_seat s.callers c d) ∙ sym (resizing-elsewhere (with_seat s.callers c) c d (Some (begun_work hash s.mode s.initial call)) differ) ∙ before) (sym (open_call-other schedule c d turn Begun h ne) ∙ e) in
+              let was = good.resized d z other (sym (resizing-with_seat s.callers c d) ∙ sym (resizing-elsewhere (with_seat s.callers c) c d (Some (begun_work hash s.mode s.initial x.number call)) differ) ∙ before) (sym (open_call-other schedule c d turn Begun h ne) ∙ e) in
               (was.0, change_of-other c d turn Begun h ne ∙ was.1)
         ];
     visited = visited;
@@ -623,11 +623,11 @@ module _ {K V S A : Type 0} (eq : K → K → Bool) (hash : K → ℕ) (law : Is
 
       run_other : (d : ℕ) (r : Running K V A) → d ≢ c → running s'.callers d ≡ Some r → running s.callers d ≡ Some r
       run_other d r differ now =
-          sym (running-with_seat s.callers c d) ∙ sym (running-elsewhere (with_seat s.callers c) c d (Some (begun_work hash s.mode s.initial call)) differ) ∙ sym (ap (λ (y : List (Seat K V A)). running y d) x.callers) ∙ now
+          sym (running-with_seat s.callers c d) ∙ sym (running-elsewhere (with_seat s.callers c) c d (Some (begun_work hash s.mode s.initial x.number call)) differ) ∙ sym (ap (λ (y : List (Seat K V A)). running y d) x.callers) ∙ now
 
-      run_same : (d : ℕ) (r : Running K V A) → d ≡ c → running s'.callers d ≡ Some r → IsBegun hash s.mode s.initial call r
+      run_same : (d : ℕ) (r : Running K V A) → d ≡ c → running s'.callers d ≡ Some r → IsBegun hash s.mode s.initial x.number call r
       run_same d r same now =
-          call_begun hash s.mode s.initial call r (same_item (begun_work hash s.mode s.initial call) (works.Call r) (running-here (with_seat s.callers c) c (Some (begun_work hash s.mode s.initial call)) r (sym (ap (λ (y : List (Seat K V A)). running y c) x.callers) ∙ ap (running s'.callers) (sym same) ∙ now)))
+          call_begun hash s.mode s.initial x.number call r (same_item (begun_work hash s.mode s.initial x.number call) (works.Call r) (running-here (with_seat s.callers c) c (Some (begun_work hash s.mode s.initial x.number call)) r (sym (ap (λ (y : List (Seat K V A)). running y c) x.callers) ∙ ap (running s'.callers) (sym same) ∙ now)))
 
       tale_other : (d : ℕ) → d ≢ c → tales d ≡ good.tales d
       tale_other d differ = ap (λ b. cond b (record { begun = good.es; since = []; hands = no_hands; visit = visits.no_hands }) (good.tales d)) (differs d c differ)
@@ -644,16 +644,16 @@ module _ {K V S A : Type 0} (eq : K → K → Bool) (hash : K → ℕ) (law : Is
 
       visits_other : (d : ℕ) (v : Visiting A) → d ≢ c → visiting s'.callers d ≡ Some v → visiting s.callers d ≡ Some v
       visits_other d v differ now =
-          sym (visiting-with_seat s.callers c d) ∙ sym (visiting-elsewhere (with_seat s.callers c) c d (Some (begun_work hash s.mode s.initial call)) differ) ∙ sym (ap (λ (y : List (Seat K V A)). visiting y d) x.callers) ∙ now
+          sym (visiting-with_seat s.callers c d) ∙ sym (visiting-elsewhere (with_seat s.callers c) c d (Some (begun_work hash s.mode s.initial x.number call)) differ) ∙ sym (ap (λ (y : List (Seat K V A)). visiting y d) x.callers) ∙ now
 
-      visits_same : (d : ℕ) (v : Visiting A) → d ≡ c → visiting s'.callers d ≡ Some v → begun_work hash s.mode s.initial call ≡ works.Visit v
+      visits_same : (d : ℕ) (v : Visiting A) → d ≡ c → visiting s'.callers d ≡ Some v → begun_work hash s.mode s.initial x.number call ≡ works.Visit v
       visits_same d v same now =
-          same_item (begun_work hash s.mode s.initial call) (works.Visit v) (visiting-here (with_seat s.callers c) c (Some (begun_work hash s.mode s.initial call)) v (sym (ap (λ (y : List (Seat K V A)). visiting y c) x.callers) ∙ ap (visiting s'.callers) (sym same) ∙ now))
+          same_item (begun_work hash s.mode s.initial x.number call) (works.Visit v) (visiting-here (with_seat s.callers c) c (Some (begun_work hash s.mode s.initial x.number call)) v (sym (ap (λ (y : List (Seat K V A)). visiting y c) x.callers) ∙ ap (visiting s'.callers) (sym same) ∙ now))
 
       visited : (d : ℕ) (v : Visiting A) (other : Call K V A) → visiting s'.callers d ≡ Some v → open_call schedule d (entry turn c Begun ∷ h) ≡ Some other → IsVisitTied eq says s'.store schedule v other d (visit_tale (tales d)) (entry turn c Begun ∷ h) (replay eq good.es ∷ replay eq good.es ∷ good.maps) (None ∷ good.answers)
       visited d v other now e = elim (cases_same d c) [
         | inl same ↦
-            let begins = visit_begun hash s.mode s.initial call v (visits_same d v same now) in
+            let begins = visit_begun hash s.mode s.initial x.number call v (visits_same d v same now) in
             let is_call : call ≡ other = same_item call other (sym (open_call-own schedule c turn Begun h ∙ ap begun_by at) ∙ sym (ap (λ y. open_call schedule y (entry turn c Begun ∷ h)) same) ∙ e) in
             subst (λ y. IsVisitTied eq says s'.store schedule v other y (visit_tale (tales y)) (entry turn c Begun ∷ h) (replay eq good.es ∷ replay eq good.es ∷ good.maps) (None ∷ good.answers)) (sym same)
             (subst (λ y. IsVisitTied eq says s'.store schedule v y c (visit_tale (tales c)) (entry turn c Begun ∷ h) (replay eq good.es ∷ replay eq good.es ∷ good.maps) (None ∷ good.answers)) is_call
@@ -684,7 +684,7 @@ module _ {K V S A : Type 0} (eq : K → K → Bool) (hash : K → ℕ) (law : Is
             subst (λ y. IsTied eq s'.store r other y (tales y) (entry turn c Begun ∷ h) (replay eq good.es ∷ replay eq good.es ∷ good.maps) (None ∷ good.answers)) (sym same)
             (subst (λ y. IsTied eq s'.store r y c (tales c) (entry turn c Begun ∷ h) (replay eq good.es ∷ replay eq good.es ∷ good.maps) (None ∷ good.answers)) is_call
             (subst (λ y. IsTied eq s'.store y call c (tales c) (entry turn c Begun ∷ h) (replay eq good.es ∷ replay eq good.es ∷ good.maps) (None ∷ good.answers)) (sym is.is)
-            (subst (λ y. IsTied eq s'.store (begun hash s.mode s.initial is.task is.key (value_of_call call) (answers_of_call call)) call c y (entry turn c Begun ∷ h) (replay eq good.es ∷ replay eq good.es ∷ good.maps) (None ∷ good.answers)) (sym tale_same) (tied_begun r is))))
+            (subst (λ y. IsTied eq s'.store (begun hash s.mode s.initial x.number is.task is.key (value_of_call call) (answers_of_call call)) call c y (entry turn c Begun ∷ h) (replay eq good.es ∷ replay eq good.es ∷ good.maps) (None ∷ good.answers)) (sym tale_same) (tied_begun r is))))
         | inr differ ↦
             let ne : c ≢ d = λ z. differ (sym z) in
             subst (λ y. IsTied eq s'.store r other d y (entry turn c Begun ∷ h) (replay eq good.es ∷ replay eq good.es ∷ good.maps) (None ∷ good.answers)) (sym (tale_other d differ))
@@ -696,7 +696,7 @@ module _ {K V S A : Type 0} (eq : K → K → Bool) (hash : K → ℕ) (law : Is
           nothing_before [] rest none = refl
           nothing_before (y ∷ so_far) rest none = cc
 
-          tied_begun : (r : Running K V A) (is : IsBegun hash s.mode s.initial call r) → IsTied eq s'.store (begun hash s.mode s.initial is.task is.key (value_of_call call) (answers_of_call call)) call c (record { begun = good.es; since = []; hands = no_hands; visit = visits.no_hands }) (entry turn c Begun ∷ h) (replay eq good.es ∷ replay eq good.es ∷ good.maps) (None ∷ good.answers)
+          tied_begun : (r : Running K V A) (is : IsBegun hash s.mode s.initial x.number call r) → IsTied eq s'.store (begun hash s.mode s.initial x.number is.task is.key (value_of_call call) (answers_of_call call)) call c (record { begun = good.es; since = []; hands = no_hands; visit = visits.no_hands }) (entry turn c Begun ∷ h) (replay eq good.es ∷ replay eq good.es ∷ good.maps) (None ∷ good.answers)
           tied_begun r is = record {
             own = is.key;
             key = refl;

@@ -125,7 +125,7 @@ module _ {K V : Type 0} (eq : K → K → Bool) (hash : K → ℕ) (mode : Resiz
   takes_same (Close t y) k = refl
   takes_same (Place n y p) k = refl
   takes_same (Finish t y p) k = refl
-  takes_same (Advance n a b) k = refl
+  takes_same (Advance n c) k = refl
   takes_same (Promote t n) k = refl
   takes_same (Abort n) k = refl
 

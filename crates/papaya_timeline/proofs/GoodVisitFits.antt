@@ -53,7 +53,7 @@ module _ {K V S : Type 0} (eq : K → K → Bool) (hash : S → K → ℕ) (refu
   copy_keys (copies.HashOf n) s a s' (e, hashes, same) = ap (λ (y : StoreState K V S). y.keys) same
   copy_keys (copies.SamePair m n) s a s' (e, same) = ap (λ (y : StoreState K V S). y.keys) same
   copy_keys copies.Count s a s' (e, same) = ap (λ (y : StoreState K V S). y.keys) same
-  copy_keys (copies.MakeTable slots limit) s a s' (told, e, makes) =
+  copy_keys (copies.MakeTable slots limit chunks) s a s' (told, e, makes) =
       matched (s'.keys ≡ s.keys) refuse _ _ makes
       (λ _ none. ap (λ (y : StoreState K V S). y.keys) none.1)
       (λ _ made. ⊎_elim (λ refused. ap (λ (y : StoreState K V S). y.keys) refused.1) (λ table. ap (λ (y : StoreState K V S). y.keys) table.2) made)

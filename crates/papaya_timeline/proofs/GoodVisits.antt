@@ -91,7 +91,7 @@ module _ {K V : Type 0} (eq : K → K → Bool) where
   taken (Close t y) k q m out has = let f : false ≡ true = out in absurd cc
   taken (Place n y p) k q m out has = let f : false ≡ true = out in absurd cc
   taken (Finish t y p) k q m out has = let f : false ≡ true = out in absurd cc
-  taken (Advance n a b) k q m out has = let f : false ≡ true = out in absurd cc
+  taken (Advance n c) k q m out has = let f : false ≡ true = out in absurd cc
   taken (Promote t n) k q m out has = let f : false ≡ true = out in absurd cc
   taken (Abort n) k q m out has = let f : false ≡ true = out in absurd cc
 
@@ -133,7 +133,7 @@ module _ {K V : Type 0} (eq : K → K → Bool) where
     replayed_keyed (Close t x ∷ es) s m keyed may = replayed_keyed es (after s (Close t x)) m keyed may.1
     replayed_keyed (Place n x q ∷ es) s m keyed may = replayed_keyed es (after s (Place n x q)) m keyed may.1
     replayed_keyed (Finish t x q ∷ es) s m keyed may = replayed_keyed es (after s (Finish t x q)) m keyed may.1
-    replayed_keyed (Advance n a b ∷ es) s m keyed may = replayed_keyed es (after s (Advance n a b)) m keyed may.1
+    replayed_keyed (Advance n c ∷ es) s m keyed may = replayed_keyed es (after s (Advance n c)) m keyed may.1
     replayed_keyed (Promote t n ∷ es) s m keyed may = replayed_keyed es (after s (Promote t n)) m keyed may.1
     replayed_keyed (Abort n ∷ es) s m keyed may = replayed_keyed es (after s (Abort n)) m keyed may.1
 

@@ -93,13 +93,13 @@ module _ {K V S A : Type 0} where
   -- and after a begin
   pub begin-core : (hash : K → ℕ) (s : CoreState K V S A) (caller : ℕ) (call : Call K V A) (s' : CoreState K V S A) → Begins hash s caller call s' → IsCore s.store s.callers s.mode → IsCore s'.store s'.callers s'.mode
   begin-core hash s caller call s' x core =
-      let w : Work K V A = begun_work hash s.mode s.initial call in
-      let begins = begun-core hash s.mode s.initial call core.chunked x.power in
+      let w : Work K V A = begun_work hash s.mode s.initial x.number call in
+      let begins = begun-core hash s.mode s.initial x.number call core.chunked x.power in
       subst (λ y. IsCore s'.store s'.callers y) (sym x.mode)
       (subst (λ (y : List (Seat K V A)). IsCore s'.store y s.mode) (sym x.callers)
       (subst (λ (y : StoreState K V S). IsCore y (with_work (with_seat s.callers caller) caller (Some w)) s.mode) (sym x.store)
       (with_work-core s.store (with_seat s.callers caller) s.mode caller (Some w) (with_seat-core s.store s.callers s.mode caller core) (λ r e. begins.0 r (same_item w (works.Call r) e)) (λ z e. begins.1 z (same_item w (works.Resize z) e))
-      (λ v e. begun-visitor hash s.mode s.initial call core.chunked x.power v (same_item w (works.Visit v) e)))))
+      (λ v e. begun-visitor hash s.mode s.initial x.number call core.chunked x.power v (same_item w (works.Visit v) e)))))
 
 module _ {K V S A : Type 0} (eq : K → K → Bool) (says : Says K V A) (hash : S → K → ℕ) (hasher : S) (law : IsLawfulKeys eq (hash hasher)) (schedule : List (Turn K V A)) (first : StoreState K V S) (start : Map K V) where
   -- a good history of a core with this hasher

@@ -129,7 +129,7 @@ copied_none from stages.Done = root_none (found_by from)
 copied_none from (stages.Refused refused) = λ n h. h
 copied_none from stages.AtRoot = λ n h. h
 copied_none from (stages.Opening table) = λ n h. h
-copied_none from (stages.Looking root room) = λ n h. h
+copied_none from (stages.Looking root len room) = λ n h. h
 copied_none from (stages.Linking link) = λ n h. h
 copied_none from (stages.Copying root copying) = λ n h. h
 copied_none from stage = λ n h. h
@@ -139,30 +139,30 @@ abbrev SaysNo : State → Answer → ℕ → Type 0
 SaysNo state a n = (spot : Spot) × (word : ℕ) × (state ≡ Showing spot word) × (pair_in word ≡ n) × (a ≡ answers.Call (Yes false))
 
 -- A retain is about to take out a pair where it was, or where its closure answers so.
-retain_takes : (mode : ResizeMode) (initial : ℕ) (a : Answer) (state : State) (n : ℕ) → TakesOut (after_in Retain mode initial a state) n → TakesOut state n ⊎ SaysNo state a n
-retain_takes mode initial a (Copying stage) n h = absurd (copied_none stage (resizers.after_in CopyAll mode initial a stage) n h)
-retain_takes mode initial (answers.Call (Word_read root)) AtRoot n h = absurd (root_none root n h)
-retain_takes mode initial a AtRoot n h = absurd h
-retain_takes mode initial (answers.Call (Size slots limit)) (Sizing table) n h = absurd (looks_none (record { table = table; len = slots; slot = 0 }) n h)
-retain_takes mode initial a (Sizing table) n h = absurd h
-retain_takes mode initial (answers.Call (Word_read word)) (Looking spot) n h = absurd (meets_none spot word (kind_of word) n h)
-retain_takes mode initial a (Looking spot) n h = absurd h
-retain_takes mode initial (answers.Call Ok_done) (Giving spot word) n h = absurd (next_none spot n h)
-retain_takes mode initial a (Giving spot word) n h = absurd h
-retain_takes mode initial (answers.Call (Yes true)) (Showing spot word) n h = absurd (next_none spot n h)
-retain_takes mode initial (answers.Call (Yes false)) (Showing spot word) n h = inr (spot, word, refl, h, refl)
-retain_takes mode initial a (Showing spot word) n h = absurd h
-retain_takes mode initial (answers.Call Exchanged) (Burying spot word) n h = absurd h
-retain_takes mode initial (answers.Call (Found_instead other)) (Burying spot word) n h = absurd (meets_none spot other (kind_of other) n h)
-retain_takes mode initial a (Burying spot word) n h = inl h
-retain_takes mode initial (answers.Call Ok_done) (Uncounting spot) n h = absurd (next_none spot n h)
-retain_takes mode initial a (Uncounting spot) n h = absurd h
-retain_takes mode initial (answers.Call said) Done n h = absurd h
-retain_takes mode initial (answers.Hash hash) Done n h = absurd h
-retain_takes mode initial (answers.Count count) Done n h = absurd h
-retain_takes mode initial (answers.Call said) (Refused refused) n h = absurd h
-retain_takes mode initial (answers.Hash hash) (Refused refused) n h = absurd h
-retain_takes mode initial (answers.Count count) (Refused refused) n h = absurd h
+retain_takes : (mode : ResizeMode) (initial number : ℕ) (a : Answer) (state : State) (n : ℕ) → TakesOut (after_in Retain mode initial number a state) n → TakesOut state n ⊎ SaysNo state a n
+retain_takes mode initial number a (Copying stage) n h = absurd (copied_none stage (resizers.after_in CopyAll mode initial number a stage) n h)
+retain_takes mode initial number (answers.Call (Word_read root)) AtRoot n h = absurd (root_none root n h)
+retain_takes mode initial number a AtRoot n h = absurd h
+retain_takes mode initial number (answers.Call (Size slots limit)) (Sizing table) n h = absurd (looks_none (record { table = table; len = slots; slot = 0 }) n h)
+retain_takes mode initial number a (Sizing table) n h = absurd h
+retain_takes mode initial number (answers.Call (Word_read word)) (Looking spot) n h = absurd (meets_none spot word (kind_of word) n h)
+retain_takes mode initial number a (Looking spot) n h = absurd h
+retain_takes mode initial number (answers.Call Ok_done) (Giving spot word) n h = absurd (next_none spot n h)
+retain_takes mode initial number a (Giving spot word) n h = absurd h
+retain_takes mode initial number (answers.Call (Yes true)) (Showing spot word) n h = absurd (next_none spot n h)
+retain_takes mode initial number (answers.Call (Yes false)) (Showing spot word) n h = inr (spot, word, refl, h, refl)
+retain_takes mode initial number a (Showing spot word) n h = absurd h
+retain_takes mode initial number (answers.Call Exchanged) (Burying spot word) n h = absurd h
+retain_takes mode initial number (answers.Call (Found_instead other)) (Burying spot word) n h = absurd (meets_none spot other (kind_of other) n h)
+retain_takes mode initial number a (Burying spot word) n h = inl h
+retain_takes mode initial number (answers.Call Ok_done) (Uncounting spot) n h = absurd (next_none spot n h)
+retain_takes mode initial number a (Uncounting spot) n h = absurd h
+retain_takes mode initial number (answers.Call said) Done n h = absurd h
+retain_takes mode initial number (answers.Hash hash) Done n h = absurd h
+retain_takes mode initial number (answers.Count count) Done n h = absurd h
+retain_takes mode initial number (answers.Call said) (Refused refused) n h = absurd h
+retain_takes mode initial number (answers.Hash hash) (Refused refused) n h = absurd h
+retain_takes mode initial number (answers.Count count) (Refused refused) n h = absurd h
 
 module _ {K V S A : Type 0} (eq : K → K → Bool) (says : Says K V A) (hash : S → K → ℕ) (refuse : Bool) (s : StoreState K V S) (v : Visiting A) (ask : VisitAsk) (asked : ask_of v.visitor ≡ Some ask) (a : Answer) (s' : StoreState K V S) (v' : Visiting A) (performs : PerformsVisit eq says hash refuse ask s v a s' v') (event : Event) (is : event ≡ event_of_visit (kind_of_ask v.visitor) ask a) where
   -- the closure answers now
@@ -189,7 +189,7 @@ module _ {K V S A : Type 0} (eq : K → K → Bool) (says : Says K V A) (hash : 
       ⊎_elim
       (λ was. inl (retains, was))
       (λ now. inr (says_no n now))
-      (retain_takes v.visitor.mode v.visitor.initial a v.visitor.state n (subst (λ y. TakesOut (after_in y v.visitor.mode v.visitor.initial a v.visitor.state) n) retains takes))
+      (retain_takes v.visitor.mode v.visitor.initial v.visitor.number a v.visitor.state n (subst (λ y. TakesOut (after_in y v.visitor.mode v.visitor.initial v.visitor.number a v.visitor.state) n) retains takes))
   visit_intends (Some n) (ops.Insert w) h = absurd h
   visit_intends (Some n) (ops.Abort t) h = absurd h
   visit_intends None op h = absurd h

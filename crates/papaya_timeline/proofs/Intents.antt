@@ -105,8 +105,8 @@ handed w made op v is (inl same) none = (v, is, same)
 handed w made op v is (inr so) none = absurd (none so)
 
 -- A call that begins intends to store what it was handed.
-module _ {K V S A : Type 0} (store : StoreState K V S) (hash : K → ℕ) (mode : ResizeMode) (initial : ℕ) where
-  pub begun_intends : (call : Call K V A) → IntendsHanded store call (begun_work hash mode initial call)
+module _ {K V S A : Type 0} (store : StoreState K V S) (hash : K → ℕ) (mode : ResizeMode) (initial number : ℕ) where
+  pub begun_intends : (call : Call K V A) → IntendsHanded store call (begun_work hash mode initial number call)
   begun_intends (Get k) shown op h = absurd h
   begun_intends (Insert k w) shown (ops.Insert v) h = handed w _ (ops.Insert v) v refl h (λ is. let f = is.1 in absurd cc)
   begun_intends (Insert k w) shown ops.Remove h = absurd h

@@ -75,7 +75,7 @@ module _ {Q K V S A : Type 0} (g : Setting Q (Stored K V)) (c : Coding Q (Stored
     pub carried : (p : Stored K V) → hands.kept ≡ Some p → (tale.hands.kept ≡ Some p) ⊎ (tale.hands.call.last ≡ Some p)
     pub new : (q : Stored K V) → IsOneOf hands.call.made q → IsOneOf tale.hands.call.made q ⊎ ((q.number ≡ length store.pairs) × (r.value ≡ Some q.value) × (pair_of store' q.number ≡ Some q))
     -- a table that was made is there
-    pub opens : (t : ℕ) → a ≡ answers.Call (Made_number t) → ((slots : ℕ) × (limit : ℕ) × (ask ≡ asks.Call (MakeTable slots limit))) ⊎ ((slots : ℕ) × (limit : ℕ) × (ask ≡ asks.Copy (Make_next slots limit))) → IsMade store' t
+    pub opens : (t : ℕ) → a ≡ answers.Call (Made_number t) → ((slots : ℕ) × (limit : ℕ) × (chunks : ℕ) × (ask ≡ asks.Call (MakeTable slots limit chunks))) ⊎ ((slots : ℕ) × (limit : ℕ) × (chunks : ℕ) × (ask ≡ asks.Copy (Make_next slots limit chunks))) → IsMade store' t
 
   -- What an answer without an exchange leaves of the logs: they may grow.
   pub record HasLogs (key : Q) (store' : StoreState K V S) (later : Running K V A) : Type 0 where
@@ -119,7 +119,7 @@ module _ {Q K V S A : Type 0} (g : Setting Q (Stored K V)) (c : Coding Q (Stored
         → Tells key ask a [] hands
         → change_by (kind_of_ask r.machine) ask a (change_in r.machine.call.state) ≡ change_in r.machine.call.state
         → HasLogs key store' later → HasHands store' hands
-        → ((t : ℕ) → a ≡ answers.Call (Made_number t) → ((slots : ℕ) × (limit : ℕ) × (ask ≡ asks.Call (MakeTable slots limit))) ⊎ ((slots : ℕ) × (limit : ℕ) × (ask ≡ asks.Copy (Make_next slots limit))) → IsMade store' t)
+        → ((t : ℕ) → a ≡ answers.Call (Made_number t) → ((slots : ℕ) × (limit : ℕ) × (chunks : ℕ) × (ask ≡ asks.Call (MakeTable slots limit chunks))) ⊎ ((slots : ℕ) × (limit : ℕ) × (chunks : ℕ) × (ask ≡ asks.Copy (Make_next slots limit chunks))) → IsMade store' t)
         → IsAnswered key ask a store' later
     unexchanged ask e a store' later hands told still logs pairs opens = record {
       made = [];
@@ -154,7 +154,7 @@ module _ {Q K V S A : Type 0} (g : Setting Q (Stored K V)) (c : Coding Q (Stored
         → ((p : Stored K V) → hands.call.last ≡ Some p → (tale.hands.call.last ≡ Some p) ⊎ Stands words_now p)
         → ((p : Stored K V) → hands.kept ≡ Some p → (tale.hands.kept ≡ Some p) ⊎ (tale.hands.call.last ≡ Some p))
         → hands.call.made ≡ tale.hands.call.made
-        → ((t : ℕ) → a ≡ answers.Call (Made_number t) → ((slots : ℕ) × (limit : ℕ) × (ask ≡ asks.Call (MakeTable slots limit))) ⊎ ((slots : ℕ) × (limit : ℕ) × (ask ≡ asks.Copy (Make_next slots limit))) → ⊥)
+        → ((t : ℕ) → a ≡ answers.Call (Made_number t) → ((slots : ℕ) × (limit : ℕ) × (chunks : ℕ) × (ask ≡ asks.Call (MakeTable slots limit chunks))) ⊎ ((slots : ℕ) × (limit : ℕ) × (chunks : ℕ) × (ask ≡ asks.Copy (Make_next slots limit chunks))) → ⊥)
         → IsAnswered key ask a store' later
     quiet owns ask e a store' later hands count same_store same_call told still last carried made never =
         subst (λ y. IsAnswered key ask a y later) (sym same_store) (subst (IsAnswered key ask a (record store { count = count })) (sym same_call)
@@ -217,7 +217,7 @@ module _ {Q K V S A : Type 0} (g : Setting Q (Stored K V)) (c : Coding Q (Stored
   told_last Root p h = inl h
   told_last (Next t) p h = inl h
   told_last (Aborted t) p h = inl h
-  told_last (Done t) p h = inl h
+  told_last (Done t chunk) p h = inl h
   told_last (Slot t x) p h = named_last tale.hands.call.last t x p (named (words_now.slot t x)) refl h
 
   -- and so it is for a copier
@@ -225,7 +225,7 @@ module _ {Q K V S A : Type 0} (g : Setting Q (Stored K V)) (c : Coding Q (Stored
   copy_last Root p h = inl h
   copy_last (Next t) p h = inl h
   copy_last (Aborted t) p h = inl h
-  copy_last (Done t) p h = inl h
+  copy_last (Done t chunk) p h = inl h
   copy_last (Slot t x) p h = named_last tale.hands.call.last t x p (named (words_now.slot t x)) refl h
 
   -- what stands at a place says nothing of the pair that the call made
@@ -233,5 +233,5 @@ module _ {Q K V S A : Type 0} (g : Setting Q (Stored K V)) (c : Coding Q (Stored
   told_made Root = refl
   told_made (Next t) = refl
   told_made (Aborted t) = refl
-  told_made (Done t) = refl
+  told_made (Done t chunk) = refl
   told_made (Slot t x) = refl

@@ -1,7 +1,6 @@
 -- A begin keeps a core's words to the law of exchanges, as a new core does.
 use Rattle.std.proofs.Common.{◌≡◌, ◌≢◌, ℕ, zero, suc, ◌-◌, ◌==◌, ◌<◌, ◌≤◌, ◌^◌, Bool, true, false, cond, max, List, [], ◌∷◌, length, Some, None, inl, inr, refl, sym, ◌∙◌, ap, subst, arith, append-nil, eq-eqb, mod-eq_of_lt, slice_get, slice_index}
 use Rattle.papaya_words.specs.Table.{TableWords, new_table}
-use Rattle.papaya_words.specs.Mode.{IsChunked}
 use Rattle.papaya_words.specs.declared.limits.TheConstants.{MAX_LOG_LEN}
 use Rattle.papaya_words.specs.declared.probe.ResizeMode.{ResizeMode}
 use Rattle.papaya_words.specs.declared.probe.ResizeMode.TheVariants.{Incremental, Blocking}
@@ -38,6 +37,7 @@ use Rattle.papaya_store.specs.Tables.{Tables, hint_at, slot_hint, table_of, word
 use Rattle.papaya_timeline.proofs.CallersLemmas.{differs, resizing-elsewhere, resizing-here, resizing-with_seat, running-elsewhere, running-here, running-with_seat, same_item, visiting-elsewhere, visiting-here, visiting-with_seat}
 use Rattle.papaya_timeline.proofs.CoreLemmas.{cases_same}
 use Rattle.papaya_timeline.proofs.KeptClosures.{begun_answers}
+use Rattle.papaya_timeline.proofs.KeptSettings.{mode_cut}
 use Rattle.papaya_timeline.proofs.KeptTables.{word-made}
 use Rattle.papaya_timeline.proofs.VisitBegins.{visit_begins}
 use Rattle.papaya_chain_rests.specs.VisitTold as visits
@@ -54,7 +54,7 @@ no_words : (at : At) → 0 ≡ word_at (record { root = 0; tables = [] }) at
 no_words Root = refl
 no_words (Next n) = elim (n == 0) as (λ b. 0 ≡ word_in (λ t. t.next) (cond b None (slice_get {X = TableWords} [] (n - 1)))) [ true ↦ refl | false ↦ refl ]
 no_words (Aborted n) = elim (n == 0) as (λ b. 0 ≡ word_in (λ t. t.aborted) (cond b None (slice_get {X = TableWords} [] (n - 1)))) [ true ↦ refl | false ↦ refl ]
-no_words (Done n) = elim (n == 0) as (λ b. 0 ≡ word_in (λ t. t.done) (cond b None (slice_get {X = TableWords} [] (n - 1)))) [ true ↦ refl | false ↦ refl ]
+no_words (Done n c) = elim (n == 0) as (λ b. 0 ≡ word_in (λ t. slice_index t.done c) (cond b None (slice_get {X = TableWords} [] (n - 1)))) [ true ↦ refl | false ↦ refl ]
 no_words (Slot n i) = elim (n == 0) as (λ b. 0 ≡ word_in (λ t. slice_index t.slots i) (cond b None (slice_get {X = TableWords} [] (n - 1)))) [ true ↦ refl | false ↦ refl ]
 
 -- nor a hint
@@ -62,10 +62,10 @@ no_hints : (n i : ℕ) → hint_at (record { root = 0; tables = [] }) n i ≡ 0
 no_hints n i = elim (n == 0) as (λ b. word_in (λ t. slot_hint t i) (cond b None (slice_get {X = TableWords} [] (n - 1))) ≡ 0) [ true ↦ refl | false ↦ refl ]
 
 module _ {K V S A : Type 0} (eq : K → K → Bool) (hash : K → ℕ) where
-  module _ (s : CoreState K V S A) (caller : ℕ) (call : Call K V A) (fits : (k : K) → key_of call ≡ Some k → hash k < 2 ^ 64) (chunked : IsChunked s.mode) (es : List (Exchange (Stored K V))) (tales : ℕ → Tale K V) (kept : IsKept eq hash s.mode s.store s.callers es tales) where
+  module _ (s : CoreState K V S A) (caller : ℕ) (call : Call K V A) (fits : (k : K) → key_of call ≡ Some k → hash k < 2 ^ 64) (number : ℕ) (es : List (Exchange (Stored K V))) (tales : ℕ → Tale K V) (kept : IsKept eq hash s.mode s.store s.callers es tales) where
     -- the call as it begins, what is told of it, and the callers then
     abbrev work : Work K V A
-    work = begun_work hash s.mode s.initial call
+    work = begun_work hash s.mode s.initial number call
 
     -- what is told of it: nothing was exchanged since
     abbrev new_tale : Tale K V
@@ -80,14 +80,14 @@ module _ {K V S A : Type 0} (eq : K → K → Bool) (hash : K → ℕ) where
     tales' = begun_tales tales caller es
 
     -- a call on one key rests on the exchanges as they are
-    new_call : (r : Running K V A) → IsBegun hash s.mode s.initial call r → IsCall eq hash s.mode s.store r es new_tale
+    new_call : (r : Running K V A) → IsBegun hash s.mode s.initial number call r → IsCall eq hash s.mode s.store r es new_tale
     new_call r x = subst (λ (y : Running K V A). IsCall eq hash s.mode s.store y es new_tale) (sym x.is) (record {
       key = x.key;
       own = refl;
       answers = begun_answers call x.task x.task_is;
       split = append-nil es;
       rests = record {
-        chunked = chunked;
+        cut = mode_cut s.mode;
         call = record { hash = sym (mod-eq_of_lt (fits x.key x.key_is)); mode = mode_of s.mode; made = record { keys = λ q l. absurd l; made_is = tt; fill_is = tt; choice_is = tt }; stage = tt };
         phase = tt;
       };
@@ -95,19 +95,19 @@ module _ {K V S A : Type 0} (eq : K → K → Bool) (hash : K → ℕ) where
       carried = λ p l. absurd cc;
       made = λ p l. absurd l;
       opens = λ t l. absurd cc;
-      links = λ behind t l. absurd cc;
+      links = λ behind t chunks l. absurd cc;
       unwritten = λ p l. absurd l;
       shows = tt;
     })
 
     -- a call that resizes the map rests on nothing
-    new_resizer : (z : Resizer) → IsResizeBegun hash s.mode s.initial call z → IsResizing eq hash s.mode s.store z es new_tale
+    new_resizer : (z : Resizer) → IsResizeBegun hash s.mode s.initial number call z → IsResizing eq hash s.mode s.store z es new_tale
     new_resizer z x = subst (λ (y : Resizer). IsResizing eq hash s.mode s.store y es new_tale) (sym x.is) (record {
-      rests = resizer_begins (setting_of eq (low hash) s.mode s.store.words.tables) (coding_of (low hash)) (run es start) no_hands x.resize s.mode s.initial chunked (mode_of s.mode);
+      rests = resizer_begins (setting_of eq (low hash) s.mode s.store.words.tables) (coding_of (low hash)) (run es start) no_hands x.resize s.mode s.initial number (mode_of s.mode) (mode_cut s.mode);
       last = λ p l. absurd cc;
       carried = λ p l. absurd cc;
       opens = λ t l. absurd (unopened x.resize t l);
-      links = λ behind t l. absurd (unlinked x.resize (Linking behind t) l);
+      links = λ behind t chunks l. absurd (unlinked x.resize (Linking behind t chunks) l);
     })
       where
         unopened : (resize : Resize) (t : ℕ) → begun_in resize ≡ Opening t → ⊥
@@ -121,8 +121,8 @@ module _ {K V S A : Type 0} (eq : K → K → Bool) (hash : K → ℕ) where
         unlinked (Reserve more) link e = absurd e
 
     -- and so does one that visits a table
-    new_visitor : (v : Visiting A) → IsVisitBegun hash s.mode s.initial call v → IsVisiting eq hash s.mode s.store v es (visit_tale new_tale)
-    new_visitor v x = visit_begins eq hash s chunked es x.visit s.initial v (ap (λ (y : Visiting A). y.visitor) x.is) (subst (λ (y : Visiting A). HasAnswers x.visit y.answers) (sym x.is) x.has) (ap (λ (y : Visiting A). y.given) x.is)
+    new_visitor : (v : Visiting A) → IsVisitBegun hash s.mode s.initial number call v → IsVisiting eq hash s.mode s.store v es (visit_tale new_tale)
+    new_visitor v x = visit_begins eq hash s es x.visit s.initial number v (ap (λ (y : Visiting A). y.visitor) x.is) (subst (λ (y : Visiting A). HasAnswers x.visit y.answers) (sym x.is) x.has) (ap (λ (y : Visiting A). y.given) x.is)
 
     -- its tale is the new one
     new_is : (d : ℕ) → d ≡ caller → new_tale ≡ tales' d
@@ -147,7 +147,7 @@ module _ {K V S A : Type 0} (eq : K → K → Bool) (hash : K → ℕ) where
     calls d q runs = elim (cases_same d caller) [
       | inl same ↦
           let f : Some work ≡ Some (works.Call q) = running-here (with_seat s.callers caller) caller (Some work) q (ap (running callers') (sym same) ∙ runs) in
-          subst (IsCall eq hash s.mode s.store q es) (new_is d same) (new_call q (call_begun hash s.mode s.initial call q (same_item work (works.Call q) f)))
+          subst (IsCall eq hash s.mode s.store q es) (new_is d same) (new_call q (call_begun hash s.mode s.initial number call q (same_item work (works.Call q) f)))
       | inr differ ↦ subst (IsCall eq hash s.mode s.store q es) (other_is d differ) (kept.calls d q (other_runs d q differ runs))
     ]
 
@@ -155,7 +155,7 @@ module _ {K V S A : Type 0} (eq : K → K → Bool) (hash : K → ℕ) where
     resizers d z resizes = elim (cases_same d caller) [
       | inl same ↦
           let f : Some work ≡ Some (works.Resize z) = resizing-here (with_seat s.callers caller) caller (Some work) z (ap (resizing callers') (sym same) ∙ resizes) in
-          subst (IsResizing eq hash s.mode s.store z es) (new_is d same) (new_resizer z (resizer_begun_is hash s.mode s.initial call z (same_item work (works.Resize z) f)))
+          subst (IsResizing eq hash s.mode s.store z es) (new_is d same) (new_resizer z (resizer_begun_is hash s.mode s.initial number call z (same_item work (works.Resize z) f)))
       | inr differ ↦ subst (IsResizing eq hash s.mode s.store z es) (other_is d differ) (kept.resizers d z (other_resizes d z differ resizes))
     ]
 
@@ -163,7 +163,7 @@ module _ {K V S A : Type 0} (eq : K → K → Bool) (hash : K → ℕ) where
     visitors d v visits = elim (cases_same d caller) [
       | inl same ↦
           let f : Some work ≡ Some (works.Visit v) = visiting-here (with_seat s.callers caller) caller (Some work) v (ap (visiting callers') (sym same) ∙ visits) in
-          subst (λ (y : Tale K V). IsVisiting eq hash s.mode s.store v es (visit_tale y)) (new_is d same) (new_visitor v (visitor_begun_is hash s.mode s.initial call v (same_item work (works.Visit v) f)))
+          subst (λ (y : Tale K V). IsVisiting eq hash s.mode s.store v es (visit_tale y)) (new_is d same) (new_visitor v (visitor_begun_is hash s.mode s.initial number call v (same_item work (works.Visit v) f)))
       | inr differ ↦ subst (λ (y : Tale K V). IsVisiting eq hash s.mode s.store v es (visit_tale y)) (other_is d differ) (kept.visitors d v (other_visits d v differ visits))
     ]
 
@@ -210,17 +210,17 @@ module _ {K V S : Type 0} (A : Type 0) (eq : K → K → Bool) (hash : K → ℕ
         coded Root = refl
         coded (Next n) = no_words (Next n)
         coded (Aborted n) = no_words (Aborted n)
-        coded (Done n) = no_words (Done n)
+        coded (Done n c) = no_words (Done n c)
         coded (Slot n i) = no_words (Slot n i)
 
     -- with its first table that one was opened
-    opened_kept : (len limit : ℕ) → IsFresh (record { root = 1; tables = new_table 1 len limit ∷ [] }) (Open 1 ∷ [])
+    opened_kept : (len limit : ℕ) → IsFresh (record { root = 1; tables = new_table 1 len limit 0 ∷ [] }) (Open 1 ∷ [])
     opened_kept len limit = record {
       allowed = ((refl, omega arith), tt);
       coded = coded;
-      hints = λ n i. made-hints (record { root = 0; tables = [] }) 1 len limit n i ∙ no_hints n i;
+      hints = λ n i. made-hints (record { root = 0; tables = [] }) 1 len limit 0 n i ∙ no_hints n i;
       made = λ t some comes. elim comes [
-        | inl first ↦ (new_table 1 len limit, subst (λ y. table_of (new_table 1 len limit ∷ []) y ≡ Some (new_table 1 len limit)) first refl)
+        | inl first ↦ (new_table 1 len limit 0, subst (λ y. table_of (new_table 1 len limit 0 ∷ []) y ≡ Some (new_table 1 len limit 0)) first refl)
         | inr (u, next) ↦ absurd (let f : 0 ≡ t = next in omega arith)
       ];
       logged = λ t x p l. absurd cc;
@@ -233,18 +233,18 @@ module _ {K V S : Type 0} (A : Type 0) (eq : K → K → Bool) (hash : K → ℕ
     }
       where
         -- but for the root each word is 0
-        none : (at : At) → (at ≡ Root → ⊥) → 0 ≡ word_at (record { root = 1; tables = new_table 1 len limit ∷ [] }) at
+        none : (at : At) → (at ≡ Root → ⊥) → 0 ≡ word_at (record { root = 1; tables = new_table 1 len limit 0 ∷ [] }) at
         none Root other = absurd (other refl)
-        none (Next n) other = no_words (Next n) ∙ sym (word-made (record { root = 0; tables = [] }) 1 len limit (Next n))
-        none (Aborted n) other = no_words (Aborted n) ∙ sym (word-made (record { root = 0; tables = [] }) 1 len limit (Aborted n))
-        none (Done n) other = no_words (Done n) ∙ sym (word-made (record { root = 0; tables = [] }) 1 len limit (Done n))
-        none (Slot n i) other = no_words (Slot n i) ∙ sym (word-made (record { root = 0; tables = [] }) 1 len limit (Slot n i))
+        none (Next n) other = no_words (Next n) ∙ sym (word-made (record { root = 0; tables = [] }) 1 len limit 0 (Next n))
+        none (Aborted n) other = no_words (Aborted n) ∙ sym (word-made (record { root = 0; tables = [] }) 1 len limit 0 (Aborted n))
+        none (Done n c) other = no_words (Done n c) ∙ sym (word-made (record { root = 0; tables = [] }) 1 len limit 0 (Done n c))
+        none (Slot n i) other = no_words (Slot n i) ∙ sym (word-made (record { root = 0; tables = [] }) 1 len limit 0 (Slot n i))
 
-        coded : (at : At) → word_of (setting_of {V = V} eq (low hash) mode (new_table 1 len limit ∷ [])) (coding_of (low hash)) (run (Open 1 ∷ []) start) at ≡ word_at (record { root = 1; tables = new_table 1 len limit ∷ [] }) at
+        coded : (at : At) → word_of (setting_of {V = V} eq (low hash) mode (new_table 1 len limit 0 ∷ [])) (coding_of (low hash)) (run (Open 1 ∷ []) start) at ≡ word_at (record { root = 1; tables = new_table 1 len limit 0 ∷ [] }) at
         coded Root = refl
         coded (Next n) = none (Next n) (λ f. absurd cc)
         coded (Aborted n) = none (Aborted n) (λ f. absurd cc)
-        coded (Done n) = none (Done n) (λ f. absurd cc)
+        coded (Done n c) = none (Done n c) (λ f. absurd cc)
         coded (Slot n i) = none (Slot n i) (λ f. absurd cc)
 
     -- a core as it is made, after no exchange or after its first table was opened

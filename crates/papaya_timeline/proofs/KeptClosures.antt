@@ -72,7 +72,7 @@ module _ {K V S A : Type 0} (eq : K → K → Bool) (says : Says K V A) where
   answers_performed refuse (SizeOf n) s r a s' r' h has = same_call r r' has h.1.1
   answers_performed refuse MakeKey s r a s' r' h has = matched (HasAnswers r'.answers) refuse _ _ h (λ _ none. same_call r r' has none.1.1) (λ _ makes. key_logged s r a s' r' _ _ has makes)
   answers_performed refuse MakePair s r a s' r' h has = matched (HasAnswers r'.answers) refuse _ _ h (λ _ none. same_call r r' has none.1.1) (λ _ makes. pair_logged s r a s' r' _ _ has makes)
-  answers_performed refuse (MakeTable slots limit) s r a s' r' h has = matched (HasAnswers r'.answers) refuse _ _ h (λ _ none. same_call r r' has none.1.1) (λ _ makes. same_call r r' has makes.1)
+  answers_performed refuse (MakeTable slots limit chunks) s r a s' r' h has = matched (HasAnswers r'.answers) refuse _ _ h (λ _ none. same_call r r' has none.1.1) (λ _ makes. same_call r r' has makes.1)
   answers_performed refuse (AddToShard by) s r a s' r' h has = same_call r r' has h.2
   answers_performed refuse (Ask_done reply) s r a s' r' h has = same_call r r' has h.1.1
 

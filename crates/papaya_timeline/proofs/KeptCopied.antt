@@ -17,7 +17,7 @@ use Rattle.papaya_chain_rests.specs.Rests.{Rests}
 use Rattle.papaya_chain_rests.proofs.Names.{copies_may_hint, copies_there}
 use Rattle.papaya_copy.specs.declared.link.Link.TheVariants.{Linking}
 use Rattle.papaya_store.specs.declared.pairs.Running.{Running}
-use Rattle.papaya_timeline.specs.Kept.{IsMade, Tale}
+use Rattle.papaya_timeline.specs.Kept.{IsMade, IsMadeFor, Tale}
 use Rattle.papaya_store.specs.Copies.{PerformsCopy}
 use Rattle.papaya_store.specs.Performs.{own_key}
 use Rattle.papaya_store.specs.Store.{StoreState, Stored, pair_of}
@@ -46,7 +46,7 @@ module _ {Q K V S A : Type 0} (eq : K → K → Bool) (hashes : S → K → ℕ)
     (last : (p : Stored K V) → tale.hands.call.last ≡ Some p → pair_of store p.number ≡ Some p)
     (carried : (p : Stored K V) → tale.hands.kept ≡ Some p → pair_of store p.number ≡ Some p)
     (opens : (t : ℕ) → ask_of r.machine ≡ asks.Call (Ask_exchange Root 0 t) → IsMade store t)
-    (links : (behind t : ℕ) → link_in r.machine.phase ≡ Some (Linking behind t) → IsMade store t)
+    (links : (behind t chunks : ℕ) → link_in r.machine.phase ≡ Some (Linking behind t chunks) → IsMadeFor store t chunks)
     (owns : own_key store r ≡ own)
     (suits : Suits eq hashes g c store) where
   -- what an answer leaves, where it is this
@@ -57,12 +57,12 @@ module _ {Q K V S A : Type 0} (eq : K → K → Bool) (hashes : S → K → ℕ)
   asker : (ask : CopyAsk) → ask_of r.machine ≡ asks.Copy ask → IsAsker g c store es tale.hands coded there (kind_of_ask r.machine) (follows_of r.machine) ask
   asker ask e = record {
     names = subst (λ l. AreThere g c (run l start) tale.hands.call.last tale.hands.kept ask) split (copies_there g c hashed tale.begun tale.since may key r.machine tale.hands rests ask e);
-    may = λ at old new is stands. asked_copy g c store r es tale own hashed key split may rests coded there opens links owns suits.sizes at old new (e ∙ ap asks.Copy is) stands;
-    low = λ slots limit is.
-        let on = machine_follows g c tale.begun tale.since key r.machine tale.hands rests slots limit (e ∙ ap asks.Copy is) in
-        let words = on_there g c store r es tale own hashed key split may rests coded there opens links owns suits.sizes (follows_of r.machine) on in
+    may = λ at old new is stands. asked_copy g c store r es tale own hashed key split may rests coded there opens links owns suits.sizes suits.chunks at old new (e ∙ ap asks.Copy is) stands;
+    low = λ slots limit chunks is.
+        let on = machine_follows g c tale.begun tale.since key r.machine tale.hands rests slots limit chunks (e ∙ ap asks.Copy is) in
+        let words = on_there g c store r es tale own hashed key split may rests coded there opens links owns suits.sizes suits.chunks (follows_of r.machine) on in
         table_low store.words.tables (follows_of r.machine) words.0 words.1;
-    links = λ behind old t is. links behind t (machine_links r.machine behind old t (e ∙ ap asks.Copy is));
+    links = λ behind old t is. let linking = machine_links r.machine behind old t (e ∙ ap asks.Copy is) in let made = links behind t linking.0 linking.1 in (made.0, made.1);
     reads = λ t x is. hints t x;
     writes = λ t x n is. subst (λ l. IsHint g c (run l start) t x n) split (copies_may_hint g c hashed tale.begun tale.since may key r.machine tale.hands rests t x n (e ∙ ap asks.Copy is));
   }

@@ -67,7 +67,7 @@ module _ {K V S A : Type 0} (eq : K → K → Bool) (says : Says K V A) where
   call-hasher refuse MakePair s r a s' r' h =
       matched (s'.hasher ≡ s.hasher) refuse _ _ h (λ _ none. stays-hasher s r s' r' none.1)
       (λ _ makes. elim makes [ inl refused ↦ stays-hasher s r s' r' refused.1 | inr others ↦ elim others [ inl has ↦ stays-hasher s r s' r' has.1 | inr (n, v, key, value, is, few, same, moved) ↦ ap (λ (y : StoreState K V S). y.hasher) same ] ])
-  call-hasher refuse (MakeTable slots limit) s r a s' r' h =
+  call-hasher refuse (MakeTable slots limit chunks) s r a s' r' h =
       matched (s'.hasher ≡ s.hasher) refuse _ _ h (λ _ none. stays-hasher s r s' r' none.1)
       (λ _ makes. elim makes.0 [ inl refused ↦ ap (λ (y : StoreState K V S). y.hasher) refused.1 | inr (is, few, same) ↦ ap (λ (y : StoreState K V S). y.hasher) same ])
   call-hasher refuse (AddToShard by) s r a s' r' (e, (number, same), moved) = ap (λ (y : StoreState K V S). y.hasher) same
@@ -86,7 +86,7 @@ module _ {K V S : Type 0} (eq : K → K → Bool) (hash : S → K → ℕ) where
   copy-hasher refuse (copies.HashOf n) s a s' (is, hashed, same) = ap (λ (y : StoreState K V S). y.hasher) same
   copy-hasher refuse (copies.SamePair m n) s a s' (is, same) = ap (λ (y : StoreState K V S). y.hasher) same
   copy-hasher refuse copies.Count s a s' (is, same) = ap (λ (y : StoreState K V S). y.hasher) same
-  copy-hasher refuse (copies.MakeTable slots limit) s a s' (told, is, h) =
+  copy-hasher refuse (copies.MakeTable slots limit chunks) s a s' (told, is, h) =
       matched (s'.hasher ≡ s.hasher) refuse _ _ h
       (λ _ none. ap (λ (y : StoreState K V S). y.hasher) none.1)
       (λ _ makes. elim makes [ inl refused ↦ ap (λ (y : StoreState K V S). y.hasher) refused.1 | inr (is, few, same) ↦ ap (λ (y : StoreState K V S). y.hasher) same ])
@@ -117,7 +117,7 @@ module _ {K V S A H : Type 0} (eq : K → K → Bool) (input : K → List (List 
   pub begin_lawful : (s : CoreState K V S A) (caller : ℕ) (call : Call K V A) (s' : CoreState K V S A) → Begins (hash_of input build write finish s.store.hasher) s caller call s' → IsCore s'.store s'.callers s'.mode → Lawful s → Lawful s'
   begin_lawful s caller call s' begins core lawful =
       let (es, (tales, kept)) = lawful.law in
-      let kept' = kept_begin eq (hash_of input build write finish s.store.hasher) (keys_lawful eq input build write finish classes respects s.store.hasher) s caller call s' begins lawful.core.chunked es tales kept in
+      let kept' = kept_begin eq (hash_of input build write finish s.store.hasher) (keys_lawful eq input build write finish classes respects s.store.hasher) s caller call s' begins es tales kept in
       let same : s.store.hasher ≡ s'.store.hasher = ap (λ (y : StoreState K V S). y.hasher) (sym begins.store) in
       record { core = core; law = subst (λ h. (es : _) × ((tales : _) × IsKept eq (hash_of input build write finish h) s'.mode s'.store s'.callers es tales)) same (es, (_, kept')) }
 

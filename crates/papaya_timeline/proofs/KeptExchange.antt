@@ -116,7 +116,7 @@ module _ {P : Type 0} (s : State P) (last : Option P) (new : ℕ) where
       let place = subst (Allows g s) is may in
       subst (IsCopied_on (Slot t x)) (sym is) (unslotted (Slot t x) (Place t x p) (λ u y q h. put_stood s t x (Live p) (λ o h. subst (Stands s) (let f : Some p ≡ Some o = h in cc) (copied_stands g t p place.source)) u y q ((u == t) && (y == x)) h) (λ u h. inl h) refl)
   copies g c kept (Some kinds.Finish) (Slot t x) e (p, marked, is) may = subst (IsCopied_on (Slot t x)) (sym is) (unslotted (Slot t x) (Finish t x p) (λ u y q h. put_stood s t x (Copied p) (λ o h. (t, x, ap named marked ∙ h)) u y q ((u == t) && (y == x)) h) (λ u h. inl h) refl)
-  copies g c kept (Some kinds.Advance) (Done n) e is may = subst (IsCopied_on (Done n)) (sym is) (unslotted (Done n) (Advance n (s.done n) new) (λ u y q h. (u, y, h)) (λ u h. inl h) refl)
+  copies g c kept (Some kinds.Advance) (Done n chunk) e is may = subst (IsCopied_on (Done n chunk)) (sym is) (unslotted (Done n chunk) (Advance n chunk) (λ u y q h. (u, y, h)) (λ u h. inl h) refl)
   copies g c kept (Some kinds.Promote) Root e is may = subst (IsCopied_on Root) (sym is) (unslotted Root (Promote s.root new) (λ u y q h. (u, y, h)) (λ u h. inl h) refl)
   copies g c kept (Some kinds.Abort) (Aborted n) e is may = subst (IsCopied_on (Aborted n)) (sym is) (unslotted (Aborted n) (Abort n) (λ u y q h. (u, y, h)) (λ u h. inl h) refl)
   copies g c kept _ _ e h may = absurd h

@@ -8,7 +8,7 @@ use Rattle.papaya_law.specs.Exchange.{Setting, State}
 use Rattle.papaya_law.specs.Hints.{IsHint}
 use Rattle.papaya_store.specs.Tables.{Tables, hint_at, hint_in, hinted, note, put, slot_hint, table_of, word_at, word_in, written}
 use Rattle.papaya_timeline.proofs.CoreLemmas.{cases_same}
-use Rattle.papaya_timeline.proofs.KeptTables.{HasMoreTables, IsPlaced, grown-same, index-zeros, swapped-grown, swapped-here, swapped-left, swapped-other, table_at, table_there, word-grown, written-left}
+use Rattle.papaya_timeline.proofs.KeptTables.{HasMoreTables, IsPlaced, done-written, grown-same, index-zeros, swapped-grown, swapped-here, swapped-left, swapped-other, table_at, table_there, word-grown, written-left}
 
 -- each hint that stands is as it was, or may be there
 abbrev pub KeepsHints : {K P : Type 0} → Setting K P → Coding K P → State P → Tables → Tables → Type 0
@@ -61,7 +61,7 @@ module _ (w : Tables) (n i hint : ℕ) where
   there-words t there Root = refl
   there-words t there (Next u) = swapped-left w n t (hinted t i hint) there (λ v. v.next) (hinted-same t i hint (λ v. v.next) refl) u
   there-words t there (Aborted u) = swapped-left w n t (hinted t i hint) there (λ v. v.aborted) (hinted-same t i hint (λ v. v.aborted) refl) u
-  there-words t there (Done u) = swapped-left w n t (hinted t i hint) there (λ v. v.done) (hinted-same t i hint (λ v. v.done) refl) u
+  there-words t there (Done u c) = swapped-left w n t (hinted t i hint) there (λ v. slice_index v.done c) (hinted-same t i hint (λ v. slice_index v.done c) refl) u
   there-words t there (Slot u y) = swapped-left w n t (hinted t i hint) there (λ v. slice_index v.slots y) (hinted-same t i hint (λ v. slice_index v.slots y) refl) u
 
   -- what is the same where there is such a table, and where there is none
@@ -81,7 +81,7 @@ module _ (w : Tables) (n i hint : ℕ) where
 
   pub noted-grown : HasMoreTables w.tables (note w n i hint).tables
   noted-grown = by-table (λ v. HasMoreTables w.tables v.tables) (grown-same w.tables)
-      (λ t there. swapped-grown w n t (hinted t i hint) there (hinted-same t i hint (λ v. length v.slots) refl) (hinted-same t i hint (λ v. v.limit) refl))
+      (λ t there. swapped-grown w n t (hinted t i hint) there (hinted-same t i hint (λ v. length v.slots) refl) (hinted-same t i hint (λ v. v.limit) refl) (hinted-same t i hint (λ v. length v.done) refl))
 
   -- and each hint stays, but for the one that is written
   there-hints : (t : TableWords) → table_of w.tables n ≡ Some t → (m y : ℕ) → (hint_at (record w { tables = slice_set w.tables (n - 1) (hinted t i hint) }) m y ≡ hint_at w m y) ⊎ ((m ≡ n) × (y ≡ i) × (hint_at (record w { tables = slice_set w.tables (n - 1) (hinted t i hint) }) m y ≡ hint))
@@ -111,12 +111,12 @@ pub placed-hints : (w : Tables) (at : At) (new : ℕ) → IsPlaced w.tables at �
 placed-hints w Root new placed m y = refl
 placed-hints w (Next n) new (t, there) m y = written-left w (Next n) n new t there (λ v. slot_hint v y) refl m
 placed-hints w (Aborted n) new (t, there) m y = written-left w (Aborted n) n new t there (λ v. slot_hint v y) refl m
-placed-hints w (Done n) new (t, there) m y = written-left w (Done n) n new t there (λ v. slot_hint v y) refl m
+placed-hints w (Done n c) new (t, there, lt) m y = written-left w (Done n c) n new t there (λ v. slot_hint v y) (ap (λ (z : TableWords). slot_hint z y) (done-written w n c new t there lt)) m
 placed-hints w (Slot n i) new (t, there, lt) m y = written-left w (Slot n i) n new t there (λ v. slot_hint v y) (written-hint n i new t y) m
 
 -- and so does a table that is made
-pub made-hints : (w : Tables) (number slots limit : ℕ) (m y : ℕ) → hint_at (record w { tables = w.tables ++ new_table number slots limit ∷ [] }) m y ≡ hint_at w m y
-made-hints w number slots limit m y = word-grown w number slots limit (λ v. slot_hint v y) none m
+pub made-hints : (w : Tables) (number slots limit chunks : ℕ) (m y : ℕ) → hint_at (record w { tables = w.tables ++ new_table number slots limit chunks ∷ [] }) m y ≡ hint_at w m y
+made-hints w number slots limit chunks m y = word-grown w number slots limit chunks (λ v. slot_hint v y) none m
   where
-    none : slot_hint (new_table number slots limit) y ≡ 0
+    none : slot_hint (new_table number slots limit chunks) y ≡ 0
     none = elim (nat_lt y (length (replicate slots 0))) as (λ b. cond b (slice_index (replicate slots 0) y) 0 ≡ 0) [ true ↦ index-zeros slots y | false ↦ refl ]

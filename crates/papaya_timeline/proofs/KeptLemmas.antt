@@ -81,12 +81,12 @@ module _ {K V S A : Type 0} (eq : K → K → Bool) (hash : K → ℕ) (law : Is
       }
 
   -- a begin leaves the words, and its call rests on the exchanges as they are
-  pub kept_begin : (s : CoreState K V S A) (caller : ℕ) (call : Call K V A) (s' : CoreState K V S A) → Begins hash s caller call s' → IsChunked s.mode → (es : List (Exchange (Stored K V))) (tales : ℕ → Tale K V) → IsKept eq hash s.mode s.store s.callers es tales → IsKept eq hash s'.mode s'.store s'.callers es (begun_tales tales caller es)
-  kept_begin s caller call s' begins chunked es tales kept =
+  pub kept_begin : (s : CoreState K V S A) (caller : ℕ) (call : Call K V A) (s' : CoreState K V S A) → Begins hash s caller call s' → (es : List (Exchange (Stored K V))) (tales : ℕ → Tale K V) → IsKept eq hash s.mode s.store s.callers es tales → IsKept eq hash s'.mode s'.store s'.callers es (begun_tales tales caller es)
+  kept_begin s caller call s' begins es tales kept =
       let tales' : ℕ → Tale K V = begun_tales tales caller es in
       subst (λ y. IsKept eq hash y s'.store s'.callers es tales') (sym begins.mode)
       (subst (λ (y : StoreState K V S). IsKept eq hash s.mode y s'.callers es tales') (sym begins.store)
-      (subst (λ (y : List (Seat K V A)). IsKept eq hash s.mode s.store y es tales') (sym begins.callers) (begin_kept eq hash s caller call begins.fits chunked es tales kept)))
+      (subst (λ (y : List (Seat K V A)). IsKept eq hash s.mode s.store y es tales') (sym begins.callers) (begin_kept eq hash s caller call begins.fits begins.number es tales kept)))
 
   -- a core as it is made has made no exchange, or has opened its first table
   pub kept_new : (mode : ResizeMode) (capacity initial : ℕ) (store : StoreState K V S) (callers : List (Seat K V A)) → HasCapacity capacity initial store.words → store.pairs ≡ [] → callers ≡ [] → (tales : ℕ → Tale K V) → (es : List (Exchange (Stored K V))) × IsKept eq hash mode store callers es tales

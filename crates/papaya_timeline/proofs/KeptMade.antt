@@ -55,11 +55,11 @@ module _ {Q K V S A : Type 0} (g : Setting Q (Stored K V)) (c : Coding Q (Stored
 
   -- a new number is no table's
   abbrev MadeBy : Ask → Answer → StoreState K V S → Type 0
-  MadeBy ask a store' = (t : ℕ) → a ≡ answers.Call (Made_number t) → ((slots : ℕ) × (limit : ℕ) × (ask ≡ asks.Call (MakeTable slots limit))) ⊎ ((slots : ℕ) × (limit : ℕ) × (ask ≡ asks.Copy (Make_next slots limit))) → IsMade store' t
+  MadeBy ask a store' = (t : ℕ) → a ≡ answers.Call (Made_number t) → ((slots : ℕ) × (limit : ℕ) × (chunks : ℕ) × (ask ≡ asks.Call (MakeTable slots limit chunks))) ⊎ ((slots : ℕ) × (limit : ℕ) × (chunks : ℕ) × (ask ≡ asks.Copy (Make_next slots limit chunks))) → IsMade store' t
 
   -- an answer that nothing was made
   nothing_made : (ask : Ask) → ask_of r.machine ≡ ask → (a : Answer) (store' : StoreState K V S) (later : Running K V A) → store' ≡ store → later ≡ r → Hears ask a tale.hands
-      → change_by (kind_of_ask r.machine) ask a (change_in r.machine.call.state) ≡ change_in r.machine.call.state → ((t : ℕ) → a ≡ answers.Call (Made_number t) → ((slots : ℕ) × (limit : ℕ) × (ask ≡ asks.Call (MakeTable slots limit))) ⊎ ((slots : ℕ) × (limit : ℕ) × (ask ≡ asks.Copy (Make_next slots limit))) → ⊥) → Leaves ask a store' later
+      → change_by (kind_of_ask r.machine) ask a (change_in r.machine.call.state) ≡ change_in r.machine.call.state → ((t : ℕ) → a ≡ answers.Call (Made_number t) → ((slots : ℕ) × (limit : ℕ) × (chunks : ℕ) × (ask ≡ asks.Call (MakeTable slots limit chunks))) ⊎ ((slots : ℕ) × (limit : ℕ) × (chunks : ℕ) × (ask ≡ asks.Copy (Make_next slots limit chunks))) → ⊥) → Leaves ask a store' later
   nothing_made ask e a store' later same_store same_call told still never =
       quiet g c store r es tale own hashed key rests coded there owns ask e a store' later tale.hands store.count same_store same_call told still (λ p h. inl h) (λ p h. inl h) refl never
 
@@ -69,15 +69,15 @@ module _ {Q K V S A : Type 0} (g : Setting Q (Stored K V)) (c : Coding Q (Stored
 
   -- a call's own ask, where nothing was made
   own_nothing : (ask : Call_ask) → ask_of r.machine ≡ asks.Call ask → (a : Call_answer) (store' : StoreState K V S) (later : Running K V A) → store' ≡ store → later ≡ r → IsCallTold g c key (run es start) (kind_of_ask r.machine) tale.hands.call ask a [] tale.hands.call
-      → change_after (kind_of_ask r.machine) ask a (change_in r.machine.call.state) ≡ change_in r.machine.call.state → ((t : ℕ) → a ≡ Made_number t → (slots limit : ℕ) → ask ≡ MakeTable slots limit → ⊥) → Leaves (asks.Call ask) (answers.Call a) store' later
+      → change_after (kind_of_ask r.machine) ask a (change_in r.machine.call.state) ≡ change_in r.machine.call.state → ((t : ℕ) → a ≡ Made_number t → (slots limit chunks : ℕ) → ask ≡ MakeTable slots limit chunks → ⊥) → Leaves (asks.Call ask) (answers.Call a) store' later
   own_nothing ask e a store' later same_store same_call told still never =
       nothing_made (asks.Call ask) e (answers.Call a) store' later same_store same_call (told_own ask a tale.hands.call told) still
-      (λ t is which. let told_is : a ≡ Made_number t = cc in elim which [ inl (slots, limit, f) ↦ (let asked : ask ≡ MakeTable slots limit = cc in never t told_is slots limit asked) | inr (slots, limit, f) ↦ absurd cc ])
+      (λ t is which. let told_is : a ≡ Made_number t = cc in elim which [ inl (slots, limit, chunks, f) ↦ (let asked : ask ≡ MakeTable slots limit chunks = cc in never t told_is slots limit chunks asked) | inr (slots, limit, chunks, f) ↦ absurd cc ])
 
   -- a key
   pub key_made : ask_of r.machine ≡ asks.Call MakeKey → (a : Call_answer) (store' : StoreState K V S) (later : Running K V A) → (Refuses MAX_LOG_LEN (length store.keys) a × Stays store r store' later) ⊎ (HasKey a r × Stays store r store' later) ⊎ LogsKey a store r store' later → Leaves (asks.Call MakeKey) (answers.Call a) store' later
-  key_made e a store' later (inl (refuses, stays)) = let no = refusal _ _ a refuses in own_nothing MakeKey e a store' later stays.0 stays.1 (inl (inl no), (refl, refl)) refl (λ t is slots limit f. absurd cc)
-  key_made e a store' later (inr (inl (has, stays))) = own_nothing MakeKey e a store' later stays.0 stays.1 (inl (inr has.0), (refl, refl)) refl (λ t is slots limit f. absurd cc)
+  key_made e a store' later (inl (refuses, stays)) = let no = refusal _ _ a refuses in own_nothing MakeKey e a store' later stays.0 stays.1 (inl (inl no), (refl, refl)) refl (λ t is slots limit chunks f. absurd cc)
+  key_made e a store' later (inr (inl (has, stays))) = own_nothing MakeKey e a store' later stays.0 stays.1 (inl (inr has.0), (refl, refl)) refl (λ t is slots limit chunks f. absurd cc)
   key_made e a store' later (inr (inr (k, was, is, few, grown, moved))) =
       let longer : StoreState K V S = record store { keys = store.keys ++ k ∷ [] } in
       let call : Running K V A = record r { key = Logged (length store.keys) } in
@@ -95,12 +95,12 @@ module _ {Q K V S A : Type 0} (g : Setting Q (Stored K V)) (c : Coding Q (Stored
         words = λ at. refl;
         hints = λ m i. inl refl;
       })
-      (same_hands g c store r es tale own longer) (λ t is' which. elim which [ inl (slots, limit, f) ↦ absurd cc | inr (slots, limit, f) ↦ absurd cc ])))
+      (same_hands g c store r es tale own longer) (λ t is' which. elim which [ inl (slots, limit, chunks, f) ↦ absurd cc | inr (slots, limit, chunks, f) ↦ absurd cc ])))
 
   -- a pair
   pub pair_made : (k : K) → own ≡ Some k → ((q : Stored K V) → q.key ≡ k → g.key q ≡ key) → ((q : Stored K V) → c.number q ≡ q.number) → ask_of r.machine ≡ asks.Call MakePair → (a : Call_answer) (store' : StoreState K V S) (later : Running K V A) → (Refuses MAX_LOG_LEN (length store.pairs) a × Stays store r store' later) ⊎ (HasNoPair a r × Stays store r store' later) ⊎ LogsPair a store r store' later → Leaves (asks.Call MakePair) (answers.Call a) store' later
-  pair_made k is_key keyed numbered e a store' later (inl (refuses, stays)) = let no = refusal _ _ a refuses in own_nothing MakePair e a store' later stays.0 stays.1 (inl (inl no, (refl, refl))) refl (λ t is slots limit f. absurd cc)
-  pair_made k is_key keyed numbered e a store' later (inr (inl (has, stays))) = own_nothing MakePair e a store' later stays.0 stays.1 (inl (inr has.0, (refl, refl))) refl (λ t is slots limit f. absurd cc)
+  pair_made k is_key keyed numbered e a store' later (inl (refuses, stays)) = let no = refusal _ _ a refuses in own_nothing MakePair e a store' later stays.0 stays.1 (inl (inl no, (refl, refl))) refl (λ t is slots limit chunks f. absurd cc)
+  pair_made k is_key keyed numbered e a store' later (inr (inl (has, stays))) = own_nothing MakePair e a store' later stays.0 stays.1 (inl (inr has.0, (refl, refl))) refl (λ t is slots limit chunks f. absurd cc)
   pair_made k is_key keyed numbered e a store' later (inr (inr (n, v, was, value, is, few, grown, moved))) =
       let pair : Pair V = record { key = n; value = v } in
       let longer : StoreState K V S = record store { pairs = store.pairs ++ pair ∷ [] } in
@@ -128,17 +128,17 @@ module _ {Q K V S A : Type 0} (g : Setting Q (Stored K V)) (c : Coding Q (Stored
         carried = λ p h. inl h;
         new = λ q h. elim h [ inl f ↦ inr (ap (λ (y : Stored K V). y.number) f, value ∙ ap (λ (y : Stored K V). Some y.value) (sym f), subst (λ (y : Stored K V). pair_of longer y.number ≡ Some y) (sym f) there') | inr old ↦ inl old ];
       })
-      (λ t is' which. elim which [ inl (slots, limit, f) ↦ absurd cc | inr (slots, limit, f) ↦ absurd cc ])))
+      (λ t is' which. elim which [ inl (slots, limit, chunks, f) ↦ absurd cc | inr (slots, limit, chunks, f) ↦ absurd cc ])))
 
   -- a table, asked for by a call or by its copy
-  pub table_made : (ask : Ask) → ask_of r.machine ≡ ask → (slots limit : ℕ) (a : Call_answer) → Hears ask (answers.Call a) tale.hands → change_by (kind_of_ask r.machine) ask (answers.Call a) (change_in r.machine.call.state) ≡ change_in r.machine.call.state
-      → (store' : StoreState K V S) (later : Running K V A) → later ≡ r → (Refuses MAX_TABLES (length store.words.tables) a × (store' ≡ store)) ⊎ MakesTable a slots limit store store' → Leaves ask (answers.Call a) store' later
-  table_made ask e slots limit a told still store' later same_call (inl (refuses, same_store)) =
+  pub table_made : (ask : Ask) → ask_of r.machine ≡ ask → (slots limit chunks : ℕ) (a : Call_answer) → Hears ask (answers.Call a) tale.hands → change_by (kind_of_ask r.machine) ask (answers.Call a) (change_in r.machine.call.state) ≡ change_in r.machine.call.state
+      → (store' : StoreState K V S) (later : Running K V A) → later ≡ r → (Refuses MAX_TABLES (length store.words.tables) a × (store' ≡ store)) ⊎ MakesTable a slots limit chunks store store' → Leaves ask (answers.Call a) store' later
+  table_made ask e slots limit chunks a told still store' later same_call (inl (refuses, same_store)) =
       let no = refusal _ _ a refuses in
       nothing_made ask e (answers.Call a) store' later same_store same_call told still (λ t is which. let f : answers.Call (Was_refused no.0) ≡ answers.Call (Made_number t) = sym (ap answers.Call no.1) ∙ is in absurd cc)
-  table_made ask e slots limit a told still store' later same_call (inr (is, few, grown)) =
+  table_made ask e slots limit chunks a told still store' later same_call (inr (is, few, grown)) =
       let n : ℕ = length store.words.tables + 1 in
-      let wider : StoreState K V S = record store { words = record store.words { tables = store.words.tables ++ new_table n slots limit ∷ [] } } in
+      let wider : StoreState K V S = record store { words = record store.words { tables = store.words.tables ++ new_table n slots limit chunks ∷ [] } } in
       subst (λ y. Leaves ask (answers.Call a) y later) (sym grown) (subst (Leaves ask (answers.Call a) wider) (sym same_call)
       (unexchanged g c store r es tale own hashed key rests coded there ask e (answers.Call a) wider r tale.hands told still
       (record {
@@ -147,13 +147,13 @@ module _ {Q K V S A : Type 0} (g : Setting Q (Stored K V)) (c : Coding Q (Stored
         logged = λ m p h. h;
         longer = omega arith;
         few = λ h. h;
-        tables_few = λ h. let more : length (store.words.tables ++ new_table n slots limit ∷ []) ≡ length store.words.tables + 1 = length-append store.words.tables (new_table n slots limit ∷ []) in omega (arith, more, few);
-        grown = made-grown store.words n slots limit;
-        words = word-made store.words n slots limit;
-        hints = λ m i. inl (made-hints store.words n slots limit m i);
+        tables_few = λ h. let more : length (store.words.tables ++ new_table n slots limit chunks ∷ []) ≡ length store.words.tables + 1 = length-append store.words.tables (new_table n slots limit chunks ∷ []) in omega (arith, more, few);
+        grown = made-grown store.words n slots limit chunks;
+        words = word-made store.words n slots limit chunks;
+        hints = λ m i. inl (made-hints store.words n slots limit chunks m i);
       })
       (same_hands g c store r es tale own wider)
-      (λ t is' which. let f : answers.Call (Made_number n) ≡ answers.Call (Made_number t) = sym (ap answers.Call is) ∙ is' in let g : n ≡ t = cc in (new_table n slots limit, subst (λ y. table_of wider.words.tables y ≡ Some (new_table n slots limit)) g (made-there store.words n slots limit)))))
+      (λ t is' which. let f : answers.Call (Made_number n) ≡ answers.Call (Made_number t) = sym (ap answers.Call is) ∙ is' in let g : n ≡ t = cc in (new_table n slots limit chunks, subst (λ y. table_of wider.words.tables y ≡ Some (new_table n slots limit chunks)) g (made-there store.words n slots limit chunks)))))
 
   -- where memory is refused nothing is made
   pub none_made : (ask : Ask) → ask_of r.machine ≡ ask → (a : Call_answer) (store' : StoreState K V S) (later : Running K V A) → Hears ask (answers.Call a) tale.hands

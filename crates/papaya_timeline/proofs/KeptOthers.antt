@@ -30,11 +30,11 @@ use Rattle.papaya_timeline.specs.declared.seat.Work.{Work}
 use Rattle.papaya_timeline.specs.declared.seat.Work.TheVariants as works
 use Rattle.papaya_timeline.specs.Callers.{resizing, running, visiting, with_work}
 use Rattle.papaya_timeline.specs.Core.{CoreState, IsCore}
-use Rattle.papaya_timeline.specs.Kept.{IsKept, IsCall, IsLogged, IsMade, IsResizing, IsVisiting, Tale, VisitTale, setting_of, coding_of, low, told_more, told_tales, visit_tale}
+use Rattle.papaya_timeline.specs.Kept.{IsKept, IsCall, IsLogged, IsMade, IsMadeFor, IsResizing, IsVisiting, Tale, VisitTale, setting_of, coding_of, low, told_more, told_tales, visit_tale}
 use Rattle.papaya_timeline.proofs.CallersLemmas.{differs, resizing-elsewhere, resizing-here, running-elsewhere, running-here, visiting-elsewhere, visiting-here}
 use Rattle.papaya_timeline.proofs.CoreLemmas.{cases_same}
 use Rattle.papaya_timeline.proofs.KeptAnswer.{Stands}
-use Rattle.papaya_timeline.proofs.KeptSettings.{IsLawfulKeys, tables_hashed, grown_agrees}
+use Rattle.papaya_timeline.proofs.KeptSettings.{IsLawfulKeys, cut_carries, tables_hashed, grown_agrees}
 use Rattle.papaya_timeline.proofs.KeptTables.{HasMoreTables}
 use Rattle.papaya_timeline.proofs.ResizerLaws.{resizer_carries, resizer_stays}
 use Rattle.papaya_chain_rests.specs.Visits.{RestsVisitor}
@@ -100,6 +100,10 @@ module _ {K V S A : Type 0} (eq : K → K → Bool) (hash : K → ℕ) (law : Is
     pub still_there : (t : ℕ) → IsMade s.store t → IsMade s'.store t
     still_there t w = let grown = left.grown t w.0 w.1 in (grown.0, grown.1)
 
+    -- and has as many words for chunks
+    pub still_made : (t chunks : ℕ) → IsMadeFor s.store t chunks → IsMadeFor s'.store t chunks
+    still_made t chunks w = let grown = left.grown t w.0 w.1 in (grown.0, grown.1, subst (λ n. chunks ≤ n) (sym grown.4) w.2)
+
     -- the exchanges of the step come after those of a tale
     pub longer_split : (tale : Tale K V) → tale.begun ++ tale.since ≡ es → tale.begun ++ (tale.since ++ made) ≡ es'
     longer_split tale split = sym (append_assoc tale.begun tale.since made) ∙ ap (λ l. l ++ made) split
@@ -142,7 +146,7 @@ module _ {K V S A : Type 0} (eq : K → K → Bool) (hash : K → ℕ) (law : Is
           carried = λ p l. left.logged p.number p (o.carried p (ap (λ (y : Hands (Stored K V)). y.kept) e ∙ l));
           made = λ p l. left.logged p.number p (o.made p (subst (λ (y : Hands (Stored K V)). IsOneOf y.call.made p) (sym e) l));
           opens = λ t opening. still_there t (o.opens t opening);
-          links = λ behind t linking. still_there t (o.links behind t linking);
+          links = λ behind t chunks linking. still_made t chunks (o.links behind t chunks linking);
           unwritten = λ p l. other_unwritten d r runs differ p (subst (λ (y : Hands (Stored K V)). IsOneOf y.call.made p) (sym e) l);
           shows = o.shows;
         }
@@ -159,7 +163,7 @@ module _ {K V S A : Type 0} (eq : K → K → Bool) (hash : K → ℕ) (law : Is
           last = λ p l. left.logged p.number p (o.last p (ap (λ (y : Hands (Stored K V)). y.call.last) e ∙ l));
           carried = λ p l. left.logged p.number p (o.carried p (ap (λ (y : Hands (Stored K V)). y.kept) e ∙ l));
           opens = λ t opening. still_there t (o.opens t opening);
-          links = λ behind t linking. still_there t (o.links behind t linking);
+          links = λ behind t chunks linking. still_made t chunks (o.links behind t chunks linking);
         }
 
     -- and so does another visitor, whose tale goes on
@@ -194,7 +198,7 @@ module _ {K V S A : Type 0} (eq : K → K → Bool) (hash : K → ℕ) (law : Is
       rests_then : RestsVisitor g c first m (tale.since ++ made) v.visitor tale.hands
       rests_then = record {
         mode = visits.rests.mode;
-        chunked = visits.rests.chunked;
+        cut = visits.rests.cut;
         gives = visits.rests.gives;
         state = state_stays g c first m tale.since made hashed keeps_first may_then v.visitor.visit tale.hands v.visitor.state visits.rests.state;
       }
@@ -204,7 +208,7 @@ module _ {K V S A : Type 0} (eq : K → K → Bool) (hash : K → ℕ) (law : Is
         split = longer;
         rests = subst (λ f. RestsVisitor g' c first f (tale.since ++ made) v.visitor tale.hands) map_then (record {
           mode = subst (IsModeOf v.visitor.mode) (sym agrees_then.blocking) rests_then.mode;
-          chunked = rests_then.chunked;
+          cut = cut_carries agrees_then v.visitor.mode rests_then.cut;
           gives = gives_carries g g' c hashed first m keeps_first (tale.since ++ made) may_then agrees_then v.visitor.visit tale.hands rests_then.gives;
           state = state_carries g g' c hashed first m keeps_first (tale.since ++ made) may_then agrees_then v.visitor.visit tale.hands v.visitor.state rests_then.state;
         });
@@ -213,7 +217,7 @@ module _ {K V S A : Type 0} (eq : K → K → Bool) (hash : K → ℕ) (law : Is
         last = λ p e. left.logged p.number p (visits.last p e);
         carried = λ p e. left.logged p.number p (visits.carried p e);
         shown = λ p e. left.logged p.number p (visits.shown p e);
-        links = λ behind t e. still_there t (visits.links behind t e);
+        links = λ behind t chunks e. still_made t chunks (visits.links behind t chunks e);
       }
 
     -- the stepping caller was told of what its answer says

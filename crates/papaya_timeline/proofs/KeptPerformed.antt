@@ -28,7 +28,7 @@ use Rattle.papaya_chain_rests.specs.Rests.{Rests}
 use Rattle.papaya_chain_rests.proofs.Names.{call_asks}
 use Rattle.papaya_copy.specs.declared.link.Link.TheVariants.{Linking}
 use Rattle.papaya_store.specs.declared.pairs.Running.{Running}
-use Rattle.papaya_timeline.specs.Kept.{IsMade, Tale, coding_of, low, places_in, setting_of, slots_in}
+use Rattle.papaya_timeline.specs.Kept.{IsMade, IsMadeFor, Tale, coding_of, low, places_in, setting_of, slots_in}
 use Rattle.papaya_store.specs.Performs.{Exchanges, MakesTable, Performs, Refuses, own_key, same, size_of}
 use Rattle.papaya_store.specs.Store.{StoreState, Stored, pair_of}
 use Rattle.papaya_store.specs.Tables.{hint_at, note, word_at, put}
@@ -58,7 +58,7 @@ module _ {K V S A : Type 0} (eq : K → K → Bool) (says : Says K V A) (hash : 
     (hints : (t x : ℕ) → IsHint (law_setting eq hash mode store) (law_coding hash) (run es start) t x (hint_at store.words t x))
     (last : (p : Stored K V) → tale.hands.call.last ≡ Some p → pair_of store p.number ≡ Some p)
     (opens : (t : ℕ) → ask_of r.machine ≡ asks.Call (Ask_exchange Root 0 t) → IsMade store t)
-    (links : (behind t : ℕ) → link_in r.machine.phase ≡ Some (Linking behind t) → IsMade store t)
+    (links : (behind t chunks : ℕ) → link_in r.machine.phase ≡ Some (Linking behind t chunks) → IsMadeFor store t chunks)
     (own : own_key store r ≡ Some key) where
   -- what an answer leaves, where it is this
   abbrev Leaves : Call_ask → Call_answer → StoreState K V S → Running K V A → Type 0
@@ -70,7 +70,7 @@ module _ {K V S A : Type 0} (eq : K → K → Bool) (says : Says K V A) (hash : 
 
   -- no table was made
   abbrev NoTable : Call_ask → Call_answer → Type 0
-  NoTable ask a = (t : ℕ) → answers.Call a ≡ answers.Call (Made_number t) → ((slots : ℕ) × (limit : ℕ) × (asks.Call ask ≡ asks.Call (MakeTable slots limit))) ⊎ ((slots : ℕ) × (limit : ℕ) × (asks.Call ask ≡ asks.Copy (Make_next slots limit))) → ⊥
+  NoTable ask a = (t : ℕ) → answers.Call a ≡ answers.Call (Made_number t) → ((slots : ℕ) × (limit : ℕ) × (chunks : ℕ) × (asks.Call ask ≡ asks.Call (MakeTable slots limit chunks))) ⊎ ((slots : ℕ) × (limit : ℕ) × (chunks : ℕ) × (asks.Call ask ≡ asks.Copy (Make_next slots limit chunks))) → ⊥
 
   -- an ask of which nothing is left but what was told
   answered_quietly : (ask : Call_ask) → ask_of r.machine ≡ asks.Call ask → (a : Call_answer) (store' : StoreState K V S) (later : Running K V A) (hands : Call_hands (Stored K V)) → store' ≡ store → later ≡ r → Hears ask a hands
@@ -101,7 +101,7 @@ module _ {K V S A : Type 0} (eq : K → K → Bool) (says : Says K V A) (hash : 
       matched (Leaves (Ask_exchange at old new) a store' later) (word_at store.words at == old) _ _ h
       (λ hit done. subst (λ y. Leaves (Ask_exchange at old new) y store' later) (sym done.0)
       (subst (λ y. Leaves (Ask_exchange at old new) Exchanged y later) (sym done.1) (subst (Leaves (Ask_exchange at old new) Exchanged (record store { words = put store.words at new })) (sym same_call)
-      (call_exchanged (law_setting eq hash mode store) (law_coding hash) store r es tale (Some key) hashed key split may rests coded there opens links own (λ t. refl) at old new e hit))))
+      (call_exchanged (law_setting eq hash mode store) (law_coding hash) store r es tale (Some key) hashed key split may rests coded there opens links own (λ t. refl) (λ t. refl) at old new e hit))))
       (λ miss lost.
       let g = law_setting eq hash mode store in
       let c = law_coding hash in
@@ -116,16 +116,16 @@ module _ {K V S A : Type 0} (eq : K → K → Bool) (says : Says K V A) (hash : 
       (sym (ap (λ y. y == old) (coded at) ∙ miss)) (is, refl, refl))
       (ap (λ y. change_after (kind_of_ask r.machine) (Ask_exchange at old new) y (change_in r.machine.call.state)) is)
       (told_last (law_setting eq hash mode store) (law_coding hash) store r es tale (Some key) at) (told_made (law_setting eq hash mode store) (law_coding hash) store r es tale (Some key) at)
-      (λ t f which. elim which [ inl (slots, limit, g) ↦ absurd cc | inr (slots, limit, g) ↦ absurd cc ]))
+      (λ t f which. elim which [ inl (slots, limit, chunks, g) ↦ absurd cc | inr (slots, limit, chunks, g) ↦ absurd cc ]))
 
   -- no table is made but where one is asked for
-  untabled : (ask : Call_ask) (a : Call_answer) → ((slots limit : ℕ) → ask ≡ MakeTable slots limit → ⊥) → NoTable ask a
-  untabled ask a none t is which = elim which [ inl (slots, limit, f) ↦ (let asked : ask ≡ MakeTable slots limit = cc in none slots limit asked) | inr (slots, limit, f) ↦ absurd cc ]
+  untabled : (ask : Call_ask) (a : Call_answer) → ((slots limit chunks : ℕ) → ask ≡ MakeTable slots limit chunks → ⊥) → NoTable ask a
+  untabled ask a none t is which = elim which [ inl (slots, limit, chunks, f) ↦ (let asked : ask ≡ MakeTable slots limit chunks = cc in none slots limit chunks asked) | inr (slots, limit, chunks, f) ↦ absurd cc ]
 
   -- a table was made, or none
-  table_told : (slots limit : ℕ) (a : Call_answer) (store' : StoreState K V S) → (Refuses MAX_TABLES (length store.words.tables) a × (store' ≡ store)) ⊎ MakesTable a slots limit store store' → (((refused : Refused) × (a ≡ Was_refused refused)) ⊎ (a ≡ Ok_done)) ⊎ ((n : ℕ) × (0 < n) × (a ≡ Made_number n))
-  table_told slots limit a store' (inl (refuses, same_store)) = inl (inl (refusal _ _ a refuses))
-  table_told slots limit a store' (inr (is, few, grown)) = inr (length store.words.tables + 1, omega arith, is)
+  table_told : (slots limit chunks : ℕ) (a : Call_answer) (store' : StoreState K V S) → (Refuses MAX_TABLES (length store.words.tables) a × (store' ≡ store)) ⊎ MakesTable a slots limit chunks store store' → (((refused : Refused) × (a ≡ Was_refused refused)) ⊎ (a ≡ Ok_done)) ⊎ ((n : ℕ) × (0 < n) × (a ≡ Made_number n))
+  table_told slots limit chunks a store' (inl (refuses, same_store)) = inl (inl (refusal _ _ a refuses))
+  table_told slots limit chunks a store' (inr (is, few, grown)) = inr (length store.words.tables + 1, omega arith, is)
 
   -- each ask
   pub answered_call : (refuse : Bool) (ask : Call_ask) → ask_of r.machine ≡ asks.Call ask → (a : Call_answer) (store' : StoreState K V S) (later : Running K V A) → Performs eq says refuse ask store r a store' later → Leaves ask a store' later
@@ -133,12 +133,12 @@ module _ {K V S A : Type 0} (eq : K → K → Bool) (says : Says K V A) (hash : 
       answered_quietly (Load at) e a store' later (told_of (run es start) at tale.hands.call) stays.0 stays.1
       (is ∙ ap Word_read (sym (coded at)), refl, refl) refl
       (told_last (law_setting eq hash mode store) (law_coding hash) store r es tale (Some key) at) (told_made (law_setting eq hash mode store) (law_coding hash) store r es tale (Some key) at)
-      (untabled (Load at) a (λ slots limit f. absurd cc))
+      (untabled (Load at) a (λ slots limit chunks f. absurd cc))
   answered_call refuse (Ask_exchange at old new) e a store' later (h, same_call) = exchanged at old new e a store' later h same_call
   answered_call refuse (LoadHint t x) e a store' later (is, stays) =
       answered_quietly (LoadHint t x) e a store' later tale.hands.call stays.0 stays.1
       ((hint_at store.words t x, hints t x, is), (refl, refl)) refl (λ p h. inl h) refl
-      (untabled (LoadHint t x) a (λ slots limit f. absurd cc))
+      (untabled (LoadHint t x) a (λ slots limit chunks f. absurd cc))
   answered_call refuse (WriteHint t x n) e a store' later (is, same_store, same_call) =
       let g = law_setting eq hash mode store in
       let c = law_coding hash in
@@ -159,26 +159,26 @@ module _ {K V S A : Type 0} (eq : K → K → Bool) (says : Says K V A) (hash : 
         words = noted-words store.words t x n;
         hints = noted-keeps g c (run es start) store.words t x n may_hint;
       })
-      (same_hands g c store r es tale (Some key) written) (λ u made which. absurd (untabled (WriteHint t x n) a (λ slots limit f. absurd cc) u made which))))
+      (same_hands g c store r es tale (Some key) written) (λ u made which. absurd (untabled (WriteHint t x n) a (λ slots limit chunks f. absurd cc) u made which))))
   answered_call refuse (SameKey n) e a store' later (is, stays) =
       answered_quietly (SameKey n) e a store' later tale.hands.call stays.0 stays.1
       ((λ p l number. is ∙ ap (λ o. Yes (same eq o (pair_of store n))) own ∙ ap (λ o. Yes (same eq (Some key) o)) (subst (λ m. pair_of store m ≡ Some p) number (last p l))), (refl, refl)) refl
       (λ p h. inl h) refl
-      (untabled (SameKey n) a (λ slots limit f. absurd cc))
+      (untabled (SameKey n) a (λ slots limit chunks f. absurd cc))
   answered_call refuse ShowNone e a store' later h =
-      let showing = none_shown says store r a store' later h in shown ShowNone e a store' later showing (showing.says, (refl, refl)) refl (untabled ShowNone a (λ slots limit f. absurd cc))
+      let showing = none_shown says store r a store' later h in shown ShowNone e a store' later showing (showing.says, (refl, refl)) refl (untabled ShowNone a (λ slots limit chunks f. absurd cc))
   answered_call refuse (ShowPair n) e a store' later h =
-      let showing = pair_shown says r.machine.call.task n store r a store' later h in shown (ShowPair n) e a store' later showing (showing.says, (refl, refl)) refl (untabled (ShowPair n) a (λ slots limit f. absurd cc))
+      let showing = pair_shown says r.machine.call.task n store r a store' later h in shown (ShowPair n) e a store' later showing (showing.says, (refl, refl)) refl (untabled (ShowPair n) a (λ slots limit chunks f. absurd cc))
   answered_call refuse (SizeOf n) e a store' later (is, stays) =
       let g = law_setting eq hash mode store in
       let c = law_coding hash in
       let m = r.machine.call in
       let on : IsOn (run (tale.begun ++ tale.since) start).first (run (tale.begun ++ tale.since) start).next n = subst (IsNamed g c hashed tale.begun tale.since may key) (call_asks r.machine (SizeOf n) e).1 (ask_named g c hashed tale.begun tale.since may key tale.hands.call m.task m.hash m.made m.state rests.call.stage) in
-      let words = on_there (law_setting eq hash mode store) (law_coding hash) store r es tale (Some key) hashed key split may rests coded there opens links own (λ t. refl) n on in
+      let words = on_there (law_setting eq hash mode store) (law_coding hash) store r es tale (Some key) hashed key split may rests coded there opens links own (λ t. refl) (λ t. refl) n on in
       answered_quietly (SizeOf n) e a store' later tale.hands.call stays.0 stays.1
       ((words.0.limit, sym (ap places_in words.1), is ∙ ap size_of words.1 ∙ ap (λ y. Size y words.0.limit) (sym (ap slots_in words.1))), (refl, refl)) refl
       (λ p h. inl h) refl
-      (untabled (SizeOf n) a (λ slots limit f. absurd cc))
+      (untabled (SizeOf n) a (λ slots limit chunks f. absurd cc))
   answered_call refuse MakeKey e a store' later h =
       matched (Leaves MakeKey a store' later) refuse _ _ h
       (λ _ none. none_made (law_setting eq hash mode store) (law_coding hash) store r es tale (Some key) hashed key rests coded there own (asks.Call MakeKey) e a store' later (own_told (law_setting eq hash mode store) (law_coding hash) store r es tale (Some key) hashed key rests coded there MakeKey a [] tale.hands.call (inl (inl (Memory, none.0)), (refl, refl))) refl none.0 none.1.0 none.1.1)
@@ -187,16 +187,16 @@ module _ {K V S A : Type 0} (eq : K → K → Bool) (says : Says K V A) (hash : 
       matched (Leaves MakePair a store' later) refuse _ _ h
       (λ _ none. none_made (law_setting eq hash mode store) (law_coding hash) store r es tale (Some key) hashed key rests coded there own (asks.Call MakePair) e a store' later (own_told (law_setting eq hash mode store) (law_coding hash) store r es tale (Some key) hashed key rests coded there MakePair a [] tale.hands.call (inl (inl (Memory, none.0), (refl, refl)))) refl none.0 none.1.0 none.1.1)
       (λ _ makes. pair_made (law_setting eq hash mode store) (law_coding hash) store r es tale (Some key) hashed key rests coded there own key refl (λ q same. same) (λ q. refl) e a store' later makes)
-  answered_call refuse (MakeTable slots limit) e a store' later h =
-      matched (Leaves (MakeTable slots limit) a store' later) refuse _ _ h
-      (λ _ none. none_made (law_setting eq hash mode store) (law_coding hash) store r es tale (Some key) hashed key rests coded there own (asks.Call (MakeTable slots limit)) e a store' later (own_told (law_setting eq hash mode store) (law_coding hash) store r es tale (Some key) hashed key rests coded there (MakeTable slots limit) a [] tale.hands.call (inl (inl (Memory, none.0)), (refl, refl))) refl none.0 none.1.0 none.1.1)
-      (λ _ makes. table_made (law_setting eq hash mode store) (law_coding hash) store r es tale (Some key) hashed key rests coded there own (asks.Call (MakeTable slots limit)) e slots limit a
-      (own_told (law_setting eq hash mode store) (law_coding hash) store r es tale (Some key) hashed key rests coded there (MakeTable slots limit) a [] tale.hands.call (table_told slots limit a store' makes.0, (refl, refl))) refl store' later makes.1 makes.0)
+  answered_call refuse (MakeTable slots limit chunks) e a store' later h =
+      matched (Leaves (MakeTable slots limit chunks) a store' later) refuse _ _ h
+      (λ _ none. none_made (law_setting eq hash mode store) (law_coding hash) store r es tale (Some key) hashed key rests coded there own (asks.Call (MakeTable slots limit chunks)) e a store' later (own_told (law_setting eq hash mode store) (law_coding hash) store r es tale (Some key) hashed key rests coded there (MakeTable slots limit chunks) a [] tale.hands.call (inl (inl (Memory, none.0)), (refl, refl))) refl none.0 none.1.0 none.1.1)
+      (λ _ makes. table_made (law_setting eq hash mode store) (law_coding hash) store r es tale (Some key) hashed key rests coded there own (asks.Call (MakeTable slots limit chunks)) e slots limit chunks a
+      (own_told (law_setting eq hash mode store) (law_coding hash) store r es tale (Some key) hashed key rests coded there (MakeTable slots limit chunks) a [] tale.hands.call (table_told slots limit chunks a store' makes.0, (refl, refl))) refl store' later makes.1 makes.0)
   answered_call refuse (AddToShard by) e a store' later (is, (number, same_store), same_call) =
       quiet (law_setting eq hash mode store) (law_coding hash) store r es tale (Some key) hashed key rests coded there own (asks.Call (AddToShard by)) e (answers.Call a) store' later tale.hands _ same_store same_call
       (own_told (law_setting eq hash mode store) (law_coding hash) store r es tale (Some key) hashed key rests coded there (AddToShard by) a [] tale.hands.call (is, (refl, refl))) refl (λ p h. inl h) (λ p h. inl h) refl
-      (untabled (AddToShard by) a (λ slots limit f. absurd cc))
+      (untabled (AddToShard by) a (λ slots limit chunks f. absurd cc))
   answered_call refuse (Ask_done reply) e a store' later (is, stays) =
       answered_quietly (Ask_done reply) e a store' later tale.hands.call stays.0 stays.1
       (is, (refl, refl)) refl (λ p h. inl h) refl
-      (untabled (Ask_done reply) a (λ slots limit f. absurd cc))
+      (untabled (Ask_done reply) a (λ slots limit chunks f. absurd cc))

@@ -3,7 +3,7 @@ use Rattle.std.proofs.Common.{◌≡◌, ℕ, ◌%◌, ◌^◌, ◌==◌, ◌≤
 use Rattle.papaya_ask.specs.declared.ask.At.{At}
 use Rattle.papaya_ask.specs.declared.ask.At.TheVariants.{Root, Next}
 use Rattle.papaya_ask.specs.declared.ask.Answer.{Answer as Call_answer}
-use Rattle.papaya_ask.specs.declared.ask.Answer.TheVariants.{Exchanged, Found as Found_instead}
+use Rattle.papaya_ask.specs.declared.ask.Answer.TheVariants.{Exchanged, Found as Found_instead, Made as Made_number}
 use Rattle.papaya_ask.specs.declared.call.Reply.{Reply}
 use Rattle.papaya_ask.specs.declared.copy_ask.CopyAsk.{CopyAsk}
 use Rattle.papaya_ask.specs.declared.copy_ask.CopyAsk.TheVariants.{Exchange as Copy_exchange, MakeTable}
@@ -14,7 +14,7 @@ use Rattle.papaya_chain.specs.declared.resizer.Resizer.{Resizer}
 use Rattle.papaya_chain.specs.declared.resizer.State.{State as Stage}
 use Rattle.papaya_chain.specs.declared.resizer.State.TheVariants as stages
 use Rattle.papaya_chain.specs.Resizer.{after, asks_in, follows_in, kind_in}
-use Rattle.papaya_chain_rests.specs.Resizers.{HasLink, IsStageAsked, IsStageTold, RestsResizer, RestsStage}
+use Rattle.papaya_chain_rests.specs.Resizers.{HasLink, link_of, IsStageAsked, IsStageTold, RestsResizer, RestsStage}
 use Rattle.papaya_chain_rests.specs.Told.{Hands, IsCopyTold}
 use Rattle.papaya_law.specs.Allows.{AllAllowed, Allows}
 use Rattle.papaya_law.specs.Class.{IsOn}
@@ -40,7 +40,7 @@ use Rattle.papaya_timeline.specs.declared.trace.Event.{Event}
 use Rattle.papaya_timeline.specs.Advances.{goes_on}
 use Rattle.papaya_timeline.specs.Callers.{call_in, resizer_in, visitor_in}
 use Rattle.papaya_timeline.specs.Core.{CoreState, IsCore}
-use Rattle.papaya_timeline.specs.Kept.{IsKept, IsMade, IsResizing, Tale, setting_of, coding_of, low, told_tales}
+use Rattle.papaya_timeline.specs.Kept.{IsKept, IsMade, IsMadeFor, IsResizing, Tale, setting_of, coding_of, low, told_tales}
 use Rattle.papaya_timeline.specs.Resizes.{Resizes}
 use Rattle.papaya_store.specs.declared.visits.Visiting.{Visiting}
 use Rattle.papaya_timeline.proofs.CallersLemmas.{same_item}
@@ -50,6 +50,9 @@ use Rattle.papaya_timeline.proofs.KeptAnswer.{Stands}
 use Rattle.papaya_timeline.proofs.KeptOthers as others
 use Rattle.papaya_timeline.proofs.KeptSettings.{IsLawfulKeys, tables_hashed}
 use Rattle.papaya_timeline.proofs.KeptTables.{table_low}
+use Rattle.papaya_timeline.proofs.LinkWords.{stage_words}
+use Rattle.papaya_timeline.proofs.MadeTables.{copier_made}
+use Rattle.papaya_rests.specs.Copier.{HasWords}
 use Rattle.papaya_chain_rests.proofs.LinkMade.{copying_asks, link_asks}
 use Rattle.papaya_timeline.proofs.ResizerLaws.{resizer_learns, resizer_may, resizer_may_hint, resizer_names}
 use Rattle.papaya_timeline.proofs.ResizerTables.{stage_is, stage_links, stage_made, stage_opens}
@@ -114,7 +117,11 @@ module _ {K V S A : Type 0} (eq : K → K → Bool) (hash : K → ℕ) (law : Is
   keeps = keeping g hashed.lawful es may
 
   suits : Suits eq hashes g c s.store
-  suits = record { sizes = λ t. refl; places = λ t. refl; numbers = λ p. refl; hashes_of = λ p. ap (λ (f : K → ℕ). f p.key % 2 ^ 64) (sym hasher); sames = λ p q. refl }
+  suits = record { sizes = λ t. refl; places = λ t. refl; chunks = λ t. refl; numbers = λ p. refl; hashes_of = λ p. ap (λ (f : K → ℕ). f p.key % 2 ^ 64) (sym hasher); sames = λ p q. refl }
+
+  -- the table that it is about to link has its words
+  words : HasWords g (link_of z.state)
+  words = stage_words g s.store (λ t. refl) z.state resizing.links
 
   -- a table of the chain has a number no greater than how many there are
   on_low : (t : ℕ) → IsOn now.first now.next t → t ≤ length s.store.words.tables
@@ -130,7 +137,7 @@ module _ {K V S A : Type 0} (eq : K → K → Bool) (hash : K → ℕ) (law : Is
       matched (IsStageLeft (stages.Opening table) (answers.Call a) store') (word_at s.store.words Root == 0) _ _ h
       (λ hit done.
       let stands : now.root ≡ 0 = coded Root ∙ eqb-true (word_at s.store.words Root) 0 hit in
-      let x = resizer_may g c hashed now (map_left g es) keeps z tale.hands resizing.rests Root 0 table (ap asks_in is) stands in
+      let x = resizer_may g c hashed now (map_left g es) keeps z tale.hands resizing.rests words Root 0 table (ap asks_in is) stands in
       let same : x.0 ≡ Open table = subst (λ stage. IsStageAsked g c now stage Root table tale.hands x.0) is x.1 in
       let one : List (Exchange (Stored K V)) = Open table ∷ [] in
       let nothing : List (Exchange (Stored K V)) = [] in
@@ -160,27 +167,33 @@ module _ {K V S A : Type 0} (eq : K → K → Bool) (hash : K → ℕ) (law : Is
       opened_made t some (inr linked) = there t some (inr linked)
 
   -- it asks as a copy may
-  follows_low : (stage : Stage) → z.state ≡ stage → (slots limit : ℕ) → asks_in stage ≡ Some (MakeTable slots limit) → follows_in stage ≤ length s.store.words.tables
-  follows_low (stages.Linking link) is slots limit e = on_low _ (subst (λ y. RestsStage g c now tale.hands y) is resizing.rests.stage).on
-  follows_low (stages.Copying from copying) is slots limit e = on_low _ (copying_follows g c now tale.hands.call.last tale.hands.kept slots limit copying (subst (λ y. RestsStage g c now tale.hands y) is resizing.rests.stage).1 (same_item _ _ e))
-  follows_low stages.AtRoot is slots limit e = omega arith
-  follows_low (stages.Making room) is slots limit e = omega arith
-  follows_low (stages.Opening table) is slots limit e = omega arith
-  follows_low (stages.Sizing root) is slots limit e = omega arith
-  follows_low (stages.Counting root len) is slots limit e = omega arith
-  follows_low (stages.Looking root room) is slots limit e = omega arith
-  follows_low stages.Done is slots limit e = omega arith
-  follows_low (stages.Refused refused) is slots limit e = omega arith
+  follows_low : (stage : Stage) → z.state ≡ stage → (slots limit chunks : ℕ) → asks_in stage ≡ Some (MakeTable slots limit chunks) → follows_in stage ≤ length s.store.words.tables
+  follows_low (stages.Linking link) is slots limit chunks e = on_low _ (subst (λ y. RestsStage g c now tale.hands y) is resizing.rests.stage).on
+  follows_low (stages.Copying from copying) is slots limit chunks e = on_low _ (copying_follows g c now tale.hands.call.last tale.hands.kept slots limit chunks copying (subst (λ y. RestsStage g c now tale.hands y) is resizing.rests.stage).1 (same_item _ _ e))
+  follows_low stages.AtRoot is slots limit chunks e = omega arith
+  follows_low (stages.Making room) is slots limit chunks e = omega arith
+  follows_low (stages.Opening table) is slots limit chunks e = omega arith
+  follows_low (stages.Sizing root) is slots limit chunks e = omega arith
+  follows_low (stages.Counting root len) is slots limit chunks e = omega arith
+  follows_low (stages.Looking root len room) is slots limit chunks e = omega arith
+  follows_low stages.Done is slots limit chunks e = omega arith
+  follows_low (stages.Refused refused) is slots limit chunks e = omega arith
 
   linked_made : (stage : Stage) → z.state ≡ stage → (behind old t : ℕ) → asks_in stage ≡ Some (Copy_exchange (Next behind) old t) → IsMade s.store t
-  linked_made (stages.Linking link) is behind old t e = resizing.links behind t (subst (λ y. HasLink y (links.Linking behind t)) (sym is) (same_item _ _ (link_asks link behind old t (same_item _ _ e))))
-  linked_made (stages.Copying from copying) is behind old t e = resizing.links behind t (subst (λ y. HasLink y (links.Linking behind t)) (sym is) (copying_asks copying behind old t (same_item _ _ e)))
+  linked_made (stages.Linking link) is behind old t e =
+      let linking = link_asks link behind old t (same_item _ _ e) in
+      let made = resizing.links behind t linking.0 (subst (λ y. HasLink y (links.Linking behind t linking.0)) (sym is) (same_item _ _ linking.1)) in
+      (made.0, made.1)
+  linked_made (stages.Copying from copying) is behind old t e =
+      let linking = copying_asks copying behind old t (same_item _ _ e) in
+      let made = resizing.links behind t linking.0 (subst (λ y. HasLink y (links.Linking behind t linking.0)) (sym is) linking.1) in
+      (made.0, made.1)
   linked_made stages.AtRoot is behind old t e = absurd cc
   linked_made (stages.Making room) is behind old t e = absurd cc
   linked_made (stages.Opening table) is behind old t e = absurd cc
   linked_made (stages.Sizing root) is behind old t e = absurd cc
   linked_made (stages.Counting root len) is behind old t e = absurd cc
-  linked_made (stages.Looking root room) is behind old t e = absurd cc
+  linked_made (stages.Looking root len room) is behind old t e = absurd cc
   linked_made stages.Done is behind old t e = absurd cc
   linked_made (stages.Refused refused) is behind old t e = absurd cc
 
@@ -189,7 +202,7 @@ module _ {K V S A : Type 0} (eq : K → K → Bool) (hash : K → ℕ) (law : Is
   Asks stage = (at : At) (old new : ℕ) → asks_in stage ≡ Some (Copy_exchange at old new) → word_of g c now at ≡ old → (e : Exchange (Stored K V)) × IsStageAsked g c now stage at new tale.hands e × Allows g now e × IsWritten g c now at new (state_after now e)
 
   stage_asks : (stage : Stage) → z.state ≡ stage → Asks stage
-  stage_asks stage is = subst Asks is (λ at old new e stands. resizer_may g c hashed now (map_left g es) keeps z tale.hands resizing.rests at old new e stands)
+  stage_asks stage is = subst Asks is (λ at old new e stands. resizer_may g c hashed now (map_left g es) keeps z tale.hands resizing.rests words at old new e stands)
 
   copied : (stage : Stage) → z.state ≡ stage → ((e : CopyAsk) → asks_in stage ≡ Some e → IsAsker g c s.store es tale.hands coded there (kind_in stage) (follows_in stage) e) → (ask : CopyAsk) → asks_in stage ≡ Some ask → (a : Answer) (store' : StoreState K V S) → PerformsCopy eq hashes refuse ask s.store a store' → IsLeft g c s.store es tale.hands (λ made hands'. (ask : CopyAsk) × (asks_in stage ≡ Some ask) × IsCopyTold g c now (kind_in stage) (follows_in stage) tale.hands ask a made hands') a store'
   copied stage is asker ask e a store' performs =
@@ -204,7 +217,7 @@ module _ {K V S A : Type 0} (eq : K → K → Bool) (hash : K → ℕ) (law : Is
       (λ ask e. record {
         names = resizer_names g c hashed now (map_left g es) keeps z tale.hands resizing.rests ask (ap asks_in is ∙ e);
         may = λ at old new same stands. stage_asks stage is at old new (e ∙ ap (λ y. Some y) same) stands;
-        low = λ slots limit same. follows_low stage is slots limit (e ∙ ap (λ y. Some y) same);
+        low = λ slots limit chunks same. follows_low stage is slots limit chunks (e ∙ ap (λ y. Some y) same);
         links = λ behind old t same. linked_made stage is behind old t (e ∙ ap (λ y. Some y) same);
         reads = λ t x same. hints t x;
         writes = λ t x n same. resizer_may_hint g c hashed now (map_left g es) keeps z tale.hands resizing.rests t x n (ap asks_in is ∙ e ∙ ap (λ y. Some y) same);
@@ -233,7 +246,7 @@ module _ {K V S A : Type 0} (eq : K → K → Bool) (hash : K → ℕ) (law : Is
 
   -- it learns, and what was exchanged was allowed
   learnt : AllAllowed g_now (run es start) left.made × RestsResizer g_now c_now (run left.made (run es start)) (after x.before x.answer) left.hands'
-  learnt = resizer_learns g_now c_now hashed_now (run es start) (map_left g_now es) (keeping g_now hashed_now.lawful es kept.allowed) x.before (tales caller).hands resizing.rests x.answer left.made left.hands' left.told
+  learnt = resizer_learns g_now c_now hashed_now (run es start) (map_left g_now es) (keeping g_now hashed_now.lawful es kept.allowed) x.before (tales caller).hands resizing.rests (stage_words g_now s.store (λ t. refl) x.before.state resizing.links) x.answer left.made left.hands' left.told
 
   -- the exchanges after it
   abbrev pub es' : List (Exchange (Stored K V))
@@ -275,19 +288,28 @@ module _ {K V S A : Type 0} (eq : K → K → Bool) (hash : K → ℕ) (law : Is
   still_there : (t : ℕ) → IsMade s.store t → IsMade s'.store t
   still_there = others.still_there eq hash law s caller s' x.mode es tales core kept left.made left.hands' leaving
 
+  -- and has as many words for chunks
+  still_made : (t chunks : ℕ) → IsMadeFor s.store t chunks → IsMadeFor s'.store t chunks
+  still_made = others.still_made eq hash law s caller s' x.mode es tales core kept left.made left.hands' leaving
+
+  -- a table that it was told of was made as it asked
+  newly_made : (n slots limit chunks : ℕ) → x.answer ≡ answers.Call (Made_number n) → asks_in x.before.state ≡ Some (MakeTable slots limit chunks) → IsMadeFor s'.store n chunks
+  newly_made n slots limit chunks is making =
+      copier_made eq hashes refuse s.store x.answer s'.store slots limit chunks (subst (λ y. PerformsCopy eq hashes refuse y s.store x.answer s'.store) (same_item _ _ (sym x.asked ∙ making)) x.performs) n is
+
   -- so it rests on what is told of it after the step
   pub own_resizing : IsResizing eq hash s'.mode s'.store (after x.before x.answer) es' (tales' caller)
   own_resizing =
-      let stage = stage_made (IsMade s'.store) x.before.resize x.before.mode x.before.initial x.answer x.before.state left.opens
-      (stage_is (IsMade s'.store) x.before.state (λ t e. still_there t (resizing.opens t e)) (λ behind t e. still_there t (resizing.links behind t e))) in
+      let stage = stage_made (IsMadeFor s'.store) x.before.resize x.before.mode x.before.initial x.before.number x.answer x.before.state newly_made
+      (stage_is (IsMadeFor s'.store) x.before.state (λ t e. let there = still_there t (resizing.opens t e) in (there.0, there.1, omega arith)) (λ behind t chunks e. still_made t chunks (resizing.links behind t chunks e))) in
       record {
         rests = others.grown_resizer eq hash law s caller s' x.mode es tales core kept left.made left.hands' leaving (after x.before x.answer) (tales' caller).hands
             (subst (RestsResizer g_now c_now (run es' start) (after x.before x.answer)) own_hands
             (subst (λ w. RestsResizer g_now c_now w (after x.before x.answer) left.hands') (sym (run-append es left.made start)) learnt.1));
         last = λ p l. own_last p (left.last p (ap (λ (y : Hands (Stored K V)). y.call.last) own_hands ∙ l));
         carried = λ p l. own_carried p (left.carried p (ap (λ (y : Hands (Stored K V)). y.kept) own_hands ∙ l));
-        opens = stage_opens (IsMade s'.store) (after x.before x.answer).state stage;
-        links = stage_links (IsMade s'.store) (after x.before x.answer).state stage;
+        opens = λ t e. let there = stage_opens (IsMadeFor s'.store) (after x.before x.answer).state stage t e in (there.0, there.1);
+        links = stage_links (IsMadeFor s'.store) (after x.before x.answer).state stage;
       }
 
   -- the core after the step

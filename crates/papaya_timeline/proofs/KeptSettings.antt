@@ -3,16 +3,19 @@ use Rattle.std.proofs.Common.{◌≡◌, ℕ, ◌+◌, ◌%◌, ◌^◌, ◌<◌
 use Rattle.std.proofs.Math.Nat.{mod-lt}
 use Rattle.std.proofs.Math.Pow.{pow_pos}
 use Rattle.std.specs.Cmp.{IsEquivalence}
+use Rattle.papaya_words.specs.Chunks.{chunk_len, chunk_of}
 use Rattle.papaya_words.specs.Table.{TableWords}
 use Rattle.papaya_words.specs.Probe.{place}
 use Rattle.papaya_words.specs.declared.probe.ResizeMode.{ResizeMode}
 use Rattle.papaya_ask.specs.Search.{IsSize}
+use Rattle.papaya_law.specs.Exchange.{Setting}
 use Rattle.papaya_law.specs.Grows.{Agrees}
 use Rattle.papaya_law.specs.Hashing.{hashed}
 use Rattle.papaya_law.specs.Code.{IsHashed}
 use Rattle.papaya_law.proofs.Hashing.{hashed_lawful}
 use Rattle.papaya_law.proofs.Logs.{planned_lawful}
-use Rattle.papaya_timeline.specs.Kept.{is_blocking, setting_of, coding_of, low, slots_in, places_in}
+use Rattle.papaya_rests.specs.Rests.{IsCutAs}
+use Rattle.papaya_timeline.specs.Kept.{chunks_in, is_blocking, setting_of, coding_of, low, slots_in, places_in}
 use Rattle.papaya_store.specs.Store.{Stored}
 use Rattle.papaya_store.specs.Tables.{table_of}
 use Rattle.papaya_timeline.proofs.KeptTables.{HasMoreTables}
@@ -32,6 +35,10 @@ some_place : (o : Option TableWords) → 0 < places_in o
 some_place None = omega arith
 some_place (Some t) = omega arith
 
+-- a mode cuts as it does
+pub mode_cut : (mode : ResizeMode) → IsCutAs mode (chunk_of (chunk_len mode))
+mode_cut mode x = refl
+
 module _ {K V : Type 0} (eq : K → K → Bool) (hash : K → ℕ) where
   -- keys are placed by their hashes
   pub tables_hashed : IsLawfulKeys eq hash → (mode : ResizeMode) (tables : List TableWords) → ((n : ℕ) (t : TableWords) → table_of tables n ≡ Some t → IsSize (length t.slots) t.limit) → IsHashed (setting_of {V = V} eq (low hash) mode tables) (coding_of (low hash))
@@ -39,9 +46,9 @@ module _ {K V : Type 0} (eq : K → K → Bool) (hash : K → ℕ) where
       let classes = law.classes in
       let alike : (k l : K) → eq k l ≡ true → low hash k ≡ low hash l = λ k l e. ap (λ n. n % 2 ^ 64) (law.alike k l e) in
       record {
-        lawful = planned_lawful (hashed (is_blocking mode) (λ (p : Stored K V). p.key) eq (low hash))
-            (hashed_lawful (is_blocking mode) (λ (p : Stored K V). p.key) eq (low hash) classes.refl (λ k l e. classes.symm l k ∙ e) (λ k l m e f. classes.congr k l m e ∙ f) alike)
-            (λ t. slots_in (table_of tables t)) (λ t. places_in (table_of tables t))
+        lawful = planned_lawful (hashed (is_blocking mode) (chunk_of (chunk_len mode)) (λ (p : Stored K V). p.key) eq (low hash))
+            (hashed_lawful (is_blocking mode) (chunk_of (chunk_len mode)) (λ (p : Stored K V). p.key) eq (low hash) classes.refl (λ k l e. classes.symm l k ∙ e) (λ k l m e f. classes.congr k l m e ∙ f) alike)
+            (λ t. slots_in (table_of tables t)) (λ t. places_in (table_of tables t)) (λ t. chunks_in (table_of tables t))
             (λ t. some_slot (table_of tables t) (λ w e. sized t w e)) (λ t. some_place (table_of tables t));
         coding = record { respects = alike; hash_fits = λ k. mod-lt (hash k) (omega arith) };
         places = λ k t j. refl;
@@ -50,7 +57,7 @@ module _ {K V : Type 0} (eq : K → K → Bool) (hash : K → ℕ) where
   -- where tables grow, the setting says of the made ones what it said
   pub grown_agrees : (mode mode' : ResizeMode) (tables tables' : List TableWords) → mode' ≡ mode → HasMoreTables tables tables' → (On : ℕ → Type 0) → ((t : ℕ) → On t → (words : TableWords) × (table_of tables t ≡ Some words)) → Agrees On (setting_of {V = V} eq (low hash) mode tables) (setting_of {V = V} eq (low hash) mode' tables')
   grown_agrees mode mode' tables tables' same grown On made =
-      record { blocking = ap is_blocking same; key = λ p. refl; same = λ k l. refl; size = size; places = places; place = λ k t j on. ap (λ n. place (low hash k) n j) (size t on) }
+      record { blocking = ap is_blocking same; key = λ p. refl; same = λ k l. refl; size = size; chunk_of = λ x. ap (λ m. chunk_of (chunk_len m) x) same; chunks = chunks; places = places; place = λ k t j on. ap (λ n. place (low hash k) n j) (size t on) }
     where
       -- a made table is as long as it was
       size : (t : ℕ) → On t → slots_in (table_of tables' t) ≡ slots_in (table_of tables t)
@@ -65,3 +72,14 @@ module _ {K V : Type 0} (eq : K → K → Bool) (hash : K → ℕ) where
           let m = made t on in
           let g = grown t m.0 m.1 in
           ap places_in g.1 ∙ ap (λ n. n + 1) g.3 ∙ sym (ap places_in m.1)
+
+      -- and it has as many words for chunks
+      chunks : (t : ℕ) → On t → chunks_in (table_of tables' t) ≡ chunks_in (table_of tables t)
+      chunks t on =
+          let m = made t on in
+          let g = grown t m.0 m.1 in
+          ap chunks_in g.1 ∙ g.4 ∙ sym (ap chunks_in m.1)
+
+-- what copies as one of two settings that agree does so as the other
+pub cut_carries : {K P : Type 0} {On : ℕ → Type 0} {g g' : Setting K P} → Agrees On g g' → (mode : ResizeMode) → IsCutAs mode g.chunk_of → IsCutAs mode g'.chunk_of
+cut_carries agrees mode cut x = agrees.chunk_of x ∙ cut x

@@ -26,7 +26,7 @@ use Rattle.papaya_chain_rests.proofs.Replies.{chain_shows, chain_task}
 use Rattle.papaya_store.specs.declared.pairs.Running.{Running}
 use Rattle.papaya_timeline.specs.Callers.{as_work, running, with_call}
 use Rattle.papaya_timeline.specs.Core.{CoreState, IsCore}
-use Rattle.papaya_timeline.specs.Kept.{IsKept, IsCall, IsLogged, IsMade, Tale, setting_of, coding_of, low, told_tales}
+use Rattle.papaya_timeline.specs.Kept.{IsKept, IsCall, IsLogged, IsMade, IsMadeFor, Tale, setting_of, coding_of, low, told_tales}
 use Rattle.papaya_store.specs.Asks.{PerformsAsk}
 use Rattle.papaya_store.specs.Store.{Stored, pair_of}
 use Rattle.papaya_timeline.proofs.CallersLemmas.{call-put, no-resizer, no-visitor}
@@ -38,6 +38,7 @@ use Rattle.papaya_timeline.proofs.KeptLogs.{pair_below}
 use Rattle.papaya_timeline.proofs.KeptPerformed.{answered_call}
 use Rattle.papaya_timeline.proofs.KeptSettings.{IsLawfulKeys, tables_hashed}
 use Rattle.papaya_chain_rests.proofs.LinkMade.{is_made, made_is, machine_made}
+use Rattle.papaya_timeline.proofs.LinkWords.{link_words}
 use Rattle.papaya_timeline.proofs.MadeTables.{chain_opens, copy_made}
 
 module _ {K V S A : Type 0} (eq : K → K → Bool) (hash : K → ℕ) (law : IsLawfulKeys eq hash) (says : Says K V A) (hashes : S → K → ℕ) (refuse : Bool) (s : CoreState K V S A) (caller : ℕ) (s' : CoreState K V S A)
@@ -76,7 +77,7 @@ module _ {K V S A : Type 0} (eq : K → K → Bool) (hash : K → ℕ) (law : Is
           subst (λ y. IsAnswered g c s.store before es (tales caller) (Some call.key) call.key (asks.Call ask) y s'.store later) (sym is)
           (answered_call eq says hash s.mode s.store before es (tales caller) hashed call.key call.split (may (tales caller) call.split) call.rests kept.coded kept.made kept.hints call.last call.opens call.links call.own refuse ask e told s'.store later h)
       by_ask (asks.Copy ask) e (h, same) =
-          answered_copy eq hashes g c s.store before es (tales caller) (Some call.key) hashed call.key call.split (may (tales caller) call.split) call.rests kept.coded kept.made kept.hints call.last call.carried call.opens call.links call.own (record { sizes = λ t. refl; places = λ t. refl; numbers = λ p. refl; hashes_of = λ p. ap (λ (f : K → ℕ). f p.key % 2 ^ 64) (sym hasher); sames = λ p q. refl }) refuse ask e a s'.store later h same
+          answered_copy eq hashes g c s.store before es (tales caller) (Some call.key) hashed call.key call.split (may (tales caller) call.split) call.rests kept.coded kept.made kept.hints call.last call.carried call.opens call.links call.own (record { sizes = λ t. refl; places = λ t. refl; chunks = λ t. refl; numbers = λ p. refl; hashes_of = λ p. ap (λ (f : K → ℕ). f p.key % 2 ^ 64) (sym hasher); sames = λ p q. refl }) refuse ask e a s'.store later h same
 
   -- the exchanges after it
   abbrev pub es' : List (Exchange (Stored K V))
@@ -88,7 +89,7 @@ module _ {K V S A : Type 0} (eq : K → K → Bool) (hash : K → ℕ) (law : Is
 
   -- the machine learns, and what was exchanged was allowed
   learnt : AllAllowed g start ((tales caller).begun ++ ((tales caller).since ++ left.made)) × Rests g c (tales caller).begun ((tales caller).since ++ left.made) call.key (after before.machine a) left.hands
-  learnt = all_learns g c hashed (tales caller).begun (tales caller).since (may (tales caller) call.split) call.key before.machine (tales caller).hands call.rests a left.made left.hands
+  learnt = all_learns g c hashed (tales caller).begun (tales caller).since (may (tales caller) call.split) call.key before.machine (tales caller).hands call.rests a (λ _. link_words g s.store (λ t. refl) (link_in before.machine.phase) call.links) left.made left.hands
       (subst (λ l. IsTold g c call.key (run l start) (kind_of_ask before.machine) (follows_of before.machine) (tales caller).hands (ask_of before.machine) a left.made left.hands) (sym call.split) left.told)
 
   -- all exchanges were allowed
@@ -132,6 +133,10 @@ module _ {K V S A : Type 0} (eq : K → K → Bool) (hash : K → ℕ) (law : Is
   still_there : (t : ℕ) → IsMade s.store t → IsMade s'.store t
   still_there = others.still_there eq hash law s caller s' mode_is es tales core kept left.made left.hands leaving
 
+  -- and has as many words for chunks
+  still_made : (t chunks : ℕ) → IsMadeFor s.store t chunks → IsMadeFor s'.store t chunks
+  still_made = others.still_made eq hash law s caller s' mode_is es tales core kept left.made left.hands leaving
+
   -- a pair of the log has a number below its length
   below : (p : Stored K V) → IsLogged s.store p → p.number < length s.store.pairs
   below p logged = pair_below s.store p.number p logged
@@ -158,17 +163,16 @@ module _ {K V S A : Type 0} (eq : K → K → Bool) (hash : K → ℕ) (law : Is
   own_opens : (t : ℕ) → ask_of (after before.machine a) ≡ asks.Call (Ask_exchange Root 0 t) → IsMade s'.store t
   own_opens t opening = elim (chain_opens before.machine a t opening order) [
     | inl old ↦ still_there t (call.opens t old)
-    | inr (is, slots, limit, making) ↦ left.opens t is (inl (slots, limit, making))
+    | inr (is, slots, limit, chunks, making) ↦ left.opens t is (inl (slots, limit, chunks, making))
   ]
 
   -- and so is the one that it is about to link
-  own_links : (behind t : ℕ) → link_in (after before.machine a).phase ≡ Some (Linking behind t) → IsMade s'.store t
-  own_links behind t =
-      is_made (IsMade s'.store) (link_in (after before.machine a).phase)
-      (machine_made (IsMade s'.store) before.machine a
-      (λ n aside is. copy_made eq says hashes refuse s.store before a s'.store later before.machine aside performs n is)
-      (made_is (IsMade s'.store) (link_in before.machine.phase) (λ behind t linking. still_there t (call.links behind t linking))))
-      behind t
+  own_links : (behind t chunks : ℕ) → link_in (after before.machine a).phase ≡ Some (Linking behind t chunks) → IsMadeFor s'.store t chunks
+  own_links =
+      is_made (IsMadeFor s'.store) (link_in (after before.machine a).phase)
+      (machine_made (IsMadeFor s'.store) before.machine a
+      (λ n behind slots limit chunks aside is making. copy_made eq says hashes refuse s.store before a s'.store later before.machine behind slots limit chunks making performs n is)
+      (made_is (IsMadeFor s'.store) (link_in before.machine.phase) (λ behind t chunks linking. still_made t chunks (call.links behind t chunks linking))))
 
   -- a pair that it made and did not write stands in no slot
   own_unwritten : (p : Stored K V) → IsOneOf left.hands.call.made p → change_in (after before.machine a).call.state ≡ None → (t x : ℕ) (q : Stored K V) → named ((run es' start).slot t x) ≡ Some q → q.number ≢ p.number

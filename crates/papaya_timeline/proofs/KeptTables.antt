@@ -71,19 +71,19 @@ table_at tables n z = ap (λ b. cond b None (slice_get tables (n - 1))) z
 
 -- Each table is still there, as long as it was.
 abbrev pub HasMoreTables : List TableWords → List TableWords → Type 0
-HasMoreTables tables tables' = (n : ℕ) (t : TableWords) → table_of tables n ≡ Some t → (t' : TableWords) × (table_of tables' n ≡ Some t') × (length t'.slots ≡ length t.slots) × (t'.limit ≡ t.limit)
+HasMoreTables tables tables' = (n : ℕ) (t : TableWords) → table_of tables n ≡ Some t → (t' : TableWords) × (table_of tables' n ≡ Some t') × (length t'.slots ≡ length t.slots) × (t'.limit ≡ t.limit) × (length t'.done ≡ length t.done)
 
 -- tables that stay as they are
 pub grown-same : (tables : List TableWords) → HasMoreTables tables tables
-grown-same tables n t e = (t, e, refl, refl)
+grown-same tables n t e = (t, e, refl, refl, refl)
 
 -- each table is as long after a write as before it
-written-size : (at : At) (t : TableWords) (word : ℕ) → (length (written at t word).slots ≡ length t.slots) × ((written at t word).limit ≡ t.limit)
-written-size Root t word = (refl, refl)
-written-size (Next n) t word = (refl, refl)
-written-size (Aborted n) t word = (refl, refl)
-written-size (Done n) t word = (refl, refl)
-written-size (Slot n i) t word = elim (nat_lt i (length t.slots)) as (λ b. (length (cond b (record t { slots = slice_set t.slots i word }) t).slots ≡ length t.slots) × ((cond b (record t { slots = slice_set t.slots i word }) t).limit ≡ t.limit)) [ true ↦ (length-set t.slots i word, refl) | false ↦ (refl, refl) ]
+written-size : (at : At) (t : TableWords) (word : ℕ) → (length (written at t word).slots ≡ length t.slots) × ((written at t word).limit ≡ t.limit) × (length (written at t word).done ≡ length t.done)
+written-size Root t word = (refl, refl, refl)
+written-size (Next n) t word = (refl, refl, refl)
+written-size (Aborted n) t word = (refl, refl, refl)
+written-size (Done n chunk) t word = elim (nat_lt chunk (length t.done)) as (λ b. (length (cond b (record t { done = slice_set t.done chunk word }) t).slots ≡ length t.slots) × ((cond b (record t { done = slice_set t.done chunk word }) t).limit ≡ t.limit) × (length (cond b (record t { done = slice_set t.done chunk word }) t).done ≡ length t.done)) [ true ↦ (refl, refl, length-set t.done chunk word) | false ↦ (refl, refl, refl) ]
+written-size (Slot n i) t word = elim (nat_lt i (length t.slots)) as (λ b. (length (cond b (record t { slots = slice_set t.slots i word }) t).slots ≡ length t.slots) × ((cond b (record t { slots = slice_set t.slots i word }) t).limit ≡ t.limit) × (length (cond b (record t { slots = slice_set t.slots i word }) t).done ≡ length t.done)) [ true ↦ (length-set t.slots i word, refl, refl) | false ↦ (refl, refl, refl) ]
 
 -- a table that is there gives way to another
 module _ (w : Tables) (n : ℕ) (t t' : TableWords) (there : table_of w.tables n ≡ Some t) where
@@ -116,12 +116,12 @@ module _ (w : Tables) (n : ℕ) (t t' : TableWords) (there : table_of w.tables n
               omega arith
 
   -- where it is as long, each table is as long as it was
-  pub swapped-grown : length t'.slots ≡ length t.slots → t'.limit ≡ t.limit → HasMoreTables w.tables swapped
-  swapped-grown slots limit u v e = ⊎_elim
+  pub swapped-grown : length t'.slots ≡ length t.slots → t'.limit ≡ t.limit → length t'.done ≡ length t.done → HasMoreTables w.tables swapped
+  swapped-grown slots limit done u v e = ⊎_elim
       (λ (same : u ≡ n).
       let f : t ≡ v = same_item t v (sym there ∙ (ap (table_of w.tables) (sym same) ∙ e)) in
-      (t', ap (table_of swapped) same ∙ swapped-here, slots ∙ ap (λ (y : TableWords). length y.slots) f, limit ∙ ap (λ (y : TableWords). y.limit) f))
-      (λ (differ : u ≢ n). (v, swapped-other u differ ∙ e, refl, refl))
+      (t', ap (table_of swapped) same ∙ swapped-here, slots ∙ ap (λ (y : TableWords). length y.slots) f, limit ∙ ap (λ (y : TableWords). y.limit) f, done ∙ ap (λ (y : TableWords). length y.done) f))
+      (λ (differ : u ≢ n). (v, swapped-other u differ ∙ e, refl, refl, refl))
       (cases_same u n)
 
   -- what both tables say
@@ -160,7 +160,7 @@ module _ (w : Tables) (at : At) (n word : ℕ) (t : TableWords) (there : table_o
   pub written-grown : HasMoreTables w.tables (put_at at n w word).tables
   written-grown =
       let size = written-size at t word in
-      subst (λ (v : Tables). HasMoreTables w.tables v.tables) (sym put-table) (swapped-grown w n t (written at t word) there size.0 size.1)
+      subst (λ (v : Tables). HasMoreTables w.tables v.tables) (sym put-table) (swapped-grown w n t (written at t word) there size.0 size.1 size.2)
 
   -- a word that the write leaves
   pub written-left : (read : TableWords → ℕ) → read (written at t word) ≡ read t → (u : ℕ) → word_in read (table_of (put_at at n w word).tables u) ≡ word_in read (table_of w.tables u)
@@ -189,7 +189,7 @@ module _ (w : Tables) (n i word : ℕ) (t : TableWords) (there : table_of w.tabl
   word-other Root differ = written-root w (Slot n i) n word t there
   word-other (Next u) differ = written-left w (Slot n i) n word t there (λ v. v.next) (ap (λ (y : TableWords). y.next) slot-written) u
   word-other (Aborted u) differ = written-left w (Slot n i) n word t there (λ v. v.aborted) (ap (λ (y : TableWords). y.aborted) slot-written) u
-  word-other (Done u) differ = written-left w (Slot n i) n word t there (λ v. v.done) (ap (λ (y : TableWords). y.done) slot-written) u
+  word-other (Done u c) differ = written-left w (Slot n i) n word t there (λ v. slice_index v.done c) (ap (λ (y : TableWords). slice_index y.done c) slot-written) u
   word-other (Slot u y) differ = ⊎_elim
       (λ (e : u ≡ n).
       ap (λ z. word_in (λ v. slice_index v.slots y) (table_of (put w (Slot n i) word).tables z)) e ∙ ap (word_in (λ v. slice_index v.slots y)) (written-here w (Slot n i) n word t there)
@@ -199,12 +199,40 @@ module _ (w : Tables) (n i word : ℕ) (t : TableWords) (there : table_of w.tabl
       (λ (other_table : u ≢ n). written-elsewhere w (Slot n i) n word t there (λ v. slice_index v.slots y) u other_table)
       (cases_same u n)
 
+-- a write to the word of a chunk that is there
+module _ (w : Tables) (n c word : ℕ) (t : TableWords) (there : table_of w.tables n ≡ Some t) (lt : c < length t.done) where
+  -- the table after it
+  pub done-written : written (Done n c) t word ≡ record t { done = slice_set t.done c word }
+  done-written = ap (λ b. cond b (record t { done = slice_set t.done c word }) t) (lt-ltb c (length t.done) lt)
+
+  -- the word that was written
+  done-here : word_at (put w (Done n c) word) (Done n c) ≡ word
+  done-here = ap (word_in (λ v. slice_index v.done c)) (written-here w (Done n c) n word t there) ∙ ap (λ (y : TableWords). slice_index y.done c) done-written ∙ index-set_same t.done c word lt
+
+  -- every other word is as it was
+  done-other : (other : At) → (other ≡ Done n c → ⊥) → word_at (put w (Done n c) word) other ≡ word_at w other
+  done-other Root differ = written-root w (Done n c) n word t there
+  done-other (Next u) differ = written-left w (Done n c) n word t there (λ v. v.next) (ap (λ (y : TableWords). y.next) done-written) u
+  done-other (Aborted u) differ = written-left w (Done n c) n word t there (λ v. v.aborted) (ap (λ (y : TableWords). y.aborted) done-written) u
+  done-other (Slot u y) differ = written-left w (Done n c) n word t there (λ v. slice_index v.slots y) (ap (λ (z : TableWords). slice_index z.slots y) done-written) u
+  done-other (Done u d) differ = ⊎_elim
+      (λ (e : u ≡ n).
+      ap (λ z. word_in (λ v. slice_index v.done d) (table_of (put w (Done n c) word).tables z)) e ∙ ap (word_in (λ v. slice_index v.done d)) (written-here w (Done n c) n word t there)
+      ∙ ap (λ (v : TableWords). slice_index v.done d) done-written
+      ∙ index-set_other t.done c d word (λ same. differ (ap (λ z. Done z d) e ∙ ap (Done n) same))
+      ∙ sym (ap (word_in (λ v. slice_index v.done d)) there) ∙ ap (λ z. word_in (λ v. slice_index v.done d) (table_of w.tables z)) (sym e))
+      (λ (other_table : u ≢ n). written-elsewhere w (Done n c) n word t there (λ v. slice_index v.done d) u other_table)
+      (cases_same u n)
+
 -- two places are the same or they differ
 pub cases_place : (a b : At) → (a ≡ b) ⊎ (a ≡ b → ⊥)
 cases_place Root Root = inl refl
 cases_place (Next m) (Next n) = elim (cases_same m n) [ inl same ↦ inl (ap Next same) | inr differ ↦ inr (λ e. differ cc) ]
 cases_place (Aborted m) (Aborted n) = elim (cases_same m n) [ inl same ↦ inl (ap Aborted same) | inr differ ↦ inr (λ e. differ cc) ]
-cases_place (Done m) (Done n) = elim (cases_same m n) [ inl same ↦ inl (ap Done same) | inr differ ↦ inr (λ e. differ cc) ]
+cases_place (Done m c) (Done n d) = elim (cases_same m n) [
+  | inl table ↦ elim (cases_same c d) [ inl chunk ↦ inl (ap (λ z. Done z c) table ∙ ap (Done n) chunk) | inr differ ↦ inr (λ e. differ cc) ]
+  | inr differ ↦ inr (λ e. differ cc)
+]
 cases_place (Slot m x) (Slot n y) = elim (cases_same m n) [
   | inl table ↦ elim (cases_same x y) [ inl slot ↦ inl (ap (λ z. Slot z x) table ∙ ap (Slot n) slot) | inr differ ↦ inr (λ e. differ cc) ]
   | inr differ ↦ inr (λ e. differ cc)
@@ -217,7 +245,7 @@ IsPlaced tables Root = Unit {0}
 IsPlaced tables (Slot n i) = (t : TableWords) × (table_of tables n ≡ Some t) × (i < length t.slots)
 IsPlaced tables (Next n) = (t : TableWords) × (table_of tables n ≡ Some t)
 IsPlaced tables (Aborted n) = (t : TableWords) × (table_of tables n ≡ Some t)
-IsPlaced tables (Done n) = (t : TableWords) × (table_of tables n ≡ Some t)
+IsPlaced tables (Done n chunk) = (t : TableWords) × (table_of tables n ≡ Some t) × (chunk < length t.done)
 
 -- each table stays as long as it was
 pub placed-grown : (w : Tables) (at : At) (new : ℕ) → IsPlaced w.tables at → HasMoreTables w.tables (put w at new).tables
@@ -225,7 +253,7 @@ placed-grown w Root new placed = grown-same w.tables
 placed-grown w (Slot n i) new (t, there, lt) = put-grown w n i new t there lt
 placed-grown w (Next n) new (t, there) = written-grown w (Next n) n new t there
 placed-grown w (Aborted n) new (t, there) = written-grown w (Aborted n) n new t there
-placed-grown w (Done n) new (t, there) = written-grown w (Done n) n new t there
+placed-grown w (Done n chunk) new (t, there, lt) = written-grown w (Done n chunk) n new t there
 
 -- and there are as many
 pub placed-many : (w : Tables) (at : At) (new : ℕ) → IsPlaced w.tables at → length (put w at new).tables ≡ length w.tables
@@ -233,7 +261,7 @@ placed-many w Root new placed = refl
 placed-many w (Slot n i) new (t, there, lt) = put-many w (Slot n i) n new t there
 placed-many w (Next n) new (t, there) = put-many w (Next n) n new t there
 placed-many w (Aborted n) new (t, there) = put-many w (Aborted n) n new t there
-placed-many w (Done n) new (t, there) = put-many w (Done n) n new t there
+placed-many w (Done n chunk) new (t, there, lt) = put-many w (Done n chunk) n new t there
 
 -- the word is written
 pub placed-here : (w : Tables) (at : At) (new : ℕ) → IsPlaced w.tables at → word_at (put w at new) at ≡ new
@@ -241,31 +269,27 @@ placed-here w Root new placed = refl
 placed-here w (Slot n i) new (t, there, lt) = word-here w n i new t there lt
 placed-here w (Next n) new (t, there) = ap (word_in (λ v. v.next)) (written-here w (Next n) n new t there)
 placed-here w (Aborted n) new (t, there) = ap (word_in (λ v. v.aborted)) (written-here w (Aborted n) n new t there)
-placed-here w (Done n) new (t, there) = ap (word_in (λ v. v.done)) (written-here w (Done n) n new t there)
+placed-here w (Done n chunk) new (t, there, lt) = done-here w n chunk new t there lt
 
 -- and no other is
 pub placed-other : (w : Tables) (at : At) (new : ℕ) → IsPlaced w.tables at → (other : At) → (other ≡ at → ⊥) → word_at (put w at new) other ≡ word_at w other
 placed-other w Root new placed Root differ = absurd (differ refl)
 placed-other w Root new placed (Next u) differ = refl
 placed-other w Root new placed (Aborted u) differ = refl
-placed-other w Root new placed (Done u) differ = refl
+placed-other w Root new placed (Done u c) differ = refl
 placed-other w Root new placed (Slot u y) differ = refl
 placed-other w (Slot n i) new (t, there, lt) other differ = word-other w n i new t there lt other differ
 placed-other w (Next n) new (t, there) Root differ = written-root w (Next n) n new t there
 placed-other w (Next n) new (t, there) (Next u) differ = written-elsewhere w (Next n) n new t there (λ v. v.next) u (λ e. differ (ap Next e))
 placed-other w (Next n) new (t, there) (Aborted u) differ = written-left w (Next n) n new t there (λ v. v.aborted) refl u
-placed-other w (Next n) new (t, there) (Done u) differ = written-left w (Next n) n new t there (λ v. v.done) refl u
+placed-other w (Next n) new (t, there) (Done u c) differ = written-left w (Next n) n new t there (λ v. slice_index v.done c) refl u
 placed-other w (Next n) new (t, there) (Slot u y) differ = written-left w (Next n) n new t there (λ v. slice_index v.slots y) refl u
 placed-other w (Aborted n) new (t, there) Root differ = written-root w (Aborted n) n new t there
 placed-other w (Aborted n) new (t, there) (Next u) differ = written-left w (Aborted n) n new t there (λ v. v.next) refl u
 placed-other w (Aborted n) new (t, there) (Aborted u) differ = written-elsewhere w (Aborted n) n new t there (λ v. v.aborted) u (λ e. differ (ap Aborted e))
-placed-other w (Aborted n) new (t, there) (Done u) differ = written-left w (Aborted n) n new t there (λ v. v.done) refl u
+placed-other w (Aborted n) new (t, there) (Done u c) differ = written-left w (Aborted n) n new t there (λ v. slice_index v.done c) refl u
 placed-other w (Aborted n) new (t, there) (Slot u y) differ = written-left w (Aborted n) n new t there (λ v. slice_index v.slots y) refl u
-placed-other w (Done n) new (t, there) Root differ = written-root w (Done n) n new t there
-placed-other w (Done n) new (t, there) (Next u) differ = written-left w (Done n) n new t there (λ v. v.next) refl u
-placed-other w (Done n) new (t, there) (Aborted u) differ = written-left w (Done n) n new t there (λ v. v.aborted) refl u
-placed-other w (Done n) new (t, there) (Done u) differ = written-elsewhere w (Done n) n new t there (λ v. v.done) u (λ e. differ (ap Done e))
-placed-other w (Done n) new (t, there) (Slot u y) differ = written-left w (Done n) n new t there (λ v. slice_index v.slots y) refl u
+placed-other w (Done n chunk) new (t, there, lt) other differ = done-other w n chunk new t there lt other differ
 
 -- what a table that is added says, where it says 0
 word-added : (read : TableWords → ℕ) (tables : List TableWords) (new : TableWords) → read new ≡ 0 → (i : ℕ) → word_in read (slice_get (tables ++ new ∷ []) i) ≡ word_in read (slice_get tables i)
@@ -274,36 +298,36 @@ word-added read [] new none (suc i) = refl
 word-added read (t ∷ tables) new none zero = refl
 word-added read (t ∷ tables) new none (suc i) = word-added read tables new none i
 
-module _ (w : Tables) (number slots limit : ℕ) where
+module _ (w : Tables) (number slots limit chunks : ℕ) where
   -- the tables with a new one
   abbrev added : Tables
-  added = record w { tables = w.tables ++ new_table number slots limit ∷ [] }
+  added = record w { tables = w.tables ++ new_table number slots limit chunks ∷ [] }
 
   -- a word of which the new table says 0
-  pub word-grown : (read : TableWords → ℕ) → read (new_table number slots limit) ≡ 0 → (u : ℕ) → word_in read (table_of added.tables u) ≡ word_in read (table_of w.tables u)
+  pub word-grown : (read : TableWords → ℕ) → read (new_table number slots limit chunks) ≡ 0 → (u : ℕ) → word_in read (table_of added.tables u) ≡ word_in read (table_of w.tables u)
   word-grown read none u = go (u == 0)
     where
       go : (b : Bool) → word_in read (cond b None (slice_get added.tables (u - 1))) ≡ word_in read (cond b None (slice_get w.tables (u - 1)))
       go true = refl
-      go false = word-added read w.tables (new_table number slots limit) none (u - 1)
+      go false = word-added read w.tables (new_table number slots limit chunks) none (u - 1)
 
   -- a table that is made changes no word
   pub word-made : (at : At) → word_at added at ≡ word_at w at
   word-made Root = refl
   word-made (Next u) = word-grown (λ v. v.next) refl u
   word-made (Aborted u) = word-grown (λ v. v.aborted) refl u
-  word-made (Done u) = word-grown (λ v. v.done) refl u
+  word-made (Done u c) = word-grown (λ v. slice_index v.done c) (index-zeros chunks c) u
   word-made (Slot u y) = word-grown (λ v. slice_index v.slots y) (index-zeros slots y) u
 
   -- the tables before it stay
   pub made-grown : HasMoreTables w.tables added.tables
   made-grown n t e =
       let at = table_there w.tables n t e in
-      (t, table_at added.tables n at.0 ∙ get-append w.tables (new_table number slots limit ∷ []) (n - 1) t at.1, refl, refl)
+      (t, table_at added.tables n at.0 ∙ get-append w.tables (new_table number slots limit chunks ∷ []) (n - 1) t at.1, refl, refl, refl)
 
   -- and it is there
-  pub made-there : table_of added.tables (length w.tables + 1) ≡ Some (new_table number slots limit)
+  pub made-there : table_of added.tables (length w.tables + 1) ≡ Some (new_table number slots limit chunks)
   made-there =
       let some : (length w.tables + 1 == 0) ≡ false = differs (length w.tables + 1) 0 (λ z. absurd (omega arith)) in
       let last : length w.tables + 1 - 1 ≡ length w.tables = omega arith in
-      table_at added.tables (length w.tables + 1) some ∙ ap (slice_get added.tables) last ∙ get-append_last w.tables (new_table number slots limit)
+      table_at added.tables (length w.tables + 1) some ∙ ap (slice_get added.tables) last ∙ get-append_last w.tables (new_table number slots limit chunks)

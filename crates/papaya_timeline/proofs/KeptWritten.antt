@@ -28,10 +28,11 @@ use Rattle.papaya_store.specs.declared.pairs.Running.{Running}
 use Rattle.papaya_store.specs.Performs.{own_key}
 use Rattle.papaya_store.specs.Store.{StoreState, Stored}
 use Rattle.papaya_store.specs.Tables.{word_at, put, table_of}
-use Rattle.papaya_timeline.specs.Kept.{IsMade, Tale, slots_in}
+use Rattle.papaya_timeline.specs.Kept.{IsMade, IsMadeFor, Tale, chunks_in, slots_in}
 use Rattle.papaya_timeline.proofs.KeptAnswer.{IsAnswered, Tells, changed, exchanged, own_told}
 use Rattle.papaya_timeline.proofs.KeptExchange.{IsChanged, changes, root_empty}
 use Rattle.papaya_timeline.proofs.KeptTables.{IsPlaced}
+use Rattle.papaya_timeline.proofs.LinkWords.{link_words}
 use Rattle.papaya_timeline.proofs.MachineLemmas.{machine_once}
 
 module _ {Q K V S A : Type 0} (g : Setting Q (Stored K V)) (c : Coding Q (Stored K V)) (store : StoreState K V S) (r : Running K V A) (es : List (Exchange (Stored K V))) (tale : Tale K V) (own : Option K)
@@ -41,9 +42,9 @@ module _ {Q K V S A : Type 0} (g : Setting Q (Stored K V)) (c : Coding Q (Stored
     (coded : (at : At) → word_of g c (run es start) at ≡ word_at store.words at)
     (there : (t : ℕ) → 0 < t → Comes (run es start) t → IsMade store t)
     (opens : (t : ℕ) → ask_of r.machine ≡ asks.Call (Ask_exchange Root 0 t) → IsMade store t)
-    (links : (behind t : ℕ) → link_in r.machine.phase ≡ Some (Linking behind t) → IsMade store t)
+    (links : (behind t chunks : ℕ) → link_in r.machine.phase ≡ Some (Linking behind t chunks) → IsMadeFor store t chunks)
     (owns : own_key store r ≡ own)
-    (sizes : (t : ℕ) → g.size t ≡ slots_in (table_of store.words.tables t)) where
+    (sizes : (t : ℕ) → g.size t ≡ slots_in (table_of store.words.tables t)) (chunks_are : (t : ℕ) → g.chunks t ≡ chunks_in (table_of store.words.tables t)) where
   -- the words as the law has them
   abbrev now : State (Stored K V)
   now = run es start
@@ -122,7 +123,7 @@ module _ {Q K V S A : Type 0} (g : Setting Q (Stored K V)) (c : Coding Q (Stored
     placed_at Root h = tt
     placed_at (Next t) on = on_there t on
     placed_at (Aborted t) on = on_there t on
-    placed_at (Done t) on = on_there t on
+    placed_at (Done t chunk) h = let words = on_there t h.0 in (words.0, words.1, subst (λ n. chunk < n) (chunks_are t ∙ ap chunks_in words.1) h.1)
     placed_at (Slot t x) h = slot_there t x h.0 h.1
 
     pub placed_copy : IsPlaced store.words.tables at
@@ -131,4 +132,4 @@ module _ {Q K V S A : Type 0} (g : Setting Q (Stored K V)) (c : Coding Q (Stored
     -- the exchange of the law that was made
     pub asked_copy : word_of g c now at ≡ old → (e : Exchange (Stored K V)) × IsCopyAsked c (kind_of_ask r.machine) at new now tale.hands.kept e × Allows g now e × IsWritten g c now at new (state_after now e)
     asked_copy = subst (λ s. word_of g c s at ≡ old → (e : Exchange (Stored K V)) × IsCopyAsked c (kind_of_ask r.machine) at new s tale.hands.kept e × Allows g s e × IsWritten g c s at new (state_after s e)) same_now
-        (λ stands. copies_may g c hashed tale.begun tale.since may key r.machine tale.hands rests at old new a stands)
+        (λ stands. copies_may g c hashed tale.begun tale.since may key r.machine tale.hands rests (link_words g store chunks_are (link_in r.machine.phase) links) at old new a stands)

@@ -220,20 +220,20 @@ module _ {K V : Type 0} (eq : K → K → Bool) (hash : K → ℕ) (mode mode' :
           (machine_takes g c begun since k hashed.coding m hands rests kind_is (Slot t x) old new ask_is).removes here number
       exchange_moves (Some kinds.Open) (Next t) old new e kind_is ask_is asked stood legal allows = absurd asked
       exchange_moves (Some kinds.Open) (Aborted t) old new e kind_is ask_is asked stood legal allows = absurd asked
-      exchange_moves (Some kinds.Open) (Done t) old new e kind_is ask_is asked stood legal allows = absurd asked
+      exchange_moves (Some kinds.Open) (Done t chunk) old new e kind_is ask_is asked stood legal allows = absurd asked
       exchange_moves (Some kinds.Open) (Slot t x) old new e kind_is ask_is asked stood legal allows = absurd asked
       exchange_moves (Some kinds.Claim) Root old new e kind_is ask_is asked stood legal allows = absurd asked
       exchange_moves (Some kinds.Claim) (Next t) old new e kind_is ask_is asked stood legal allows = absurd asked
       exchange_moves (Some kinds.Claim) (Aborted t) old new e kind_is ask_is asked stood legal allows = absurd asked
-      exchange_moves (Some kinds.Claim) (Done t) old new e kind_is ask_is asked stood legal allows = absurd asked
+      exchange_moves (Some kinds.Claim) (Done t chunk) old new e kind_is ask_is asked stood legal allows = absurd asked
       exchange_moves (Some kinds.Replace) Root old new e kind_is ask_is asked stood legal allows = absurd asked
       exchange_moves (Some kinds.Replace) (Next t) old new e kind_is ask_is asked stood legal allows = absurd asked
       exchange_moves (Some kinds.Replace) (Aborted t) old new e kind_is ask_is asked stood legal allows = absurd asked
-      exchange_moves (Some kinds.Replace) (Done t) old new e kind_is ask_is asked stood legal allows = absurd asked
+      exchange_moves (Some kinds.Replace) (Done t chunk) old new e kind_is ask_is asked stood legal allows = absurd asked
       exchange_moves (Some kinds.Bury) Root old new e kind_is ask_is asked stood legal allows = absurd asked
       exchange_moves (Some kinds.Bury) (Next t) old new e kind_is ask_is asked stood legal allows = absurd asked
       exchange_moves (Some kinds.Bury) (Aborted t) old new e kind_is ask_is asked stood legal allows = absurd asked
-      exchange_moves (Some kinds.Bury) (Done t) old new e kind_is ask_is asked stood legal allows = absurd asked
+      exchange_moves (Some kinds.Bury) (Done t chunk) old new e kind_is ask_is asked stood legal allows = absurd asked
       exchange_moves (Some kinds.Link) at old new e kind_is ask_is asked stood legal allows = absurd asked
       exchange_moves (Some kinds.Mark) at old new e kind_is ask_is asked stood legal allows = absurd asked
       exchange_moves (Some kinds.Close) at old new e kind_is ask_is asked stood legal allows = absurd asked
@@ -274,7 +274,7 @@ module _ {K V : Type 0} (eq : K → K → Bool) where
   copied_same c (Some kinds.Close) (Slot t x) new s kept e m is = ap (λ y. replayed eq m (y ∷ [])) is
   copied_same c (Some kinds.Place) (Slot t x) new s kept e m (p, carried, number, is) = ap (λ y. replayed eq m (y ∷ [])) is
   copied_same c (Some kinds.Finish) (Slot t x) new s kept e m (p, there, is) = ap (λ y. replayed eq m (y ∷ [])) is
-  copied_same c (Some kinds.Advance) (Done n) new s kept e m is = ap (λ y. replayed eq m (y ∷ [])) is
+  copied_same c (Some kinds.Advance) (Done n chunk) new s kept e m is = ap (λ y. replayed eq m (y ∷ [])) is
   copied_same c (Some kinds.Promote) Root new s kept e m is = ap (λ y. replayed eq m (y ∷ [])) is
   copied_same c (Some kinds.Abort) (Aborted n) new s kept e m is = ap (λ y. replayed eq m (y ∷ [])) is
   copied_same c kind at new s kept e m is = absurd is

@@ -49,6 +49,7 @@ pub mod KeptStep
 pub mod KeptTables
 pub mod KeptWritten
 pub mod LegalLemmas
+pub mod LinkWords
 pub mod MachineLemmas
 pub mod MakerLemmas
 pub mod MakerSteps

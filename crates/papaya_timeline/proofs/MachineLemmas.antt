@@ -31,12 +31,12 @@ pub machine_once : (m : Machine) (at : At) (old new : ℕ) → ask_of m ≡ Ask_
 machine_once m at old new e = search rules
 
 -- a machine that asks to open a table asked so before, or the table that it asked for was just made
-pub machine_opens : (m : Machine) (answer : Answer) (t : ℕ) → ask_of (after m answer) ≡ Ask_exchange Root 0 t → (ask_of m ≡ Ask_exchange Root 0 t) ⊎ ((answer ≡ Made_number t) × (slots : ℕ) × (limit : ℕ) × (ask_of m ≡ MakeTable slots limit))
+pub machine_opens : (m : Machine) (answer : Answer) (t : ℕ) → ask_of (after m answer) ≡ Ask_exchange Root 0 t → (ask_of m ≡ Ask_exchange Root 0 t) ⊎ ((answer ≡ Made_number t) × (slots : ℕ) × (limit : ℕ) × (chunks : ℕ) × (ask_of m ≡ MakeTable slots limit chunks))
 machine_opens m answer t e = swapped (machine_opened m t answer e)
   where
-    swapped : ((answer ≡ Made_number t) × ((slots : ℕ) × (limit : ℕ) × (ask_of m ≡ MakeTable slots limit))) ⊎ (ask_of m ≡ Ask_exchange Root 0 t)
-        → (ask_of m ≡ Ask_exchange Root 0 t) ⊎ ((answer ≡ Made_number t) × (slots : ℕ) × (limit : ℕ) × (ask_of m ≡ MakeTable slots limit))
-    swapped (inl (is, (slots, limit, making))) = inr (is, slots, limit, making)
+    swapped : ((answer ≡ Made_number t) × ((slots : ℕ) × (limit : ℕ) × (ask_of m ≡ MakeTable slots limit 0))) ⊎ (ask_of m ≡ Ask_exchange Root 0 t)
+        → (ask_of m ≡ Ask_exchange Root 0 t) ⊎ ((answer ≡ Made_number t) × (slots : ℕ) × (limit : ℕ) × (chunks : ℕ) × (ask_of m ≡ MakeTable slots limit chunks))
+    swapped (inl (is, (slots, limit, making))) = inr (is, slots, limit, 0, making)
     swapped (inr opens) = inl opens
 
 -- a burial is asked for where the closure agreed

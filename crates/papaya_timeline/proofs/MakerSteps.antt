@@ -110,10 +110,10 @@ module _ {K V S A : Type 0} (eq : K → K → Bool) (says : Says K V A) (hash : 
         by_cases (inr (inr (i, v, key, at_hand, is, few, grown, later))) = inl (length s.pairs, is)
 
     -- and a table
-    table_served : (told : Call_answer) (slots limit : ℕ) → Performs eq says refuse (MakeTable slots limit) s r told s' r' → alone.IsMaking told
-    table_served told slots limit h = matched (alone.IsMaking told) refuse _ _ h (λ _ none. inr (Memory, none.0)) (λ _ makes. by_cases makes.0)
+    table_served : (told : Call_answer) (slots limit chunks : ℕ) → Performs eq says refuse (MakeTable slots limit chunks) s r told s' r' → alone.IsMaking told
+    table_served told slots limit chunks h = matched (alone.IsMaking told) refuse _ _ h (λ _ none. inr (Memory, none.0)) (λ _ makes. by_cases makes.0)
       where
-        by_cases : (Refuses MAX_TABLES (length s.words.tables) told × (s' ≡ s)) ⊎ MakesTable told slots limit s s' → alone.IsMaking told
+        by_cases : (Refuses MAX_TABLES (length s.words.tables) told × (s' ≡ s)) ⊎ MakesTable told slots limit chunks s s' → alone.IsMaking told
         by_cases (inl (none, same)) = inr (refusal _ _ told none)
         by_cases (inr (is, few, grown)) = inl (length s.words.tables + 1, is)
 
@@ -142,7 +142,7 @@ module _ {K V S A : Type 0} (eq : K → K → Bool) (says : Says K V A) (hash : 
     -- in each stage
     served_in : (made : Made) (stage : Stage) (told : Call_answer) → asks.Call (call_asks made call.hash stage) ≡ ask_of r.machine → IsStandingState call.task stage → Makes call.task made stage r.key r.value → Performs eq says refuse (call_asks made call.hash stage) s r told s' r' → IsServed call.task (call_asks made call.hash stage) told
     served_in made AtRoot told e stands had h = tt
-    served_in made Making told e stands had h = table_served told FIRST_TABLE_LEN FIRST_TABLE_LIMIT h
+    served_in made Making told e stands had h = table_served told FIRST_TABLE_LEN FIRST_TABLE_LIMIT 0 h
     served_in made (Opening t) told e stands had h = tt
     served_in made (Searching (Sizing t)) told e stands had h = tt
     served_in made (Searching (Looking at)) told e stands had h = tt

@@ -55,7 +55,7 @@ module _ {K V : Type 0} (eq : K → K → Bool) where
   map_replayed hash mode tables (Close t x ∷ es) m = map_replayed hash mode tables es m
   map_replayed hash mode tables (Place n x p ∷ es) m = map_replayed hash mode tables es m
   map_replayed hash mode tables (Finish t x p ∷ es) m = map_replayed hash mode tables es m
-  map_replayed hash mode tables (Advance n a b ∷ es) m = map_replayed hash mode tables es m
+  map_replayed hash mode tables (Advance n c ∷ es) m = map_replayed hash mode tables es m
   map_replayed hash mode tables (Promote t n ∷ es) m = map_replayed hash mode tables es m
   map_replayed hash mode tables (Abort n ∷ es) m = map_replayed hash mode tables es m
 
@@ -98,7 +98,7 @@ module _ {K V : Type 0} (eq : K → K → Bool) where
     respects (Close t x ∷ es) m alike = respects es m alike
     respects (Place n x p ∷ es) m alike = respects es m alike
     respects (Finish t x p ∷ es) m alike = respects es m alike
-    respects (Advance n a b ∷ es) m alike = respects es m alike
+    respects (Advance n c ∷ es) m alike = respects es m alike
     respects (Promote t n ∷ es) m alike = respects es m alike
     respects (Abort n ∷ es) m alike = respects es m alike
 

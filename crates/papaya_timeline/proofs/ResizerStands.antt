@@ -2,7 +2,6 @@
 use Rattle.std.proofs.Common.{◌≡◌, ⊎_elim, ℕ, zero, suc, ◌+◌, ◌*◌, ◌^◌, ◌/◌, ◌-◌, ◌<◌, ◌≤◌, ◌==◌, nat_le, max, Option, None, Some, refl, sym, subst, arith, leb-true, pow-suc}
 use Rattle.std.proofs.lemmas.Bool.{cases_lt, cond_both}
 use Rattle.std.specs.Int.{IsPowerOfTwo}
-use Rattle.papaya_words.specs.Mode.{IsChunked}
 use Rattle.papaya_words.specs.Probe.{log_upto}
 use Rattle.papaya_words.specs.declared.probe.ResizeMode.{ResizeMode}
 use Rattle.papaya_ask.specs.declared.ask.Answer.{Answer as Call_answer}
@@ -55,19 +54,19 @@ makes_stands (Some room) stands = stands
 
 judges_stands : (root len : ℕ) (room : Option Room) → IsStandingRoom room → IsStandingIn (judges root len room)
 judges_stands root len None stands = tt
-judges_stands root len (Some room) stands = cond_both (nat_le room.len len) stages.Done (stages.Looking root (Some room)) IsStandingIn (λ _. tt) (λ _. stands)
+judges_stands root len (Some room) stands = cond_both (nat_le room.len len) stages.Done (stages.Looking root len (Some room)) IsStandingIn (λ _. tt) (λ _. stands)
 
-last_stands : (root : ℕ) (room : Option Room) → IsStandingRoom room → IsStandingIn (at_last root room)
-last_stands root None stands = tt
-last_stands root (Some room) stands = stands
+last_stands : (mode : ResizeMode) (root len : ℕ) (room : Option Room) → IsStandingRoom room → IsStandingIn (at_last mode root len room)
+last_stands mode root len None stands = tt
+last_stands mode root len (Some room) stands = stands
 
-next_stands : (root : ℕ) (room : Option Room) (next : ℕ) → IsStandingRoom room → IsStandingIn (at_next root room next)
-next_stands root room next stands = cond_both (next == 0) (at_last root room) (copies root) IsStandingIn (λ _. last_stands root room stands) (λ _. tt)
+next_stands : (mode : ResizeMode) (root len : ℕ) (room : Option Room) (next : ℕ) → IsStandingRoom room → IsStandingIn (at_next mode root len room next)
+next_stands mode root len room next stands = cond_both (next == 0) (at_last mode root len room) (copies root) IsStandingIn (λ _. last_stands mode root len room stands) (λ _. tt)
 
 root_stands : (resize : Resize) (root : ℕ) → IsStandingIn (at_root resize root)
 root_stands (resizes.Reserve more) root = cond_both (root == 0) (makes (room_of more)) (stages.Sizing root) IsStandingIn (λ _. makes_stands (room_of more) (room_stands more)) (λ _. tt)
-root_stands resizes.Chunk root = cond_both (root == 0) stages.Done (stages.Looking root None) IsStandingIn (λ _. tt) (λ _. tt)
-root_stands resizes.CopyAll root = cond_both (root == 0) stages.Done (stages.Looking root None) IsStandingIn (λ _. tt) (λ _. tt)
+root_stands resizes.Chunk root = cond_both (root == 0) stages.Done (stages.Looking root 0 None) IsStandingIn (λ _. tt) (λ _. tt)
+root_stands resizes.CopyAll root = cond_both (root == 0) stages.Done (stages.Looking root 0 None) IsStandingIn (λ _. tt) (λ _. tt)
 
 count_stands : (resize : Resize) (root len count : ℕ) → IsStandingIn (at_count resize root len count)
 count_stands (resizes.Reserve more) root len count = judges_stands root len (room_of (count + more)) (room_stands (count + more))
@@ -75,24 +74,24 @@ count_stands resizes.Chunk root len count = tt
 count_stands resizes.CopyAll root len count = tt
 
 -- what is told while nothing is linked or copied
-told_stands : (resize : Resize) (stage : State) (a : Call_answer) → IsStandingIn stage → IsStandingIn (told_root resize stage a)
-told_stands resize stages.AtRoot (told.Word root) stands = root_stands resize root
-told_stands resize (stages.Making room) (told.Made table) stands = tt
-told_stands resize (stages.Making room) (told.Refused refused) stands = tt
-told_stands resize (stages.Opening table) told.Exchanged stands = tt
-told_stands resize (stages.Opening table) (told.Found word) stands = tt
-told_stands resize (stages.Sizing root) (told.Size slots limit) stands = tt
-told_stands resize (stages.Looking root room) (told.Word next) stands = next_stands root room next stands
-told_stands resize stage a stands = stands
+told_stands : (resize : Resize) (mode : ResizeMode) (stage : State) (a : Call_answer) → IsStandingIn stage → IsStandingIn (told_root resize mode stage a)
+told_stands resize mode stages.AtRoot (told.Word root) stands = root_stands resize root
+told_stands resize mode (stages.Making room) (told.Made table) stands = tt
+told_stands resize mode (stages.Making room) (told.Refused refused) stands = tt
+told_stands resize mode (stages.Opening table) told.Exchanged stands = tt
+told_stands resize mode (stages.Opening table) (told.Found word) stands = tt
+told_stands resize mode (stages.Sizing root) (told.Size slots limit) stands = tt
+told_stands resize mode (stages.Looking root len room) (told.Word next) stands = next_stands mode root len room next stands
+told_stands resize mode stage a stands = stands
 
 counted_stands : (resize : Resize) (stage : State) (count : ℕ) → IsStandingIn stage → IsStandingIn (counted resize stage count)
 counted_stands resize (stages.Counting root len) count stands = count_stands resize root len count
 counted_stands resize stage count stands = stands
 
-called_stands : (resize : Resize) (stage : State) (a : Answer) → IsStandingIn stage → IsStandingIn (called resize stage a)
-called_stands resize stage (answers.Call a) stands = told_stands resize stage a stands
-called_stands resize stage (answers.Count count) stands = counted_stands resize stage count stands
-called_stands resize stage (answers.Hash hash) stands = stands
+called_stands : (resize : Resize) (mode : ResizeMode) (stage : State) (a : Answer) → IsStandingIn stage → IsStandingIn (called resize mode stage a)
+called_stands resize mode stage (answers.Call a) stands = told_stands resize mode stage a stands
+called_stands resize mode stage (answers.Count count) stands = counted_stands resize stage count stands
+called_stands resize mode stage (answers.Hash hash) stands = stands
 
 -- the making of a table, or a copy, led here
 linked_stands : (root : ℕ) (end : Linked) → IsStandingLinked end → IsStandingIn (linked root end)
@@ -112,21 +111,21 @@ copied_stands resize from (copied_to.Search table) stands = over_stands resize
 copied_stands resize from (copied_to.Root root) stands = over_stands resize
 copied_stands resize from copied_to.Chunk stands = over_stands resize
 
-after_stands : (resize : Resize) (mode : ResizeMode) (initial : ℕ) (a : Answer) (stage : State) → IsChunked mode → IsPowerOfTwo initial → IsFit a → IsStandingIn stage → IsStandingIn (after_in resize mode initial a stage)
-after_stands resize mode initial a (stages.Linking link) chunked power fit stands = linked_stands (follows link) (link_after link initial a) (link_stands link initial a power fit stands)
-after_stands resize mode initial a (stages.Copying from copying) chunked power fit stands = copied_stands resize from (copying_after copying mode initial a) (copying_stands copying mode initial a chunked power fit stands)
-after_stands resize mode initial a stages.AtRoot chunked power fit stands = called_stands resize stages.AtRoot a stands
-after_stands resize mode initial a (stages.Making room) chunked power fit stands = called_stands resize (stages.Making room) a stands
-after_stands resize mode initial a (stages.Opening table) chunked power fit stands = called_stands resize (stages.Opening table) a stands
-after_stands resize mode initial a (stages.Sizing root) chunked power fit stands = called_stands resize (stages.Sizing root) a stands
-after_stands resize mode initial a (stages.Counting root len) chunked power fit stands = called_stands resize (stages.Counting root len) a stands
-after_stands resize mode initial a (stages.Looking root room) chunked power fit stands = called_stands resize (stages.Looking root room) a stands
-after_stands resize mode initial a stages.Done chunked power fit stands = called_stands resize stages.Done a stands
-after_stands resize mode initial a (stages.Refused refused) chunked power fit stands = called_stands resize (stages.Refused refused) a stands
+after_stands : (resize : Resize) (mode : ResizeMode) (initial number : ℕ) (a : Answer) (stage : State) → IsPowerOfTwo initial → IsFit a → IsStandingIn stage → IsStandingIn (after_in resize mode initial number a stage)
+after_stands resize mode initial number a (stages.Linking link) power fit stands = linked_stands (follows link) (link_after link mode initial a) (link_stands link mode initial a power fit stands)
+after_stands resize mode initial number a (stages.Copying from copying) power fit stands = copied_stands resize from (copying_after copying mode initial number a) (copying_stands copying mode initial number a power fit stands)
+after_stands resize mode initial number a stages.AtRoot power fit stands = called_stands resize mode stages.AtRoot a stands
+after_stands resize mode initial number a (stages.Making room) power fit stands = called_stands resize mode (stages.Making room) a stands
+after_stands resize mode initial number a (stages.Opening table) power fit stands = called_stands resize mode (stages.Opening table) a stands
+after_stands resize mode initial number a (stages.Sizing root) power fit stands = called_stands resize mode (stages.Sizing root) a stands
+after_stands resize mode initial number a (stages.Counting root len) power fit stands = called_stands resize mode (stages.Counting root len) a stands
+after_stands resize mode initial number a (stages.Looking root len room) power fit stands = called_stands resize mode (stages.Looking root len room) a stands
+after_stands resize mode initial number a stages.Done power fit stands = called_stands resize mode stages.Done a stands
+after_stands resize mode initial number a (stages.Refused refused) power fit stands = called_stands resize mode (stages.Refused refused) a stands
 
 -- it stands after an answer
 pub resizer_stands : (z : Resizer) (a : Answer) → IsStandingResizer z → IsFit a → IsStandingResizer (after z a)
-resizer_stands z a stands fit = record { chunked = stands.chunked; initial = stands.initial; state = after_stands z.resize z.mode z.initial a z.state stands.chunked stands.initial fit stands.state }
+resizer_stands z a stands fit = record { chunked = stands.chunked; initial = stands.initial; state = after_stands z.resize z.mode z.initial z.number a z.state stands.initial fit stands.state }
 
 -- and asks for no other tables
 fits_in : (stage : State) → IsStandingIn stage → (ask : CopyAsk) → asks_in stage ≡ Some ask → IsFitCopyAsk ask
@@ -135,7 +134,7 @@ fits_in (stages.Making room) stands ask e = subst IsFitCopyAsk (same_item _ ask 
 fits_in (stages.Opening table) stands ask e = subst IsFitCopyAsk (same_item _ ask e) tt
 fits_in (stages.Sizing root) stands ask e = subst IsFitCopyAsk (same_item _ ask e) tt
 fits_in (stages.Counting root len) stands ask e = subst IsFitCopyAsk (same_item _ ask e) tt
-fits_in (stages.Looking root room) stands ask e = subst IsFitCopyAsk (same_item _ ask e) tt
+fits_in (stages.Looking root len room) stands ask e = subst IsFitCopyAsk (same_item _ ask e) tt
 fits_in (stages.Linking link) stands ask e = subst IsFitCopyAsk (same_item _ ask e) (link_fits link stands)
 fits_in (stages.Copying from copying) stands ask e = subst IsFitCopyAsk (same_item _ ask e) (copying_fits copying stands)
 fits_in stages.Done stands ask e = let f : None ≡ Some ask = e in absurd cc

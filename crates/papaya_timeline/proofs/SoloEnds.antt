@@ -36,6 +36,9 @@ use Rattle.papaya_timeline.specs.declared.seat.Work.{Work}
 use Rattle.papaya_timeline.specs.declared.seat.Work.TheVariants as works
 use Rattle.papaya_timeline.specs.Resized.{IsLoneWork}
 use Rattle.papaya_alone.specs.Resizers.{IsResizerRead}
+use Rattle.papaya_chain_rests.specs.Goes.{link_in}
+use Rattle.papaya_rests.specs.Copier.{HasWords}
+use Rattle.papaya_timeline.proofs.LinkWords.{link_words}
 use Rattle.papaya_alone.proofs.ResizerLaw.{begun_read}
 use Rattle.papaya_timeline.proofs.Begun.{call_begun, resizer_begun_is, task_is_own, the_task, visitor_begun_is}
 use Rattle.papaya_words.specs.declared.probe.ResizeMode.{ResizeMode}
@@ -76,25 +79,25 @@ module _ {K V A : Type 0} where
 
 module _ {K V S A : Type 0} (eq : K → K → Bool) (hash : S → K → ℕ) (s : CoreState K V S A) (law : IsLawfulKeys eq (hash s.store.hasher)) where
   -- a call that begins alone is so
-  pub lone_begin : (call : Call K V A) (s' : CoreState K V S A) → s.callers ≡ [] → IsLawfulCore eq (hash s.store.hasher) s.store s.callers s.mode → Begins (hash s.store.hasher) s 0 call s' → IsLoneWork eq hash s' (begun_work (hash s.store.hasher) s.mode s.initial call)
-  lone_begin call s' idle lawful x = by_work (begun_work (hash s.store.hasher) s.mode s.initial call) refl
+  pub lone_begin : (call : Call K V A) (s' : CoreState K V S A) → s.callers ≡ [] → IsLawfulCore eq (hash s.store.hasher) s.store s.callers s.mode → (x : Begins (hash s.store.hasher) s 0 call s') → IsLoneWork eq hash s' (begun_work (hash s.store.hasher) s.mode s.initial x.number call)
+  lone_begin call s' idle lawful x = by_work (begun_work (hash s.store.hasher) s.mode s.initial x.number call) refl
     where
       f : Follows eq hash s law whatever s'
       f = follows_begin eq hash s law whatever call s' idle lawful.core lawful.law.0 lawful.law.1.0 lawful.law.1.1 x
 
-      alone : (work : Work K V A) → begun_work (hash s.store.hasher) s.mode s.initial call ≡ work → s'.callers ≡ one_seat (Some work)
-      alone work e = x.callers ∙ ap (λ (l : List (Seat K V A)). with_work (with_seat l 0) 0 (Some (begun_work (hash s.store.hasher) s.mode s.initial call))) idle ∙ ap (λ w. one_seat (Some w)) e
+      alone : (work : Work K V A) → begun_work (hash s.store.hasher) s.mode s.initial x.number call ≡ work → s'.callers ≡ one_seat (Some work)
+      alone work e = x.callers ∙ ap (λ (l : List (Seat K V A)). with_work (with_seat l 0) 0 (Some (begun_work (hash s.store.hasher) s.mode s.initial x.number call))) idle ∙ ap (λ w. one_seat (Some w)) e
 
       in_order' : IsLawfulCore eq (hash s'.store.hasher) s'.store s'.callers s'.mode
       in_order' = record { core = f.core; law = subst (λ y. (es : _) × ((tales : _) × IsKept eq (hash y) s'.mode s'.store s'.callers es tales)) (sym f.hasher_is) (f.es, (f.tales, f.kept)) }
 
-      visit_read : (mode : ResizeMode) (visit : Visit) → IsVisitorRead (word_at s'.store.words) (begun visit mode s.initial)
+      visit_read : (mode : ResizeMode) (visit : Visit) → IsVisitorRead (word_at s'.store.words) (begun visit mode s.initial x.number)
       visit_read (Incremental chunk) visit = tt
       visit_read Blocking visit = tt
 
-      by_work : (work : Work K V A) → begun_work (hash s.store.hasher) s.mode s.initial call ≡ work → IsLoneWork eq hash s' work
+      by_work : (work : Work K V A) → begun_work (hash s.store.hasher) s.mode s.initial x.number call ≡ work → IsLoneWork eq hash s' work
       by_work (works.Call r) e =
-          let is = call_begun (hash s.store.hasher) s.mode s.initial call r e in
+          let is = call_begun (hash s.store.hasher) s.mode s.initial x.number call r e in
           record {
             callers = alone (works.Call r) e;
             lawful = in_order';
@@ -102,14 +105,14 @@ module _ {K V S A : Type 0} (eq : K → K → Bool) (hash : S → K → ℕ) (s 
             current = subst (λ (y : Running K V A). IsCurrent (word_at s'.store.words) y.machine) (sym is.is) (tt, tt);
           }
       by_work (works.Resize z) e =
-          let is = resizer_begun_is (hash s.store.hasher) s.mode s.initial call z e in
+          let is = resizer_begun_is (hash s.store.hasher) s.mode s.initial x.number call z e in
           record {
             callers = alone (works.Resize z) e;
             lawful = in_order';
             read = subst (IsResizerRead (word_at s'.store.words)) (sym is.is) (begun_read s.mode (word_at s'.store.words) is.resize);
           }
       by_work (works.Visit v) e =
-          let is = visitor_begun_is (hash s.store.hasher) s.mode s.initial call v e in
+          let is = visitor_begun_is (hash s.store.hasher) s.mode s.initial x.number call v e in
           record {
             callers = alone (works.Visit v) e;
             lawful = in_order';
@@ -182,6 +185,10 @@ module _ {K V S A : Type 0} (eq : K → K → Bool) (hash : S → K → ℕ) (s 
     served : IsServedAsk x.before.machine.call.task (ask_of x.before.machine) x.answer
     served = ask_served eq says hash refuse s.store x.before x.answer s'.store x.later x.performs (core.standing 0 x.before x.was).call.state maker call.answers shows (core.going 0 x.before x.was)
 
+    -- the table that it is about to link has its words
+    words : HasWords g (link_in x.before.machine.phase)
+    words = link_words g s.store (λ t. refl) (link_in x.before.machine.phase) call.links
+
     -- what it has read stands there
     read : IsCurrent (word_of g c then) x.before.machine
     read = subst (λ words. IsCurrent words x.before.machine) (sym words_are) current
@@ -200,7 +207,7 @@ module _ {K V S A : Type 0} (eq : K → K → Bool) (hash : S → K → ℕ) (s 
     falls =
         subst (λ n. measure (budget_of s'.store) n (after x.before.machine x.answer) < lone_measure s x.before) (ap (λ f. f Root) words'_are)
         (subst (λ n. measure (budget_of s'.store) then'.root (after x.before.machine x.answer) < measure (budget_of s.store) n x.before.machine) (ap (λ f. f Root) words_are)
-        (call_nears g c hashed tale.begun tale.since may bounded call.key x.before.machine tale.hands call.rests read x.answer step.made step.hands told served (budget_of s.store) (budget_of s'.store) spends few (core'.standing 0 later runs)))
+        (call_nears g c hashed tale.begun tale.since may bounded call.key x.before.machine tale.hands call.rests words read x.answer step.made step.hands told served (budget_of s.store) (budget_of s'.store) spends few (core'.standing 0 later runs)))
 
     -- the call is alone still, and nearer its end
     pub nearer_from : IsNearer eq hash s x.before s'
@@ -214,7 +221,7 @@ module _ {K V S A : Type 0} (eq : K → K → Bool) (hash : S → K → ℕ) (s 
         };
         maker = next_maker eq says hash refuse s.store x.before x.answer s'.store x.later x.performs (core.standing 0 x.before x.was).call.state maker
             (in_order g c tale.begun tale.since call.key x.before.machine tale.hands then x.answer step.made step.hands call.rests told);
-        current = subst (λ words. IsCurrent words (after x.before.machine x.answer)) words'_are (call_current g c hashed tale.begun tale.since may bounded call.key x.before.machine tale.hands call.rests read x.answer step.made step.hands told served);
+        current = subst (λ words. IsCurrent words (after x.before.machine x.answer)) words'_are (call_current g c hashed tale.begun tale.since may bounded call.key x.before.machine tale.hands call.rests words read x.answer step.made step.hands told served);
       };
       less = falls;
     }
@@ -228,7 +235,7 @@ module _ {K V S A : Type 0} (eq : K → K → Bool) (hash : S → K → ℕ) (s 
 
 module _ {K V S A H : Type 0} (eq : K → K → Bool) (input : K → List (List ℕ)) (build : S → H) (write : H → List ℕ → H) (finish : H → ℕ) (classes : IsEquivalence eq) (respects : (x y : K) → eq x y ≡ true → input x ≡ input y) (s s' : CoreState K V S A) where
   -- a call that begins alone, with keys hashed as they are
-  pub alone_begins : (call : Call K V A) → s.callers ≡ [] → IsLawfulCore eq (hash_of input build write finish s.store.hasher) s.store s.callers s.mode → Begins (hash_of input build write finish s.store.hasher) s 0 call s' → IsLoneWork eq (hash_of input build write finish) s' (begun_work (hash_of input build write finish s.store.hasher) s.mode s.initial call)
+  pub alone_begins : (call : Call K V A) → s.callers ≡ [] → IsLawfulCore eq (hash_of input build write finish s.store.hasher) s.store s.callers s.mode → (x : Begins (hash_of input build write finish s.store.hasher) s 0 call s') → IsLoneWork eq (hash_of input build write finish) s' (begun_work (hash_of input build write finish s.store.hasher) s.mode s.initial x.number call)
   alone_begins call idle lawful x = lone_begin eq (hash_of input build write finish) s (keys_lawful eq input build write finish classes respects s.store.hasher) call s' idle lawful x
 
   -- and its steps

@@ -18,7 +18,7 @@ use Rattle.papaya_chain.specs.declared.resizer.State.{State as Stage}
 use Rattle.papaya_chain.specs.declared.resizer.State.TheVariants as stages
 use Rattle.papaya_chain.specs.Resizer.{IsStandingIn, after, after_in, asks_in, kind_in}
 use Rattle.papaya_chain.specs.Room.{entries_of}
-use Rattle.papaya_chain_rests.specs.Resizers.{IsStageAsked, IsStageTold, RestsStage}
+use Rattle.papaya_chain_rests.specs.Resizers.{IsStageAsked, IsStageTold, RestsStage, link_of}
 use Rattle.papaya_chain_rests.specs.Told.{Hands}
 use Rattle.papaya_law.specs.Code.{Coding, IsHashed}
 use Rattle.papaya_law.specs.Exchange.{Exchange, Setting, State, run, start}
@@ -50,7 +50,8 @@ use Rattle.papaya_timeline.proofs.BudgetSpends.{IsSpentAt, budget_bounded, made_
 use Rattle.papaya_timeline.proofs.CallersLemmas.{same_item}
 use Rattle.papaya_timeline.proofs.CopyAnswers.{Suits, placed}
 use Rattle.papaya_timeline.proofs.ResizerStands.{resizer_fits, resizer_stands}
-use Rattle.papaya_rests.specs.Copier.{IsCopyAsked}
+use Rattle.papaya_rests.specs.Copier.{HasWords, IsCopyAsked}
+use Rattle.papaya_timeline.proofs.LinkWords.{stage_words}
 use Rattle.papaya_timeline.proofs.HeadlineLemmas.{resize-core}
 use Rattle.papaya_timeline.proofs.KeptCore.{keys_lawful}
 use Rattle.papaya_timeline.proofs.KeptLemmas.{IsLawfulKeys, hashed_setting}
@@ -73,7 +74,7 @@ counts eq hash refuse (copies.SizeOf n) s a s' (is, same) count e = let f = sym 
 counts eq hash refuse (copies.HashOf n) s a s' (is, fits, same) count e = absurd (no_hash (hash s.hasher) count (pair_of s n) (sym is ∙ e))
 counts eq hash refuse (copies.SamePair m n) s a s' (is, same) count e = let f = sym is ∙ e in absurd cc
 counts eq hash refuse copies.Count s a s' (is, same) count e = let f : answers.Count count ≡ answers.Count (count_of s.count.sum) = sym e ∙ is in (cc, same)
-counts eq hash refuse (copies.MakeTable slots limit) s a s' (told, is, h) count e = let f = sym is ∙ e in absurd cc
+counts eq hash refuse (copies.MakeTable slots limit chunks) s a s' (told, is, h) count e = let f = sym is ∙ e in absurd cc
 
 module _ {K V S A : Type 0} (eq : K → K → Bool) (hash : S → K → ℕ) (refuse : Bool) (s : CoreState K V S A) (law : IsLawfulKeys eq (hash s.store.hasher)) (s' : CoreState K V S A) (event : Event) (reply : Option Reply) (x : Resizes eq hash refuse s 0 s' event reply) (core : IsCore s.store s.callers s.mode) (es : List (Exchange (Stored K V))) (tales : ℕ → Tale K V) (kept : IsKept eq (hash s.store.hasher) s.mode s.store s.callers es tales) (read : IsResizerRead (word_at s.store.words) x.before) where
   -- the setting, the coding and the words
@@ -104,6 +105,10 @@ module _ {K V S A : Type 0} (eq : K → K → Bool) (hash : S → K → ℕ) (re
   read_now : IsResizerRead (word_of g c now) x.before
   read_now = subst (λ words. IsResizerRead words x.before) (sym words_are) read
 
+  -- the table that it is about to link has its words
+  words : HasWords g (link_of x.before.state)
+  words = stage_words g s.store (λ t. refl) x.before.state resizing_now.links
+
   abbrev made : List (Exchange (Stored K V))
   made = (resized.left eq (hash s.store.hasher) law refuse s 0 s' event reply x refl es tales core kept).made
 
@@ -131,11 +136,11 @@ module _ {K V S A : Type 0} (eq : K → K → Bool) (hash : S → K → ℕ) (re
 
   pub current' : IsResizerRead (word_at s'.store.words) (after x.before x.answer)
   current' = subst (λ words. IsResizerRead words (after x.before x.answer)) words'_are
-      (stage_current g c hashed now (map_left g es) keeps bounded x.before.resize x.before.mode x.before.initial (tales 0).hands resizing_now.rests.mode resizing_now.rests.chunked x.before.state resizing_now.rests.stage read_now x.answer made hands' told)
+      (stage_current g c hashed now (map_left g es) keeps bounded x.before.resize x.before.mode x.before.initial x.before.number (tales 0).hands resizing_now.rests.mode resizing_now.rests.cut x.before.state resizing_now.rests.stage words read_now x.answer made hands' told)
 
   -- what was wanted is done
   pub done : reply ≡ Some Reply_done → HasResized (word_of g c (run made now)) g.size x.answer x.before.resize
-  done ends = stage_ends g c now (tales 0).hands x.before.mode x.before.initial x.answer made hands' x.before.resize x.before.state resizing_now.rests.stage read_now told (sym x.reply_is ∙ ends)
+  done ends = stage_ends g c now (tales 0).hands x.before.mode x.before.initial x.before.number x.answer made hands' x.before.resize x.before.state resizing_now.rests.stage read_now told (sym x.reply_is ∙ ends)
 
   pub resized_now : reply ≡ Some Reply_done → IsResized x.before.resize s'.store
   resized_now ends = by_resize x.before.resize (done ends)
@@ -154,7 +159,7 @@ module _ {K V S A : Type 0} (eq : K → K → Bool) (hash : S → K → ℕ) (re
 
   -- an exchange that is made spends one
   suits : Suits eq hash g c s.store
-  suits = record { sizes = λ t. refl; places = λ t. refl; numbers = λ p. refl; hashes_of = λ p. refl; sames = λ p q. refl }
+  suits = record { sizes = λ t. refl; places = λ t. refl; chunks = λ t. refl; numbers = λ p. refl; hashes_of = λ p. refl; sames = λ p q. refl }
 
   abbrev IsSpent : At → ℕ → Type 0
   IsSpent at new = IsSpentAt eq (hash s.store.hasher) law s.mode s.store s.callers core es tales kept s'.store hash refuse at new
@@ -162,7 +167,7 @@ module _ {K V S A : Type 0} (eq : K → K → Bool) (hash : S → K → ℕ) (re
   copy_spends : (stage : Stage) → x.before.state ≡ stage → ((at : At) (new : ℕ) (e : Exchange (Stored K V)) → IsStageAsked g c now stage at new (tales 0).hands e → IsCopyAsked c (kind_in stage) at new now (tales 0).hands.kept e) → (at : At) (old new : ℕ) → asks_in stage ≡ Some (copies.Exchange at old new) → (word_at s.store.words at == old) ≡ true → IsSpent at new
   copy_spends stage is copied at old new asked hit =
       let asks : asks_in x.before.state ≡ Some (copies.Exchange at old new) = ap asks_in is ∙ asked in
-      let e = resizer_may g c hashed now (map_left g es) keeps x.before (tales 0).hands resizing_now.rests at old new asks (kept.coded at ∙ eqb-true (word_at s.store.words at) old hit) in
+      let e = resizer_may g c hashed now (map_left g es) keeps x.before (tales 0).hands resizing_now.rests words at old new asks (kept.coded at ∙ eqb-true (word_at s.store.words at) old hit) in
       copy_spent eq (hash s.store.hasher) law s.mode s.store s.callers core es tales kept at new (kind_in stage) (tales 0).hands.kept e.0
       (copied at new e.0 (subst (λ y. IsStageAsked g c now y at new (tales 0).hands e.0) is e.1)) e.2 e.3
       (placed g c s.store es (tales 0).hands kept.coded kept.made eq hash resizing_now.last resizing_now.carried suits (kind_in stage) 0 at (resizer_names g c hashed now (map_left g es) keeps x.before (tales 0).hands resizing_now.rests (copies.Exchange at old new) asks))
@@ -176,14 +181,14 @@ module _ {K V S A : Type 0} (eq : K → K → Bool) (hash : S → K → ℕ) (re
       let none : s.store.words.root ≡ 0 = eqb-true s.store.words.root 0 (subst (λ o. (word_at s.store.words Root == o) ≡ true) (sym from) (subst (λ a. (word_at s.store.words a == old) ≡ true) (sym at_root) hit)) in
       let some : 0 < table = subst (RestsStage g c now (tales 0).hands) is resizing_now.rests.stage in
       let low : table ≤ length s.store.words.tables = made_low eq (hash s.store.hasher) law s.mode s.store s.callers core es tales kept table (resizing_now.opens table is) in
-      subst (λ a. IsSpent a new) at_root (subst (IsSpent Root) to (write_spends s.store.words Root table tt (omega (arith, none, some, low))))
+      subst (λ a. IsSpent a new) at_root (subst (IsSpent Root) to (write_spends s.store.words Root table tt tt (omega (arith, none, some, low))))
   stage_spends (stages.Linking link) is at old new asked hit = copy_spends (stages.Linking link) is (λ at new e h. h) at old new asked hit
   stage_spends (stages.Copying from copying) is at old new asked hit = copy_spends (stages.Copying from copying) is (λ at new e h. h) at old new asked hit
   stage_spends stages.AtRoot is at old new asked hit = absurd cc
   stage_spends (stages.Making room) is at old new asked hit = absurd cc
   stage_spends (stages.Sizing root) is at old new asked hit = absurd cc
   stage_spends (stages.Counting root len) is at old new asked hit = absurd cc
-  stage_spends (stages.Looking root room) is at old new asked hit = absurd cc
+  stage_spends (stages.Looking root len room) is at old new asked hit = absurd cc
   stage_spends stages.Done is at old new asked hit = absurd cc
   stage_spends (stages.Refused refused) is at old new asked hit = absurd cc
 
@@ -197,12 +202,12 @@ module _ {K V S A : Type 0} (eq : K → K → Bool) (hash : S → K → ℕ) (re
   -- the measure falls
   pub falls : lone_resizer_measure s' (after x.before x.answer) < lone_resizer_measure s x.before
   falls =
-      let stage' : Stage = after_in x.before.resize x.before.mode x.before.initial x.answer x.before.state in
+      let stage' : Stage = after_in x.before.resize x.before.mode x.before.initial x.before.number x.answer x.before.state in
       subst (λ n. resizer_measure (budget_of s'.store) n (after x.before x.answer) < lone_resizer_measure s x.before) (ap (λ f. f Root) words'_are)
       (subst (λ n. resizer_measure (budget_of s'.store) (run made now).root (after x.before x.answer) < resizer_measure (budget_of s.store) n x.before) (ap (λ f. f Root) words_are)
       (measure_less (budget_of s.store) (budget_of s'.store) (left_of_stage now.root x.before.state) (left_of_stage (run made now).root stage') few
       (stage_small (run made now).root stage' standing')
-      (stage_nears g c hashed now (map_left g es) keeps bounded x.before.resize x.before.mode x.before.initial (tales 0).hands resizing_now.rests.mode resizing_now.rests.chunked (budget_of s.store) (budget_of s'.store) x.before.state resizing_now.rests.stage read_now x.answer made hands' told x.ask x.asked spends)))
+      (stage_nears g c hashed now (map_left g es) keeps bounded x.before.resize x.before.mode x.before.initial x.before.number (tales 0).hands resizing_now.rests.mode resizing_now.rests.cut (budget_of s.store) (budget_of s'.store) x.before.state resizing_now.rests.stage words read_now x.answer made hands' told x.ask x.asked spends)))
     where
       standing' : IsStandingIn (after x.before x.answer).state
       standing' =

@@ -121,7 +121,7 @@ module _ {K V S A : Type 0} (eq : K → K → Bool) (hash : S → K → ℕ) (s 
     es = es;
     tales = begun_tales tales 0 es;
     core = begin-core (hash s.store.hasher) s 0 call s' x core;
-    kept = kept_begin eq (hash s.store.hasher) law s 0 call s' x core.chunked es tales kept;
+    kept = kept_begin eq (hash s.store.hasher) law s 0 call s' x es tales kept;
     counted = counted_begin eq (hash s.store.hasher) s 0 call s' x (ap (λ (l : List (Seat K V A)). working l 0) idle);
     hasher_is = ap (λ (y : StoreState K V S). y.hasher) x.store;
     mode_is = x.mode;
@@ -273,12 +273,12 @@ module _ {K V S A : Type 0} (eq : K → K → Bool) (hash : S → K → ℕ) (s 
   begin_runs : (call : Call K V A) (s' : CoreState K V S A) (h : History) → s.callers ≡ [] → IsCore s.store s.callers s.mode → (es : List (Exchange (Stored K V))) (tales : ℕ → Tale K V) → IsKept eq (hash s.store.hasher) s.mode s.store s.callers es tales → BeginRuns eq says hash 0 0 call s [] s' h → IsSole s' h
   begin_runs call s' h idle core es tales kept (inl (none, x, told)) = record {
     follows = follows_begin call s' idle core es tales kept x;
-    work = begun_work (hash s.store.hasher) s.mode s.initial call;
-    callers = x.callers ∙ ap (λ (l : List (Seat K V A)). with_work (with_seat l 0) 0 (Some (begun_work (hash s.store.hasher) s.mode s.initial call))) idle;
+    work = begun_work (hash s.store.hasher) s.mode s.initial x.number call;
+    callers = x.callers ∙ ap (λ (l : List (Seat K V A)). with_work (with_seat l 0) 0 (Some (begun_work (hash s.store.hasher) s.mode s.initial x.number call))) idle;
     events = [];
     of_steps = tt;
     history = told;
-    unmoved = unmoved_where s' (begun_work (hash s.store.hasher) s.mode s.initial call) (λ j. ap (λ (y : StoreState K V S). map_in eq y j) x.store);
+    unmoved = unmoved_where s' (begun_work (hash s.store.hasher) s.mode s.initial x.number call) (λ j. ap (λ (y : StoreState K V S). map_in eq y j) x.store);
   }
   begin_runs call s' h idle core es tales kept (inr (r, busy, passed)) = let f : None ≡ Some r = sym (ap (λ (l : List (Seat K V A)). working l 0) idle) ∙ busy in absurd cc
 

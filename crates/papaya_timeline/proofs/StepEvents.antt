@@ -63,10 +63,11 @@ IsCopyKind _ = Unit {0}
 
 -- a copy asks for no other
 linking_kind : (link : Link) → IsCopyKind (link_kind link)
-linking_kind (links.Sizing after unfit) = tt
-linking_kind (links.Counting after unfit len) = tt
-linking_kind (links.Making after len limit) = tt
-linking_kind (links.Linking after table) = tt
+linking_kind (links.Sizing after copied unfit) = tt
+linking_kind (links.Measuring after copied unfit len) = tt
+linking_kind (links.Counting after unfit len copied) = tt
+linking_kind (links.Making after len limit chunks) = tt
+linking_kind (links.Linking after table chunks) = tt
 
 carrying_kind : (carry : Carry) → IsCopyKind (carry_kind carry)
 carrying_kind (carries.Placing hash at) = tt
@@ -85,7 +86,7 @@ settling_kind (settles.Finishing word) = tt
 stepping_kind : (step : Step) → IsCopyKind (step_kind step)
 stepping_kind (steps.Linking from link) = linking_kind link
 stepping_kind (steps.Settling chunk settle) = settling_kind settle
-stepping_kind (steps.Advancing chunk) = tt
+stepping_kind (steps.Advancing scan) = tt
 stepping_kind (steps.Promoting from to) = tt
 stepping_kind step = tt
 
@@ -138,7 +139,7 @@ copied_cases P other kind exchanged (SizeOf t) (answers.Call told) = other
 copied_cases P other kind exchanged (HashOf n) (answers.Call told) = other
 copied_cases P other kind exchanged (SamePair m n) (answers.Call told) = other
 copied_cases P other kind exchanged Count (answers.Call told) = other
-copied_cases P other kind exchanged (MakeTable slots limit) (answers.Call told) = other
+copied_cases P other kind exchanged (MakeTable slots limit chunks) (answers.Call told) = other
 copied_cases P other kind exchanged ask (answers.Hash hash) = other
 copied_cases P other kind exchanged ask (answers.Count count) = other
 
@@ -252,7 +253,7 @@ module _ {K P : Type 0} (g : Setting K P) (c : Coding K P) (s : State P) (kind :
   copy_told (HashOf n) answer es hands' h = inl h.1
   copy_told (SamePair m n) answer es hands' h = inl h.1.0
   copy_told Count answer es hands' h = inl h.1.0
-  copy_told (MakeTable slots limit) answer es hands' h = inl h.1.0
+  copy_told (MakeTable slots limit chunks) answer es hands' h = inl h.1.0
 
 -- so at most one exchange
 pub one_exchange : {K P : Type 0} (g : Setting K P) (c : Coding K P) (k : K) (s : State P) (kind : Option StepKind) (follows : ℕ) (hands : Hands P) (ask : Ask) (answer : Answer) (es : List (Exchange P)) (hands' : Hands P) → IsTold g c k s kind follows hands ask answer es hands' → (es ≡ []) ⊎ ((e : Exchange P) × (es ≡ e ∷ []))

@@ -57,7 +57,7 @@ written-size : (at : At) (t : TableWords) (word : ℕ) → IsSize (length t.slot
 written-size Root t word h = h
 written-size (Next n) t word h = h
 written-size (Aborted n) t word h = h
-written-size (Done n) t word h = h
+written-size (Done n chunk) t word h = elim (nat_lt chunk (length t.done)) as (λ b. IsSize (length (cond b (record t { done = slice_set t.done chunk word }) t).slots) (cond b (record t { done = slice_set t.done chunk word }) t).limit) [ true ↦ h | false ↦ h ]
 written-size (Slot n i) t word h = go (nat_lt i (length t.slots))
   where
     go : (b : Bool) → IsSize (length (cond b (record t { slots = slice_set t.slots i word }) t).slots) (cond b (record t { slots = slice_set t.slots i word }) t).limit
@@ -98,7 +98,7 @@ pub put-sized : (w : Tables) (at : At) (word : ℕ) → AllSized w.tables → Al
 put-sized w Root word all = all
 put-sized w (Next n) word all = put_at-sized (Next n) n w word all
 put-sized w (Aborted n) word all = put_at-sized (Aborted n) n w word all
-put-sized w (Done n) word all = put_at-sized (Done n) n w word all
+put-sized w (Done n chunk) word all = put_at-sized (Done n chunk) n w word all
 put-sized w (Slot n i) word all = put_at-sized (Slot n i) n w word all
 
 -- and so does a hint that is written
@@ -120,12 +120,12 @@ note-sized w n i hint all = go (n == 0)
     go true = all
     go false = hint_in-sized (slice_get w.tables (n - 1)) w.tables (n - 1) i hint refl all
 
-pub append-sized : (tables : List TableWords) (n slots limit : ℕ) → IsSize slots limit → AllSized tables → AllSized (tables ++ new_table n slots limit ∷ [])
-append-sized tables n slots limit size all i t e =
+pub append-sized : (tables : List TableWords) (n slots limit chunks : ℕ) → IsSize slots limit → AllSized tables → AllSized (tables ++ new_table n slots limit chunks ∷ [])
+append-sized tables n slots limit chunks size all i t e =
     ⊎_elim
     (λ same. all i t same)
-    (λ (new : t ≡ new_table n slots limit). subst (λ v. IsSize (length v.slots) v.limit) (sym new) (subst (λ l. IsSize l limit) (sym (length-replicate slots 0)) size))
-    (append-cases tables (new_table n slots limit) i t e)
+    (λ (new : t ≡ new_table n slots limit chunks). subst (λ v. IsSize (length v.slots) v.limit) (sym new) (subst (λ l. IsSize l limit) (sym (length-replicate slots 0)) size))
+    (append-cases tables (new_table n slots limit chunks) i t e)
 
 said : (a b : Answer) → a ≡ b → IsFit b → IsFit a
 said a b e fit = subst IsFit (sym e) fit
@@ -148,11 +148,11 @@ module _ {K V S : Type 0} where
   refused most count a s s' (inr (e, full)) same all = quiet a s s' (said a _ e tt) same all
 
   -- a table that was made has the size that was asked for
-  table_made : (slots limit : ℕ) (s : StoreState K V S) (a : Answer) (s' : StoreState K V S) → AllSized s.words.tables → IsSize slots limit → (Refuses MAX_TABLES (length s.words.tables) a × (s' ≡ s)) ⊎ MakesTable a slots limit s s' → IsKept a s'
-  table_made slots limit s a s' all size (inl (f, same)) = refused _ _ a s s' f same all
-  table_made slots limit s a s' all size (inr (e, few, same)) = record {
+  table_made : (slots limit chunks : ℕ) (s : StoreState K V S) (a : Answer) (s' : StoreState K V S) → AllSized s.words.tables → IsSize slots limit → (Refuses MAX_TABLES (length s.words.tables) a × (s' ≡ s)) ⊎ MakesTable a slots limit chunks s s' → IsKept a s'
+  table_made slots limit chunks s a s' all size (inl (f, same)) = refused _ _ a s s' f same all
+  table_made slots limit chunks s a s' all size (inr (e, few, same)) = record {
     fit = said a _ e (let most : length s.words.tables < 2 ^ 32 = few in omega arith);
-    sized = subst (λ (y : StoreState K V S). AllSized y.words.tables) (sym same) (append-sized s.words.tables _ slots limit size all);
+    sized = subst (λ (y : StoreState K V S). AllSized y.words.tables) (sym same) (append-sized s.words.tables _ slots limit chunks size all);
   }
 
   -- the size that is answered of a table is that of a table
@@ -203,10 +203,10 @@ module _ {K V S A : Type 0} (eq : K → K → Bool) (says : Says K V A) where
       pair_made s r a s' r' all (inl (f, stays)) = refused _ _ a s s' f stays.0 all
       pair_made s r a s' r' all (inr (inl (has, stays))) = quiet a s s' (said a _ has.0 tt) stays.0 all
       pair_made s r a s' r' all (inr (inr (n, v, key, value, e, few, same, _))) = record { fit = said a _ e few; sized = subst (λ (y : StoreState K V S). AllSized y.words.tables) (sym same) all }
-  performed refuse (MakeTable slots limit) s r a s' r' all fit h =
+  performed refuse (MakeTable slots limit chunks) s r a s' r' all fit h =
       matched (IsKept a s') refuse _ _ h
       (λ _ none. quiet a s s' (said a _ none.0 tt) none.1.0 all)
-      (λ _ makes. table_made slots limit s a s' all fit makes.0)
+      (λ _ makes. table_made slots limit chunks s a s' all fit makes.0)
   performed refuse (AddToShard by) s r a s' r' all fit (e, (number, same), _) = record { fit = said a _ e tt; sized = subst (λ (y : StoreState K V S). AllSized y.words.tables) (sym same) all }
   performed refuse (Ask_done reply) s r a s' r' all fit (e, stays) = quiet a s s' (said a _ e tt) stays.0 all
 
@@ -235,11 +235,11 @@ module _ {K V S : Type 0} where
         by_pair (Some p) = tt
     performed_copy refuse (copies.SamePair m n) s a s' all fit (e, same) = as_call a _ s' e (quiet _ s s' tt same all)
     performed_copy refuse copies.Count s a s' all fit (e, same) = record { fit = subst machine.IsFit (sym e) tt; sized = subst (λ (y : StoreState K V S). AllSized y.words.tables) (sym same) all }
-    performed_copy refuse (copies.MakeTable slots limit) s a s' all fit (told, is, h) =
+    performed_copy refuse (copies.MakeTable slots limit chunks) s a s' all fit (told, is, h) =
         as_call a told s' is
         (matched (IsKept told s') refuse _ _ h
         (λ _ none. quiet told s s' (said told _ none.0 tt) none.1 all)
-        (λ _ makes. table_made slots limit s told s' all fit makes))
+        (λ _ makes. table_made slots limit chunks s told s' all fit makes))
 
     -- and what an answered ask of a machine leaves
     pub performed_ask : {A : Type 0} (says : Says K V A) (refuse : Bool) (ask : Chain_ask) (s : StoreState K V S) (r : Running K V A) (a : Chain_answer) (s' : StoreState K V S) (r' : Running K V A) → AllSized s.words.tables → machine.IsFitAsk ask → PerformsAsk eq says hash refuse ask s r a s' r' → IsKeptAsked a s'

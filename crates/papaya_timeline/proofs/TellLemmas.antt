@@ -99,7 +99,7 @@ event_tells kind (WriteHint t x hint) answer = tt
 event_tells kind (SizeOf n) answer = tt
 event_tells kind MakeKey answer = tt
 event_tells kind MakePair answer = tt
-event_tells kind (MakeTable slots limit) answer = tt
+event_tells kind (MakeTable slots limit chunks) answer = tt
 event_tells kind (AddToShard by) answer = tt
 event_tells kind (Ask_done reply) answer = tt
 
@@ -115,7 +115,7 @@ is_showing (WriteHint t x hint) = false
 is_showing (SizeOf n) = false
 is_showing MakeKey = false
 is_showing MakePair = false
-is_showing (MakeTable slots limit) = false
+is_showing (MakeTable slots limit chunks) = false
 is_showing (AddToShard by) = false
 is_showing (Ask_done reply) = false
 
@@ -234,8 +234,8 @@ module _ {K V S A : Type 0} (eq : K → K → Bool) (says : Says K V A) (refuse 
         by_cases (inr (inl (has, stays))) = as_was stays.1
         by_cases (inr (inr (i, v, key, value, e, few, same, is))) = ap (λ (y : Running K V A). y.answers) is
 
-    table_made : (slots limit : ℕ) → Performs eq says refuse (MakeTable slots limit) s r a s' r' → r'.answers ≡ r.answers
-    table_made slots limit h = matched (r'.answers ≡ r.answers) refuse _ _ h (λ _ none. as_was none.1.1) (λ _ makes. as_was makes.1)
+    table_made : (slots limit chunks : ℕ) → Performs eq says refuse (MakeTable slots limit chunks) s r a s' r' → r'.answers ≡ r.answers
+    table_made slots limit chunks h = matched (r'.answers ≡ r.answers) refuse _ _ h (λ _ none. as_was none.1.1) (λ _ makes. as_was makes.1)
 
     pub answering : (ask : Ask) → Performs eq says refuse ask s r a s' r' → IsAnswering says s' r r' (call_event kind ask a)
     answering ShowNone (inl (none, stays)) = nothing ShowNone stays
@@ -257,7 +257,7 @@ module _ {K V S A : Type 0} (eq : K → K → Bool) (says : Says K V A) (refuse 
     answering (SizeOf n) h = not_shown (SizeOf n) refl (as_was h.1.1)
     answering MakeKey h = not_shown MakeKey refl (key_made h)
     answering MakePair h = not_shown MakePair refl (pair_made h)
-    answering (MakeTable slots limit) h = not_shown (MakeTable slots limit) refl (table_made slots limit h)
+    answering (MakeTable slots limit chunks) h = not_shown (MakeTable slots limit chunks) refl (table_made slots limit chunks h)
     answering (AddToShard by) (e, same, kept) = not_shown (AddToShard by) refl (as_was kept)
     answering (Ask_done reply) h = not_shown (Ask_done reply) refl (as_was h.1.1)
 
@@ -305,10 +305,10 @@ module _ {K V S A : Type 0} (eq : K → K → Bool) (says : Says K V A) (refuse 
         by_cases (inl (f, stays)) = kept MakePair stays.1
         by_cases (inr (inl (has, stays))) = kept MakePair stays.1
         by_cases (inr (inr (i, v, key, value, e, few, same, is))) = inr (inl (length s.pairs, refl, e, ap (λ (y : Running K V A). y.value) is))
-    at_hand (MakeTable slots limit) h =
-        matched (AtHand (MakeTable slots limit)) refuse _ _ h
-        (λ _ none. kept (MakeTable slots limit) none.1.1)
-        (λ _ makes. kept (MakeTable slots limit) makes.1)
+    at_hand (MakeTable slots limit chunks) h =
+        matched (AtHand (MakeTable slots limit chunks)) refuse _ _ h
+        (λ _ none. kept (MakeTable slots limit chunks) none.1.1)
+        (λ _ makes. kept (MakeTable slots limit chunks) makes.1)
     at_hand (AddToShard by) (e, same, as_was) = kept (AddToShard by) as_was
     at_hand (Ask_done reply) (e, stays) = kept (Ask_done reply) stays.1
 

@@ -151,7 +151,7 @@ module _ {K V S A : Type 0} where
       by_cases s r a s' r' (inl (f, stays)) = still s r s' r' stays.0 stays.1
       by_cases s r a s' r' (inr (inl (has, stays))) = still s r s' r' stays.0 stays.1
       by_cases s r a s' r' (inr (inr logs)) = pair_logged a s r s' r' logs
-  call_grown eq says refuse (MakeTable slots limit) s r a s' r' h offers =
+  call_grown eq says refuse (MakeTable slots limit chunks) s r a s' r' h offers =
       matched (HasMoreLogs s r s' r') refuse _ _ h
       (λ _ none. still s r s' r' none.1.0 none.1.1)
       (λ _ makes. ⊎_elim
@@ -174,7 +174,7 @@ module _ {K V S A : Type 0} where
   copy_grown eq hash refuse (copies.HashOf n) s r a s' r' (e, hashes, same) as_was = still s r s' r' same as_was
   copy_grown eq hash refuse (copies.SamePair m n) s r a s' r' (e, same) as_was = still s r s' r' same as_was
   copy_grown eq hash refuse copies.Count s r a s' r' (e, same) as_was = still s r s' r' same as_was
-  copy_grown eq hash refuse (copies.MakeTable slots limit) s r a s' r' (told, e, makes) as_was =
+  copy_grown eq hash refuse (copies.MakeTable slots limit chunks) s r a s' r' (told, e, makes) as_was =
       matched (HasMoreLogs s r s' r') refuse _ _ makes
       (λ _ none. still s r s' r' none.1 as_was)
       (λ _ made. ⊎_elim

@@ -16,7 +16,7 @@ use Rattle.papaya_law.specs.Invariant.{IsKeeping}
 use Rattle.papaya_law.specs.Meaning.{map_left}
 use Rattle.papaya_law.proofs.Moments.{allowed_first, allowed_rest, run-append}
 use Rattle.papaya_law.proofs.OneMap.{keeping}
-use Rattle.papaya_rests.specs.Copier.{AreThere, IsCopyAsked}
+use Rattle.papaya_rests.specs.Copier.{AreThere, HasWords, IsCopyAsked}
 use Rattle.papaya_rests.specs.Told.{IsWritten, word_of}
 use Rattle.papaya_alone.specs.Prompt.{IsBounded}
 use Rattle.papaya_alone.proofs.Measures.{measure_less}
@@ -27,7 +27,7 @@ use Rattle.papaya_timeline.specs.Ends.{budget_of}
 use Rattle.papaya_timeline.specs.Kept.{IsKept, IsVisiting, Tale, VisitTale, coding_of, low, setting_of, told_tales}
 use Rattle.papaya_timeline.proofs.BudgetLaw.{call_fewer}
 use Rattle.papaya_timeline.proofs.BudgetSpends.{IsSpentAt, budget_bounded, copied_spends, copy_spent, kept_bounded, write_spends}
-use Rattle.papaya_timeline.proofs.BudgetTables.{changes_at}
+use Rattle.papaya_timeline.proofs.BudgetTables.{IsChunkOf, changes_at}
 use Rattle.papaya_timeline.proofs.CopyAnswers.{Suits, placed}
 use Rattle.papaya_timeline.proofs.KeptSettings.{IsLawfulKeys, tables_hashed}
 use Rattle.papaya_timeline.proofs.KeptTables.{IsPlaced}
@@ -38,7 +38,8 @@ use Rattle.papaya_chain.specs.declared.visitor.State.{State}
 use Rattle.papaya_chain.specs.declared.visitor.State.TheVariants.{Copying, AtRoot, Sizing, Looking, Giving, Showing, Burying, Uncounting, Done, Refused}
 use Rattle.papaya_chain.specs.Visitor.{IsStandingVisitor, after, ask_of, asks_in}
 use Rattle.papaya_chain_rests.specs.VisitTold.{IsVisitTold}
-use Rattle.papaya_chain_rests.specs.Visits.{IsVisitAsked, RestsState}
+use Rattle.papaya_chain_rests.specs.Visits.{IsVisitAsked, RestsState, link_in_visit}
+use Rattle.papaya_timeline.proofs.LinkWords.{visit_words}
 use Rattle.papaya_chain_rests.proofs.VisitAsks.{state_may, state_named}
 use Rattle.papaya_alone.specs.Visitors.{IsVisitorRead, SpendsVisit, left_of_visit, visitor_measure}
 use Rattle.papaya_alone.proofs.VisitLefts.{visit_small}
@@ -82,7 +83,7 @@ module _ {K V S A : Type 0} (eq : K → K → Bool) (hash : K → ℕ) (law : Is
   same = sym (run-append tale.begun tale.since start)
 
   suits : Suits eq hashes g c s.store
-  suits = record { sizes = λ t. refl; places = λ t. refl; numbers = λ p. refl; hashes_of = λ p. ap (λ (f : K → ℕ). f p.key % 2 ^ 64) (sym hasher); sames = λ p q. refl }
+  suits = record { sizes = λ t. refl; places = λ t. refl; chunks = λ t. refl; numbers = λ p. refl; hashes_of = λ p. ap (λ (f : K → ℕ). f p.key % 2 ^ 64) (sym hasher); sames = λ p q. refl }
 
   -- an exchange that is made spends one
   abbrev IsSpent : At → ℕ → Type 0
@@ -98,7 +99,7 @@ module _ {K V S A : Type 0} (eq : K → K → Bool) (hash : K → ℕ) (law : Is
       (subst (λ w. AreThere g c w tale.hands.copy.call.last tale.hands.copy.kept (copies.Exchange at old new)) same (state_named g c hashed first m keeps_first tale.since may_since v.visitor.visit tale.hands state r (Copy (copies.Exchange at old new)) e))
 
   bury_spends : (spot : Spot) (at : At) (new : ℕ) (e : Exchange (Stored K V)) → at ≡ words_at.Slot spot.table spot.slot → (p : Stored K V) → now.slot spot.table spot.slot ≡ Live p → e ≡ Bury spot.table spot.slot p → Allows g now e → IsWritten g c now at new (state_after now e) → IsPlaced s.store.words.tables at → IsSpent at new
-  bury_spends spot at new e is p live buries may written here = write_spends s.store.words at new here (less spot at new e is p live buries may written)
+  bury_spends spot at new e is p live buries may written here = write_spends s.store.words at new here (subst IsChunkOf (sym is) tt) (less spot at new e is p live buries may written)
     where
       less : (spot : Spot) (at : At) (new : ℕ) (e : Exchange (Stored K V)) → at ≡ words_at.Slot spot.table spot.slot → (p : Stored K V) → now.slot spot.table spot.slot ≡ Live p → e ≡ Bury spot.table spot.slot p → Allows g now e → IsWritten g c now at new (state_after now e) → changes_at (length s.store.words.tables) at new < changes_at (length s.store.words.tables) at (word_at s.store.words at)
       less spot at new e is p live buries may written =
@@ -106,17 +107,21 @@ module _ {K V S A : Type 0} (eq : K → K → Bool) (hash : K → ℕ) (law : Is
           (subst (λ y. IsWritten g c now y new (state_after now e) → changes_at (length s.store.words.tables) y new < changes_at (length s.store.words.tables) y (word_of g c now y)) (sym is)
           (λ w. call_fewer g c now (length s.store.words.tables) (Some kinds.Bury) (words_at.Slot spot.table spot.slot) new tale.hands.copy.call e (p, live, buries) may (sym w.here) (λ root. absurd (cc root))) written)
 
-  spent_in : (state : State) → RestsState g c first m tale.since v.visitor.visit tale.hands state → (at : At) (old new : ℕ) → asks_in state ≡ Some (Copy (copies.Exchange at old new)) → (word_at s.store.words at == old) ≡ true → IsSpent at new
-  spent_in state r at old new e hit =
+  -- the table that it is about to link has its words
+  words : (state : State) → v.visitor.state ≡ state → HasWords g (link_in_visit state)
+  words state is = subst (λ y. HasWords g (link_in_visit y)) is (visit_words g s.store (λ t. refl) v.visitor.state visiting.links)
+
+  spent_in : (state : State) → v.visitor.state ≡ state → RestsState g c first m tale.since v.visitor.visit tale.hands state → (at : At) (old new : ℕ) → asks_in state ≡ Some (Copy (copies.Exchange at old new)) → (word_at s.store.words at == old) ≡ true → IsSpent at new
+  spent_in state is r at old new e hit =
       let stands : word_of g c (run tale.since first) at ≡ old = ap (λ w. word_of g c w at) same ∙ kept.coded at ∙ eqb-true (word_at s.store.words at) old hit in
-      let x = state_may g c hashed first m keeps_first tale.since may_since v.visitor.visit tale.hands state r at old new e stands in
+      let x = state_may g c hashed first m keeps_first tale.since may_since v.visitor.visit tale.hands state r (words state is) at old new e stands in
       by_state state r e x.0 x.1 (subst (λ w. Allows g w x.0) same x.2) (subst (λ w. IsWritten g c w at new (state_after w x.0)) same x.3) (there_placed state r at old new e)
     where
       by_state : (state : State) → RestsState g c first m tale.since v.visitor.visit tale.hands state → asks_in state ≡ Some (Copy (copies.Exchange at old new)) → (e : Exchange (Stored K V)) → Asked state at new e → Allows g now e → IsWritten g c now at new (state_after now e) → IsPlaced s.store.words.tables at → IsSpent at new
       by_state (Copying (stages.Copying from copying)) r asks e asked may written here =
           copy_spent eq hash law s.mode s.store s.callers core es tales kept at new (resizers.kind_in (stages.Copying from copying)) tale.hands.copy.kept e (subst (λ w. IsCopyAsked c (resizers.kind_in (stages.Copying from copying)) at new w tale.hands.copy.kept e) same asked) may written here
       by_state (Copying stages.AtRoot) r asks e asked may written here = absurd cc
-      by_state (Copying (stages.Looking root room)) r asks e asked may written here = absurd cc
+      by_state (Copying (stages.Looking root len room)) r asks e asked may written here = absurd cc
       by_state (Copying (stages.Making room)) r asks e asked may written here = absurd r.1
       by_state (Copying (stages.Opening table)) r asks e asked may written here = absurd r.1
       by_state (Copying (stages.Sizing root)) r asks e asked may written here = absurd r.1
@@ -140,7 +145,7 @@ module _ {K V S A : Type 0} (eq : K → K → Bool) (hash : K → ℕ) (law : Is
   spends_so : (ask : VisitAsk) → ask_of v.visitor ≡ Some ask → PerformsVisit eq says hashes refuse ask s.store v a store' v' → SpendsVisit ask a (budget_of s.store) (budget_of store')
   spends_so (Copy ask) asks (performs, stays) =
       copied_spends eq hash law s.mode s.store s.callers core es tales kept store' hashes refuse ask
-      (λ at old new is hit. spent_in v.visitor.state visiting.rests.state at old new (asks ∙ ap (λ y. Some (Copy y)) is) hit) a performs
+      (λ at old new is hit. spent_in v.visitor.state refl visiting.rests.state at old new (asks ∙ ap (λ y. Some (Copy y)) is) hit) a performs
   spends_so (Show n) asks (shows, stays) = ap (λ (y : StoreState K V S). budget_of y) stays
   spends_so (Give n) asks (gives, stays) = ap (λ (y : StoreState K V S). budget_of y) stays
   spends_so (AddToShard by) asks (is, counted, stays) = ap (λ (y : StoreState K V S). budget_of y) counted.1
@@ -168,12 +173,12 @@ module _ {K V S A : Type 0} (eq : K → K → Bool) (hash : K → ℕ) (law : Is
     -- what it has read stands there still
     pub stays_read : IsVisitorRead (word_at store'.words) (after v.visitor a)
     stays_read = subst (λ words. IsVisitorRead words (after v.visitor a)) words_then
-        (state_nearer g c hashed first m keeps_first tale.since may_since bounded v.visitor visiting.rests.mode visiting.rests.chunked tale.hands a heard.made heard.hands v.visitor.state visiting.rests.state read_now told).read
+        (state_nearer g c hashed first m keeps_first tale.since may_since bounded v.visitor visiting.rests.mode visiting.rests.cut tale.hands a heard.made heard.hands v.visitor.state visiting.rests.state (words v.visitor.state refl) read_now told).read
 
     -- and it is nearer its end
     pub falls : IsCore store' s.callers s.mode → IsStandingVisitor (after v.visitor a) → visitor_measure (budget_of store') (word_at store'.words) (after v.visitor a) < visitor_measure (budget_of s.store) (word_at s.store.words) v.visitor
     falls core' stands =
-        let out = state_nearer g c hashed first m keeps_first tale.since may_since bounded v.visitor visiting.rests.mode visiting.rests.chunked tale.hands a heard.made heard.hands v.visitor.state visiting.rests.state read_now told in
+        let out = state_nearer g c hashed first m keeps_first tale.since may_since bounded v.visitor visiting.rests.mode visiting.rests.cut tale.hands a heard.made heard.hands v.visitor.state visiting.rests.state (words v.visitor.state refl) read_now told in
         let read_then = out.read in
         let few = budget_bounded eq hash law s.mode store' s.callers core' (es ++ heard.made) (told_tales tales caller heard.made (tales caller).hands) heard.kept in
         subst (λ words. visitor_measure (budget_of store') words (after v.visitor a) < visitor_measure (budget_of s.store) (word_at s.store.words) v.visitor) words_then

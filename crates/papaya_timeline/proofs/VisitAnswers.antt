@@ -34,7 +34,7 @@ use Rattle.papaya_store.specs.Store.{StoreState, Stored, pair_of}
 use Rattle.papaya_store.specs.Tables.{hint_at, put, word_at}
 use Rattle.papaya_timeline.specs.Counted.{owed_visit}
 use Rattle.papaya_timeline.specs.Core.{CoreState, IsCore}
-use Rattle.papaya_timeline.specs.Kept.{HasAnswers, IsLogged, IsMade, IsResizing, IsVisitLink, Tale, WasShown, coding_of, low, numbers_of, setting_of}
+use Rattle.papaya_timeline.specs.Kept.{HasAnswers, IsLogged, IsMade, IsMadeFor, IsResizing, IsVisitLink, Tale, WasShown, coding_of, low, numbers_of, setting_of}
 use Rattle.papaya_timeline.proofs.CopyAnswers.{IsLeft, Suits, copied_left, exchanged_left, quiet_left, placed}
 use Rattle.papaya_timeline.proofs.KeptAnswer.{Stands}
 use Rattle.papaya_timeline.proofs.KeptResized.{stage_left}
@@ -88,7 +88,7 @@ told_stood s t x last q None names e = inl e
 told_stood s t x last q (Some p) names e = inr (t, x, names ∙ e)
 
 -- what is asked for the copy of all is asked by a copier
-copy_asked : (o : Option CopyAsk) (ask : VisitAsk) → copy_asks o ≡ Some ask → (a : CopyAsk) × (o ≡ Some a) × (ask ≡ Copy a)
+pub copy_asked : (o : Option CopyAsk) (ask : VisitAsk) → copy_asks o ≡ Some ask → (a : CopyAsk) × (o ≡ Some a) × (ask ≡ Copy a)
 copy_asked None ask e = absurd cc
 copy_asked (Some a) ask e = let is : Copy a ≡ ask = cc e in (a, refl, sym is)
 
@@ -103,7 +103,7 @@ module _ {K V S A : Type 0} (eq : K → K → Bool) (hash : K → ℕ) (law : Is
     (last : (p : Stored K V) → hands.copy.call.last ≡ Some p → IsLogged s.store p)
     (carried : (p : Stored K V) → hands.copy.kept ≡ Some p → IsLogged s.store p)
     (given_is : v.given ≡ numbers_of hands.given)
-    (linked : (behind t : ℕ) → IsVisitLink v.visitor.state (links.Linking behind t) → IsMade s.store t) where
+    (linked : (behind t chunks : ℕ) → IsVisitLink v.visitor.state (links.Linking behind t chunks) → IsMadeFor s.store t chunks) where
   -- the setting, the coding and the words
   abbrev g : Setting K (Stored K V)
   g = setting_of eq (low hash) s.mode s.store.words.tables
@@ -133,7 +133,7 @@ module _ {K V S A : Type 0} (eq : K → K → Bool) (hash : K → ℕ) (law : Is
   same = sym (run-append begun since start)
 
   suits : Suits eq hashes g c s.store
-  suits = record { sizes = λ t. refl; places = λ t. refl; numbers = λ p. refl; hashes_of = λ p. ap (λ (f : K → ℕ). f p.key % 2 ^ 64) (sym hasher); sames = λ p q. refl }
+  suits = record { sizes = λ t. refl; places = λ t. refl; chunks = λ t. refl; numbers = λ p. refl; hashes_of = λ p. ap (λ (f : K → ℕ). f p.key % 2 ^ 64) (sym hasher); sames = λ p q. refl }
 
   -- What an answer leaves: the words and the logs as a copier's answer does, but for the count.
   pub record IsVisitLeft (state : State) (a : Answer) (store' : StoreState K V S) (v' : Visiting A) : Type 0 where
@@ -163,11 +163,11 @@ module _ {K V S A : Type 0} (eq : K → K → Bool) (hash : K → ℕ) (law : Is
   -- the copy of all, as a call that resizes the map
   copying : (stage : Stage) → v.visitor.state ≡ Copying stage → Rests (Copying stage) → IsResizing eq hash s.mode s.store (resizer_of v.visitor stage) (begun ++ since) (record { begun = begun; since = since; hands = hands.copy; visit = hands })
   copying stage is r = record {
-    rests = record { mode = rests.mode; chunked = rests.chunked; stage = subst (λ w. RestsStage g c w hands.copy stage) same r.2 };
+    rests = record { mode = rests.mode; cut = rests.cut; stage = subst (λ w. RestsStage g c w hands.copy stage) same r.2 };
     last = last;
     carried = carried;
     opens = λ t e. absurd (subst (IsOfAll g c first m since) e r.1);
-    links = λ behind t e. linked behind t (subst (λ y. IsVisitLink y (links.Linking behind t)) (sym is) e);
+    links = λ behind t chunks e. linked behind t chunks (subst (λ y. IsVisitLink y (links.Linking behind t chunks)) (sym is) e);
   }
 
   copy_left : (stage : Stage) → v.visitor.state ≡ Copying stage → Rests (Copying stage) → (ask : CopyAsk) → resizers.asks_in stage ≡ Some ask → (a : Answer) (store' : StoreState K V S) → PerformsCopy eq hashes refuse ask s.store a store' → (v' : Visiting A) → v' ≡ v → IsVisitLeft (Copying stage) a store' v'
@@ -198,12 +198,12 @@ module _ {K V S A : Type 0} (eq : K → K → Bool) (hash : K → ℕ) (law : Is
   loads : (at : At) → Named (Load at) → (a : Answer) (store' : StoreState K V S) → PerformsCopy eq hashes refuse (Load at) s.store a store' → Hears (Load at) a store'
   loads at named a store' performs =
       copied_left g c s.store (begun ++ since) hands.copy coded there eq hashes last carried suits None 0 refuse (Load at)
-      (record { names = named; may = λ at old new e stands. absurd cc; low = λ slots limit e. absurd cc; links = λ behind old t e. absurd cc; reads = λ t x e. absurd cc; writes = λ t x n e. absurd cc }) a store' performs
+      (record { names = named; may = λ at old new e stands. absurd cc; low = λ slots limit chunks e. absurd cc; links = λ behind old t e. absurd cc; reads = λ t x e. absurd cc; writes = λ t x n e. absurd cc }) a store' performs
 
   sizes : (t : ℕ) → Named (SizeOf t) → (a : Answer) (store' : StoreState K V S) → PerformsCopy eq hashes refuse (SizeOf t) s.store a store' → Hears (SizeOf t) a store'
   sizes t named a store' performs =
       copied_left g c s.store (begun ++ since) hands.copy coded there eq hashes last carried suits None 0 refuse (SizeOf t)
-      (record { names = named; may = λ at old new e stands. absurd cc; low = λ slots limit e. absurd cc; links = λ behind old t e. absurd cc; reads = λ t x e. absurd cc; writes = λ t x n e. absurd cc }) a store' performs
+      (record { names = named; may = λ at old new e stands. absurd cc; low = λ slots limit chunks e. absurd cc; links = λ behind old t e. absurd cc; reads = λ t x e. absurd cc; writes = λ t x n e. absurd cc }) a store' performs
 
   -- so it is told of the word, or the size
   word_left : (state : State) (before : List (Exchange (Stored K V)) → List (Exchange (Stored K V))) → (ask : CopyAsk) → asks_in state ≡ Some (Copy ask) → (a : Answer) (store' : StoreState K V S) → (left : Hears ask a store')
@@ -277,7 +277,7 @@ module _ {K V S A : Type 0} (eq : K → K → Bool) (hash : K → ℕ) (law : Is
       matched (IsVisitLeft (Burying spot word) a store' v') (word_at s.store.words at == word) _ _ how
       (λ hit done.
       let here : word_of g c (run since first) at ≡ word = ap (λ w. word_of g c w at) same ∙ coded at ∙ eqb-true (word_at s.store.words at) word hit in
-      let x = state_may g c hashed first m keeps_first since may_since v.visitor.visit hands (Burying spot word) r at word (grave_word word) refl here in
+      let x = state_may g c hashed first m keeps_first since may_since v.visitor.visit hands (Burying spot word) r tt at word (grave_word word) refl here in
       bury_made spot word r a store' x.0 x.1.1 (subst (λ w. IsWritten g c w at (grave_word word) (state_after w x.0)) same x.3) hit (answered ∙ ap answers.Call done.0) done.1 v' same_v)
       (λ miss lost. bury_lost spot word a store' miss (answered ∙ ap answers.Call lost.0) lost.1 v' same_v)
     where

@@ -1,6 +1,5 @@
 -- What a call that visits a table rests on as it begins.
 use Rattle.std.proofs.Common.{◌≡◌, ℕ, Bool, List, [], append-nil, refl, sym, subst}
-use Rattle.papaya_words.specs.Mode.{IsChunked}
 use Rattle.papaya_words.specs.declared.probe.ResizeMode.{ResizeMode}
 use Rattle.papaya_words.specs.declared.probe.ResizeMode.TheVariants.{Incremental, Blocking}
 use Rattle.papaya_copy.specs.declared.link.Link.TheVariants as links
@@ -10,6 +9,7 @@ use Rattle.papaya_law.specs.Meaning.{map_left}
 use Rattle.papaya_rests.specs.Rests.{IsModeOf}
 use Rattle.papaya_store.specs.Store.{Stored}
 use Rattle.papaya_timeline.specs.Core.{CoreState}
+use Rattle.papaya_timeline.proofs.KeptSettings.{mode_cut}
 use Rattle.papaya_timeline.specs.Kept.{HasAnswers, IsVisitLink, IsVisiting, coding_of, is_blocking, low, setting_of}
 use Rattle.papaya_chain.specs.declared.visitor.Visit.{Visit}
 use Rattle.papaya_chain.specs.declared.visitor.Visit.TheVariants.{Clear, Retain, Walk}
@@ -25,11 +25,11 @@ mode_of (Incremental chunk) = refl
 mode_of Blocking = refl
 
 -- a visit that begins is about to link no table
-begun_none : (mode : ResizeMode) (behind t : ℕ) → IsVisitLink (begun_in mode) (links.Linking behind t) → ⊥
-begun_none (Incremental chunk) behind t h = h
-begun_none Blocking behind t h = h
+begun_none : (mode : ResizeMode) (behind t chunks : ℕ) → IsVisitLink (begun_in mode) (links.Linking behind t chunks) → ⊥
+begun_none (Incremental chunk) behind t chunks h = h
+begun_none Blocking behind t chunks h = h
 
-module _ {K V S A : Type 0} (eq : K → K → Bool) (hash : K → ℕ) (s : CoreState K V S A) (chunked : IsChunked s.mode) (es : List (Exchange (Stored K V))) (visit : Visit) (initial : ℕ) where
+module _ {K V S A : Type 0} (eq : K → K → Bool) (hash : K → ℕ) (s : CoreState K V S A) (es : List (Exchange (Stored K V))) (visit : Visit) (initial number : ℕ) where
   abbrev g_now : Setting K (Stored K V)
   g_now = setting_of eq (low hash) s.mode s.store.words.tables
 
@@ -47,15 +47,15 @@ module _ {K V S A : Type 0} (eq : K → K → Bool) (hash : K → ℕ) (s : Core
   gives_none Retain = refl
 
   -- so it rests on the exchanges as they are
-  pub visit_begins : (v : Visiting A) → v.visitor ≡ begun visit s.mode initial → HasAnswers visit v.answers → v.given ≡ [] → IsVisiting eq hash s.mode s.store v es (record { begun = es; since = []; hands = no_hands })
+  pub visit_begins : (v : Visiting A) → v.visitor ≡ begun visit s.mode initial number → HasAnswers visit v.answers → v.given ≡ [] → IsVisiting eq hash s.mode s.store v es (record { begun = es; since = []; hands = no_hands })
   visit_begins v is answers none = record {
     split = append-nil es;
     rests = subst (λ w. RestsVisitor g_now c_now (run es start) (map_left g_now es) [] w no_hands) (sym is)
-        (record { mode = mode_of s.mode; chunked = chunked; gives = gives_none visit; state = state_begins s.mode (mode_of s.mode) });
+        (record { mode = mode_of s.mode; cut = mode_cut s.mode; gives = gives_none visit; state = state_begins s.mode (mode_of s.mode) });
     answers = subst (λ (w : Visitor). HasAnswers w.visit v.answers) (sym is) answers;
     given = none;
     last = λ p e. absurd cc;
     carried = λ p e. absurd cc;
     shown = λ p h. absurd h;
-    links = λ behind t h. absurd (begun_none s.mode behind t (subst (λ (w : Visitor). IsVisitLink w.state (links.Linking behind t)) is h));
+    links = λ behind t chunks h. absurd (begun_none s.mode behind t chunks (subst (λ (w : Visitor). IsVisitLink w.state (links.Linking behind t chunks)) is h));
   }

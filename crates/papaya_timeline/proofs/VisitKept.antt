@@ -4,6 +4,7 @@ use Rattle.papaya_words.specs.declared.limits.TheConstants.{MAX_LOG_LEN, MAX_TAB
 use Rattle.papaya_ask.specs.declared.ask.At.{At}
 use Rattle.papaya_call.specs.Answers.{Says}
 use Rattle.papaya_chain.specs.declared.ask.Answer.{Answer}
+use Rattle.papaya_chain.specs.declared.ask.Answer.TheVariants as answers
 use Rattle.papaya_chain.specs.declared.resizer.State.{State as Stage}
 use Rattle.papaya_chain.specs.declared.resizer.State.TheVariants as stages
 use Rattle.papaya_chain_rests.specs.Told as copies
@@ -25,22 +26,30 @@ use Rattle.papaya_store.specs.declared.pairs.Pair.{Pair}
 use Rattle.papaya_timeline.specs.declared.seat.Seat.{Seat}
 use Rattle.papaya_timeline.specs.Callers.{with_work, working}
 use Rattle.papaya_timeline.specs.Core.{CoreState, IsCore, work_of}
-use Rattle.papaya_timeline.specs.Kept.{IsKept, IsLogged, IsMade, IsVisiting, Tale, VisitTale, WasShown, coding_of, low, setting_of, told_more}
+use Rattle.papaya_timeline.specs.Kept.{IsKept, IsLogged, IsMade, IsMadeFor, IsVisiting, Tale, VisitTale, WasShown, coding_of, low, setting_of, told_more}
 use Rattle.papaya_timeline.proofs.CopyAnswers.{left_logged}
 use Rattle.papaya_timeline.proofs.KeptAnswer.{Stands}
 use Rattle.papaya_timeline.proofs.KeptOthers as others
-use Rattle.papaya_timeline.proofs.KeptSettings.{IsLawfulKeys, tables_hashed}
+use Rattle.papaya_timeline.proofs.KeptSettings.{IsLawfulKeys, cut_carries, tables_hashed}
 use Rattle.papaya_timeline.proofs.KeptTables.{HasMoreTables}
 use Rattle.papaya_chain.specs.declared.visit_ask.VisitAsk.{VisitAsk}
 use Rattle.papaya_chain.specs.declared.visitor.State.TheVariants.{Copying}
-use Rattle.papaya_chain.specs.Visitor.{after, ask_of}
+use Rattle.papaya_chain.specs.Resizer as resizers
+use Rattle.papaya_chain.specs.Visitor.{after, ask_of, asks_in}
+use Rattle.papaya_rests.specs.Copier.{HasWords}
+use Rattle.papaya_store.specs.Copies.{PerformsCopy}
+use Rattle.papaya_ask.specs.declared.ask.Answer.TheVariants.{Made as Made_number}
+use Rattle.papaya_ask.specs.declared.copy_ask.CopyAsk.TheVariants.{MakeTable}
 use Rattle.papaya_chain_rests.specs.VisitTold.{IsVisitTold}
-use Rattle.papaya_chain_rests.specs.Visits.{IsOfAll, RestsState, RestsVisitor}
+use Rattle.papaya_chain_rests.specs.Visits.{IsOfAll, RestsState, RestsVisitor, link_in_visit}
 use Rattle.papaya_chain_rests.proofs.VisitLearns.{state_gives, state_learns}
 use Rattle.papaya_chain_rests.proofs.VisitTables.{gives_carries, state_carries}
 use Rattle.papaya_store.specs.declared.visits.Visiting.{Visiting}
 use Rattle.papaya_store.specs.Visits.{PerformsVisit}
 use Rattle.papaya_timeline.specs.Visits.{IsHeard, IsUnheard}
+use Rattle.papaya_timeline.proofs.CallersLemmas.{same_item}
+use Rattle.papaya_timeline.proofs.LinkWords.{visit_words}
+use Rattle.papaya_timeline.proofs.MadeTables.{copier_made}
 use Rattle.papaya_timeline.proofs.VisitAnswers as left_by
 use Rattle.papaya_timeline.proofs.VisitLinks.{links_made}
 use Rattle.papaya_timeline.proofs.KeptHints.{KeepsHints}
@@ -111,15 +120,19 @@ module _ {K V S A : Type 0} (eq : K → K → Bool) (hash : K → ℕ) (law : Is
     told_first : IsVisitTold g c (run tale.since first) tale.since v.visitor.state tale.hands a made l.hands'
     told_first = subst (λ w. IsVisitTold g c w tale.since v.visitor.state tale.hands a made l.hands') (sym same) l.left.told.0
 
+    -- the table that it is about to link has its words
+    words : HasWords g (link_in_visit v.visitor.state)
+    words = visit_words g s.store (λ t. refl) v.visitor.state visiting.links
+
     learnt : AllAllowed g first (tale.since ++ made) × RestsState g c first m (tale.since ++ made) v.visitor.visit l.hands' (after v.visitor a).state
-    learnt = state_learns g c hashed first m keeps_first tale.since may_since v.visitor.visit v.visitor.mode visiting.rests.mode visiting.rests.chunked v.visitor.initial tale.hands a made l.hands' visiting.rests.gives v.visitor.state visiting.rests.state told_first
+    learnt = state_learns g c hashed first m keeps_first tale.since may_since v.visitor.visit v.visitor.mode visiting.rests.mode visiting.rests.cut v.visitor.initial v.visitor.number tale.hands a made l.hands' visiting.rests.gives v.visitor.state visiting.rests.state (λ _. words) told_first
 
     -- so it rests on what it was told
     rests_then : RestsVisitor g c first m (tale.since ++ made) (after v.visitor a) l.hands'
     rests_then = record {
       mode = visiting.rests.mode;
-      chunked = visiting.rests.chunked;
-      gives = state_gives g c hashed first m keeps_first tale.since may_since v.visitor.visit v.visitor.mode visiting.rests.mode visiting.rests.chunked v.visitor.initial tale.hands a made l.hands' visiting.rests.gives v.visitor.state visiting.rests.state told_first;
+      cut = visiting.rests.cut;
+      gives = state_gives g c hashed first m keeps_first tale.since may_since v.visitor.visit v.visitor.mode visiting.rests.mode visiting.rests.cut v.visitor.initial v.visitor.number tale.hands a made l.hands' visiting.rests.gives v.visitor.state visiting.rests.state told_first;
       state = learnt.1;
     }
 
@@ -147,6 +160,17 @@ module _ {K V S A : Type 0} (eq : K → K → Bool) (hash : K → ℕ) (law : Is
     still_there : (t : ℕ) → IsMade s.store t → IsMade store' t
     still_there = others.still_there eq hash law s caller s' refl es tales core kept made (tales caller).hands leaving
 
+    -- and has as many words for chunks
+    still_made : (t chunks : ℕ) → IsMadeFor s.store t chunks → IsMadeFor store' t chunks
+    still_made = others.still_made eq hash law s caller s' refl es tales core kept made (tales caller).hands leaving
+
+    -- a table that it was told of was made as it asked
+    newly_made : (stage : Stage) → v.visitor.state ≡ Copying stage → (n slots limit chunks : ℕ) → a ≡ answers.Call (Made_number n) → resizers.asks_in stage ≡ Some (MakeTable slots limit chunks) → IsMadeFor store' n chunks
+    newly_made stage is n slots limit chunks told making =
+        let (asked, at, one) = left_by.copy_asked (resizers.asks_in stage) ask (ap asks_in (sym is) ∙ asks) in
+        let h = subst (λ q. PerformsVisit eq says hashes refuse q s.store v a store' v') one performs in
+        copier_made eq hashes refuse s.store a store' slots limit chunks (subst (λ y. PerformsCopy eq hashes refuse y s.store a store') (same_item _ _ (sym at ∙ making)) h.0) n told
+
     -- the calls of all callers rest on what is told of them
     kept_then : IsKept eq hash s.mode store' s.callers (es ++ made) (others.tales' eq hash law s caller s' refl es tales core kept made (tales caller).hands)
     kept_then = others.leaves_kept eq hash law s caller s' refl es tales core kept made (tales caller).hands leaving None (sym (no_work s.callers caller idle)) (λ r e. absurd cc) (λ z e. absurd cc) (λ v e. absurd cc) (λ r e. absurd cc)
@@ -167,7 +191,7 @@ module _ {K V S A : Type 0} (eq : K → K → Bool) (hash : K → ℕ) (law : Is
     rests_grown : RestsVisitor g' c first (map_left g' tale.begun) (tale.since ++ made) (after v.visitor a) l.hands'
     rests_grown = subst (λ f. RestsVisitor g' c first f (tale.since ++ made) (after v.visitor a) l.hands') map_same (record {
       mode = rests_then.mode;
-      chunked = rests_then.chunked;
+      cut = cut_carries agrees v.visitor.mode rests_then.cut;
       gives = gives_carries g g' c hashed first m keeps_first (tale.since ++ made) learnt.0 agrees v.visitor.visit l.hands' rests_then.gives;
       state = state_carries g g' c hashed first m keeps_first (tale.since ++ made) learnt.0 agrees v.visitor.visit l.hands' (after v.visitor a).state rests_then.state;
     })
@@ -194,10 +218,10 @@ module _ {K V S A : Type 0} (eq : K → K → Bool) (hash : K → ℕ) (law : Is
       last = λ p e. last_logged p (l.left.last p (ap (λ (y : copies.Hands (Stored K V)). y.call.last) (sym l.left.told.1) ∙ e));
       carried = λ p e. carried_logged p (l.left.carried p (ap (λ (y : copies.Hands (Stored K V)). y.kept) (sym l.left.told.1) ∙ e));
       shown = λ p h. shown_logged p (l.shown p h);
-      links = links_made (IsMade store') v.visitor.visit v.visitor.mode v.visitor.initial a (λ n e. of_store (λ y. IsMade y n) (l.left.opens n e)) v.visitor.state opens (λ behind t e. still_there t (visiting.links behind t e));
+      links = links_made (IsMadeFor store') v.visitor.visit v.visitor.mode v.visitor.initial v.visitor.number a v.visitor.state newly_made opens (λ behind t chunks e. still_made t chunks (visiting.links behind t chunks e));
     }
       where
-        opens : (stage : Stage) → v.visitor.state ≡ Copying stage → (t : ℕ) → stage ≡ stages.Opening t → IsMade store' t
+        opens : (stage : Stage) → v.visitor.state ≡ Copying stage → (t : ℕ) → stage ≡ stages.Opening t → IsMadeFor store' t 0
         opens stage is t e =
             let r = subst (RestsState g c first m tale.since v.visitor.visit tale.hands) is visiting.rests.state in
             absurd (subst (IsOfAll g c first m tale.since) e r.1)

@@ -1,5 +1,5 @@
 -- A table that a visit is about to link was made: it makes tables for the copy of all alone.
-use Rattle.std.proofs.Common.{◌≡◌, ℕ, ◌+◌, ◌==◌, nat_lt, Bool, true, false, refl}
+use Rattle.std.proofs.Common.{◌≡◌, Some, ℕ, ◌+◌, ◌==◌, nat_lt, Bool, true, false, refl}
 use Rattle.std.proofs.lemmas.Bool.{cond_both}
 use Rattle.papaya_words.specs.declared.probe.ResizeMode.{ResizeMode}
 use Rattle.papaya_words.specs.declared.word.Kind.{Kind}
@@ -7,6 +7,7 @@ use Rattle.papaya_words.specs.declared.word.Kind.TheVariants as kinds
 use Rattle.papaya_words.specs.Word.{kind_of}
 use Rattle.papaya_ask.specs.declared.ask.Answer.{Answer as Call_answer}
 use Rattle.papaya_ask.specs.declared.ask.Answer.TheVariants.{Word, Exchanged, Found, Yes, Size, Made as Made_number, Ok}
+use Rattle.papaya_ask.specs.declared.copy_ask.CopyAsk.TheVariants.{MakeTable}
 use Rattle.papaya_copy.specs.declared.link.Link.{Link}
 use Rattle.papaya_copy.specs.declared.link.Link.TheVariants as links
 use Rattle.papaya_chain.specs.declared.ask.Answer.{Answer}
@@ -80,31 +81,32 @@ copied_link from (stages.Making room) link h = h
 copied_link from (stages.Opening table) link h = h
 copied_link from (stages.Sizing root) link h = h
 copied_link from (stages.Counting root len) link h = h
-copied_link from (stages.Looking root room) link h = h
+copied_link from (stages.Looking root len room) link h = h
 copied_link from (stages.Linking other) link h = h
 copied_link from (stages.Copying root copying) link h = h
 
-module _ (Made : ℕ → Type 0) (visit : Visit) (mode : ResizeMode) (initial : ℕ) (answer : Answer) (new : (n : ℕ) → answer ≡ answers.Call (Made_number n) → Made n) where
+module _ (Made : (table chunks : ℕ) → Type 0) (visit : Visit) (mode : ResizeMode) (initial number : ℕ) (answer : Answer) where
   -- the table that it is about to link was made
   abbrev pub LinksMade : State → Type 0
-  LinksMade state = (behind t : ℕ) → IsVisitLink state (links.Linking behind t) → Made t
+  LinksMade state = (behind t chunks : ℕ) → IsVisitLink state (links.Linking behind t chunks) → Made t chunks
 
   no_links : (state : State) → LinksNone state → LinksMade state
-  no_links state none behind t h = absurd (none (links.Linking behind t) h)
+  no_links state none behind t chunks h = absurd (none (links.Linking behind t chunks) h)
 
-  copied_made : (stage : Stage) → ((t : ℕ) → stage ≡ stages.Opening t → Made t) → LinksMade (Copying stage) → LinksMade (after_in visit mode initial answer (Copying stage))
-  copied_made stage opens links_are behind t h =
-      let to : Stage = resizers.after_in CopyAll mode initial answer stage in
-      stage_links Made to (stage_made Made CopyAll mode initial answer stage new (stage_is Made stage opens links_are)) behind t (copied_link stage to (links.Linking behind t) h)
+  copied_made : (stage : Stage) → ((n slots limit chunks : ℕ) → answer ≡ answers.Call (Made_number n) → resizers.asks_in stage ≡ Some (MakeTable slots limit chunks) → Made n chunks) → ((t : ℕ) → stage ≡ stages.Opening t → Made t 0) → LinksMade (Copying stage) → LinksMade (after_in visit mode initial number answer (Copying stage))
+  copied_made stage new opens links_are behind t chunks h =
+      let to : Stage = resizers.after_in CopyAll mode initial number answer stage in
+      stage_links Made to (stage_made Made CopyAll mode initial number answer stage new (stage_is Made stage opens links_are)) behind t chunks (copied_link stage to (links.Linking behind t chunks) h)
 
-  pub links_made : (state : State) → ((stage : Stage) → state ≡ Copying stage → (t : ℕ) → stage ≡ stages.Opening t → Made t) → LinksMade state → LinksMade (after_in visit mode initial answer state)
-  links_made (Copying stage) opens links_are = copied_made stage (opens stage refl) links_are
-  links_made AtRoot opens links_are = no_links (visited visit AtRoot answer) (visited_none visit AtRoot answer (λ link h. h))
-  links_made (Sizing table) opens links_are = no_links (visited visit (Sizing table) answer) (visited_none visit (Sizing table) answer (λ link h. h))
-  links_made (Looking spot) opens links_are = no_links (visited visit (Looking spot) answer) (visited_none visit (Looking spot) answer (λ link h. h))
-  links_made (Giving spot word) opens links_are = no_links (visited visit (Giving spot word) answer) (visited_none visit (Giving spot word) answer (λ link h. h))
-  links_made (Showing spot word) opens links_are = no_links (visited visit (Showing spot word) answer) (visited_none visit (Showing spot word) answer (λ link h. h))
-  links_made (Burying spot word) opens links_are = no_links (visited visit (Burying spot word) answer) (visited_none visit (Burying spot word) answer (λ link h. h))
-  links_made (Uncounting spot) opens links_are = no_links (visited visit (Uncounting spot) answer) (visited_none visit (Uncounting spot) answer (λ link h. h))
-  links_made Done opens links_are = no_links (visited visit Done answer) (visited_none visit Done answer (λ link h. h))
-  links_made (Refused refused) opens links_are = no_links (visited visit (Refused refused) answer) (visited_none visit (Refused refused) answer (λ link h. h))
+  pub links_made : (state : State) → ((stage : Stage) → state ≡ Copying stage → (n slots limit chunks : ℕ) → answer ≡ answers.Call (Made_number n) → resizers.asks_in stage ≡ Some (MakeTable slots limit chunks) → Made n chunks)
+      → ((stage : Stage) → state ≡ Copying stage → (t : ℕ) → stage ≡ stages.Opening t → Made t 0) → LinksMade state → LinksMade (after_in visit mode initial number answer state)
+  links_made (Copying stage) new opens links_are = copied_made stage (new stage refl) (opens stage refl) links_are
+  links_made AtRoot new opens links_are = no_links (visited visit AtRoot answer) (visited_none visit AtRoot answer (λ link h. h))
+  links_made (Sizing table) new opens links_are = no_links (visited visit (Sizing table) answer) (visited_none visit (Sizing table) answer (λ link h. h))
+  links_made (Looking spot) new opens links_are = no_links (visited visit (Looking spot) answer) (visited_none visit (Looking spot) answer (λ link h. h))
+  links_made (Giving spot word) new opens links_are = no_links (visited visit (Giving spot word) answer) (visited_none visit (Giving spot word) answer (λ link h. h))
+  links_made (Showing spot word) new opens links_are = no_links (visited visit (Showing spot word) answer) (visited_none visit (Showing spot word) answer (λ link h. h))
+  links_made (Burying spot word) new opens links_are = no_links (visited visit (Burying spot word) answer) (visited_none visit (Burying spot word) answer (λ link h. h))
+  links_made (Uncounting spot) new opens links_are = no_links (visited visit (Uncounting spot) answer) (visited_none visit (Uncounting spot) answer (λ link h. h))
+  links_made Done new opens links_are = no_links (visited visit Done answer) (visited_none visit Done answer (λ link h. h))
+  links_made (Refused refused) new opens links_are = no_links (visited visit (Refused refused) answer) (visited_none visit (Refused refused) answer (λ link h. h))

@@ -184,10 +184,10 @@ module _ {K V S A : Type 0} (eq : K → K → Bool) (hash : K → ℕ) (law : Is
 
   -- it buries in one state alone
   abbrev Goes : State → State
-  Goes = after_in v.visitor.visit v.visitor.mode v.visitor.initial a
+  Goes = after_in v.visitor.visit v.visitor.mode v.visitor.initial v.visitor.number a
 
   said_no : (t x : ℕ) (p : Stored K V) → heard.made ≡ Bury t x p ∷ [] → (state : State) → RestsState g c first m tale.since v.visitor.visit tale.hands state → IsVisitTold g c (run tale.since first) tale.since state tale.hands a heard.made heard.hands → owes_in (Goes state) ≡ true → v.visitor.visit ≡ Retain → IsLastAnswer tale.hands.shown p false
-  said_no t x p one (Copying stage) r h owes is = let no : false ≡ true = sym (copied_owes stage (resizers.after_in CopyAll v.visitor.mode v.visitor.initial a stage)) ∙ owes in absurd cc
+  said_no t x p one (Copying stage) r h owes is = let no : false ≡ true = sym (copied_owes stage (resizers.after_in CopyAll v.visitor.mode v.visitor.initial v.visitor.number a stage)) ∙ owes in absurd cc
   said_no t x p one AtRoot r h owes is =
       let none = (asked g c first m tale.since v.visitor tale.hands a heard.made heard.hands AtRoot (tale.since ++ heard.made) (Load words_at.Root) refl h).1 in
       let no : [] ≡ Bury t x p ∷ [] = sym none ∙ one in absurd cc
@@ -237,7 +237,7 @@ module _ {K V S A : Type 0} (eq : K → K → Bool) (hash : K → ℕ) (law : Is
       ⊎_elim (λ none. none_moved none.0)
       (⊎_elim (λ (kept_map : _). let (e, one, leaves, owes) = kept_map in left_moved e one leaves)
       (λ (lost : _). let (t, x, p, one, no_walk, owes) = lost in
-      let no : false ≡ true = sym (copied_owes stage (resizers.after_in CopyAll v.visitor.mode v.visitor.initial a stage)) ∙ ap (λ y. owes_in (Goes y)) (sym is) ∙ owes in absurd cc))
+      let no : false ≡ true = sym (copied_owes stage (resizers.after_in CopyAll v.visitor.mode v.visitor.initial v.visitor.number a stage)) ∙ ap (λ y. owes_in (Goes y)) (sym is) ∙ owes in absurd cc))
       done
 
   state_moves : (state : State) → v.visitor.state ≡ state → RestsState g c first m tale.since v.visitor.visit tale.hands state → IsVisitTold g c (run tale.since first) tale.since state tale.hands a heard.made heard.hands → (ask : VisitAsk) → asks_in state ≡ Some ask → ByEvent (event_of_visit (kind_in state) ask a)

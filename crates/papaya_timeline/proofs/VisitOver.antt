@@ -15,7 +15,7 @@ module _ {K P : Type 0} (g : Setting K P) (c : Coding K P) (s : Words P) (m : K 
   -- it asks, unless it has replied
   pub visit_asks : (state : State) → RestsState g c s m since visit hands state → reply_in state ≡ None → IsSome (asks_in state)
   visit_asks (Copying stages.AtRoot) r going = refl
-  visit_asks (Copying (stages.Looking root room)) r going = refl
+  visit_asks (Copying (stages.Looking root len room)) r going = refl
   visit_asks (Copying (stages.Copying from copying)) r going = refl
   visit_asks (Copying (stages.Making room)) r going = absurd r.1
   visit_asks (Copying (stages.Opening table)) r going = absurd r.1

@@ -88,13 +88,13 @@ copied_stands from (stages.Making room) stands = stands
 copied_stands from (stages.Opening table) stands = stands
 copied_stands from (stages.Sizing root) stands = stands
 copied_stands from (stages.Counting root len) stands = stands
-copied_stands from (stages.Looking root room) stands = stands
+copied_stands from (stages.Looking root len room) stands = stands
 copied_stands from (stages.Linking link) stands = stands
 copied_stands from (stages.Copying root copying) stands = stands
 
 module _ (visitor : Visitor) (stands : IsStandingVisitor visitor) (answer : Answer) (fit : IsFit answer) where
-  state_stands : (state : State) → IsStandingIn state → IsStandingIn (after_in visitor.visit visitor.mode visitor.initial answer state)
-  state_stands (Copying stage) h = copied_stands stage (resizers.after_in CopyAll visitor.mode visitor.initial answer stage) (resizer_stands (resizer_of visitor stage) answer (record { chunked = stands.chunked; initial = stands.initial; state = h }) fit).state
+  state_stands : (state : State) → IsStandingIn state → IsStandingIn (after_in visitor.visit visitor.mode visitor.initial visitor.number answer state)
+  state_stands (Copying stage) h = copied_stands stage (resizers.after_in CopyAll visitor.mode visitor.initial visitor.number answer stage) (resizer_stands (resizer_of visitor stage) answer (record { chunked = stands.chunked; initial = stands.initial; state = h }) fit).state
   state_stands AtRoot h = visited_stands visitor.visit AtRoot answer h
   state_stands (Sizing table) h = visited_stands visitor.visit (Sizing table) answer h
   state_stands (Looking spot) h = visited_stands visitor.visit (Looking spot) answer h

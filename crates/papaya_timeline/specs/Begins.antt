@@ -43,19 +43,21 @@ task_of_call (Compute k a) = Some tasks.Compute
 task_of_call _ = None
 
 -- a call that visits a table as it begins: it gave nothing yet
-abbrev pub visitor_begun : {A : Type 0} → ResizeMode → (initial : ℕ) → Visit → Option A → Visiting A
-visitor_begun mode initial visit answers = record {
-  visitor = visitor.begun visit mode initial;
+abbrev pub visitor_begun : {A : Type 0} → ResizeMode → (initial number : ℕ) → Visit → Option A
+    → Visiting A
+visitor_begun mode initial number visit answers = record {
+  visitor = visitor.begun visit mode initial number;
   answers = answers;
   given = [];
 }
 
-module _ {K V A : Type 0} (hash : K → ℕ) (mode : ResizeMode) (initial : ℕ) where
+-- a call copies from the chunk on that its number picks
+module _ {K V A : Type 0} (hash : K → ℕ) (mode : ResizeMode) (initial number : ℕ) where
   -- a call on this key as it begins
   abbrev pub begun : Task → K → Option V → Option A → Running K V A
   begun task key value answers =
       record {
-        machine = started task (hash key) mode initial;
+        machine = started task (hash key) mode initial number;
         key = Own key;
         value = value;
         answers = answers;
@@ -63,7 +65,7 @@ module _ {K V A : Type 0} (hash : K → ℕ) (mode : ResizeMode) (initial : ℕ)
 
   -- a call that resizes the map as it begins
   abbrev pub resizer_begun : Resize → Work K V A
-  resizer_begun resize = works.Resize (resizer.begun resize mode initial)
+  resizer_begun resize = works.Resize (resizer.begun resize mode initial number)
 
   -- a call as it begins
   abbrev pub begun_work : Call K V A → Work K V A
@@ -74,16 +76,17 @@ module _ {K V A : Type 0} (hash : K → ℕ) (mode : ResizeMode) (initial : ℕ)
   begun_work (Compute k a) = works.Call (begun tasks.Compute k None (Some a))
   begun_work (Reserve more) = resizer_begun (resizes.Reserve more)
   begun_work CopyAll = resizer_begun resizes.CopyAll
-  begun_work Clear = works.Visit (visitor_begun mode initial visits.Clear None)
-  begun_work (Retain a) = works.Visit (visitor_begun mode initial visits.Retain (Some a))
-  begun_work Walk = works.Visit (visitor_begun mode initial visits.Walk None)
+  begun_work Clear = works.Visit (visitor_begun mode initial number visits.Clear None)
+  begun_work (Retain a) = works.Visit (visitor_begun mode initial number visits.Retain (Some a))
+  begun_work Walk = works.Visit (visitor_begun mode initial number visits.Walk None)
 
 -- a begin changes no word, no log and no other caller's call
 pub record Begins {K V S A : Type 0} (hash : K → ℕ) (s : CoreState K V S A) (caller : ℕ)
     (call : Call K V A) (s' : CoreState K V S A) : Type 0 where
+  pub number : ℕ
   pub store : s'.store ≡ s.store
   pub callers : s'.callers ≡ with_work (with_seat s.callers caller) caller
-      (Some (begun_work hash s.mode s.initial call))
+      (Some (begun_work hash s.mode s.initial number call))
   pub mode : s'.mode ≡ s.mode
   pub initial : s'.initial ≡ s.initial
   -- the hash of its key, if it has one, has 64 bits

@@ -1,6 +1,6 @@
 -- The end of a call that is made alone: how many tables may still be made and words exchanged, and
 -- what holds of the core while nobody else has a call under way.
-use Rattle.std.specs.Prelude.{◌≡◌, ℕ, ◌+◌, ◌-◌, ◌^◌, ◌<◌, ◌==◌, if◌then◌else◌, Bool, [], ◌∷◌, length, Option, Some, sum_by}
+use Rattle.std.specs.Prelude.{◌≡◌, ℕ, ◌+◌, ◌-◌, ◌^◌, ◌<◌, ◌==◌, if◌then◌else◌, Bool, List, [], ◌∷◌, length, Option, Some, sum_by, take}
 use Rattle.papaya_words.specs.Table.{TableWords}
 use Rattle.papaya_words.specs.Word.{kind_of}
 use Rattle.papaya_words.specs.declared.word.Kind.{Kind}
@@ -37,16 +37,20 @@ changes_of_word word = changes_of (kind_of word)
 abbrev pub links_of : ℕ → ℕ
 links_of next = if next == 0 then 1 else 0
 
--- how many slots may still be counted as copied, and how often a table may be given up
+-- how often a chunk's word may still change, and how often a table may be given up
 abbrev pub copies_of : ℕ → ℕ
-copies_of done = 2 ^ 32 - done
+copies_of done = 1 - done
+
+-- a table has no more chunks than it may have slots
+unfoldable pub copies_in : List ℕ → ℕ
+copies_in done = sum_by copies_of (take (2 ^ 32) done)
 
 abbrev pub ends_of : ℕ → ℕ
 ends_of aborted = 1 - aborted
 
 -- how often the words of a table may still change
 abbrev pub exchanges_of : TableWords → ℕ
-exchanges_of t = sum_by changes_of_word t.slots + links_of t.next + copies_of t.done
+exchanges_of t = sum_by changes_of_word t.slots + links_of t.next + copies_in t.done
     + ends_of t.aborted
 
 -- the words of all tables, and the root, which goes to later tables alone

@@ -1,5 +1,6 @@
 -- How the words and the logs of a core stand to the law of exchanges.
 use Rattle.std.specs.Prelude.{◌≡◌, ◌≢◌, ℕ, ◌+◌, ◌%◌, ◌^◌, ◌<◌, ◌≤◌, ◌==◌, ◌⊎◌, Bool, true, false, if◌then◌else◌, Option, None, Some, List, [], ◌∷◌, ◌++◌, length}
+use Rattle.papaya_words.specs.Chunks.{chunk_len, chunk_of}
 use Rattle.papaya_words.specs.Table.{TableWords}
 use Rattle.papaya_words.specs.declared.limits.TheConstants.{MAX_LOG_LEN, MAX_TABLES}
 use Rattle.papaya_words.specs.declared.probe.ResizeMode.{ResizeMode}
@@ -59,11 +60,18 @@ abbrev pub places_in : Option TableWords → ℕ
 places_in None = 1
 places_in (Some t) = t.limit + 1
 
+-- how many words for chunks it has; 0 where there is no such table
+abbrev pub chunks_in : Option TableWords → ℕ
+chunks_in None = 0
+chunks_in (Some t) = length t.done
+
 -- the setting of the law that tables are
 abbrev pub setting_of : {K V : Type 0} → (K → K → Bool) → (K → ℕ) → ResizeMode → List TableWords
     → Setting K (Stored K V)
-setting_of eq hash mode tables = planned (hashed (is_blocking mode) (λ p. p.key) eq hash)
+setting_of eq hash mode tables =
+    planned (hashed (is_blocking mode) (chunk_of (chunk_len mode)) (λ p. p.key) eq hash)
     (λ t. slots_in (table_of tables t)) (λ t. places_in (table_of tables t))
+    (λ t. chunks_in (table_of tables t))
 
 -- pairs are named in words by their numbers
 abbrev pub coding_of : {K V : Type 0} → (K → ℕ) → Coding K (Stored K V)
@@ -130,6 +138,11 @@ module _ {K V S : Type 0} (store : StoreState K V S) where
   abbrev pub IsMade : ℕ → Type 0
   IsMade t = (words : TableWords) × (table_of store.words.tables t ≡ Some words)
 
+  -- and it has words for so many chunks at least
+  abbrev pub IsMadeFor : (t chunks : ℕ) → Type 0
+  IsMadeFor t chunks = (words : TableWords) × (table_of store.words.tables t ≡ Some words)
+      × (chunks ≤ length words.done)
+
 module _ {K V S : Type 0} (eq : K → K → Bool) (hash : K → ℕ) (mode : ResizeMode)
     (store : StoreState K V S) where
   -- a call that resizes the map rests on what is told of it, after the exchanges es
@@ -139,9 +152,10 @@ module _ {K V S : Type 0} (eq : K → K → Bool) (hash : K → ℕ) (mode : Res
         (coding_of (low hash)) (run es start) resizer tale.hands
     pub last : (p : Stored K V) → tale.hands.call.last ≡ Some p → IsLogged store p
     pub carried : (p : Stored K V) → tale.hands.kept ≡ Some p → IsLogged store p
-    -- the table that it is about to open or to link was made
+    -- the table that it is about to open or to link was made, as was asked for
     pub opens : (t : ℕ) → resizer.state ≡ Opening t → IsMade store t
-    pub links : (behind t : ℕ) → HasLink resizer.state (Linking behind t) → IsMade store t
+    pub links : (behind t chunks : ℕ) → HasLink resizer.state (Linking behind t chunks)
+        → IsMadeFor store t chunks
 
 module _ {K V S A : Type 0} (eq : K → K → Bool) (hash : K → ℕ) (mode : ResizeMode)
     (store : StoreState K V S) where
@@ -159,8 +173,9 @@ module _ {K V S A : Type 0} (eq : K → K → Bool) (hash : K → ℕ) (mode : R
     pub last : (p : Stored K V) → tale.hands.copy.call.last ≡ Some p → IsLogged store p
     pub carried : (p : Stored K V) → tale.hands.copy.kept ≡ Some p → IsLogged store p
     pub shown : (p : Stored K V) → WasShown tale.hands.shown p → IsLogged store p
-    -- the table that it is about to link was made
-    pub links : (behind t : ℕ) → IsVisitLink v.visitor.state (Linking behind t) → IsMade store t
+    -- the table that it is about to link was made, as was asked for
+    pub links : (behind t chunks : ℕ) → IsVisitLink v.visitor.state (Linking behind t chunks)
+        → IsMadeFor store t chunks
 
   -- a call under way rests on what is told of it, after the exchanges es
   pub record IsCall (r : Running K V A) (es : List (Exchange (Stored K V)))
@@ -175,10 +190,10 @@ module _ {K V S A : Type 0} (eq : K → K → Bool) (hash : K → ℕ) (mode : R
     pub last : (p : Stored K V) → tale.hands.call.last ≡ Some p → IsLogged store p
     pub carried : (p : Stored K V) → tale.hands.kept ≡ Some p → IsLogged store p
     pub made : (p : Stored K V) → IsOneOf tale.hands.call.made p → IsLogged store p
-    -- the table that a call is about to open or to link was made
+    -- the table that a call is about to open or to link was made, as was asked for
     pub opens : (t : ℕ) → ask_of r.machine ≡ Call (Asks_exchange Root 0 t) → IsMade store t
-    pub links : (behind t : ℕ) → link_in r.machine.phase ≡ Some (Linking behind t)
-        → IsMade store t
+    pub links : (behind t chunks : ℕ) → link_in r.machine.phase ≡ Some (Linking behind t chunks)
+        → IsMadeFor store t chunks
     -- a pair that was made and is not written yet stands in no slot
     pub unwritten : (p : Stored K V) → IsOneOf tale.hands.call.made p
         → change_in r.machine.call.state ≡ None

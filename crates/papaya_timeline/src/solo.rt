@@ -56,11 +56,11 @@ pub fn one_call<K: Hash + Eq, V, S: BuildHasher, A, B>()
 pub fn one_call_ends<K: Hash + Eq, V, S: BuildHasher, A>()
     ensures begins { (s s' : CoreState K V S A) (call : Call K V A) → s.callers ≡ []
         → IsLawfulCore K.eq (hash_of K.hash_input S.build_hasher S.Hasher.write S.Hasher.finish
-        s.store.hasher) s.store s.callers s.mode → Begins (hash_of K.hash_input S.build_hasher
-        S.Hasher.write S.Hasher.finish s.store.hasher) s 0 call s' → IsLoneWork K.eq
+        s.store.hasher) s.store s.callers s.mode → (begins : Begins (hash_of K.hash_input
+        S.build_hasher S.Hasher.write S.Hasher.finish s.store.hasher) s 0 call s') → IsLoneWork K.eq
         (hash_of K.hash_input S.build_hasher S.Hasher.write S.Hasher.finish) s'
         (begun_work (hash_of K.hash_input S.build_hasher S.Hasher.write S.Hasher.finish
-        s.store.hasher) s.mode s.initial call) }
+        s.store.hasher) s.mode s.initial begins.number call) }
     ensures nearer { (refuse : Bool) (s s' : CoreState K V S A) (r : Running K V A)
         (event : Event) → IsLone K.eq
         (hash_of K.hash_input S.build_hasher S.Hasher.write S.Hasher.finish) s r

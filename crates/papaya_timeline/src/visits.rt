@@ -31,8 +31,9 @@ use std::hash::{BuildHasher, Hash};
 /// on, whatever the others do; and they rest on what is told of them, whatever it does.
 pub fn visits_keep<K: Hash + Eq, V, S: BuildHasher, A: Answers<K, V>>()
     ensures begins { (s : CoreState K V S A) → IsCore s.store s.callers s.mode
-        → (es : List (Exchange (Stored K V))) (visit : Visit) (initial : ℕ) (v : Visiting A)
-        → v.visitor ≡ begun visit s.mode initial → HasAnswers visit v.answers
+        → (es : List (Exchange (Stored K V))) (visit : Visit) (initial number : ℕ)
+        (v : Visiting A) → v.visitor ≡ begun visit s.mode initial number
+        → HasAnswers visit v.answers
         → v.given ≡ [] → IsVisiting K.eq
         (hash_of K.hash_input S.build_hasher S.Hasher.write S.Hasher.finish s.store.hasher)
         s.mode s.store v es (record { begun = es; since = []; hands = no_hands }) }

@@ -6,8 +6,8 @@ use Rattle.papaya_timeline.proofs.VisitStands.{visit_core}
 use Rattle.papaya_timeline.proofs.visits.visits_keep.Goals as goal
 
 pub returns-clause-begins : goal.returns-clause-begins
-returns-clause-begins g c = λ s core es visit initial v is answers none.
-    visit_begins g.K.PartialEq.eq (hash_of g.K.Hash.hash_input g.S.BuildHasher.build_hasher g.S.Hasher.Hasher.write g.S.Hasher.Hasher.finish s.store.hasher) s core.chunked es visit initial v is answers none
+returns-clause-begins g c = λ s core es visit initial number v is answers none.
+    visit_begins g.K.PartialEq.eq (hash_of g.K.Hash.hash_input g.S.BuildHasher.build_hasher g.S.Hasher.Hasher.write g.S.Hasher.Hasher.finish s.store.hasher) s es visit initial number v is answers none
 
 pub returns-clause-steps : goal.returns-clause-steps
 returns-clause-steps g c = λ refuse s core caller idle es tales kept v tale visiting ask asks a store' v' performs.

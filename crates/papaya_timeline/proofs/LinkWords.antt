@@ -1,0 +1,33 @@
+-- A table that is about to be linked has as many words for chunks as were asked for.
+use Rattle.std.proofs.Common.{◌≡◌, ℕ, ◌≤◌, Option, None, Some, refl, sym, ◌∙◌, ap, subst}
+use Rattle.papaya_copy.specs.declared.link.Link.{Link}
+use Rattle.papaya_copy.specs.declared.link.Link.TheVariants.{Linking}
+use Rattle.papaya_chain.specs.declared.resizer.State.{State as Stage}
+use Rattle.papaya_chain.specs.declared.resizer.State.TheVariants as stages
+use Rattle.papaya_chain.specs.declared.visitor.State.{State}
+use Rattle.papaya_chain.specs.declared.visitor.State.TheVariants.{Copying}
+use Rattle.papaya_law.specs.Exchange.{Setting}
+use Rattle.papaya_rests.specs.Copier.{HasWords, link_in_copying}
+use Rattle.papaya_chain_rests.specs.Resizers.{HasLink, link_of}
+use Rattle.papaya_chain_rests.specs.Visits.{link_in_visit}
+use Rattle.papaya_store.specs.Store.{StoreState}
+use Rattle.papaya_store.specs.Tables.{table_of}
+use Rattle.papaya_timeline.specs.Kept.{IsMadeFor, IsVisitLink, chunks_in}
+
+module _ {K P K' V S : Type 0} (g : Setting K P) (store : StoreState K' V S) (chunks_are : (t : ℕ) → g.chunks t ≡ chunks_in (table_of store.words.tables t)) where
+  -- of a call, or of a copy
+  pub link_words : (o : Option Link) → ((behind t chunks : ℕ) → o ≡ Some (Linking behind t chunks) → IsMadeFor store t chunks) → HasWords g o
+  link_words None made = tt
+  link_words (Some (Linking behind t chunks)) made = let m = made behind t chunks refl in subst (λ n. chunks ≤ n) (sym (chunks_are t ∙ ap chunks_in m.1)) m.2
+  link_words (Some other) made = tt
+
+  -- of a call that resizes the map
+  pub stage_words : (stage : Stage) → ((behind t chunks : ℕ) → HasLink stage (Linking behind t chunks) → IsMadeFor store t chunks) → HasWords g (link_of stage)
+  stage_words (stages.Linking link) made = link_words (Some link) (λ behind t chunks e. made behind t chunks (let f : link ≡ Linking behind t chunks = cc e in f))
+  stage_words (stages.Copying from copying) made = link_words (link_in_copying copying) made
+  stage_words other made = tt
+
+  -- and of one that visits a table
+  pub visit_words : (state : State) → ((behind t chunks : ℕ) → IsVisitLink state (Linking behind t chunks) → IsMadeFor store t chunks) → HasWords g (link_in_visit state)
+  visit_words (Copying stage) made = stage_words stage made
+  visit_words other made = tt
