@@ -285,8 +285,10 @@ pub fn further_keys<K, P>()
         → (matches : K → Bool) (hash : ℕ) → IsLawfulKey g c matches hash
         → IsHashed (with_key g matches hash) (coding_with c hash) }
     ensures planned { (blocking : Bool) (chunk_of : ℕ → ℕ) (most : Option ℕ) (key : P → K)
-        (same : K → K → Bool) (hash_of : K → ℕ) (size places chunks : ℕ → ℕ) (matches : K → Bool) (hash : ℕ) → with_key
-        (planned (hashed blocking chunk_of most key same hash_of) size places chunks) matches hash
+        (same : K → K → Bool) (hash_of : K → ℕ) (size places chunks : ℕ → ℕ) (matches : K → Bool)
+        (hash : ℕ)
+        → with_key (planned (hashed blocking chunk_of most key same hash_of) size places chunks)
+        matches hash
         ≡ planned (hashed blocking chunk_of most (λ p. Some (key p)) (same_with same matches)
         (hash_with hash_of hash)) size places chunks }
     ensures agrees { (g g' : Setting K P) (s : State P) → Agrees (IsOn s.first s.next) g g'
