@@ -200,7 +200,8 @@ pub fn may_exchange<K, P>()
         → AllAllowed g start (begun ++ since) → (k : K) (m : Machine) (hands : Hands P)
         → Rests g c begun since k m hands → (at : At) (old new : ℕ)
         → ask_of m ≡ Ask.Exchange at old new → word_of g c (run (begun ++ since) start) at ≡ old
-        → (e : Exchange P) × IsAsked g c k (kind_of_ask m) at new (run (begun ++ since) start) hands e
+        → (e : Exchange P)
+        × IsAsked g c k (kind_of_ask m) at new (run (begun ++ since) start) hands e
         × Allows g (run (begun ++ since) start) e × IsWritten g c (run (begun ++ since) start) at
         new (state_after (run (begun ++ since) start) e) }
 {}
