@@ -32,6 +32,7 @@ quoted() {
 }
 
 quoted README.md rust crates/papaya_uses/src/*.rt
+quoted docs/CALLING.md rust crates/papaya_uses/src/*.rt
 quoted docs/DEFINITIONS.md text crates/papaya_*/specs/*.antt
 
 echo "readme_code.sh: $passed passed, $failed failed"

@@ -8,9 +8,7 @@ use Rattle.papaya_call.specs.declared.answers.Operation.{Operation}
 use Rattle.papaya_call.specs.declared.answers.Operation.TheVariants.{Insert, Remove, Abort}
 use Rattle.papaya_keys.specs.declared.compute.Compute.{Compute}
 use Rattle.papaya_keys.specs.declared.compute.Compute.TheVariants.{Inserted, Updated, Removed, Aborted}
-use Rattle.papaya_compute.specs.ComputeAnswers.{IsComputeBy, IsOperated}
-use Rattle.papaya_book.specs.Logs.{Member, Stored}
-use Rattle.papaya_change.specs.Showings.{AreShown, Operates, WasLast}
+use Rattle.papaya.specs.Threads.{AreShown, IsComputeBy, IsOperated, Member, Operates, Stored, WasLast}
 use Rattle.papaya_uses.specs.Counters.{HasAdded, Seen, next_count}
 use Rattle.papaya_uses.proofs.Said.{said_each}
 

@@ -4,7 +4,7 @@ use Rattle.std.specs.Fn.{FnReturnsAt, Shared}
 use Rattle.std.specs.Prelude.{Result, IfOk}
 use Rattle.std.specs.Borrow.{Bor}
 use Rattle.papaya_words.specs.declared.probe.Refused.{Refused}
-use Rattle.papaya_map.specs.Storing.{IsUpserted}
+use Rattle.papaya.specs.Threads.{IsUpserted}
 use Rattle.papaya_uses.specs.Hits.{HasCounted, Seen}
 
 -- an update by a closure that counts one more, or a first count of 1

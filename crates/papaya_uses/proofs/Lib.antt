@@ -1,5 +1,6 @@
 mod CounterLemmas
 mod HitLemmas
+mod MetricLemmas
 mod Said
 mod SeenLemmas
 mod SessionLemmas

@@ -1,7 +1,6 @@
 -- What holds of each answer of a closure.
 use Rattle.std.proofs.Common.{List, [], ◌∷◌, inl, inr, sym, subst}
-use Rattle.papaya_book.specs.Logs.{Member}
-use Rattle.papaya_change.specs.Showings.{HasSaid}
+use Rattle.papaya.specs.Threads.{HasSaid, Member}
 
 module _ {F X A : Type 0} (says : F → X → A → F → Type 0) (holds : F → Type 0) (P : X → A → Type 0) (step : (f : F) (x : X) (a : A) (g : F) → holds f → says f x a g → holds g × P x a) (first : F) (at_first : holds first) where
   -- what each call of the closure leaves so, holds after all of them

@@ -3,8 +3,7 @@ use Rattle.std.proofs.Common.{◌≡◌, ◌==◌, ◌⊎◌, ℕ, Bool, true, f
 use Rattle.std.proofs.lemmas.Bool.{cond-true, eq-eqb, eqb-true}
 use Rattle.std.specs.Prelude.{cond}
 use mathlib.Core.List.{IsPrefix}
-use Rattle.papaya_book.specs.Logs.{Stored}
-use Rattle.papaya_lookup.specs.History.{AllLegalChanges, Change, IsLegalHistory, changed, key_of, replay, replay_from}
+use Rattle.papaya.specs.Threads.{AllLegalChanges, Change, IsLegalHistory, Stored, changed, key_of, replay, replay_from}
 use Rattle.papaya_uses.specs.Seen.{IsMet, Seen, WasForgotten}
 
 -- of two places in a list, one comes first, or they are one

@@ -5,9 +5,7 @@ use Rattle.std.specs.Prelude.{Result, Option}
 use Rattle.std.specs.Borrow.{Bor}
 use Rattle.std.specs.Fn.{Called, Mut}
 use Rattle.papaya_words.specs.declared.probe.Refused.{Refused}
-use Rattle.papaya_book.specs.Logs.{Member, Stored}
-use Rattle.papaya_change.specs.RemovalAnswers.{IsJudged, IsRemovalBy}
-use Rattle.papaya_change.specs.Showings.{Judges}
+use Rattle.papaya.specs.Threads.{IsJudged, IsRemovalBy, Judges, Member, Stored}
 use Rattle.papaya_uses.specs.Sessions.{IsSignedOut, Seen}
 use Rattle.papaya_uses.proofs.Said.{said_each}
 

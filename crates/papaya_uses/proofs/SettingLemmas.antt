@@ -5,10 +5,7 @@ use Rattle.std.proofs.lemmas.List.{append-nil, append_cancel_left}
 use Rattle.std.specs.Prelude.{option_map}
 use Rattle.std.specs.Borrow.{Bor}
 use mathlib.Core.List.{IsPrefix}
-use Rattle.papaya_book.specs.Logs.{Stored}
-use Rattle.papaya_change.specs.Changes.{IsPut}
-use Rattle.papaya_lookup.specs.Answers.{IsAnsweredBetween}
-use Rattle.papaya_lookup.specs.History.{Change, changed, key_of, replay, replay_from}
+use Rattle.papaya.specs.Threads.{Change, IsAnsweredBetween, IsPut, Stored, changed, key_of, replay, replay_from}
 use Rattle.papaya_uses.specs.Settings.{Seen}
 
 -- what is between two equal lists is no longer

@@ -8,12 +8,7 @@ use Rattle.std.proofs.lemmas.List.Sums.{count_by_more_no, count_by_more_yes}
 use Rattle.std.specs.Cmp.{IsEquivalence}
 use Rattle.std.specs.List.{count_by}
 use Rattle.papaya_words.specs.declared.probe.Refused.{Refused}
-use Rattle.papaya_law.specs.Content.{lookup}
-use Rattle.papaya_core.specs.Content.{content}
-use Rattle.papaya_core.specs.Store.{Stored}
-use Rattle.papaya_seq.specs.Answered.{value_answered}
-use Rattle.papaya_seq.specs.Computes.{IsUpdatedOrInserted}
-use Rattle.papaya_seq.specs.Map.{Inserts, MapState, value_of}
+use Rattle.papaya.specs.Seq.{Inserts, IsUpdatedOrInserted, MapState, Stored, content, lookup, value_answered, value_of}
 use Rattle.papaya_uses.specs.Words.{count_in, count_of}
 
 -- equal words have one count

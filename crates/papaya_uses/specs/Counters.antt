@@ -1,8 +1,6 @@
 -- What an addition to a counter does, by the histories that a session has seen before and after.
 use Rattle.std.specs.Prelude.{◌≡◌, ◌==◌, ◌+◌, ◌%◌, ◌^◌, ℕ, Option, None, Some, List, option_map}
-use Rattle.papaya_book.specs.Logs.{Stored}
-use Rattle.papaya_change.specs.Changes.{IsChangeOf}
-use Rattle.papaya_lookup.specs.History.{Change, key_of}
+use Rattle.papaya.specs.Threads.{Change, IsChangeOf, Stored, key_of}
 
 -- the history of a map from counters to counts
 abbrev pub Seen : Type 0

@@ -2,11 +2,7 @@
 -- after, and what is only asked by some history of the map.
 use Rattle.std.specs.Prelude.{◌≡◌, ◌==◌, ◌+◌, ◌-◌, ◌^◌, ℕ, min, Option, None, Some, List, [], option_map}
 use Rattle.std.specs.Borrow.{Bor}
-use Rattle.papaya_book.specs.Logs.{Stored}
-use Rattle.papaya_change.specs.Changes.{IsChangeOf}
-use Rattle.papaya_lookup.specs.Answers.{IsAnsweredBetween}
-use Rattle.papaya_lookup.specs.History.{Change, key_of}
-use Rattle.papaya_map.specs.Plain.{IsOfHistory}
+use Rattle.papaya.specs.Threads.{Change, IsAnsweredBetween, IsChangeOf, IsOfHistory, Stored, key_of}
 
 -- the history of a map from pages to counts
 abbrev pub Seen : Type 0

@@ -1,5 +1,6 @@
 pub mod Counters
 pub mod Hits
+pub mod Routes
 pub mod Seen
 pub mod Sessions
 pub mod Settings

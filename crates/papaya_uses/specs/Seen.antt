@@ -2,9 +2,7 @@
 use Rattle.std.specs.Prelude.{◌≡◌, ◌==◌, ℕ, Bool, Option, None, List, [], ◌∷◌, ◌++◌, is_none}
 use Rattle.std.specs.Borrow.{Bor}
 use mathlib.Core.List.{IsPrefix}
-use Rattle.papaya_book.specs.Logs.{Stored}
-use Rattle.papaya_change.specs.Changes.{IsPut}
-use Rattle.papaya_lookup.specs.History.{Change}
+use Rattle.papaya.specs.Threads.{Change, IsPut, Stored}
 
 -- the history of a set of items
 abbrev pub Seen : Type 0

@@ -1,10 +1,7 @@
 -- What the calls on a table of users do, by the histories that a session has seen before and after.
 use Rattle.std.specs.Prelude.{◌≡◌, ◌==◌, ℕ, Bool, MatchBool, Option, None, Some, List, option_map}
 use Rattle.std.specs.Borrow.{Bor}
-use Rattle.papaya_book.specs.Logs.{Stored}
-use Rattle.papaya_change.specs.Changes.{IsChangeOf, IsPut}
-use Rattle.papaya_lookup.specs.History.{Change}
-use Rattle.papaya_lookup.specs.Answers.{IsAnsweredBetween}
+use Rattle.papaya.specs.Threads.{Change, IsAnsweredBetween, IsChangeOf, IsPut, Stored}
 
 -- the history of a map from tokens to users
 abbrev pub Seen : Type 0

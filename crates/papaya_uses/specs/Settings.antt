@@ -1,10 +1,7 @@
 -- What a thread reads back of a setting that it wrote.
 use Rattle.std.specs.Prelude.{◌≡◌, ◌==◌, ℕ, Option, Some, List, option_map}
 use Rattle.std.specs.Borrow.{Bor}
-use Rattle.papaya_book.specs.Logs.{Stored}
-use Rattle.papaya_change.specs.Changes.{IsPut}
-use Rattle.papaya_lookup.specs.Answers.{IsAnsweredBetween}
-use Rattle.papaya_lookup.specs.History.{Change}
+use Rattle.papaya.specs.Threads.{Change, IsAnsweredBetween, IsPut, Stored}
 
 -- the history of a map from settings to values
 abbrev pub Seen : Type 0

@@ -1,7 +1,6 @@
 -- What a map of counts says of a word.
 use Rattle.std.specs.Prelude.{ℕ, Bool, Option, None, Some}
-use Rattle.papaya_core.specs.Content.{map_in}
-use Rattle.papaya_core.specs.Store.{StoreState, Stored}
+use Rattle.papaya.specs.Seq.{StoreState, Stored, map_in}
 
 -- the count of a pair; 0 where there is none
 abbrev pub count_of : {W : Type 0} → Option (Stored W ℕ) → ℕ

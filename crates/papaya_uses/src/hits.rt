@@ -5,7 +5,7 @@
 //! stored is found, or what a retain left, take a session, as [`hit`] and [`crate::sessions`] do.
 ghost use Rattle.std.specs.Prelude.{◌≡◌, IfErr, IfOk};
 ghost use mathlib.Core.List.{IsPrefix};
-ghost use Rattle.papaya_change.specs.Writing.{IsMemoryOrCapacity};
+ghost use Rattle.papaya.specs.Threads.{IsMemoryOrCapacity};
 ghost use Rattle.papaya_uses.specs.Hits.{HasCounted, IsCountOf};
 
 use crate::words::one_more;

@@ -3,8 +3,7 @@
 //! what one was told can be set beside what another was.
 ghost use Rattle.std.specs.Prelude.{◌≡◌, ◌==◌, ◌⊎◌, ℕ, [], true, IfErr, IfOk};
 ghost use mathlib.Core.List.{IsPrefix};
-ghost use Rattle.papaya_change.specs.Writing.{IsMemoryOrCapacity};
-ghost use Rattle.papaya_lookup.specs.History.{IsLegalHistory, key_of};
+ghost use Rattle.papaya.specs.Threads.{IsLegalHistory, IsMemoryOrCapacity, key_of};
 ghost use Rattle.papaya_uses.specs.Seen.{IsMet, Seen, WasForgotten};
 
 use papaya::{HashSet, Refused, Session};
@@ -25,7 +24,7 @@ impl<'a> Model for Finder<'a> {
     ghost use Rattle.std.specs.Prelude.{ℕ};
     ghost use Rattle.std.specs.declared.hash.FoldHasher.{FoldHasher};
     ghost use Rattle.std.specs.declared.hash.BuildHasherDefault.{BuildHasherDefault};
-    ghost use Rattle.papaya_session.specs.Known.{Known};
+    ghost use Rattle.papaya.specs.Threads.{Known};
 
     ghost Value = { Known ℕ (Unit {0}) (BuildHasherDefault FoldHasher) };
 

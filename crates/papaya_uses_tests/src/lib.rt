@@ -2,4 +2,6 @@
 #![tactic(auto)]
 
 #[cfg(test)]
+mod texts;
+#[cfg(test)]
 mod uses;

@@ -1,0 +1,88 @@
+//! `count-words`: reads a text, and prints its ten commonest words with their counts. Four threads count on
+//! one map, in which each word has an atomic counter of its own.
+#![tactic(auto)]
+
+use papaya::{Refused, Session};
+use papaya_shell::failure::{Failure, ended};
+use papaya_uses::metrics::{Metrics, add};
+use std::alloc::Global;
+use std::io;
+use std::io::Read;
+use std::process::ExitCode;
+use std::sync::Wait;
+use std::sync::atomic::Ordering;
+use std::thread::{Threads, map_chunks};
+
+/// How many words are printed.
+const SHOWN: usize = 10;
+
+/// Counts some words, as one thread does.
+fn count(rt: &impl Wait, alloc: Global, counts: &Metrics, words: &[&str]) -> Result<(), Refused> {
+    let mut session = Session::new(counts);
+    for word in words {
+        add(rt, alloc, &mut session, word, 1)?;
+    }
+    Ok(())
+}
+
+/// Counts all words by four threads.
+fn count_all(
+    rt: &(impl Threads + Wait + Sync),
+    alloc: Global,
+    counts: &Metrics,
+    words: &[&str],
+) -> Result<(), Failure> {
+    let size = words.len().div_ceil(4).max(1);
+    let parts = map_chunks(
+        rt,
+        alloc,
+        words,
+        size,
+        &|_, part| { count(rt, alloc, counts, part) },
+    )?;
+    for part in parts {
+        part?;
+    }
+    Ok(())
+}
+
+/// The words with their counts, the commonest first, and of words that are as common the first one by the
+/// alphabet. A count is told by what it lacks to the greatest number.
+fn by_count(
+    rt: &impl Wait,
+    alloc: Global,
+    counts: &Metrics,
+) -> Result<Vec<(u64, String)>, Failure> {
+    let mut found = Vec::new(alloc);
+    for (word, count) in counts.pin().iter(rt)? {
+        let lacks = u64::MAX - count.load(Ordering::SeqCst);
+        found.push((lacks, word.as_str().to_string(alloc)?))?;
+    }
+    found.sort_unstable();
+    Ok(found)
+}
+
+/// The whole program, over any reader.
+fn run<R: Threads + Wait + Sync + Print, I: Read + Drop>(
+    rt: &R,
+    alloc: Global,
+    input: I,
+) -> Result<(), Failure> {
+    let text = io::read_to_string(alloc, input).map_err(|_| Failure::Input)?;
+    let mut words = Vec::new(alloc);
+    for word in text.as_str().split_whitespace() {
+        words.push(word)?;
+    }
+    let counts: Metrics = Metrics::new(rt, alloc)?;
+    count_all(rt, alloc, &counts, words.as_slice())?;
+    for (lacks, word) in by_count(rt, alloc, &counts)?.iter().take(SHOWN) {
+        let count = u64::MAX - *lacks;
+        println!(rt; "{count} {word}").map_err(|_| Failure::Output)?;
+    }
+    Ok(())
+}
+
+fn main(rt: HostRuntime) -> ExitCode {
+    let status = run(&rt, rt.alloc(), rt.stdin());
+    ExitCode::from(ended(status, "count-words", &mut rt.stderr()))
+}

@@ -1,0 +1,7 @@
+-- What the contracts of the map for one caller speak of: the finite map that a store means.
+pub use Rattle.papaya_law.specs.Content.{lookup}
+pub use Rattle.papaya_store.specs.Store.{StoreState, Stored}
+pub use Rattle.papaya_timeline.specs.Content.{content, map_in}
+pub use Rattle.papaya_seq.specs.Map.{Inserts, MapState, value_of}
+pub use Rattle.papaya_seq.specs.Computes.{IsUpdatedOrInserted}
+pub use Rattle.papaya_seq.specs.Answered.{value_answered}

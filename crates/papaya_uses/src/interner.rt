@@ -1,0 +1,63 @@
+//! Texts by numbers: each text is stored once, and gets a number that it keeps. Threads share it.
+ghost use Rattle.std.specs.Prelude.{IfErr};
+ghost use Rattle.papaya.specs.Threads.{IsMemoryOrCapacity};
+
+use papaya::{HashMap, Refused, Session, TextKey};
+use std::alloc::Global;
+use std::hash::{BuildHasherDefault, FoldHasher};
+use std::sync::Wait;
+use std::sync::atomic::{AtomicU64, Ordering};
+
+/// The numbers of the texts, and the texts of the numbers.
+#[derive(Drop)]
+pub struct Interner {
+    numbers: HashMap<String, u64, BuildHasherDefault<FoldHasher>>,
+    texts: HashMap<u64, String, BuildHasherDefault<FoldHasher>>,
+    next: AtomicU64,
+}
+
+impl Interner {
+    /// An interner without texts.
+    pub fn new<R: Wait>(rt: &R, alloc: Global) -> Result<Interner, Refused> {
+        Ok(Interner {
+            numbers: HashMap::new(rt, alloc)?,
+            texts: HashMap::new(rt, alloc)?,
+            next: AtomicU64::new(0),
+        })
+    }
+
+    /// The number of a text, which gets one where it has none. Where threads bring one text at once, all
+    /// get the number of the first; a number that another has drawn for it stays unused.
+    pub fn number<R: Wait>(&self, rt: &R, alloc: Global, text: &str) -> Result<u64, Refused>
+        ensures { IfErr result IsMemoryOrCapacity }
+    {
+        let mut numbers = Session::new(&self.numbers);
+        if let Some(number) = numbers.get(&TextKey(text)) {
+            return Ok(*number);
+        }
+        let (Ok(key), Ok(copy)) = (text.to_string(alloc), text.to_string(alloc)) else {
+            return Err(Refused::Memory);
+        };
+        let next = &self.next;
+        let number = match numbers.get_or_insert_with(
+            rt,
+            key,
+            || next.fetch_add(1, Ordering::SeqCst),
+        ) {
+            Ok(number) => *number,
+            Err(refused) => return Err(refused),
+        };
+        match Session::new(&self.texts).get_or_insert(rt, number, copy) {
+            Ok(_) => Ok(number),
+            Err(refused) => Err(refused),
+        }
+    }
+
+    /// The text of a number that [`Interner::number`] has answered.
+    pub fn text(&self, number: u64) -> Option<&str> {
+        match Session::new(&self.texts).get(&number) {
+            Some(text) => Some(text.as_str()),
+            None => None,
+        }
+    }
+}

@@ -1,0 +1,50 @@
+//! A registry of metrics: a counter for each name, to which threads add at once. A name gets its counter
+//! once. An addition is one atomic step on that counter: no pair of the map is replaced, so none is left
+//! in the logs.
+ghost use Rattle.std.specs.Prelude.{IfErr};
+ghost use mathlib.Core.List.{IsPrefix};
+ghost use Rattle.papaya.specs.Threads.{IsMemoryOrCapacity};
+
+use papaya::{HashMap, Refused, Session, TextKey};
+use std::alloc::Global;
+use std::hash::{BuildHasherDefault, FoldHasher};
+use std::sync::Wait;
+use std::sync::atomic::{AtomicU64, Ordering};
+
+/// The counters, by their names. A thread makes its session by `Session::new(&metrics)`.
+pub type Metrics = HashMap<String, AtomicU64, BuildHasherDefault<FoldHasher>>;
+
+/// Adds to the counter of a name, which begins at 0, and answers what it was before. A name that has a
+/// counter is not copied, and its counter waits for nobody.
+#[tactic(auto, using(crate::proofs::MetricLemmas::seen_on))]
+pub fn add<R: Wait>(
+    rt: &R,
+    alloc: Global,
+    metrics: &mut Session<'_, String, AtomicU64>,
+    name: &str,
+    by: u64,
+) -> Result<u64, Refused>
+    ensures seen { IsPrefix metrics.old.history metrics.new.history }
+    ensures refused { IfErr result IsMemoryOrCapacity }
+{
+    if let Some(counter) = metrics.get(&TextKey(name)) {
+        return Ok(counter.fetch_add(by, Ordering::SeqCst));
+    }
+    let Ok(name) = name.to_string(alloc) else {
+        return Err(Refused::Memory);
+    };
+    match metrics.get_or_insert_with(rt, name, || AtomicU64::new(0)) {
+        Ok(counter) => Ok(counter.fetch_add(by, Ordering::SeqCst)),
+        Err(refused) => Err(refused),
+    }
+}
+
+/// What the counter of a name has, if there is one. It waits for nobody.
+pub fn read(metrics: &mut Session<'_, String, AtomicU64>, name: &str) -> Option<u64>
+    ensures { IsPrefix metrics.old.history metrics.new.history }
+{
+    match metrics.get(&TextKey(name)) {
+        Some(counter) => Some(counter.load(Ordering::SeqCst)),
+        None => None,
+    }
+}

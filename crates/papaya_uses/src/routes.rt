@@ -1,0 +1,39 @@
+//! A table of routes: many threads look paths up, and now and then one adds a route or turns it elsewhere.
+//! A path is looked up as a text, with no copy of it.
+ghost use Rattle.std.specs.Prelude.{IfErr, IfOk};
+ghost use mathlib.Core.List.{IsPrefix};
+ghost use Rattle.papaya.specs.Threads.{IsMemoryOrCapacity};
+ghost use Rattle.papaya_uses.specs.Routes.{IsLed, IsLedBetween};
+
+use papaya::{HashMap, Refused, Session, TextKey};
+use std::hash::{BuildHasherDefault, FoldHasher};
+use std::sync::Wait;
+
+/// The number of each path's handler. A thread makes its session by `Session::new(&routes)`.
+pub type Routes = HashMap<String, u64, BuildHasherDefault<FoldHasher>>;
+
+/// The handler of a path. It waits for nobody.
+pub fn handler(routes: &mut Session<'_, String, u64>, path: &str) -> Option<u64>
+    ensures seen { IsPrefix routes.old.history routes.new.history }
+    ensures led { IsLedBetween path.now routes.old.history routes.new.history result }
+{
+    routes.get(&TextKey(path)).copied()
+}
+
+/// Leads a path to a handler, and answers which one it had. Threads that look it up meanwhile get the
+/// one or the other.
+pub fn lead<R: Wait>(
+    rt: &R,
+    routes: &mut Session<'_, String, u64>,
+    path: String,
+    handler: u64,
+) -> Result<Option<u64>, Refused>
+    ensures seen { IsPrefix routes.old.history routes.new.history }
+    ensures led { IfOk result (IsLed path handler routes.old.history routes.new.history) }
+    ensures refused { IfErr result IsMemoryOrCapacity }
+{
+    match routes.insert(rt, path, handler) {
+        Ok(before) => Ok(before.copied()),
+        Err(refused) => Err(refused),
+    }
+}

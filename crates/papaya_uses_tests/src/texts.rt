@@ -1,0 +1,81 @@
+// The uses whose keys are texts, each run once; threads share the maps.
+use papaya::{Refused, Session};
+use papaya_uses::interner::Interner;
+use papaya_uses::metrics::{Metrics, add, read};
+use papaya_uses::routes::{Routes, handler, lead};
+use std::alloc::Global;
+use std::process::Abort;
+use std::sync::Wait;
+use std::test::Fail;
+use std::thread::{Threads, join};
+
+/// A thread adds to one metric so often, and once to another.
+fn adds(rt: &impl Wait, alloc: Global, metrics: &Metrics, times: u64) -> Result<u64, Refused> {
+    let mut session = Session::new(metrics);
+    for _ in 0..times {
+        add(rt, alloc, &mut session, "requests", 2)?;
+    }
+    add(rt, alloc, &mut session, "threads", 1)
+}
+
+/// Two threads at a time.
+fn both_add(rt: &(impl Threads + Wait + Sync + Abort), alloc: Global, metrics: &Metrics) {
+    let both = join(
+        rt,
+        || adds(rt, alloc, metrics, 1000),
+        || adds(rt, alloc, metrics, 1000),
+    );
+    let mut session = Session::new(metrics);
+    assert!(rt; both == (Ok(0), Ok(1)) || both == (Ok(1), Ok(0)));
+    assert!(rt; read(&mut session, "requests") == Some(4000));
+    assert!(rt; read(&mut session, "errors") == None);
+}
+
+#[test]
+fn no_addition_to_a_metric_is_lost(rt: HostRuntime) -> Result<(), Fail> {
+    let metrics: Metrics = Metrics::new(&rt, rt.alloc())?;
+    both_add(&rt, rt.alloc(), &metrics);
+    Ok(())
+}
+
+/// A thread asks for the numbers of three texts: their sum.
+fn numbers(rt: &impl Wait, alloc: Global, interner: &Interner) -> Result<u64, Refused> {
+    let mut sum = 0u64;
+    for text in ["red", "green", "blue"] {
+        sum = sum.wrapping_add(interner.number(rt, alloc, text)?);
+    }
+    Ok(sum)
+}
+
+/// Two threads get the same numbers.
+fn both_ask(rt: &(impl Threads + Wait + Sync + Abort), alloc: Global, interner: &Interner) {
+    let (first, second) = join(
+        rt,
+        || numbers(rt, alloc, interner),
+        || numbers(rt, alloc, interner),
+    );
+    assert!(rt; first.is_ok() && first == second);
+}
+
+#[test]
+fn a_text_has_one_number(rt: HostRuntime) -> Result<(), Fail> {
+    let interner = Interner::new(&rt, rt.alloc())?;
+    both_ask(&rt, rt.alloc(), &interner);
+    let red = interner.number(&rt, rt.alloc(), "red")?;
+    assert!(rt; interner.text(red) == Some("red"));
+    assert!(rt; interner.text(99).is_none());
+    Ok(())
+}
+
+#[test]
+fn a_path_is_led(rt: HostRuntime) -> Result<(), Fail> {
+    let routes: Routes = Routes::new(&rt, rt.alloc())?;
+    let mut session = Session::new(&routes);
+    let before = lead(&rt, &mut session, "/home".to_string(rt.alloc())?, 1)?;
+    assert!(rt; before.is_none());
+    let before = lead(&rt, &mut session, "/home".to_string(rt.alloc())?, 2)?;
+    assert!(rt; before == Some(1));
+    assert!(rt; handler(&mut session, "/home") == Some(2));
+    assert!(rt; handler(&mut session, "/none").is_none());
+    Ok(())
+}

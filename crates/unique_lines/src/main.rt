@@ -1,0 +1,84 @@
+//! `unique-lines`: reads lines, and prints each different one once, in the order of their bytes. Four
+//! threads bring the lines into one set.
+#![tactic(auto)]
+
+use papaya::{HashSet, Refused, TextKey};
+use papaya_shell::failure::{Failure, ended};
+use std::alloc::Global;
+use std::hash::{BuildHasherDefault, FoldHasher};
+use std::io;
+use std::io::Read;
+use std::process::ExitCode;
+use std::sync::Wait;
+use std::thread::{Threads, map_chunks};
+
+/// The lines that were met.
+type Lines = HashSet<String, BuildHasherDefault<FoldHasher>>;
+
+/// Brings some lines in, as one thread does. A line that is there is not copied.
+fn bring(rt: &impl Wait, alloc: Global, lines: &Lines, part: &[&str]) -> Result<(), Refused> {
+    for line in part {
+        if !lines.pin().contains(&TextKey(line)) {
+            let Ok(line) = line.to_string(alloc) else {
+                return Err(Refused::Memory);
+            };
+            lines.pin().insert(rt, line)?;
+        }
+    }
+    Ok(())
+}
+
+/// Brings all lines in by four threads.
+fn bring_all(
+    rt: &(impl Threads + Wait + Sync),
+    alloc: Global,
+    lines: &Lines,
+    all: &[&str],
+) -> Result<(), Failure> {
+    let size = all.len().div_ceil(4).max(1);
+    let parts = map_chunks(
+        rt,
+        alloc,
+        all,
+        size,
+        &|_, part| bring(rt, alloc, lines, part),
+    )?;
+    for part in parts {
+        part?;
+    }
+    Ok(())
+}
+
+/// The lines of the set in the order of their bytes.
+fn in_order(rt: &impl Wait, alloc: Global, lines: &Lines) -> Result<Vec<String>, Failure> {
+    let mut found = Vec::new(alloc);
+    for line in lines.pin().iter(rt)? {
+        found.push(line.as_str().to_string(alloc)?)?;
+    }
+    found.sort_unstable();
+    Ok(found)
+}
+
+/// The whole program, over any reader.
+fn run<R: Threads + Wait + Sync + Print, I: Read + Drop>(
+    rt: &R,
+    alloc: Global,
+    input: I,
+) -> Result<(), Failure> {
+    let text = io::read_to_string(alloc, input).map_err(|_| Failure::Input)?;
+    let mut all = Vec::new(alloc);
+    for line in text.as_str().lines() {
+        all.push(line)?;
+    }
+    let lines: Lines = Lines::new(rt, alloc)?;
+    bring_all(rt, alloc, &lines, all.as_slice())?;
+    for line in in_order(rt, alloc, &lines)?.iter() {
+        println!(rt; "{line}").map_err(|_| Failure::Output)?;
+    }
+    Ok(())
+}
+
+fn main(rt: HostRuntime) -> ExitCode {
+    let status = run(&rt, rt.alloc(), rt.stdin());
+    ExitCode::from(ended(status, "unique-lines", &mut rt.stderr()))
+}
