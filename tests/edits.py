@@ -7,7 +7,7 @@ An edit has the lines of those in must-fail/, and two before them: `fn:`, the fu
 check names it below its crate, and `copy:`, the number of the copy in which it is made. No function of a
 copy may call another one that is spoiled there. A copy's check looks at these functions and at what they
 call, and at nothing else. Each of them has to be refused at a goal of its own, and all others be proved.
-The copies of a crate are tried one after the other, so that what they call alike is proved once.
+Up to four copies of a crate are tried one after the other, so that what they call alike is proved once.
 """
 
 import os
@@ -17,6 +17,9 @@ import sys
 from prover import LOST, NAMED, TOP, Bad, Change, below, check, copy_of, digest, try_all, verdicts_of
 
 TOGETHER = "must-fail-together"
+
+# So many copies of a crate are tried one after the other: more would keep one processor long after all else.
+IN_TURN = 4
 
 
 def place_of(edit, folder):
@@ -80,8 +83,8 @@ def try_copy(room, kept, crate, edits):
     return told
 
 
-def try_crate(room, crate, copies):
-    """Tries the copies of a crate, one after the other, over what the ones before proved."""
+def try_some(room, crate, copies):
+    """Tries some copies of a crate, one after the other, over what the ones before proved."""
     os.mkdir(f"{room}/kept")
     told, why = [], []
     for number, edits in enumerate(copies):
@@ -95,25 +98,26 @@ def try_crate(room, crate, copies):
 
 
 def copies_of(crate):
-    """The edits of a crate, by their copies."""
+    """The edits of a crate, by their copies, so many together as are tried one after the other."""
     folder, copies = f"{TOP}/crates/{crate}/{TOGETHER}", {}
     for name in sorted(os.listdir(folder)):
         edit = Change(f"{folder}/{name}")
         if not {"fn", "copy"} <= edit.words.keys():
             raise Bad(f"{crate}/{edit.name}: it has no `fn:` and `copy:`")
         copies.setdefault(edit.words["copy"], []).append(edit)
-    return [*copies.values()]
+    every = [*copies.values()]
+    return [every[at : at + IN_TURN] for at in range(0, len(every), IN_TURN)]
 
 
 def main(names):
     # (as `rt ci` builds them: the lowest first)
     every = sorted((it for it in NAMED if os.path.isdir(f"{TOP}/crates/{it}/{TOGETHER}")), key=lambda it: len(below(it)))
     try:
-        tries = [(crate, copies_of(crate)) for crate in names or every]
+        tries = [(crate, copies) for crate in names or every for copies in copies_of(crate)]
     except Bad as why:
         print(f"edits: {why}", file=sys.stderr)
         return 1
-    return 0 if try_all("edits", tries, try_crate) else 1
+    return 0 if try_all("edits", tries, try_some) else 1
 
 
 sys.exit(main(sys.argv[1:]))
