@@ -25,5 +25,5 @@ compare_exchange-requires g c =
     let beside = c.hint.ensures in let k = beside.0 in (
       c.learn.ensures.0 ∙ (ap (λ z. z.book) c.again-seen.ensures ∙ (c.requires.book ∙ (sym book ∙ sym (ap (λ z. z.book) beside.2)))),
       subst (λ z. IsHinted g.K.PartialEq.eq hash z c.args.hint v) (sym (ap (λ z. z.key) beside.2))
-      (may_say g.K.PartialEq.eq hash b c.args.number c.args.place k c.args.hint log v c.requires.hint (slot_key log c.args.number c.args.place k table c.requires.table beside.1) since),
+          (may_say g.K.PartialEq.eq hash b c.args.number c.args.place k c.args.hint log v c.requires.hint (slot_key log c.args.number c.args.place k table c.requires.table beside.1) since),
     )
