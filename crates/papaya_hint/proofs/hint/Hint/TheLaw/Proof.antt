@@ -2,7 +2,7 @@
 use Prim.Native.Nat.{ℕ}
 use seplogic.Ra.Ura.{Ura}
 use base.Fraction.{full_share}
-use base.Logic.{ent, id⊢, via}
+use base.Logic.{ent}
 use types.Logic.{Logic, sem}
 use denote.Memory.{part_at, part_of}
 use denote.Model.Laws.{Lends-as}

@@ -1,6 +1,5 @@
 -- `load` is one step, which learns what the number says.
 use Rattle.std.proofs.Common.{ℕ, ◌^◌, false, List, [], ◌∷◌, sym, refl, lit<, w64}
-use seplogic.Ra.Ura.{Ura}
 use mir.Syntax.{a_type, dcons, dnil, named}
 use mir.Val.{Val, vint, vptr}
 use mir.MapTy.{inst_fn}
@@ -52,7 +51,7 @@ load_spec 𝓤 𝓛 𝓜 𝓡 wired E A P _ _ _ g d h d' _ _ =
     let Mine : RattleType = Hint.the_row E' A' P' g h in
     let a_hint = RefOf (0 ∷ []) tt (plain (λ _. Mine)) (λ _. tt) in
     let hs : Stays En.signature.params En.kept =
-        (stay_dropped a_hint yes, (stay_ref (1 ∷ []) tt (plain (λ _. Book)), tt)) in
+    (stay_dropped a_hint yes, (stay_ref (1 ∷ []) tt (plain (λ _. Book)), tt)) in
     proved 𝓛 En hs c 𝓜 𝓡
     (Goes-dropped 𝓛 5 a_hint yes (λ κs x f. refl), (Goes-ref 𝓛 5 1 tt (plain (λ _. Book)), tt))
     (#self inst) fn (code.unfolded 𝓤 𝓛.H 𝓜 𝓡 wired (E, (A, (P, tt))) d d')
@@ -69,10 +68,10 @@ load_spec 𝓤 𝓛 𝓜 𝓡 wired E A P _ _ _ g d h d' _ _ =
     let y : (walk_of 𝓛 En hs c).Ghost = ((κs, qs, bounds, a, (p ∷ [], (p' ∷ [], tt))), gh) in
     let Post : Val → SProp 𝓤 = (walk_of 𝓛 En hs c).post y in
     let rest : Fml = fsep (flft κs.1.1.0 qs.1.1.0) (fsep (flft κs.1.1.1.0 qs.1.1.1.0)
-        (fsep (flft κs.1.1.1.1.0 qs.1.1.1.1.0) ftrue)) in
+    (fsep (flft κs.1.1.1.1.0 qs.1.1.1.1.0) ftrue)) in
     let toks : Fml = fsep (flft κs.0 qs.0) (fsep (flft κs.1.0 qs.1.0) rest) in
     qed 𝓛 ((‵ toks ⊛ ‵ (owns (types_at En.signature.params κs) a y.0.4))
-      ∷ raw (fact 𝓤 _) ∷ raw (fact 𝓤 _) ∷ raw (fact 𝓤 _) ∷ given _ (‵ ftrue) ∷ []) ∵
+    ∷ raw (fact 𝓤 _) ∷ raw (fact 𝓤 _) ∷ raw (fact 𝓤 _) ∷ given _ (‵ ftrue) ∷ []) ∵
     keep ! (4 ∷ 0 ∷ []) $ learn ! (λ asked. drop ! $ split ! $
     fsplit ! $ move ! (1 ∷ []) $ fsplit ! $ move ! (3 ∷ []) $ fsplit ! $ fsplit ! $
     move ! (2 ∷ []) $ fsplit ! $ fsplit3 ! $ keep ! (1 ∷ 2 ∷ 5 ∷ 6 ∷ 7 ∷ 8 ∷ []) $
@@ -82,21 +81,21 @@ load_spec 𝓤 𝓛 𝓜 𝓡 wired E A P _ _ _ g d h d' _ _ =
     move ! (1 ∷ []) $ fpick ! (λ past. drop ! $
     move ! (0 ∷ 6 ∷ []) $
     use2 𝓛 (later (some (λ (s : Share). ‵ (flft t.0 s)
-        ⊛ raw (wand 𝓤 (𝓛.A.lft t.0 s) (𝓛.H.⇛ (𝓛.A.lft κs.0 qs.0))))))
-      (Lends-one 𝓛 𝓜 𝓡 κs.0 t.0 qs.0) $
+    ⊛ raw (wand 𝓤 (𝓛.A.lft t.0 s) (𝓛.H.⇛ (𝓛.A.lft κs.0 qs.0))))))
+    (Lends-one 𝓛 𝓜 𝓡 κs.0 t.0 qs.0) $
     await ! tt $ pick ! (λ s. split ! $
     move ! (3 ∷ 4 ∷ 5 ∷ []) $ opens ! tt Book at'.0 at'.1 (λ vs. move ! (1 ∷ []) $ fsplit ! $ move ! (1 ∷ []) $
     rewrite ! 0 (λ (z : _). ‵ (seen_owns cv.code rule z seen.names seen.log)) asked.0 refl $
     let out : ℕ → Fml = λ n. fsep (flft t.0 s) (fex (List E.Denot)
-        (steps.heard 𝓛 cv rule me.book seen.names hinted false me.key at.0 at.1 t.0 s t.1 seen.log n)) in
+    (steps.heard 𝓛 cv rule me.book seen.names hinted false me.key at.0 at.1 t.0 s t.1 seen.log n)) in
     first ! $ blocks ! $ sets ! (addr ! (through ! refl (stop !))) refl (tt, tt) $
     sets ! (of_opd ! (get ! refl)) refl (tt, tt) $
     move ! (8 ∷ 6 ∷ 0 ∷ []) $
     use3 𝓛 (raw (𝓣.C _ (p ∷ seq_cst ∷ []) (λ u. mean 𝓛 (found out u))))
     (via 𝓤 _
-      (steps.hears 𝓛 cv rule me.book seen.names hinted false me.key at.0 at.1 t.0 s t.1 seen.log refl
-        past asked.1)
-      (loads 𝓛 𝓜 𝓡 (code.calls-std::sync::atomic::raw::load 𝓡.env wired) (block_ptr at.0 at.1) out)) $
+    (steps.hears 𝓛 cv rule me.book seen.names hinted false me.key at.0 at.1 t.0 s t.1 seen.log refl
+    past asked.1)
+    (loads 𝓛 𝓜 𝓡 (code.calls-std::sync::atomic::raw::load 𝓡.env wired) (block_ptr at.0 at.1) out)) $
     sets ! (agg ! (and_then ! (lit ! tt) (no_more !))) refl (tt, (record { fits = lit< tt }, tt)) $
     Calls-last ! (fm 𝓛 𝓜 𝓡) (found out) (and_then ! (get ! refl) (and_then ! (get ! refl) (no_more !)))
     (λ u. finds ! out (λ n fits. lands_last ! refl (tt, record { fits = fits }) $
@@ -106,7 +105,7 @@ load_spec 𝓤 𝓛 𝓜 𝓡 wired E A P _ _ _ g d h d' _ _ =
     use2 𝓛 (later (‵ (flft κs.0 qs.0))) (apply∗ 𝓤 (𝓛.A.lft t.0 s) (𝓛.H.⇛ (𝓛.A.lft κs.0 qs.0))) $
     await ! tt $ move ! (1 ∷ []) $ fpick ! (λ log. fsplit ! $ fpick ! (λ so. drop ! $
     let left : Book.Denot =
-        record { marker = record {}; book = me.book; names = seen.names; log = log } in
+    record { marker = record {}; book = me.book; names = seen.names; log = log } in
     move ! (2 ∷ 0 ∷ []) $ fjoin ! $ move ! (2 ∷ 0 ∷ 3 ∷ 4 ∷ 5 ∷ []) $
     closes ! tt Book left vs at'.0 at'.1 $
     flt_i ! n (2 ^ 64) fits $ feq_i ! (List Val) (vint w64 n ∷ []) (vint w64 n ∷ []) refl $ fjoin ! $
@@ -115,4 +114,4 @@ load_spec 𝓤 𝓛 𝓜 𝓡 wired E A P _ _ _ g d h d' _ _ =
     nothing ! $ fjoin ! $
     returns ! (look_at ! 0 refl) $ free_all ! refl $ keep ! (1 ∷ 0 ∷ 2 ∷ []) $
     by ! (ends 𝓛 En hs c y (vint w64 n) n (tt, (left, tt)) (tt, (tt, tt))
-      (fact_i 𝓤 _ (emp 𝓤) ((sym asked.0, refl, so.0, so.1)))))))))))))))
+    (fact_i 𝓤 _ (emp 𝓤) ((sym asked.0, refl, so.0, so.1)))))))))))))))
