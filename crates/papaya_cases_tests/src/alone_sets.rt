@@ -19,12 +19,12 @@ impl<S: BuildHasher> Calls for HashSet<u64, S> {
         self.remove(&key)
     }
 
-    fn contains_one(&self, key: u64) -> bool {
-        self.contains(&key)
+    fn contains_one(&self, key: u64) -> Result<bool, Refused> {
+        Ok(self.contains(&key))
     }
 
-    fn get_one(&self, key: u64) -> Option<u64> {
-        self.get(&key).copied()
+    fn get_one(&self, key: u64) -> Result<Option<u64>, Refused> {
+        Ok(self.get(&key).copied())
     }
 
     fn keys(&self) -> usize {

@@ -30,9 +30,9 @@ pub trait Calls {
 
     fn remove_one(&mut self, key: u64) -> Result<bool, Refused>;
 
-    fn contains_one(&self, key: u64) -> bool;
+    fn contains_one(&self, key: u64) -> Result<bool, Refused>;
 
-    fn get_one(&self, key: u64) -> Option<u64>;
+    fn get_one(&self, key: u64) -> Result<Option<u64>, Refused>;
 
     fn keys(&self) -> usize;
     /// How many keys a walk gives, and their sum.
@@ -72,14 +72,14 @@ fn remove_below<C: Calls>(set: &mut C, end: u64) -> Result<Answer, Refused> {
 }
 
 /// How many keys are there.
-fn get_below<C: Calls>(set: &C, end: u64) -> Answer {
+fn get_below<C: Calls>(set: &C, end: u64) -> Result<Answer, Refused> {
     let mut found = 0u64;
     for key in 0..end {
-        if set.get_one(key) == Some(key) {
+        if set.get_one(key)? == Some(key) {
             found = found.wrapping_add(1);
         }
     }
-    Answer::Number(found)
+    Ok(Answer::Number(found))
 }
 
 /// The key that was found, if one was.
@@ -93,9 +93,9 @@ fn key_of(found: Option<u64>) -> Answer {
 /// What a call answers that changes nothing.
 fn asked<C: Calls>(set: &C, step: Step) -> Result<Answer, Refused> {
     match step {
-        Step::Contains(key) => Ok(Answer::Is(set.contains_one(key))),
-        Step::Get(key) => Ok(key_of(set.get_one(key))),
-        Step::GetBelow(end) => Ok(get_below(set, end)),
+        Step::Contains(key) => is(set.contains_one(key)),
+        Step::Get(key) => Ok(key_of(set.get_one(key)?)),
+        Step::GetBelow(end) => get_below(set, end),
         Step::Walk => {
             let (keys, sum) = set.walk()?;
             Ok(Answer::Walked(keys, sum, 0))

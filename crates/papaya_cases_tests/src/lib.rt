@@ -12,6 +12,8 @@ mod dropped;
 #[cfg(test)]
 mod expect;
 #[cfg(test)]
+mod guarded_sets;
+#[cfg(test)]
 mod key_steps;
 #[cfg(test)]
 mod maps;

@@ -27,12 +27,12 @@ impl<R: Wait, S: BuildHasher> Calls for Shared<'_, '_, R, S> {
         self.set.pin().remove(self.rt, &key)
     }
 
-    fn contains_one(&self, key: u64) -> bool {
-        self.set.pin().contains(&key)
+    fn contains_one(&self, key: u64) -> Result<bool, Refused> {
+        Ok(self.set.pin().contains(&key))
     }
 
-    fn get_one(&self, key: u64) -> Option<u64> {
-        self.set.pin().get(&key).copied()
+    fn get_one(&self, key: u64) -> Result<Option<u64>, Refused> {
+        Ok(self.set.pin().get(&key).copied())
     }
 
     fn keys(&self) -> usize {
