@@ -12,8 +12,12 @@ mod machines;
 #[cfg(test)]
 mod plain;
 #[cfg(test)]
+mod plans;
+#[cfg(test)]
 mod resizing;
 #[cfg(test)]
 mod schedules;
+#[cfg(test)]
+mod stopped;
 #[cfg(test)]
 mod words;

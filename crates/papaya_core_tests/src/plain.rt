@@ -9,6 +9,7 @@ use papaya_core::trace::{Event, Trace, Turn};
 use papaya_hashers::times::Times;
 use papaya_words::probe::ResizeMode;
 use std::alloc::Global;
+use std::hash::BuildHasher;
 use std::process::Abort;
 use std::test::Fail;
 
@@ -108,13 +109,16 @@ pub(crate) fn answers_in(alloc: Global, trace: &Trace) -> Result<Vec<(u64, bool)
 }
 
 /// The value of the pair with this number.
-pub(crate) fn value_of(core: &Numbers, number: u64) -> Option<u64> {
+pub(crate) fn value_of<S: BuildHasher, A>(core: &Core<u64, u64, S, A>, number: u64) -> Option<u64> {
     let (_, value) = core.pair(number)?;
     Some(*value)
 }
 
 /// A reply, which tells pairs by their values.
-pub(crate) fn by_value(core: &Numbers, reply: Option<Reply>) -> Option<Reply> {
+pub(crate) fn by_value<S: BuildHasher, A>(
+    core: &Core<u64, u64, S, A>,
+    reply: Option<Reply>,
+) -> Option<Reply> {
     Some(match reply? {
         Reply::Found(number) => Reply::Found(value_of(core, number)?),
         Reply::Inserted(number) => Reply::Inserted(value_of(core, number)?),

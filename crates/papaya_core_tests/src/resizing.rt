@@ -289,11 +289,6 @@ fn stops_at(
     Ok(false)
 }
 
-/// A caller claims a place for its pair, and stops before it counts it.
-fn claims(alloc: Global, core: &mut Numbers, caller: usize) -> Result<bool, Fail> {
-    stops_at(alloc, core, caller, caller as u64, StepKind::Claim)
-}
-
 /// Caller 1 has marked the pair of its chunk and stops, while another caller copies a chunk. That one
 /// marks so many pairs: none where its number picks the chunk of caller 1, which it ends. Then caller
 /// 1 goes on.
@@ -336,6 +331,20 @@ fn callers_with_different_numbers_copy_different_chunks(rt: HostRuntime) -> Resu
 /// How many keys fill a table of 32 slots on one path.
 const CROWD: usize = 26;
 
+/// A caller inserts its number as a key, and stops as soon as caller 30 finds that: before it counts it.
+fn stops_once_found(alloc: Global, core: &mut Numbers, caller: usize) -> Result<bool, Fail> {
+    let key = caller as u64;
+    let _ = begin(alloc, core, caller, Call::Insert(key, value(key)), 0)?;
+    for _ in 0..STEPS_OF_GROWTH {
+        let _ = core.run(vec![in alloc; Turn::Step(caller, false)]?)?;
+        let looked = begin(alloc, core, 30, Call::Get(key), WHOLE)?;
+        if by_value(core, reply_to(&looked, 30)) == Some(Reply::Found(value(key))) {
+            return Ok(core.running(caller));
+        }
+    }
+    Ok(false)
+}
+
 /// Caller 26 inserts a key: the table that it makes has 16 slots, which is given up, and one of 32
 /// takes all.
 fn gives_up_a_table(rt: &impl Abort, alloc: Global, core: &mut Numbers) -> Result<(), Fail> {
@@ -361,7 +370,8 @@ fn table_made_by_a_count_that_lags_is_given_up(rt: HostRuntime) -> Result<(), Fa
     let mut core = Core::new(rt.alloc(), ResizeMode::Blocking, 0, 1, TOGETHER)?;
     has_no_table(&rt, rt.alloc(), &mut core)?;
     for caller in 0..CROWD {
-        is_at(&rt, caller, claims(rt.alloc(), &mut core, caller)?, true);
+        let stopped = stops_once_found(rt.alloc(), &mut core, caller)?;
+        is_at(&rt, caller, stopped, true);
     }
     gives_up_a_table(&rt, rt.alloc(), &mut core)?;
     holds(&rt, rt.alloc(), &mut core, 27, (0, 27))

@@ -2,8 +2,8 @@
 // second is made whole.
 use crate::expect::{is, is_at};
 use crate::plain::{
-    Asked, Numbers, WHOLE, answers_in, begin, by_value, compute, go_on, removal, replies, reply_to,
-    times, value_of,
+    Asked, MODES, Numbers, WHOLE, answers_in, begin, by_value, compute, go_on, removal, replies,
+    reply_to, times, value_of,
 };
 use papaya_ask::ask::StepKind;
 use papaya_ask::call::{Call, Reply};
@@ -40,8 +40,8 @@ const STEPS_OF_FILL: usize = 12;
 type Replies = (Reply, Reply, Reply);
 
 /// A new map, in which there is this key at most, with 1.
-fn map_of(alloc: Global, held: Option<u64>) -> Result<Numbers, Fail> {
-    let mut core = Core::new(alloc, ResizeMode::Incremental(64), 0, 16, APART)?;
+fn map_of(alloc: Global, mode: ResizeMode, held: Option<u64>) -> Result<Numbers, Fail> {
+    let mut core = Core::new(alloc, mode, 0, 16, APART)?;
     if let Some(key) = held {
         let _ = begin(alloc, &mut core, 3, Call::Insert(key, 1), WHOLE)?;
     }
@@ -315,10 +315,10 @@ fn one_stop(
     }
 }
 
-fn each_stop(rt: &impl Abort, alloc: Global, case: Case) -> Result<(), Fail> {
+fn each_stop(rt: &impl Abort, alloc: Global, mode: ResizeMode, case: Case) -> Result<(), Fail> {
     let (held, end) = parts_of(case);
     for steps in 0..end {
-        let mut core = map_of(alloc, held)?;
+        let mut core = map_of(alloc, mode, held)?;
         one_stop(rt, alloc, &mut core, case, steps)?;
     }
     Ok(())
@@ -336,7 +336,9 @@ fn calls_that_are_stopped_beside_others(rt: HostRuntime) -> Result<(), Fail> {
         Case::AbortsWhereNone,
         Case::AbortsWhereOne,
     ] {
-        each_stop(&rt, rt.alloc(), case)?;
+        for mode in MODES {
+            each_stop(&rt, rt.alloc(), mode, case)?;
+        }
     }
     Ok(())
 }
