@@ -4,34 +4,66 @@ use papaya_call::answers::Operation;
 use std::sync::atomic::{AtomicBool, Ordering};
 use std::thread::yield_now;
 
-/// Where a closure that is shown a pair waits for another thread.
+/// How long a thread waits for another one.
+pub const TURNS: u64 = 100_000_000;
+
+/// How long it waits where the other one is not to come.
+pub const FEW_TURNS: u64 = 1000;
+
+/// Where a closure waits for other threads.
 #[derive(Drop)]
 pub struct Gate {
-    /// The closure was shown a pair.
-    pub shown: AtomicBool,
-    /// The pair was replaced.
-    pub replaced: AtomicBool,
+    /// A closure is here, or was.
+    pub reached: AtomicBool,
+    /// It goes on.
+    pub open: AtomicBool,
+    /// It went on before the gate was open.
+    late: AtomicBool,
+    /// How long it waits.
+    pub turns: u64,
 }
 
 impl Gate {
-    /// One at which a closure waits, or does not.
-    pub fn new(is_open: bool) -> Gate {
+    /// One at which a closure waits for so long.
+    pub fn closed(turns: u64) -> Gate {
         Gate {
-            shown: AtomicBool::new(false),
-            replaced: AtomicBool::new(is_open),
+            reached: AtomicBool::new(false),
+            open: AtomicBool::new(false),
+            late: AtomicBool::new(false),
+            turns,
         }
     }
-}
 
-/// Waits until the flag is set, if it ever is.
-pub fn turn_until(flag: &AtomicBool) -> bool {
-    for _ in 0..100_000_000u64 {
-        if flag.load(Ordering::SeqCst) {
-            return true;
-        }
-        yield_now();
+    /// One at which no closure waits.
+    pub fn open() -> Gate {
+        let gate = Gate::closed(0);
+        gate.open.store(true, Ordering::SeqCst);
+        gate
     }
-    false
+
+    /// Waits until the flag is set, if it ever is.
+    pub fn turn_until(&self, flag: &AtomicBool) -> bool {
+        for _ in 0..self.turns {
+            if flag.load(Ordering::SeqCst) {
+                return true;
+            }
+            yield_now();
+        }
+        flag.load(Ordering::SeqCst)
+    }
+
+    /// A closure comes here, and waits, but for one that came after another had waited in vain.
+    pub fn wait(&self) {
+        self.reached.store(true, Ordering::SeqCst);
+        if !self.late.load(Ordering::SeqCst) && !self.turn_until(&self.open) {
+            self.late.store(true, Ordering::SeqCst);
+        }
+    }
+
+    /// Was a closure here, and was the gate opened before it went on?
+    pub fn was_passed(&self) -> bool {
+        self.reached.load(Ordering::SeqCst) && !self.late.load(Ordering::SeqCst)
+    }
 }
 
 /// What the closure of a call was shown.
@@ -42,8 +74,6 @@ pub struct Seen {
     pub pairs: u64,
     pub first: Option<(u64, u64)>,
     pub last: Option<(u64, u64)>,
-    /// Was what it waited for at the gate there in time?
-    pub met: bool,
 }
 
 impl Seen {
@@ -54,12 +84,12 @@ impl Seen {
             pairs: 0,
             first: None,
             last: None,
-            met: false,
         }
     }
 
-    /// The closure is shown this. At the first pair it waits at the gate.
+    /// The closure is shown this, and waits at the gate.
     pub fn see(&mut self, shown: Option<(u64, u64)>, gate: &Gate) {
+        gate.wait();
         if shown.is_none() {
             self.nones = self.nones.wrapping_add(1);
             return;
@@ -68,8 +98,6 @@ impl Seen {
         self.last = shown;
         if self.first.is_none() {
             self.first = shown;
-            gate.shown.store(true, Ordering::SeqCst);
-            self.met = turn_until(&gate.replaced);
         }
     }
 
@@ -109,6 +137,17 @@ pub fn numbers_of(shown: Option<(&u64, &u64)>) -> Option<(u64, u64)> {
         Some((key, value)) => Some((*key, *value)),
         None => None,
     }
+}
+
+/// The value after one.
+pub fn next(value: &u64) -> u64 {
+    value.wrapping_add(1)
+}
+
+/// The same by a closure that waits at the gate.
+pub fn next_at(gate: &Gate, value: &u64) -> u64 {
+    gate.wait();
+    next(value)
 }
 
 /// The closure of a compute is shown this, and answers so.
