@@ -32,7 +32,10 @@ fn each_count_is_made_once(rt: HostRuntime) -> Result<(), Fail> {
 const LOSES_ADDITIONS: [Turn; 3] = [
     Calls(&[(Insert(0, 0), Absent)]),
     Threads(Eight([ReadThenStore; 4], [ReadThenStore; 4])),
-    Calls(&[(HasBelow(1, 0, 8), Is(false)), (HasBelow(1, 0, 1), Is(true))]),
+    Calls(&[
+        (HasBelow(1, 0, 8), Is(false)),
+        (HasBelow(1, 0, 1), Is(true)),
+    ]),
 ];
 
 /// Additions that are a lookup and an insertion are lost, and that is found out.

@@ -2,10 +2,11 @@
 use crate::answers::Answer;
 use crate::board::Board;
 use crate::held::looks_anew;
-use crate::seen::{Gate, Says};
+use crate::seen::Says;
 use crate::shared::Shared;
 use crate::steps::{Calls, Step, answer, has_below, inserts};
 use crate::threads::{churn, draw, take_left};
+use papaya_gates::gate::Gate;
 use std::sync::Wait;
 use std::sync::atomic::Ordering;
 use std::thread::{Threads, join};
@@ -42,8 +43,8 @@ pub enum Job {
     Walk(u64),
     /// Inserts, reads and removes the same keys as other threads, under this number.
     Churn(u64),
-    /// Stores values at the same keys as other threads, each the next one of its key, and tells what they
-    /// took the place of, or does not.
+    /// Stores values at the same keys as other threads, each the next one of its key, and tells
+    /// what they took the place of, or does not.
     Draw(bool),
     /// Takes out what threads have left that did one of the two.
     TakeLeft,
@@ -52,8 +53,8 @@ pub enum Job {
     Gated(Step, Answer),
     /// Replaces that pair.
     Replace,
-    /// Keeps the reference to the value 10 that a lookup of key 1 answered, while another thread wears it
-    /// out. Or looks it up anew.
+    /// Keeps the reference to the value 10 that a lookup of key 1 answered, while another thread
+    /// wears it out. Or looks it up anew.
     Hold,
     LookAnew,
     /// Replaces that value 1000 times, and removes it.
@@ -165,7 +166,7 @@ fn adds<R: Wait, C: Calls>(rt: &R, map: &mut C, computes: bool) -> bool {
 /// Reads the value of key 0, and stores the next one when all have read it.
 fn reads_then_stores<R: Wait, C: Calls>(rt: &R, map: &mut C, board: &Board) -> bool {
     match map.get(0) {
-        Answer::Number(value) if board.meets(2) => {
+        Answer::Number(value) if board.crossing.meets(2) => {
             map.insert(rt, 0, value.wrapping_add(1)) != Answer::Absent
         }
         _ => false,
@@ -195,7 +196,8 @@ fn walks<R: Wait, C: Calls>(rt: &R, map: &mut C, keys: u64) -> bool {
     true
 }
 
-/// Makes the call, whose closure waits at the gate: was it open in time, and did the call answer so?
+/// Makes the call, whose closure waits at the gate: was it open in time, and did the call answer
+/// so?
 fn passes<R: Wait, C: Calls>(rt: &R, map: &mut C, call: Step, wanted: Answer, gate: &Gate) -> bool {
     let found = answer(rt, map, call, gate);
     let was_passed = gate.was_passed();
@@ -247,11 +249,11 @@ fn meets<R: Wait, C: Calls>(rt: &R, map: &mut C, job: Job, board: &Board) -> boo
         Job::Churn(thread) => churn(rt, map, board, thread),
         Job::Draw(tells) => draw(rt, map, board, tells),
         Job::TakeLeft => take_left(map, board.taken.as_slice()),
-        Job::Gated(call, wanted) => is_gated(rt, map, call, wanted, &board.gate),
-        Job::Replace => is_replaced(rt, map, &board.gate),
-        Job::LookAnew => looks_anew(map, &board.gate),
-        Job::WearOut => wears_out(rt, map, &board.gate),
-        Job::Stuck(call, wanted) => passes(rt, map, call, wanted, &board.gate),
+        Job::Gated(call, wanted) => is_gated(rt, map, call, wanted, &board.crossing.gate),
+        Job::Replace => is_replaced(rt, map, &board.crossing.gate),
+        Job::LookAnew => looks_anew(map, &board.crossing.gate),
+        Job::WearOut => wears_out(rt, map, &board.crossing.gate),
+        Job::Stuck(call, wanted) => passes(rt, map, call, wanted, &board.crossing.gate),
         _ => false,
     }
 }
@@ -303,7 +305,7 @@ fn work<R: Wait, M: Shared>(rt: &R, map: &M, job: Job, board: &Board) -> bool {
     match job {
         Job::Read(end) => reads(rt, map, end, board),
         Job::Grow(from, end) => grows(rt, map, from, end, board),
-        Job::Hold => map.holds(&board.gate),
+        Job::Hold => map.holds(&board.crossing.gate),
         _ => map.does(rt, job, board),
     }
 }

@@ -26,10 +26,7 @@ fn a_removal_shows_what_replaced_its_pair(rt: HostRuntime) -> Result<(), Fail> {
 /// A pair is stored, and then added to and replaced at once.
 const UPDATES_WHAT_REPLACED: [Turn; 3] = [
     Calls(&[(Insert(1, 10), Absent)]),
-    Threads(Two([
-        Gated(Compute(1, Says::Next), Updated(20, 21)),
-        Replace,
-    ])),
+    Threads(Two([Gated(Compute(1, Says::Next), Updated(20, 21)), Replace])),
     Calls(&[(Get(1), Number(21)), (Len, Number(1))]),
 ];
 

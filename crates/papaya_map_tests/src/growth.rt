@@ -28,7 +28,8 @@ pub const FOR_SIX: [Making; 3] = [
     Making::Parts(ResizeMode::Incremental(64), 6, APART),
 ];
 
-/// One thread makes the table grow to one of 2^12 slots, and the other finds the first keys each time.
+/// One thread makes the table grow to one of 2^12 slots, and the other finds the first keys each
+/// time.
 const READS_WHILE_GROWING: [Turn; 3] = [
     Calls(&[(InsertBelow(6), Is(true))]),
     Threads(Two([Grow(6, 2000), Read(6)])),
@@ -40,7 +41,8 @@ fn a_reader_finds_the_first_keys_while_the_map_grows(rt: HostRuntime) -> Result<
     runs::<_, Numbers>(&rt, rt.alloc(), &FOR_SIX, &READS_WHILE_GROWING)
 }
 
-/// Eight threads insert 128 keys each in a map of no pairs, so that all need each next table at once.
+/// Eight threads insert 128 keys each in a map of no pairs, so that all need each next table at
+/// once.
 const INSERTS_EIGHT: [Turn; 2] = [
     Threads(Eight(
         [
@@ -101,10 +103,10 @@ fn a_reader_finds_all_keys_while_chunks_are_copied(rt: HostRuntime) -> Result<()
     runs::<_, Numbers>(&rt, rt.alloc(), &[MODES[2]], &READS_BESIDE)
 }
 
-/// A key that is not there is missed.
+/// One key more is looked for than there are.
 const READS_TOO_FAR: [Turn; 2] = [
-    Calls(&[(InsertBelow(1024), Is(true))]),
-    Fails(Two([Reserve(&[2048]), HasOften(1025, 32)]), (true, false)),
+    Calls(&[(InsertBelow(64), Is(true))]),
+    Fails(Two([Reserve(&[128, 256]), HasOften(65, 32)]), (true, false)),
 ];
 
 #[test]

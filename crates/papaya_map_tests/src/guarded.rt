@@ -1,8 +1,9 @@
 // Maps of numbers: their calls with a guard.
 use crate::answers::{Answer, computed, done, made, pair, removal, there, tried, truth, value};
 use crate::numbers::{Numbers, said};
-use crate::seen::{Gate, Says, Seen, agrees, next, next_at, operation};
+use crate::seen::{Says, Seen, agrees, next, next_at, operation};
 use crate::steps::{Calls, Keeps, Step};
+use papaya_gates::gate::Gate;
 use papaya_keys::guard::Guard;
 use papaya_words::probe::Refused;
 use std::sync::Wait;

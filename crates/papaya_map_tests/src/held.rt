@@ -3,67 +3,44 @@ use crate::answers::Answer::{Absent, Number};
 use crate::crowd::Crowd::Two;
 use crate::crowd::Job::{Hold, LookAnew, WearOut};
 use crate::numbers::Numbers;
-use crate::seen::Gate;
 use crate::shared::Turn::{self, Calls, Fails, Threads};
 use crate::shared::{MODES, runs};
 use crate::steps;
 use crate::steps::Step::{Get, Insert, Len};
-use std::sync::atomic::Ordering;
+use papaya_gates::gate::{Gate, Look};
 use std::test::Fail;
-use std::thread::yield_now;
 
-/// Where a thread looks for the value of key 1.
-trait Look {
-    fn is_ten(&mut self) -> bool;
-}
-
-/// At the reference that a lookup answered.
+/// The reference that a lookup answered, and what it was of.
 #[derive(Drop)]
 struct Held<'a>(&'a u64);
 
 impl Look for Held<'_> {
-    fn is_ten(&mut self) -> bool {
+    fn is_same(&mut self) -> bool {
         *self.0 == 10
     }
 }
 
-/// In the map.
+/// What the map has of key 1.
 #[derive(Drop)]
 struct Anew<'a, C>(&'a mut C);
 
 impl<C: steps::Calls> Look for Anew<'_, C> {
-    fn is_ten(&mut self) -> bool {
+    fn is_same(&mut self) -> bool {
         self.0.get(1) == Number(10)
     }
-}
-
-/// Is it 10 until another thread is through, and once more?
-fn stays<L: Look>(look: &mut L, gate: &Gate) -> bool {
-    gate.reached.store(true, Ordering::SeqCst);
-    for _ in 0..gate.turns {
-        let is_last = gate.open.load(Ordering::SeqCst);
-        if !look.is_ten() {
-            return false;
-        }
-        if is_last {
-            return true;
-        }
-        yield_now();
-    }
-    false
 }
 
 /// Does the reference that a lookup answers stay as it is?
 pub fn holds(map: &Numbers, gate: &Gate) -> bool {
     match map.pin().get(&1) {
-        Some(value) => stays(&mut Held(value), gate),
+        Some(value) => gate.stays(&mut Held(value)),
         None => false,
     }
 }
 
 /// Does what the map answers stay as it is?
 pub fn looks_anew<C: steps::Calls>(map: &mut C, gate: &Gate) -> bool {
-    stays(&mut Anew(map), gate)
+    gate.stays(&mut Anew(map))
 }
 
 /// What a reference is of stays while another thread replaces the pair 1000 times and removes it.

@@ -2,8 +2,9 @@
 ghost use Rattle.std.specs.Prelude.{◌≡◌};
 
 use crate::answers::{Answer, computed, done, pair, removal, there, value};
-use crate::seen::{Gate, Says, Seen, agrees, next, next_at, operation};
+use crate::seen::{Says, Seen, agrees, next, next_at, operation};
 use crate::steps::{Calls, Keeps, Step};
+use papaya_gates::gate::Gate;
 use papaya_hashers::times::Times;
 use papaya_map::map::{HashMap, HashMapRef, Pass};
 use papaya_words::probe::Refused;

@@ -101,7 +101,7 @@ fn colons(text: &str) -> u64 {
 
 /// While pairs are being moved, each is printed once.
 pub fn prints_each<R: Wait + Abort, M: Shared>(rt: &R, alloc: Global, map: &M) {
-    let board = Board::new(alloc);
+    let board = Board::new(alloc, 1, 0);
     for key in 0..99u64 {
         is(rt, map.does(rt, Job::Insert(key, key + 1), &board), true);
         let text = map.printed(rt, alloc, What::Map).expect(rt, "a text");

@@ -1,70 +1,7 @@
 // What closures are shown, and what they answer.
 use crate::answers::Answer;
 use papaya_call::answers::Operation;
-use std::sync::atomic::{AtomicBool, Ordering};
-use std::thread::yield_now;
-
-/// How long a thread waits for another one.
-pub const TURNS: u64 = 100_000_000;
-
-/// How long it waits where the other one is not to come.
-pub const FEW_TURNS: u64 = 1000;
-
-/// Where a closure waits for other threads.
-#[derive(Drop)]
-pub struct Gate {
-    /// A closure is here, or was.
-    pub reached: AtomicBool,
-    /// It goes on.
-    pub open: AtomicBool,
-    /// It went on before the gate was open.
-    late: AtomicBool,
-    /// How long it waits.
-    pub turns: u64,
-}
-
-impl Gate {
-    /// One at which a closure waits for so long.
-    pub fn closed(turns: u64) -> Gate {
-        Gate {
-            reached: AtomicBool::new(false),
-            open: AtomicBool::new(false),
-            late: AtomicBool::new(false),
-            turns,
-        }
-    }
-
-    /// One at which no closure waits.
-    pub fn open() -> Gate {
-        let gate = Gate::closed(0);
-        gate.open.store(true, Ordering::SeqCst);
-        gate
-    }
-
-    /// Waits until the flag is set, if it ever is.
-    pub fn turn_until(&self, flag: &AtomicBool) -> bool {
-        for _ in 0..self.turns {
-            if flag.load(Ordering::SeqCst) {
-                return true;
-            }
-            yield_now();
-        }
-        flag.load(Ordering::SeqCst)
-    }
-
-    /// A closure comes here, and waits, but for one that came after another had waited in vain.
-    pub fn wait(&self) {
-        self.reached.store(true, Ordering::SeqCst);
-        if !self.late.load(Ordering::SeqCst) && !self.turn_until(&self.open) {
-            self.late.store(true, Ordering::SeqCst);
-        }
-    }
-
-    /// Was a closure here, and was the gate opened before it went on?
-    pub fn was_passed(&self) -> bool {
-        self.reached.load(Ordering::SeqCst) && !self.late.load(Ordering::SeqCst)
-    }
-}
+use papaya_gates::gate::Gate;
 
 /// What the closure of a call was shown.
 #[derive(Clone, Copy)]

@@ -1,7 +1,7 @@
 // The tests of maps: how one is made, and what is done with it in turn. Functions are generic over the
 // map, so that each is proved once, and with no map's destructor to look into.
-use crate::builders::{Asked, built, sharing};
 use crate::board::Board;
+use crate::builders::{Asked, built, sharing};
 use crate::crowd::{Crowd, Job, does, gathers};
 use crate::expect::is;
 use crate::guarded::Guarded;
@@ -9,8 +9,8 @@ use crate::held::holds;
 use crate::numbers::{Numbers, Pinned};
 use crate::passes::meets;
 use crate::printing::{What, printed, prints, prints_each, prints_either};
-use crate::seen::Gate;
 use crate::steps::{Script, goes};
+use papaya_gates::gate::Gate;
 use papaya_hashers::times::{APART, Times};
 use papaya_keys::guard::Collector;
 use papaya_map::map::HashMap;

@@ -1,7 +1,8 @@
 // Calls of maps as values, and what makes them.
 use crate::answers::Answer;
 use crate::refused::{empties, fills, replaces, stores_again};
-use crate::seen::{Gate, Says, Seen};
+use crate::seen::{Says, Seen};
+use papaya_gates::gate::Gate;
 use std::process::Abort;
 use std::sync::Wait;
 

@@ -1,6 +1,6 @@
-// A call whose closure does not come back while other threads need the map. They look keys up, store,
-// replace and remove, make the table grow, and walk. They wait for nobody.
-use crate::answers::Answer::{Absent, Aborted, Done, Inserted, Is, Number, Pair, Updated};
+// A call whose closure does not come back while other threads need the map. They look keys up,
+// store, replace and remove, make the table grow, and walk. They wait for nobody.
+use crate::answers::Answer::{Aborted, Absent, Done, Inserted, Is, Number, Pair, Updated};
 use crate::crowd::Crowd::{Apart, Stuck};
 use crate::crowd::Job;
 use crate::growth::FOR_SIX;
@@ -21,7 +21,11 @@ const BEFORE: Turn = Calls(&[(InsertBelow(6), Is(true))]);
 const IN_A_COMPUTE: [Turn; 3] = [
     BEFORE,
     Threads(Stuck(Compute(1, Says::Next), Updated(1, 2))),
-    Calls(&[(Get(1), Number(2)), (Keys(6), Pair(6, 14965)), (Len, Number(106))]),
+    Calls(&[
+        (Get(1), Number(2)),
+        (Keys(6), Pair(6, 14965)),
+        (Len, Number(106)),
+    ]),
 ];
 
 #[test]
@@ -33,7 +37,11 @@ fn a_compute_is_stuck(rt: HostRuntime) -> Result<(), Fail> {
 const BEFORE_A_PAIR: [Turn; 3] = [
     BEFORE,
     Threads(Stuck(Compute(5000, Says::Store(7)), Inserted(5000, 7))),
-    Calls(&[(Get(5000), Number(7)), (HasBelow(6, 1, 0), Is(true)), (Len, Number(107))]),
+    Calls(&[
+        (Get(5000), Number(7)),
+        (HasBelow(6, 1, 0), Is(true)),
+        (Len, Number(107)),
+    ]),
 ];
 
 #[test]
@@ -45,7 +53,11 @@ fn a_compute_without_a_pair_is_stuck(rt: HostRuntime) -> Result<(), Fail> {
 const IN_A_REMOVAL: [Turn; 3] = [
     BEFORE,
     Threads(Stuck(RemoveIf(1, true), Pair(1, 1))),
-    Calls(&[(Get(1), Absent), (Keys(6), Pair(5, 14964)), (Len, Number(105))]),
+    Calls(&[
+        (Get(1), Absent),
+        (Keys(6), Pair(5, 14964)),
+        (Len, Number(105)),
+    ]),
 ];
 
 #[test]
@@ -57,7 +69,11 @@ fn a_removal_is_stuck(rt: HostRuntime) -> Result<(), Fail> {
 const IN_AN_UPDATE: [Turn; 3] = [
     BEFORE,
     Threads(Stuck(Update(1), Number(2))),
-    Calls(&[(Get(1), Number(2)), (Keys(6), Pair(6, 14965)), (Len, Number(106))]),
+    Calls(&[
+        (Get(1), Number(2)),
+        (Keys(6), Pair(6, 14965)),
+        (Len, Number(106)),
+    ]),
 ];
 
 #[test]
@@ -65,12 +81,17 @@ fn an_update_is_stuck(rt: HostRuntime) -> Result<(), Fail> {
     runs::<_, Numbers>(&rt, rt.alloc(), &FOR_SIX, &IN_AN_UPDATE)
 }
 
-/// A retain goes on with what is there then. Key 1 it was to remove, and of the keys that came meanwhile it
-/// is shown all or none, as the table has grown or not.
+/// A retain goes on with what is there then, and is shown what took the place of its pair. Which of
+/// the keys that came meanwhile it is shown, depends on the table in which it goes on.
 const IN_A_RETAIN: [Turn; 3] = [
     BEFORE,
     Threads(Stuck(Retain(EvenKeys), Done)),
-    Calls(&[(Get(0), Number(0)), (Get(1), Absent), (Get(3), Absent), (Get(4), Number(4))]),
+    Calls(&[
+        (Get(0), Number(0)),
+        (Get(1), Absent),
+        (Get(3), Absent),
+        (Get(4), Number(4)),
+    ]),
 ];
 
 #[test]

@@ -1,5 +1,5 @@
-// Threads that store, read and remove values at the same keys, each with a pass of its own, and count what
-// they take out.
+// Threads that store, read and remove values at the same keys, each with a pass of its own, and
+// count what they take out.
 use crate::answers::Answer;
 use crate::board::Board;
 use crate::crowd::Crowd::Four;
@@ -58,7 +58,13 @@ fn turn<R: Wait, C: Calls>(rt: &R, map: &mut C, taken: &[AtomicU64], key: u64, v
 pub fn churn<R: Wait, C: Calls>(rt: &R, map: &mut C, board: &Board, thread: u64) -> bool {
     for round in 0..ROUNDS {
         for key in 0..KEYS {
-            if !turn(rt, map, board.taken.as_slice(), key, value_of(thread, round)) {
+            if !turn(
+                rt,
+                map,
+                board.taken.as_slice(),
+                key,
+                value_of(thread, round),
+            ) {
                 return false;
             }
         }
@@ -66,7 +72,8 @@ pub fn churn<R: Wait, C: Calls>(rt: &R, map: &mut C, board: &Board, thread: u64)
     true
 }
 
-/// Stores the next value of each key in each round. What it took the place of is counted, if it is told.
+/// Stores the next value of each key in each round. What it took the place of is counted, if it
+/// is told.
 pub fn draw<R: Wait, C: Calls>(rt: &R, map: &mut C, board: &Board, tells: bool) -> bool {
     for _ in 0..ROUNDS {
         for (key, next) in board.drawn.iter().enumerate() {
@@ -115,8 +122,8 @@ fn each_value_is_taken_out_once(rt: HostRuntime) -> Result<(), Fail> {
     )
 }
 
-/// Four threads make 256 insertions at each of 16 keys. The values of a key are drawn from one counter. What
-/// was replaced and what is there last are 0 to 1023, each once.
+/// Four threads make 256 insertions at each of 16 keys. The values of a key are drawn from one
+/// counter. What was replaced and what is there last are 0 to 1023, each once.
 #[test]
 fn each_value_is_replaced_once(rt: HostRuntime) -> Result<(), Fail> {
     runs::<_, Numbers>(&rt, rt.alloc(), &MODES, &[Threads(Four([Draw(true); 4]))])
