@@ -1,8 +1,9 @@
--- What was a hint of a slot is one for good, so what a hint's number says of its slot is one by now.
-use Rattle.std.proofs.Common.{◌≡◌, ◌⊎◌, inl, inr, ⊎_elim, ℕ, ◌^◌, ◌<◌, Bool, true, List, [], ◌∷◌, ◌++◌, Some, refl, sym, ap, ◌∙◌, subst}
+-- What was a hint of a slot is one for good, so what the rule says of a slot's hint is true by now.
+use Rattle.std.proofs.Common.{◌≡◌, ◌⊎◌, inl, inr, ⊎_elim, ℕ, Bool, true, List, [], ◌∷◌, ◌++◌, Some, refl, sym, ap, ◌∙◌, subst}
 use Rattle.std.specs.Cmp.{IsEquivalence}
 use mathlib.Core.List.{IsPrefix}
 use Rattle.logbook.specs.Pages.{Grows}
+use Rattle.papaya_ask.specs.declared.ask.At.TheVariants.{Slot}
 use Rattle.papaya_law.specs.Allows.{AllAllowed}
 use Rattle.papaya_law.specs.Code.{Coding}
 use Rattle.papaya_law.specs.Exchange.{Exchange, Setting, run, start}
@@ -15,45 +16,37 @@ use Rattle.papaya_book.specs.declared.rule.entry.Event.{Event}
 use Rattle.papaya_book.specs.declared.rule.entry.Event.TheVariants.{Begin}
 use Rattle.papaya_book.specs.Hashes.{hash_of}
 use Rattle.papaya_book.specs.Hinted.{IsHinted, IsSlotHint, WasHint}
-use Rattle.papaya_book.specs.Logs.{Stored, coding_of, exchanges_of, first_in, setting_of, state_of}
-use Rattle.papaya_book.specs.declared.hint.TheConstants.{UNHINTED_TABLES}
-use Rattle.papaya_book.specs.Numbers.{hint_in, hint_word}
+use Rattle.papaya_book.specs.Logs.{Stored, coding_of, exchanges_of, first_in, key_at, setting_of, state_of, steps_of}
 use Rattle.papaya_book.specs.Rule.{IsLawfulLog}
+use Rattle.papaya_book.proofs.Loads.{key_since}
 use Rattle.papaya_book.proofs.Logs.{exchanges_of-append, prefix_trans}
-use Rattle.papaya_book.proofs.Numbers.{nothing_in, said_in}
 use Rattle.papaya_book.proofs.Settings.{is_hashed}
 use Rattle.papaya_book.proofs.Tellings.{first_prefix, opened_with}
 
 module _ {K V S : Type 0} (eq : K → K → Bool) (hash : S → K → ℕ) where
-  was_later : (t x n : ℕ) (xs ys : List (Event K V S)) → IsPrefix xs ys → WasHint eq hash t x n xs → WasHint eq hash t x n ys
-  was_later t x n xs ys pre w = record { begun = w.begun; before = w.before; since = prefix_trans w.before xs ys w.since pre; is = w.is }
-
-  -- what the rule says of a hint's number stays true of each longer log
-  pub hinted_grows : Grows {E = Event K V S} (IsHinted eq hash)
-  hinted_grows n xs ys pre (inl e) = inl e
-  hinted_grows n xs ys pre (inr s) = inr (record {
-    table = s.table;
-    place = s.place;
-    hint = s.hint;
-    number_is = s.number_is;
-    early = s.early;
-    near = s.near;
-    low = s.low;
-    was = was_later s.table s.place s.hint xs ys pre s.was;
+  -- what the rule says of a hint stays true of each longer log
+  pub hinted_grows : (k : ℕ) → Grows {E = Event K V S} (IsHinted eq hash k)
+  hinted_grows k n xs ys pre (inl e) = inl e
+  hinted_grows k n xs ys pre (inr w) = inr (record {
+    begun = w.begun;
+    before = w.before;
+    since = prefix_trans w.before xs ys w.since pre;
+    table = w.table;
+    place = w.place;
+    key_is = w.key_is;
+    is = w.is;
   })
 
-  -- a hint of the slot may be written
-  pub may_say : (b : Begun K V S) (t x n : ℕ) (seen log : List (Event K V S)) → IsSlotHint eq hash b t x n seen → IsPrefix seen log → x < 2 ^ 32 → n < 256 → (number : ℕ) → (number ≡ 0) ⊎ ((t < UNHINTED_TABLES) × (number ≡ hint_word t x n)) → IsHinted eq hash number log
-  may_say b t x n seen log is since near low number (inl e) = inl e
-  may_say b t x n seen log is since near low number (inr e) = inr (record {
+  -- a hint of the slot may be written beside the slot's word
+  pub may_say : (b : Begun K V S) (t x k n : ℕ) (seen log : List (Event K V S)) → IsSlotHint eq hash b t x n seen → key_at (steps_of seen) (Slot t x) ≡ Some k → IsPrefix seen log → IsHinted eq hash k n log
+  may_say b t x k n seen log is key since = inr (record {
+    begun = b;
+    before = seen;
+    since = since;
     table = t;
     place = x;
-    hint = n;
-    number_is = e.1;
-    early = e.0;
-    near = near;
-    low = low;
-    was = record { begun = b; before = seen; since = since; is = is };
+    key_is = key;
+    is = is;
   })
 
 module _ {K V S H : Type 0} (eq : K → K → Bool) (input : K → List (List ℕ)) (build : S → H) (write : H → List ℕ → H) (finish : H → ℕ) (classes : IsEquivalence eq) (respects : (x y : K) → eq x y ≡ true → input x ≡ input y) (b : Begun K V S) where
@@ -83,20 +76,17 @@ module _ {K V S H : Type 0} (eq : K → K → Bool) (input : K → List (List �
           is = hint_lasts g c hashed.coding (state_of before) (state_of log) after t x n (hint_agrees (setting_of eq (hash b.hasher) b.mode before) g c (λ p. refl) ((state_of before).slot t x) n is.is);
         }
 
-    -- of which the book was opened with the same
-    pub is_by_now : (t x n : ℕ) → WasHint eq hash t x n log → IsSlotHint eq hash b t x n log
-    is_by_now t x n w =
+    -- of which the book was opened with the same, and no two slots share a word
+    was_here : (t x k n : ℕ) → key_at (steps_of log) (Slot t x) ≡ Some k → WasHint eq hash k n log → IsSlotHint eq hash b t x n log
+    was_here t x k n key w =
         let first : first_in w.before ≡ Some (Begin w.begun) = ap first_in w.is.lawful.is in
         let same : b ≡ w.begun = opened_with eq hash w.begun b log (prefix_trans (Begin w.begun ∷ []) w.before log (first_prefix (Begin w.begun) w.before first) w.since) lawful in
-        hint_later t x n w.before w.since (subst (λ z. IsSlotHint eq hash z t x n w.before) (sym same) w.is)
+        let one : Slot w.table w.place ≡ Slot t x = lawful.apart (Slot w.table w.place) (Slot t x) k (key_since w.before log (Slot w.table w.place) k w.since w.key_is) key in
+        let table : w.table ≡ t = cc one in let place : w.place ≡ x = cc one in
+        subst (λ (z : ℕ × ℕ). IsSlotHint eq hash b z.0 z.1 n log) (λ i. (table i, place i))
+        (hint_later w.table w.place n w.before w.since (subst (λ z. IsSlotHint eq hash z w.table w.place n w.before) (sym same) w.is))
 
-    -- so what a hint's number says of a slot may be its hint
-    pub said_by_now : (number t x : ℕ) → x < 2 ^ 32 → IsHinted eq hash number log → IsSlotHint eq hash b t x (hint_in number t x) log
-    said_by_now number t x near (inl e) = nothing t x (hint_in number t x) (ap (λ z. hint_in z t x) e ∙ nothing_in t x)
-    said_by_now number t x near (inr s) =
-        subst (λ z. IsSlotHint eq hash b t x (hint_in z t x) log) (sym s.number_is)
-        (⊎_elim
-        (λ e. nothing t x (hint_in (hint_word s.table s.place s.hint) t x) e)
-        (λ e. subst (λ z. IsSlotHint eq hash b t x z log) (sym e.2)
-        (subst (λ (z : ℕ × ℕ). IsSlotHint eq hash b z.0 z.1 s.hint log) (λ i. (e.0 i, e.1 i)) (is_by_now s.table s.place s.hint s.was)))
-        (said_in s.table s.place s.hint t x s.early s.low s.near near))
+    -- so what the rule says of the hint beside a slot's word may be the slot's hint
+    pub said_by_now : (t x k n : ℕ) → key_at (steps_of log) (Slot t x) ≡ Some k → IsHinted eq hash k n log → IsSlotHint eq hash b t x n log
+    said_by_now t x k n key (inl e) = nothing t x n e
+    said_by_now t x k n key (inr w) = was_here t x k n key w

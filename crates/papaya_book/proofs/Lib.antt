@@ -20,7 +20,6 @@ pub mod Making
 pub mod Settings
 pub mod Tellings
 -- hints
-pub mod Numbers
 pub mod Hinted
 pub mod Found
 pub mod Tables

@@ -8,8 +8,7 @@ pub mod Keys
 -- the log, the rule of the book, and what the book keeps beside the log
 pub mod Logs
 pub mod Rule
--- the numbers of hints, and what the rule says of them
-pub mod Numbers
+-- what the rule says of hints
 pub mod Hinted
 pub mod Plays
 pub mod Makers

@@ -13,7 +13,6 @@
 pub mod book;
 pub mod copies;
 pub mod count;
-pub mod hint;
 pub mod keyed;
 pub mod rule;
 pub mod slot;

@@ -1,9 +1,9 @@
 //! Tables of atomic words.
-ghost use Rattle.std.specs.Prelude.{◌≡◌, ◌<◌, ◌^◌, ℕ, false, Some, length, map, slice_get};
+ghost use Rattle.std.specs.Prelude.{◌≡◌, ◌<◌, ℕ, Some, length, map, slice_get};
 ghost use Rattle.papaya_ask.specs.Search.{IsSize};
 ghost use Rattle.papaya_book.specs.Sheets.{Sheet, sheet_coded, AllOf, word_named};
 
-use crate::slot::{Cell, Slot};
+use crate::slot::{Cell, HintCell, Slot};
 use std::hash::{BuildHasher, Hash};
 use std::marker::Model;
 use std::sync::{Mutex, MutexGuard, Wait};
@@ -74,13 +74,12 @@ impl<K: Hash + Eq, V, S: BuildHasher> Table<K, V, S> {
         self.slots[place].word()
     }
 
-    /// The hint of a slot.
+    /// The hint beside the word of a slot.
     #[inline(always)]
-    pub fn hint(&self, place: usize) -> &Cell<K, V, S>
+    pub fn hint(&self, place: usize) -> &HintCell<K, V, S>
         requires { place < length self.now.slots }
-        ensures kind { result.now.tracked ≡ false }
-        ensures book { result.now.book ≡ self.now.book }
-        ensures near { place < 2 ^ 32 }
+        ensures { (k : ℕ) × (slice_get self.now.slots place ≡ Some k)
+            × (result.now ≡ word_named self.now.book k) }
     {
         self.slots[place].hint()
     }

@@ -5,7 +5,6 @@ ghost use Rattle.papaya_book.specs.Books.{IsHint};
 ghost use Rattle.papaya_book.specs.Calls.{IsTable};
 
 use crate::book::Book;
-use crate::hint::{hint_number, hint_of_number};
 use crate::keyed::Keyed;
 use crate::rule::trade::Sight;
 use crate::table::Table;
@@ -29,10 +28,9 @@ impl<K: Hash + Eq, V, S: BuildHasher> Book<K, V, S> {
         ensures hint { IsHint ⟦<S as Keyed<K>>⟧.keys self.now number place result sight.new.log }
     {
         sight.learn(&self.begun);
-        let word = table.hint(place);
-        let found = word.load_hint(sight);
+        let hint = table.hint(place).load(sight);
         sight.learn(&self.begun);
-        hint_of_number(found, number, place)
+        hint
     }
 
     /// One atomic exchange: a slot without a hint has this one from then on. Nothing tells whether it
@@ -53,8 +51,6 @@ impl<K: Hash + Eq, V, S: BuildHasher> Book<K, V, S> {
     {
         let mut seen = sight.again();
         seen.learn(&self.begun);
-        let word = table.hint(place);
-        let number = hint_number(number, place, hint);
-        word.compare_exchange_hint(0, number, &seen);
+        table.hint(place).compare_exchange(0, hint as u64, &seen);
     }
 }

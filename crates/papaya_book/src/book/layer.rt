@@ -25,7 +25,7 @@ use crate::rule::trade::{Sight, Trade};
 use crate::slot::{Cell, Slot};
 use crate::table::Table;
 use boxcar::Pushed;
-use logbook::{Pen, Word};
+use logbook::Pen;
 use papaya_ask::ask::{At, StepKind};
 use papaya_words::limits::MAX_TABLES;
 use papaya_words::probe::{Refused, limit};
@@ -78,7 +78,7 @@ impl<K: Hash + Eq, V, S: BuildHasher> Book<K, V, S> {
         let mut slots = Vec::with_capacity(alloc, len)?;
         for _ in 0..len {
             let word = self.word(seal, sight);
-            slots.push(Slot::new(word, Word::hint(sight)))?;
+            slots.push(Slot::new(word, sight))?;
         }
         Ok(slots)
     }

@@ -1,11 +1,13 @@
 //! The rule of the book.
 use crate::rule::entry::{Event, Named};
 use logbook::{Gain, Rule};
+use papaya_hint::hint::Hinting;
 use std::hash::{BuildHasher, Hash};
 use std::marker::PhantomData;
 
 /// The rule: the log's exchanges are allowed, the words are those that they leave, each hint was one
-/// of its slot, and the book keeps the tokens of all pairs and tables that came.
+/// of its slot, and the book keeps the tokens of all pairs and tables that came. Hints stand beside
+/// words of slots; the book has no other words that it does not track.
 pub struct Law<K, V, S> {
     of: PhantomData<(K, V, S)>,
 }
@@ -13,7 +15,6 @@ pub struct Law<K, V, S> {
 impl<K: Hash + Eq, V, S: BuildHasher> Rule<Event<K, V, S>, Named<K, V>> for Law<K, V, S> {
     ghost use Rattle.std.specs.Prelude.{[]};
     ghost use Rattle.papaya_book.specs.Hashes.{hash_of};
-    ghost use Rattle.papaya_book.specs.Hinted.{IsHinted};
     ghost use Rattle.papaya_book.specs.Rule.{IsKept};
     ghost use Rattle.papaya_log.specs.Tokens.{stands as pair_stands};
     ghost use Rattle.papaya_book.specs.Tokens.{stands};
@@ -26,14 +27,21 @@ impl<K: Hash + Eq, V, S: BuildHasher> Rule<Event<K, V, S>, Named<K, V>> for Law<
 
     ghost first = { [] };
 
-    ghost hinted = { IsHinted K.eq (hash_of K.hash_input S.build_hasher S.Hasher.write
-        S.Hasher.finish) };
+    ghost hinted = { λ number log. ⊥ };
 
     ghost shows = { λ log. log };
 
     ghost keeps = { λ names log. kept (pair_stands (PairOf K.row V.row)) (stands SheetRow) log };
 
     ghost moves = { λ ask before after answer. Moved ask before after answer };
+}
+
+impl<K: Hash + Eq, V, S: BuildHasher> Hinting<Event<K, V, S>> for Law<K, V, S> {
+    ghost use Rattle.papaya_book.specs.Hashes.{hash_of};
+    ghost use Rattle.papaya_book.specs.Hinted.{IsHinted};
+
+    ghost hinted_beside = { IsHinted K.eq (hash_of K.hash_input S.build_hasher S.Hasher.write
+        S.Hasher.finish) };
 }
 
 /// The client has the token of the answer.
