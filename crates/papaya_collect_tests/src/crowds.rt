@@ -22,14 +22,14 @@ const STAY: u64 = 16;
 /// Those from there to this one all threads change, and each thread so many that no other does.
 const SHARED: u64 = 32;
 
-const OWN: u64 = 28;
+const OWN: u64 = 12;
 
-const KEYS: u64 = 256;
+const KEYS: u64 = 128;
 
 const THREADS: u64 = 8;
 
 /// So often a thread goes over its keys.
-const ROUNDS: u64 = 6;
+const ROUNDS: u64 = 4;
 
 /// What the threads tell each other, and what calls that were answered have done to each key.
 #[derive(Drop)]
@@ -294,7 +294,7 @@ fn came_of<R: Threads + Wait + Sync, C: Crowded + Sync + Drop>(
 }
 
 /// One request of so many is refused. Where it is each one, nothing can be stored.
-const EVERY: [usize; 8] = [1, 2, 3, 4, 5, 6, 9, 14];
+const EVERY: [usize; 6] = [1, 4, 5, 6, 9, 14];
 
 /// Each crowd, in each mode, with keys that have paths of their own and with keys of one path.
 fn crowds<R: Threads + Wait + Sync + Abort, C: Crowded + Sync + Drop>(
