@@ -12,8 +12,6 @@ mod dropped;
 #[cfg(test)]
 mod expect;
 #[cfg(test)]
-mod hashers;
-#[cfg(test)]
 mod key_steps;
 #[cfg(test)]
 mod maps;
