@@ -28,12 +28,12 @@ pub const FOR_SIX: [Making; 3] = [
     Making::Parts(ResizeMode::Incremental(64), 6, APART),
 ];
 
-/// One thread makes the table grow to one of 2^12 slots, and the other finds the first keys each
-/// time.
+/// One thread makes the table grow to one of 256 slots, and the other finds the first keys each
+/// time. Keys over 255 would share their paths with lower ones, and take far longer tables.
 const READS_WHILE_GROWING: [Turn; 3] = [
     Calls(&[(InsertBelow(6), Is(true))]),
-    Threads(Two([Grow(6, 2000), Read(6)])),
-    Calls(&[(Len, Number(2000))]),
+    Threads(Two([Grow(6, 256), Read(6)])),
+    Calls(&[(Len, Number(256))]),
 ];
 
 #[test]
@@ -41,29 +41,28 @@ fn a_reader_finds_the_first_keys_while_the_map_grows(rt: HostRuntime) -> Result<
     runs::<_, Numbers>(&rt, rt.alloc(), &FOR_SIX, &READS_WHILE_GROWING)
 }
 
-/// Eight threads insert 128 keys each in a map of no pairs, so that all need each next table at
-/// once.
+/// Eight threads insert 32 keys each, so that all need each next table at once.
 const INSERTS_EIGHT: [Turn; 2] = [
     Threads(Eight(
         [
-            Insert(0, 128),
-            Insert(128, 256),
-            Insert(256, 384),
-            Insert(384, 512),
+            Insert(0, 32),
+            Insert(32, 64),
+            Insert(64, 96),
+            Insert(96, 128),
         ],
         [
-            Insert(512, 640),
-            Insert(640, 768),
-            Insert(768, 896),
-            Insert(896, 1024),
+            Insert(128, 160),
+            Insert(160, 192),
+            Insert(192, 224),
+            Insert(224, 256),
         ],
     )),
-    Calls(&[(HasBelow(1024, 1, 0), Is(true)), (Len, Number(1024))]),
+    Calls(&[(HasBelow(256, 1, 0), Is(true)), (Len, Number(256))]),
 ];
 
 #[test]
 fn eight_threads_that_need_a_next_table_lose_no_key(rt: HostRuntime) -> Result<(), Fail> {
-    runs::<_, Numbers>(&rt, rt.alloc(), &MODES, &INSERTS_EIGHT)
+    runs::<_, Numbers>(&rt, rt.alloc(), &FOR_SIX, &INSERTS_EIGHT)
 }
 
 /// One thread makes the map grow, and the other walks over it.

@@ -52,7 +52,7 @@ fn stored<R: Wait>(rt: &R, map: &Numbers, key: u64, to: u64) -> Stored
 }
 
 /// How many of the pairs are (1, 10), and how many (2, 20).
-#[derive(Clone, Copy, PartialEq)]
+#[derive(Clone, Copy)]
 struct Given {
     first: u64,
     second: u64,
