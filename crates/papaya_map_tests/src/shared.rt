@@ -6,11 +6,13 @@ use crate::expect::is;
 use crate::guarded::Guarded;
 use crate::numbers::{Numbers, Pinned};
 use crate::printing::{What, printed, prints, prints_each, prints_either};
+use crate::scarce::{Start, Way, tries_on};
 use crate::steps::{Script, goes};
 use crate::threads::VALUES;
 use papaya_hashers::times::{APART, Times};
 use papaya_keys::guard::Collector;
 use papaya_map::map::HashMap;
+use papaya_refusals::tries::Outcome;
 use papaya_words::probe::{Refused, ResizeMode};
 use std::alloc::Global;
 use std::process::Abort;
@@ -95,6 +97,16 @@ pub trait Shared: Sized {
 
     /// A thread does a job.
     fn does<R: Wait>(&self, rt: &R, job: Job, board: &Board) -> bool;
+
+    /// The map is filled, and a call is made with the request of this number refused.
+    fn tries<R: Wait>(
+        &self,
+        rt: &R,
+        alloc: Global,
+        way: Way,
+        start: Start,
+        number: usize,
+    ) -> Outcome;
 }
 
 impl Shared for Numbers {
@@ -150,6 +162,23 @@ impl Shared for Numbers {
 
     fn does<R: Wait>(&self, rt: &R, job: Job, board: &Board) -> bool {
         does(rt, &mut Pinned::of(self), job, board)
+    }
+
+    fn tries<R: Wait>(
+        &self,
+        rt: &R,
+        alloc: Global,
+        way: Way,
+        start: Start,
+        number: usize,
+    ) -> Outcome {
+        match way {
+            Way::ByPass => tries_on(rt, alloc, &mut Pinned::of(self), start, number),
+            Way::WithGuard => {
+                let guard = self.guard();
+                tries_on(rt, alloc, &mut Guarded::of(self, &guard), start, number)
+            }
+        }
     }
 }
 
