@@ -129,6 +129,7 @@ TOLERANT = [
 
 # Those that tell what is to be refused.
 TELLING = [
+    ("papaya_map_tests", "scarce::"),
     ("papaya_cases_tests", "refused::"),
     ("papaya_collect_tests", "calls::"),
     ("papaya_collect_tests", "crowds::"),

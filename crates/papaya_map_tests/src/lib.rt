@@ -36,6 +36,8 @@ mod printing;
 #[cfg(test)]
 mod refused;
 #[cfg(test)]
+mod scarce;
+#[cfg(test)]
 mod seen;
 #[cfg(test)]
 mod shared;

@@ -9,11 +9,13 @@ use crate::held::holds;
 use crate::numbers::{Numbers, Pinned};
 use crate::passes::meets;
 use crate::printing::{What, printed, prints, prints_each, prints_either};
+use crate::scarce::{Start, Way, tries_on};
 use crate::steps::{Script, goes};
 use papaya_gates::gate::Gate;
 use papaya_hashers::times::{APART, Times};
 use papaya_keys::guard::Collector;
 use papaya_map::map::HashMap;
+use papaya_refusals::tries::Outcome;
 use papaya_words::probe::{Refused, ResizeMode};
 use std::alloc::Global;
 use std::process::Abort;
@@ -105,6 +107,16 @@ pub trait Shared: Sized {
 
     /// Two threads store a pair each, and their passes meet: does each then find both pairs?
     fn meets<R: Threads + Wait + Sync>(&self, rt: &R) -> bool;
+
+    /// The map is filled, and a call is made with the request of this number refused.
+    fn tries<R: Wait>(
+        &self,
+        rt: &R,
+        alloc: Global,
+        way: Way,
+        start: Start,
+        number: usize,
+    ) -> Outcome;
 }
 
 impl Shared for Numbers {
@@ -168,6 +180,23 @@ impl Shared for Numbers {
 
     fn meets<R: Threads + Wait + Sync>(&self, rt: &R) -> bool {
         meets(rt, self)
+    }
+
+    fn tries<R: Wait>(
+        &self,
+        rt: &R,
+        alloc: Global,
+        way: Way,
+        start: Start,
+        number: usize,
+    ) -> Outcome {
+        match way {
+            Way::ByPass => tries_on(rt, alloc, &mut Pinned::of(self), start, number),
+            Way::WithGuard => {
+                let guard = self.guard();
+                tries_on(rt, alloc, &mut Guarded::of(self, &guard), start, number)
+            }
+        }
     }
 }
 
