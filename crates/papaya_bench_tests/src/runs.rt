@@ -1,6 +1,6 @@
 // What is printed, and what no clause says of failures.
 use papaya_measure::growth::time_growth;
-use papaya_measure::reclaim::time_reclaim;
+use papaya_measure::reclaim::{time_from_empty, time_reclaim};
 use papaya_measure::run::{run_on, time_workload};
 use papaya_measure::shared_growth::time_shared_growth;
 use papaya_plan::plan::{Plan, Workload};
@@ -234,6 +234,22 @@ fn is_stored<A: Abort>(
     is_part(rt, parts.next(), stored);
     let _nanoseconds = number(parts.next())?;
     is_part(rt, parts.next(), None);
+    Ok(())
+}
+
+#[test]
+fn lines_of_filling(rt: HostRuntime) -> Result<(), Fail> {
+    let mut printed = Vec::new(rt.alloc());
+    assert!(rt; time_from_empty(&rt, rt.alloc(), 40, &mut printed).is_ok());
+    let mut lines = std::str::from_utf8(printed.as_slice())?.lines();
+    for name in [
+        "from-empty/seq/40",
+        "from-empty/shared/40",
+        "from-empty/std/40",
+    ] {
+        is_stored(&rt, lines.next().ok_or("a line")?, Some(name), Some("40"))?;
+    }
+    is_part(&rt, lines.next(), None);
     Ok(())
 }
 

@@ -18,6 +18,8 @@ mod key_steps;
 #[cfg(test)]
 mod maps;
 #[cfg(test)]
+mod refused;
+#[cfg(test)]
 mod set_threads;
 #[cfg(test)]
 mod sets;

@@ -6,6 +6,8 @@ mod additions;
 #[cfg(test)]
 mod answers;
 #[cfg(test)]
+mod board;
+#[cfg(test)]
 mod builders;
 #[cfg(test)]
 mod computes;
@@ -22,6 +24,8 @@ mod guarded;
 #[cfg(test)]
 mod guards;
 #[cfg(test)]
+mod held;
+#[cfg(test)]
 mod numbers;
 #[cfg(test)]
 mod passes;
@@ -32,6 +36,8 @@ mod printing;
 #[cfg(test)]
 mod refused;
 #[cfg(test)]
+mod scarce;
+#[cfg(test)]
 mod seen;
 #[cfg(test)]
 mod shared;
@@ -39,6 +45,8 @@ mod shared;
 mod steps;
 #[cfg(test)]
 mod stored_keys;
+#[cfg(test)]
+mod stuck;
 #[cfg(test)]
 mod sweeps;
 #[cfg(test)]

@@ -27,8 +27,8 @@ pub fn stores_again<R: Wait, C: Calls>(rt: &R, map: &mut C, key: u64) -> bool {
     }
 }
 
-/// So many keys of one path make a table of 32 slots grow.
-const KEYS: u64 = 40;
+/// So many keys of one path make a table of 32 slots grow, and in `Blocking` a longer one is given up.
+const KEYS: u64 = 70;
 
 /// Fills a map of no pairs: was it as it should be after each key?
 pub fn fills<R: Wait, C: Calls>(rt: &R, map: &mut C) -> bool {

@@ -1,8 +1,8 @@
-//! Maps that are filled and then reclaimed: what either takes.
+//! Maps that are filled from empty, or with room and then reclaimed: what each of these takes.
 use crate::backends::{Backend, elapsed, now};
 use crate::collections::Collection;
 use crate::steps::Work;
-use crate::{seq, shared};
+use crate::{rivals, seq, shared};
 use papaya_shell::failure::Failure;
 use std::alloc::Global;
 use std::io::Write;
@@ -27,6 +27,40 @@ fn print<W: Write>(
     let name = backend.name();
     writeln!(output, "{done}/{name}/{keys} {stored} {nanoseconds}").map_err(|_| Failure::Output)?;
     output.flush().map_err(|_| Failure::Output)
+}
+
+/// Makes a map without room, and fills it with so many keys, for which it grows.
+fn time_growing<R: Clock + Wait, C: Collection, W: Write>(
+    rt: &R,
+    alloc: Global,
+    backend: Backend,
+    keys: u32,
+    output: &mut W,
+) -> Result<(), Failure> {
+    let start = now(rt)?;
+    let mut map = C::empty(rt, alloc, 0)?;
+    map.alone(rt, Work::Fill(keys))?;
+    print(
+        "from-empty",
+        backend,
+        keys,
+        u64::from(keys),
+        elapsed(rt, start)?,
+        output,
+    )
+}
+
+/// Prints lines of a map for one caller, a shared one and the kit's: what it takes to fill each from
+/// empty with so many keys.
+pub fn time_from_empty<R: Clock + Wait, W: Write>(
+    rt: &R,
+    alloc: Global,
+    keys: u32,
+    output: &mut W,
+) -> Result<(), Failure> {
+    time_growing::<R, seq::Map, W>(rt, alloc, Backend::Seq, keys, output)?;
+    time_growing::<R, shared::Map, W>(rt, alloc, Backend::Shared, keys, output)?;
+    time_growing::<R, rivals::Map, W>(rt, alloc, Backend::Std, keys, output)
 }
 
 /// Fills a map, made for so many keys, with these keys in so many rounds. Then reclaims it.

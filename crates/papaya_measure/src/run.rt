@@ -5,7 +5,7 @@ ghost use Rattle.papaya_plan.specs.Arguments.{words_of};
 
 use crate::backends::Backend;
 use crate::growth::time_growth;
-use crate::reclaim::time_reclaim;
+use crate::reclaim::{time_from_empty, time_reclaim};
 use crate::shared_growth::time_shared_growth;
 use papaya_plan::answers::compare;
 use papaya_plan::arguments::Task;
@@ -139,12 +139,13 @@ fn grow<R: Clock + Threads + Wait + Sync, W: Write>(
     Ok(())
 }
 
-/// Times maps that are filled, and then reclaimed.
+/// Times maps that are filled from empty, and maps with room that are filled and then reclaimed.
 fn reclaim<R: Clock + Wait, W: Write>(
     rt: &R,
     alloc: Global,
     output: &mut W,
 ) -> Result<(), Failure> {
+    time_from_empty(rt, alloc, GROWN, output)?;
     for plan in RECLAIMED {
         time_reclaim(rt, alloc, plan, output)?;
     }

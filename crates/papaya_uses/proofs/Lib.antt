@@ -1,3 +1,4 @@
+mod CacheLemmas
 mod CounterLemmas
 mod HitLemmas
 mod MetricLemmas

@@ -1,3 +1,4 @@
+pub mod Cache
 pub mod Counters
 pub mod Hits
 pub mod Routes

@@ -1,0 +1,108 @@
+//! A cache with a limit, for one owner: the texts of pages, by their numbers. It has two generations, and
+//! a page that is put in goes to the young one. When that is full, the pages that were replaced in it are
+//! freed by `reclaim`, where they are half of it. Else it becomes the elder one, whose pages are dropped.
+ghost use Rattle.std.specs.Prelude.{◌≡◌, ◌≢◌, ◌⊎◌, ◌+◌, ◌<◌, ◌≤◌, None, Some};
+ghost use Rattle.std.specs.Prelude.{IfOk, IsErr, OnOk, option_map, string_bytes};
+ghost use Rattle.papaya_uses.specs.Cache.{StaysOrGoes, stored_in, text_of};
+
+use papaya::Refused;
+use papaya::seq::HashMap;
+use std::alloc::Global;
+use std::marker::Model;
+use std::mem;
+
+/// The texts of pages, by their numbers.
+#[derive(Drop)]
+pub struct Cache {
+    alloc: Global,
+    young: HashMap<u64, String>,
+    elder: HashMap<u64, String>,
+    // how many pages the young one has stored at most, those that were replaced included
+    stored: usize,
+    limit: usize,
+}
+
+impl Model for Cache {
+    ghost use Rattle.std.specs.Prelude.{◌<◌, ◌≤◌, length};
+    ghost use Rattle.papaya_uses.specs.Cache.{Generations};
+
+    ghost Value = { Generations };
+
+    ghost view = { λ c. record {
+      young = c.young;
+      elder = c.elder;
+      stored = c.stored;
+      limit = c.limit;
+    } };
+
+    ghost invariant = { λ c. (0 < c.limit) × (length c.young.store.pairs ≤ c.stored)
+        × (c.stored ≤ c.limit) × (length c.elder.store.pairs ≤ c.limit) };
+}
+
+impl Cache {
+    /// A cache in which each of the two generations stores so many pages at most.
+    pub fn new(alloc: Global, limit: usize) -> Result<Cache, Refused>
+        requires { 0 < limit }
+        ensures empty { IfOk result (λ cache. (page : _) → text_of cache page ≡ None) }
+        ensures few { IfOk result (λ cache. (cache.limit ≡ limit) × (stored_in cache ≡ 0)) }
+    {
+        Ok(Cache {
+            alloc,
+            young: HashMap::new(alloc)?,
+            elder: HashMap::new(alloc)?,
+            stored: 0,
+            limit,
+        })
+    }
+
+    /// The text of a page: the one that was put in last, where it was not dropped since.
+    pub fn get(&self, page: u64) -> Option<&str>
+        ensures { option_map (λ text. text.now) result ≡ text_of self.now page }
+    {
+        match self.young.get(&page) {
+            Some(text) => Some(text.as_str()),
+            None => match self.elder.get(&page) {
+                Some(text) => Some(text.as_str()),
+                None => None,
+            },
+        }
+    }
+
+    /// Puts the text of a page in. Each other page stays, but for those of the elder generation alone, where
+    /// the young one is full. No more pages are stored than twice the limit, those that were replaced
+    /// included. Refused, the page itself has the text that it had, or was dropped so.
+    pub fn put(&mut self, page: u64, text: String) -> Result<(), Refused>
+        ensures there { OnOk result (text_of self.new page ≡ Some (string_bytes text)) }
+        ensures others { (other : _) → (other ≢ page) ⊎ IsErr result
+            → StaysOrGoes self.old self.new other }
+        ensures few { (self.new.limit ≡ self.old.limit)
+            × (stored_in self.new ≤ self.new.limit + self.new.limit) }
+    {
+        if self.stored == self.limit {
+            self.make_room()?;
+        }
+        self.stored += 1;
+        self.young.put(page, text)?;
+        Ok(())
+    }
+
+    /// Makes room in the young generation, which is full.
+    fn make_room(&mut self) -> Result<(), Refused>
+        requires { self.old.stored ≡ self.old.limit }
+        ensures room { OnOk result (self.new.stored < self.new.limit) }
+        ensures pages { (page : _) → StaysOrGoes self.old self.new page }
+        ensures few { (self.new.limit ≡ self.old.limit)
+            × (stored_in self.new ≤ self.new.limit + self.new.limit) }
+    {
+        let pages = self.young.len();
+        if pages <= self.limit / 2 {
+            self.young.reclaim()?;
+            self.stored = pages;
+            return Ok(());
+        }
+        let young = HashMap::new(self.alloc)?;
+        self.elder = mem::replace(&mut self.young, young);
+        self.stored = 0;
+        Ok(())
+    }
+}
