@@ -5,13 +5,14 @@ use crate::answers::Answer::{
 };
 use crate::expect::is;
 use crate::numbers::Numbers;
-use crate::seen::{Gate, Says};
+use crate::seen::Says;
 use crate::shared::{Making, Shared};
 use crate::steps::Step::{
     self, Compute, GetOrInsert, GetOrInsertWith, Insert, Iter, Keys, Remove, RemoveEntry, RemoveIf,
     Reserve, TryInsert, TryInsertWith, Update, UpdateOrInsert, UpdateOrInsertWith, Values,
 };
 use crate::steps::{Calls, answer, has_below, inserts};
+use papaya_gates::gate::Gate;
 use papaya_hashers::times::TOGETHER;
 use papaya_refusals::tries::{Outcome, Ready, Trial, fails_at, tries};
 use papaya_words::probe::{Refused, ResizeMode};
@@ -95,7 +96,7 @@ struct OnKey<'r, 'm, R, C> {
 impl<R: Wait, C: Calls> Ready for OnKey<'_, '_, R, C> {
     fn is_made(&mut self) -> Result<bool, Refused> {
         let (call, _, old, new) = self.row;
-        match answer(self.rt, self.map, call, &Gate::new(true)) {
+        match answer(self.rt, self.map, call, &Gate::open()) {
             Answer::Refused(refused) => Err(refused),
             found => {
                 let is_answered = found == wanted(self.row, self.keys);
