@@ -1,10 +1,13 @@
-"""Runs the tests of crates once for each request for memory that they make, with just that one refused.
+"""Runs tests with requests for memory refused to them.
 
     python3 tests/refused.py [CRATE..]
 
-What runs is the program of the tests that `rt test` has proved and built. A test has to pass, whichever
-request is refused. The requests are those of the C library's heap: a small library that is loaded before
-it counts them, and is built here by the toolchain's own compiler.
+What runs is the program of the tests that `rt test` has proved and built. Tests of the first kind run once for
+each request that they make, with just that one refused. Those of the second kind run once, and tell what is to
+be refused, while a call of theirs runs: a request for a number of bytes that no test needs is a word (crate
+papaya_refusals). Each has to pass, and of the second kind each has to be refused something. The requests are
+those of the C library's heap: a small library that is loaded before it counts them, and is built here by the
+toolchain's own compiler.
 """
 
 import os
@@ -16,35 +19,61 @@ from concurrent.futures import ThreadPoolExecutor
 
 TOP = os.path.dirname(os.path.dirname(os.path.abspath(__file__)))
 
-# Refuses the request that REFUSED numbers, and makes the file REFUSED_SAYS then.
+# Refuses the request that REFUSED numbers, or what words tell, and adds a byte to the file REFUSED_SAYS then.
 LIBRARY = """
 typedef unsigned long size_t;
 
 extern char *getenv(const char *name);
 extern long atol(const char *text);
-extern int creat(const char *path, unsigned mode);
+extern int open(const char *path, int flags, ...);
+extern long write(int file, const void *bytes, size_t count);
 extern int close(int file);
 extern void *__libc_malloc(size_t size);
 extern void *__libc_realloc(void *block, size_t size);
 
-static long asked;
+// Words, whose numbers begin at these sizes: refuse the request of a number from here on; refuse each whose number
+// is a multiple; refuse none, and this word itself where one was refused since the last word.
+enum { ONE = 7000000, EACH = 8000000, NONE = 9000000, END = 10000000 };
 
-static int is_refused(void) {
-    const char *number = getenv("REFUSED");
-    if (!number || __atomic_add_fetch(&asked, 1, __ATOMIC_SEQ_CST) != atol(number))
+static long asked, refused, one, each;
+
+static int is_word_refused(size_t size) {
+    int was_refused = refused != 0;
+    asked = refused = 0;
+    one = size < EACH ? size - ONE : 0;
+    each = EACH <= size && size < NONE ? size - EACH : 0;
+    return NONE <= size && was_refused;
+}
+
+static int is_meant(long number) {
+    const char *only = getenv("REFUSED");
+    return only ? number == atol(only) : number == one || (each && number % each == 0);
+}
+
+static int is_refused(size_t size) {
+    if (ONE <= size && size < END)
+        return is_word_refused(size);
+    if (!is_meant(__atomic_add_fetch(&asked, 1, __ATOMIC_SEQ_CST)))
         return 0;
-    close(creat(getenv("REFUSED_SAYS"), 0600));
+    __atomic_add_fetch(&refused, 1, __ATOMIC_SEQ_CST);
+    // Made where it is not there, and written at its end.
+    int file = open(getenv("REFUSED_SAYS"), 02101, 0600);
+    write(file, ".", 1);
+    close(file);
     return 1;
 }
 
 void *malloc(size_t size) {
-    return is_refused() ? 0 : __libc_malloc(size);
+    return is_refused(size) ? 0 : __libc_malloc(size);
 }
 
 void *realloc(void *block, size_t size) {
-    return is_refused() ? 0 : __libc_realloc(block, size);
+    return is_refused(size) ? 0 : __libc_realloc(block, size);
 }
 """
+
+# Of one run, in seconds. A loaded machine takes far longer than one that does nothing else.
+MOST_SECONDS = 600
 
 
 def build(folder):
@@ -68,12 +97,13 @@ class Tests:
         names = [it.removesuffix(": test") for it in lines.splitlines() if it.endswith(": test")]
         self.names = [it for it in names if word in it]
 
-    def run(self, name, number):
-        """Was a request refused, and did the test pass?"""
+    def run(self, name, number=None):
+        """How many requests were refused, and did the test pass?"""
         says = f"{self.folder}/{self.crate}-{name.replace(':', '-')}-{number}"
-        how = {**os.environ, "LD_PRELOAD": self.library, "REFUSED": str(number), "REFUSED_SAYS": says}
-        ran = subprocess.run([self.program, name], env=how, capture_output=True, timeout=60)
-        return os.path.exists(says), not ran.returncode
+        how = {**os.environ, "LD_PRELOAD": self.library, "REFUSED_SAYS": says}
+        how |= {"REFUSED": str(number)} if number else {}
+        ran = subprocess.run([self.program, name], env=how, capture_output=True, timeout=MOST_SECONDS)
+        return os.path.getsize(says) if os.path.exists(says) else 0, not ran.returncode
 
     def refusals(self, name):
         """How many requests a test makes, and which of them it does not pass without."""
@@ -91,22 +121,49 @@ class Tests:
 
 # The tests that pass whichever request is refused.
 TOLERANT = [
-    ("papaya_collect_tests", "calls::"),
+    ("papaya_seq_tests", "refused::"),
+    ("papaya_set_tests", "refused::"),
+    ("papaya_map_tests", "refused::"),
+    ("papaya_json_tests", "refused::"),
 ]
+
+# Those that tell what is to be refused.
+TELLING = [
+    ("papaya_cases_tests", "refused::"),
+    ("papaya_collect_tests", "calls::"),
+    ("papaya_collect_tests", "crowds::"),
+]
+
+
+def refuse_each(tests):
+    """Each request is refused in turn. Is there a test that does not pass then?"""
+    status = 0
+    for name in tests.names:
+        requests, failed = tests.refusals(name)
+        print(f"{tests.crate} {name}: {requests} requests refused in turn, {len(failed)} failed", *failed)
+        status |= bool(failed) or not requests
+    return status
+
+
+def refuse_told(tests):
+    """What a test tells is refused. Is there one that does not pass then, or to which nothing is?"""
+    status = 0
+    with ThreadPoolExecutor(os.cpu_count()) as pool:
+        for name, (refused, passed) in zip(tests.names, pool.map(tests.run, tests.names)):
+            print(f"{tests.crate} {name}: {refused} requests refused, {'passed' if passed else 'failed'}")
+            status |= not passed or not refused
+    return status
 
 
 def main(crates):
     status = 0
     with tempfile.TemporaryDirectory() as folder:
         library = build(folder)
-        for crate, word in TOLERANT:
-            if crates and crate not in crates:
-                continue
-            tests = Tests(crate, word, folder, library)
-            for name in tests.names:
-                requests, failed = tests.refusals(name)
-                print(f"{crate} {name}: {requests} requests refused in turn, {len(failed)} failed", *failed)
-                status |= bool(failed)
+        for kind, refuse in [(TOLERANT, refuse_each), (TELLING, refuse_told)]:
+            for crate, word in kind:
+                if not crates or crate in crates:
+                    tests = Tests(crate, word, folder, library)
+                    status |= refuse(tests) or not tests.names
     return status
 
 

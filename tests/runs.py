@@ -19,7 +19,7 @@ class Runs:
     def printed_by(self, args, script):
         """What a run prints, what it says on standard error, and its status."""
         words = args.split(" ") if args else []
-        found = subprocess.run([self.program, *words], input=script, capture_output=True, timeout=60)
+        found = subprocess.run([self.program, *words], input=script, capture_output=True, timeout=600)
         return found.stdout.decode(), found.stderr.decode(), found.returncode
 
     def run_one_of(self, args, lines, printed):
@@ -334,16 +334,12 @@ OVERLAPPING = [
 
 
 def rounds_of(runs, args, lines, steps, most=1000):
-    """How often these lines go on before one of them is bad: a step of a caller whose call has replied."""
-    low, high = 1, most
-    while low < high:
-        middle = (low + high) // 2
-        script = "".join(f"{it}\n" for it in [*lines, *steps * (middle + 1)])
-        if runs.printed_by(args, script.encode())[2] == 0:
-            low = middle + 1
-        else:
-            high = middle
-    return low
+    """How often these lines go on before one of them is bad: a step of a caller whose call has replied. The
+    program says which line is."""
+    script = "".join(f"{it}\n" for it in [*lines, *steps * most])
+    said = runs.printed_by(args, script.encode())[1]
+    bad = int(said.removeprefix("papaya-run: line ").split(":")[0])
+    return (bad - 1 - len(lines)) // len(steps)
 
 
 def steps_of(runs, args, lines, caller, most=1000):
@@ -575,6 +571,91 @@ def growing_without_memory(runs):
         runs.is_so(refused == 3, f"{args}: {refused} steps of a growth make something")
 
 
+def said_by(runs, args, lines, keys):
+    """What is printed after the insertions of so many keys."""
+    return runs.printed_by(args, "".join(f"{it}\n" for it in lines).encode())[0].splitlines()[keys:]
+
+
+def steps_that_make(runs, args, keys, call):
+    """How many steps of this call by caller 0 come before each that is refused without memory. Each step is made
+    without memory once, and where none of them is refused any more, the call answers."""
+    begun, steps, made, plain = [*filled(keys), f"begin 0 {call}"], [], 0, plain_of(keys)
+    while True:
+        made += rounds_of(runs, args, [*begun, *["step 0"] * made], ["refuse 0"], 20000)
+        said = said_by(runs, args, [*begun, *["step 0"] * (made - 1), "refuse 0"], keys)
+        if said != ["0: refused 1 Memory"]:
+            runs.is_so(said == [f"0: {plain.call(call)}"], f"{args} with {keys} keys: {call} without memory: {said}")
+            return steps
+        steps.append(made - 1)
+
+
+def plain_of(keys):
+    """The map that has so many keys."""
+    plain = Plain()
+    for key in range(keys):
+        plain.call(f"i {key} {key}")
+    return plain
+
+
+# Maps in which a table is full, or is being copied, in chunks of one slot through up to three tables. The fourth
+# gives a table up.
+WITHOUT_MEMORY = [
+    *[(args, keys) for args in GROWING for keys in [FULL, FULL + 2]],
+    *[("core inc:1 zero", keys) for keys in [26, 27, 40, 63, 64, 65, 66]],
+    *[(f"core {mode} zero", keys) for mode in ["inc:4", "inc:64", "block"] for keys in [26, 63, 64]],
+]
+
+
+def each_without_memory(runs):
+    """One step of each call has no memory, and the call is refused by it. Then no pair has changed, but a clear may
+    have taken some out. With memory the call answers."""
+    refused = {}
+    for args, keys in WITHOUT_MEMORY:
+        for call in each_call(keys):
+            steps = steps_that_make(runs, args, keys, call)
+            refused[args, keys, call] = len(steps)
+            for made in steps:
+                lines = [*filled(keys), f"begin 0 {call}", *["step 0"] * made, "refuse 0"]
+                refuse_step(runs, args, keys, call, lines)
+    # An insertion makes its key, its pair and a table, and one more where that is given up.
+    of_new = [refused[args, keys, f"i {keys} 20"] for args, keys in [("core block id", FULL), ("core block zero", 64)]]
+    of_others = [sum(it for (*_, call), it in refused.items() if call == word) for word in ["walk", "clear", "r 0"]]
+    runs.is_so(of_new == [3, 4] and all(of_others), f"makes something in {of_new} and {of_others} steps")
+
+
+def refuse_step(runs, args, keys, call, lines):
+    """A call of caller 0 is refused by these lines, and caller 1 makes it then."""
+    looks = [*[f"g {key}" for key in range(keys + 1)], "walk"]
+    plain = plain_of(keys)
+    if call == "clear":
+        for key, it in enumerate(said_by(runs, args, [*lines, *wholes(2, looks)], keys)[1:-2]):
+            plain.call(f"g {key}" if it != "2: none" else f"r {key}")
+    printed = ["0: refused 1 Memory", *(f"2: {plain.call(it)}" for it in looks)]
+    printed += [f"1: {plain.call(it)}" for it in [call, *looks]]
+    runs.run(args, [*lines, *wholes(2, looks), *wholes(1, [call, *looks])], [*["0: none"] * keys, *printed])
+
+
+def removing_beside_a_refusal(runs):
+    """Caller 0 makes one step of an insertion without memory, before or after caller 2 walks the map and caller 1
+    removes a key, and goes on to its end. The key is gone then, and each other one is there."""
+    others = [*whole(2, "walk"), *whole(1, "r 0")]
+    looks = [*whole(1, "g 0"), *looked_up(1, FULL + 1), *whole(2, "walk")]
+    for args in GROWING:
+        begun = [*filled(FULL), f"begin 0 i {FULL} {FULL}"]
+        for made in range(steps_of(runs, args, begun, 0)):
+            stopped = [*begun, *["step 0"] * made]
+            for lines in [[*stopped, "refuse 0", *others], [*stopped, *others, "refuse 0"]]:
+                replies = [it for it in said_by(runs, args, lines, FULL) if it.startswith("0: ")]
+                lines += [*([] if replies else ["finish 0"]), *looks]
+                replies = replies or ["0: none"]
+                end = FULL + (replies == ["0: none"])
+                kept = ["1: none", *found(1, end), *["2: none"] * (FULL + 1 - end), walk_of(range(1, end))]
+                walks = [walk_of(range(walked)) for walked in {FULL, end}]
+                beside = [[walk, "1: removed 0"] for walk in walks]
+                orders = [order for it in beside for order in ([*replies, *it], [*it, *replies])]
+                runs.run_one_of(args, lines, [[*["0: none"] * FULL, *it, *kept] for it in orders])
+
+
 def two_copiers(runs):
     """Each of two callers is stopped after each number of steps of an insertion that copies a chunk of the full
     table, one from chunk 0 on and the other from chunk 5, and both go on: each cut of one of them with twelve of
@@ -626,6 +707,8 @@ def main(program):
     growing(runs)
     walking(runs)
     growing_without_memory(runs)
+    each_without_memory(runs)
+    removing_beside_a_refusal(runs)
     two_copiers(runs)
     looking_up_beside_a_copy(runs)
     for rest in ["inc:64 id", "block zero"]:

@@ -5,7 +5,11 @@ use std::fmt::Debug;
 use std::process::Abort;
 
 /// How the collections of the tests resize.
-pub const MODES: [ResizeMode; 2] = [ResizeMode::Incremental(1), ResizeMode::Blocking];
+pub const MODES: [ResizeMode; 3] = [
+    ResizeMode::Blocking,
+    ResizeMode::Incremental(1),
+    ResizeMode::Incremental(64),
+];
 
 /// What was found is what is wanted.
 pub fn is<T: PartialEq + Debug + Drop>(rt: &impl Abort, found: T, wanted: T) {

@@ -12,11 +12,11 @@ mod dropped;
 #[cfg(test)]
 mod expect;
 #[cfg(test)]
-mod hashers;
-#[cfg(test)]
 mod key_steps;
 #[cfg(test)]
 mod maps;
+#[cfg(test)]
+mod refused;
 #[cfg(test)]
 mod set_threads;
 #[cfg(test)]

@@ -1,9 +1,9 @@
 // The cases on maps that threads share, pinned.
 use crate::answers::{Answer, compute_of, insertion_of, making_of, pair_of, removal_of, value_of};
 use crate::expect::MODES;
-use crate::hashers::{FIRST, LAST};
 use crate::maps::{CASES, goes};
 use crate::steps::{Agrees, Calls, by_parity};
+use papaya_hashers::same::{FIRST, LAST};
 use papaya_map::map::HashMap;
 use papaya_words::probe::Refused;
 use std::alloc::Global;

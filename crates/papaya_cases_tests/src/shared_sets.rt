@@ -1,8 +1,8 @@
 // The cases on sets that threads share, pinned.
 use crate::expect::MODES;
-use crate::hashers::{FIRST, LAST};
 use crate::key_steps::Calls;
 use crate::sets::{CASES, goes};
+use papaya_hashers::same::{FIRST, LAST};
 use papaya_set::set::HashSet;
 use papaya_words::probe::Refused;
 use std::alloc::Global;

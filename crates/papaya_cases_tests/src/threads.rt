@@ -13,7 +13,7 @@ use std::test::Fail;
 use std::thread::{Threads, join};
 
 /// How many there were.
-pub fn count(answer: Answer) -> u64 {
+fn count(answer: Answer) -> u64 {
     match answer {
         Number(count) => count,
         _ => 0,

@@ -1,18 +1,20 @@
-// Each call that takes memory for many keys, once. Where memory is refused to it, it says so and leaves
-// what was there, and the same call then succeeds. `tests/refused.py` refuses each allocation in turn.
+// Each call that takes memory for many keys, also while these are being moved, with each request for memory
+// refused to it in turn: it says so and leaves what was there, and then it succeeds. What is told to refuse
+// is the heap of `tests/refused.py`.
 use crate::collection::{Collection, Maker, has_below};
 use crate::expect::is_at;
 use crate::keys::{END, Key, MODES, Pair, START};
 use papaya_map::map;
+use papaya_refusals::tries::{Outcome, Ready, Trial, fails_at, tries};
 use papaya_seq::seq;
 use papaya_set::{seq as set_alone, set};
-use papaya_words::probe::Refused;
+use papaya_words::probe::{Refused, ResizeMode};
 use std::alloc::Global;
+use std::marker::PhantomData;
 use std::process::Abort;
 use std::sync::Wait;
-use std::test::Fail;
 
-/// The calls.
+/// The calls, and those on one key of maps and sets alike.
 #[derive(Clone, Copy)]
 enum Call {
     FromIter,
@@ -23,12 +25,16 @@ enum Call {
     ExtendRef,
     Reclaim,
     Eq,
+    Walk,
     Reserve,
     Clear,
     Retain,
+    /// Stores a key that is not there, or takes out one that is.
+    Store,
+    TakeOut,
 }
 
-const CALLS: [Call; 11] = [
+const CALLS: [Call; 14] = [
     Call::FromIter,
     Call::FromArray,
     Call::TryClone,
@@ -37,35 +43,13 @@ const CALLS: [Call; 11] = [
     Call::ExtendRef,
     Call::Reclaim,
     Call::Eq,
+    Call::Walk,
     Call::Reserve,
     Call::Clear,
     Call::Retain,
+    Call::Store,
+    Call::TakeOut,
 ];
-
-/// So many keys are there before a clear and a retain: with chunks of one slot they are still being moved
-/// through three tables.
-const MOVED: u64 = 65;
-
-/// The keys below this one are there before a call.
-fn keys_before(call: Call) -> u64 {
-    match call {
-        Call::Clear | Call::Retain => MOVED,
-        _ => START,
-    }
-}
-
-/// Are all its keys below `MOVED` with their values, and are the even ones there, where these stay?
-fn is_left<C: Collection>(it: &C, evens_stay: bool) -> bool {
-    let mut left = 0u64;
-    for key in 0..MOVED {
-        if it.has(Key(key), key.wrapping_mul(10)) {
-            left = left.wrapping_add(1);
-        } else if evens_stay && key % 2 == 0 {
-            return false;
-        }
-    }
-    it.count() == left
-}
 
 /// The pairs of which one is made: of two with one key the later one stays.
 const ITEMS: [Pair; 3] = [(Key(0), 7), (Key(1), 10), (Key(0), 0)];
@@ -80,11 +64,11 @@ fn make<R: Wait, C: Collection>(rt: &R, alloc: Global, it: &C, call: Call) -> Re
     }
 }
 
-/// How many keys such a one has.
-fn keys_made(call: Call) -> u64 {
+/// How many keys such a one has, made of one that has so many.
+fn keys_made(call: Call, keys: u64) -> u64 {
     match call {
         Call::FromIter | Call::FromArray => 2,
-        _ => START,
+        _ => keys,
     }
 }
 
@@ -100,87 +84,201 @@ fn change<R: Wait, C: Collection>(rt: &R, it: &mut C, call: Call) -> Result<(), 
     }
 }
 
-/// Is it as such a call leaves it?
-fn is_changed<C: Collection>(it: &C, call: Call) -> bool {
+/// Are all its keys below this one with their values, and are the even ones there, where these stay?
+fn is_left<C: Collection>(it: &C, keys: u64, evens_stay: bool) -> bool {
+    let mut left = 0u64;
+    for key in 0..keys {
+        if it.has(Key(key), key.wrapping_mul(10)) {
+            left = left.wrapping_add(1);
+        } else if evens_stay && key % 2 == 0 {
+            return false;
+        }
+    }
+    it.count() == left
+}
+
+/// Is it as such a call leaves one that had so many keys?
+fn is_changed<C: Collection>(it: &C, call: Call, keys: u64) -> bool {
     match call {
-        Call::Extend | Call::ExtendRef => has_below(it, END),
+        Call::Extend | Call::ExtendRef => has_below(it, keys.max(END)),
         Call::Clear => it.count() == 0,
-        Call::Retain => is_left(it, true) && it.count() == 33,
-        _ => has_below(it, START),
+        Call::Retain => is_left(it, keys, true) && it.count() == keys.div_ceil(2),
+        _ => has_below(it, keys),
     }
 }
 
-/// Makes a call on one that has the keys before it: came of it what was to come?
+/// Stores the key after the ones that are there: was it new, and is it there?
+fn stores<R: Wait, C: Collection>(rt: &R, it: &mut C, keys: u64) -> Result<bool, Refused> {
+    let is_new = it.store(rt, (Key(keys), keys.wrapping_mul(10)))?;
+    Ok(is_new && has_below(it, keys.wrapping_add(1)))
+}
+
+/// Takes the last key out: was it there, if any was, and is it gone?
+fn takes_out<R: Wait, C: Collection>(rt: &R, it: &mut C, keys: u64) -> Result<bool, Refused> {
+    let left = keys.saturating_sub(1);
+    Ok(it.take_out(rt, Key(left))? == (left < keys) && has_below(it, left))
+}
+
+/// Does a walk give each of so many keys, by their number and sum?
+fn walks<R: Wait, C: Collection>(rt: &R, it: &C, keys: u64) -> Result<bool, Refused> {
+    let (found, sum, _) = it.walk(rt)?;
+    let wanted = keys.wrapping_mul(keys.saturating_sub(1)) / 2;
+    Ok(found == keys && sum == wanted && has_below(it, keys))
+}
+
+/// The function that makes a text of a key is refused memory too, and says that there is none then.
+fn of_memory(refused: Refused) -> Refused {
+    match refused {
+        Refused::Item => Refused::Memory,
+        other => other,
+    }
+}
+
+/// Makes one of this one, or of others: has it its keys?
+fn makes<R: Wait, C: Collection + Drop>(
+    rt: &R,
+    alloc: Global,
+    it: &C,
+    call: Call,
+    keys: u64,
+) -> Result<bool, Refused> {
+    let made = make(rt, alloc, it, call).map_err(of_memory)?;
+    Ok(has_below(&made, keys_made(call, keys)) && has_below(it, keys))
+}
+
+/// Changes one that has so many keys: is it as it should be?
+fn changes<R: Wait, C: Collection>(
+    rt: &R,
+    it: &mut C,
+    call: Call,
+    keys: u64,
+) -> Result<bool, Refused> {
+    change(rt, it, call)?;
+    Ok(is_changed(it, call, keys))
+}
+
+/// Makes a call on one that has the keys below this one: came of it what was to come?
 fn calls<R: Wait, C: Collection + Drop>(
     rt: &R,
     alloc: Global,
     it: &mut C,
     call: Call,
+    keys: u64,
 ) -> Result<bool, Refused> {
     match call {
         Call::Eq => it.equals(rt, it),
+        Call::Walk => walks(rt, it, keys),
+        Call::Store => stores(rt, it, keys),
+        Call::TakeOut => takes_out(rt, it, keys),
         Call::FromIter | Call::FromArray | Call::TryClone | Call::WriteAndRead => {
-            Ok(has_below(&make(rt, alloc, it, call)?, keys_made(call)))
+            makes(rt, alloc, it, call, keys)
         }
-        _ => {
-            change(rt, it, call)?;
-            Ok(is_changed(it, call))
-        }
+        _ => changes(rt, it, call, keys),
     }
 }
 
 /// After a refusal it is as it was. Where it took further keys, it has those before the refused one, and
 /// where keys were to go, those that did not go yet.
-fn is_kept<C: Collection>(it: &C, call: Call) -> bool {
+fn is_kept<C: Collection>(it: &C, call: Call, keys: u64) -> bool {
+    let count = it.count();
     match call {
         Call::Extend | Call::ExtendRef => {
-            let keys = it.count();
-            START <= keys && keys < END && has_below(it, keys)
+            (count == keys || keys < count && count < END) && has_below(it, count)
         }
-        Call::Clear => is_left(it, false),
-        Call::Retain => is_left(it, true),
-        _ => has_below(it, START),
+        Call::Clear => is_left(it, keys, false),
+        Call::Retain => is_left(it, keys, true),
+        _ => has_below(it, keys),
     }
 }
 
-/// Makes a call, and again where memory was refused to it: was all as it should be?
-fn stands<R: Wait, C: Collection + Drop>(
-    rt: &R,
+/// One that has the keys below this one, and a call of it.
+#[derive(Drop)]
+struct Called<'r, 'c, R, C> {
+    rt: &'r R,
     alloc: Global,
-    it: &mut C,
+    it: &'c mut C,
     call: Call,
-) -> Result<bool, Refused> {
-    match calls(rt, alloc, it, call) {
-        Err(Refused::Memory) => {
-            let kept = is_kept(it, call);
-            Ok(calls(rt, alloc, it, call)? && kept)
-        }
-        answer => answer,
+    keys: u64,
+}
+
+impl<R: Wait, C: Collection + Drop> Ready for Called<'_, '_, R, C> {
+    fn is_made(&mut self) -> Result<bool, Refused> {
+        calls(self.rt, self.alloc, self.it, self.call, self.keys)
+    }
+
+    fn is_kept(&mut self) -> bool {
+        is_kept(self.it, self.call, self.keys)
     }
 }
 
-/// One of no keys, also where memory was refused for it at first.
-fn none<R: Wait, C: Collection>(rt: &R, alloc: Global, by: Maker) -> Result<C, Refused> {
-    match C::none(rt, alloc, by) {
-        Err(Refused::Memory) => C::none(rt, alloc, by),
-        made => made,
-    }
-}
-
-/// Stores the keys below this one, each again where memory was refused for it: was it as it should be
-/// after each?
+/// Stores the keys below this one: are they there?
 fn is_filled<R: Wait, C: Collection>(rt: &R, it: &mut C, end: u64) -> Result<bool, Refused> {
     for key in 0..end {
-        let pair = (Key(key), key.wrapping_mul(10));
-        let stored = match it.store(rt, pair) {
-            Err(Refused::Memory) => has_below(it, key) && it.store(rt, pair)?,
-            answer => answer?,
-        };
-        if !stored {
+        if !it.store(rt, (Key(key), key.wrapping_mul(10)))? {
             return Ok(false);
         }
     }
     Ok(has_below(it, end))
+}
+
+/// A call of one that is made and filled for it.
+#[derive(Drop)]
+struct Calling<'r, R, C> {
+    rt: &'r R,
+    alloc: Global,
+    mode: ResizeMode,
+    keys: u64,
+    call: Call,
+    of: PhantomData<C>,
+}
+
+impl<R: Wait, C: Collection + Drop> Trial for Calling<'_, R, C> {
+    fn with_refused(&self, number: usize) -> Result<Outcome, Refused> {
+        let mut it: C = C::none(self.rt, self.alloc, Maker::Parts(self.mode))?;
+        if !is_filled(self.rt, &mut it, self.keys)? {
+            return Ok(Outcome::Fails);
+        }
+        let mut called = Called {
+            rt: self.rt,
+            alloc: self.alloc,
+            it: &mut it,
+            call: self.call,
+            keys: self.keys,
+        };
+        Ok(tries(self.alloc, &mut called, number))
+    }
+}
+
+/// One is made in this way, and filled.
+#[derive(Drop)]
+struct Making<'r, R, C> {
+    rt: &'r R,
+    alloc: Global,
+    by: Maker,
+    of: PhantomData<C>,
+}
+
+impl<R: Wait, C: Collection + Drop> Ready for Making<'_, R, C> {
+    fn is_made(&mut self) -> Result<bool, Refused> {
+        let mut it: C = C::none(self.rt, self.alloc, self.by)?;
+        is_filled(self.rt, &mut it, START)
+    }
+
+    fn is_kept(&mut self) -> bool {
+        true
+    }
+}
+
+impl<R: Wait, C: Collection + Drop> Trial for Making<'_, R, C> {
+    fn with_refused(&self, number: usize) -> Result<Outcome, Refused> {
+        let mut making: Making<'_, R, C> = Making {
+            rt: self.rt,
+            alloc: self.alloc,
+            by: self.by,
+            of: PhantomData,
+        };
+        Ok(tries(self.alloc, &mut making, number))
+    }
 }
 
 /// What makes one of no keys, beside `with_parts`.
@@ -194,54 +292,98 @@ const MAKERS: [Maker; 6] = [
 ];
 
 /// Each of them makes one that is filled.
-fn each_maker<R: Wait + Abort, C: Collection + Drop>(rt: &R, alloc: Global) -> Result<(), Refused> {
+fn each_maker<R: Wait + Abort, C: Collection + Drop>(rt: &R, alloc: Global) {
     for (case, by) in MAKERS.into_iter().enumerate() {
-        let mut it: C = none(rt, alloc, by)?;
-        is_at(rt, case, is_filled(rt, &mut it, START), Ok(true));
+        let making: Making<'_, R, C> = Making {
+            rt,
+            alloc,
+            by,
+            of: PhantomData,
+        };
+        is_at(rt, case, fails_at(&making), Ok(None));
     }
-    Ok(())
 }
 
-/// Makes each call on one that is filled for it.
-fn each_call<R: Wait + Abort, C: Collection + Drop>(rt: &R, alloc: Global) -> Result<(), Refused> {
-    for mode in MODES {
-        for (case, call) in CALLS.into_iter().enumerate() {
-            let mut it: C = none(rt, alloc, Maker::Parts(mode))?;
-            is_at(
-                rt,
-                case,
-                is_filled(rt, &mut it, keys_before(call)),
-                Ok(true),
-            );
-            is_at(rt, case, stands(rt, alloc, &mut it, call), Ok(true));
+/// So many keys of one path are there. A table is full at the next one or not, is being copied, and with 64
+/// in all one is given up in `Blocking`.
+const STAGES: [u64; 10] = [0, 20, 25, 26, 27, 47, 63, 64, 65, 67];
+
+/// Of so many keys some are copied into a second table, or that is made at the next call.
+const COPIED: [u64; 32] = [
+    32, 33, 34, 35, 36, 37, 38, 39, 40, 41, 42, 43, 44, 45, 46, 47, 48, 49, 50, 51, 52, 53, 54, 55, 56,
+    57, 58, 59, 60, 61, 62, 63,
+];
+
+/// Does a call take the ten keys that follow on those that are there at least?
+fn follows(call: Call) -> bool {
+    match call {
+        Call::Extend | Call::ExtendRef => true,
+        _ => false,
+    }
+}
+
+/// Makes a call on one that has so many keys.
+fn at_stage<R: Wait + Abort, C: Collection + Drop>(
+    rt: &R,
+    alloc: Global,
+    mode: ResizeMode,
+    call: Call,
+    keys: u64,
+) {
+    let calling: Calling<'_, R, C> = Calling {
+        rt,
+        alloc,
+        mode,
+        keys,
+        call,
+        of: PhantomData,
+    };
+    is_at(rt, keys as usize, fails_at(&calling), Ok(None));
+}
+
+/// Makes a call at each of these stages.
+fn each_stage<R: Wait + Abort, C: Collection + Drop>(
+    rt: &R,
+    alloc: Global,
+    mode: ResizeMode,
+    call: Call,
+    stages: &[u64],
+) {
+    for &keys in stages {
+        if keys >= START || !follows(call) {
+            at_stage::<R, C>(rt, alloc, mode, call, keys);
         }
     }
-    Ok(())
 }
 
-/// Both.
-fn all<R: Wait + Abort, C: Collection + Drop>(rt: &R, alloc: Global) -> Result<(), Fail> {
-    each_maker::<R, C>(rt, alloc)?;
-    each_call::<R, C>(rt, alloc)?;
-    Ok(())
-}
-
-#[test]
-fn calls_of_maps_for_one_caller(rt: HostRuntime) -> Result<(), Fail> {
-    all::<_, seq::HashMap<Key, u64>>(&rt, rt.alloc())
-}
-
-#[test]
-fn calls_of_maps_that_threads_share(rt: HostRuntime) -> Result<(), Fail> {
-    all::<_, map::HashMap<Key, u64>>(&rt, rt.alloc())
+/// Makes each call, and those that take all keys out at more stages.
+fn each_call<R: Wait + Abort, C: Collection + Drop>(rt: &R, alloc: Global) {
+    each_maker::<R, C>(rt, alloc);
+    for mode in MODES {
+        for call in CALLS {
+            each_stage::<R, C>(rt, alloc, mode, call, &STAGES);
+        }
+        each_stage::<R, C>(rt, alloc, mode, Call::Clear, &COPIED);
+        each_stage::<R, C>(rt, alloc, mode, Call::Retain, &COPIED);
+    }
 }
 
 #[test]
-fn calls_of_sets_for_one_caller(rt: HostRuntime) -> Result<(), Fail> {
-    all::<_, set_alone::HashSet<Key>>(&rt, rt.alloc())
+fn calls_of_maps_for_one_caller(rt: HostRuntime) {
+    each_call::<_, seq::HashMap<Key, u64>>(&rt, rt.alloc());
 }
 
 #[test]
-fn calls_of_sets_that_threads_share(rt: HostRuntime) -> Result<(), Fail> {
-    all::<_, set::HashSet<Key>>(&rt, rt.alloc())
+fn calls_of_maps_that_threads_share(rt: HostRuntime) {
+    each_call::<_, map::HashMap<Key, u64>>(&rt, rt.alloc());
+}
+
+#[test]
+fn calls_of_sets_for_one_caller(rt: HostRuntime) {
+    each_call::<_, set_alone::HashSet<Key>>(&rt, rt.alloc());
+}
+
+#[test]
+fn calls_of_sets_that_threads_share(rt: HostRuntime) {
+    each_call::<_, set::HashSet<Key>>(&rt, rt.alloc());
 }

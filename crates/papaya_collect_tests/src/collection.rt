@@ -37,6 +37,8 @@ pub trait Collection: Sized {
     fn written<R: Wait>(&self, rt: &R, alloc: Global) -> Result<Value, Refused>;
     /// Stores a pair: was its key new?
     fn store<R: Wait>(&mut self, rt: &R, pair: Pair) -> Result<bool, Refused>;
+    /// Takes a key out: was it there?
+    fn take_out<R: Wait>(&mut self, rt: &R, key: Key) -> Result<bool, Refused>;
     /// Takes the ten pairs by `extend`.
     fn take<R: Wait>(&mut self, rt: &R) -> Result<(), Refused>;
     /// Takes them by `extend_ref`.

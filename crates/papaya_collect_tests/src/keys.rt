@@ -8,7 +8,11 @@ use std::alloc::Global;
 use std::hash::{Hash, Hasher};
 
 /// How the collections of the tests resize.
-pub const MODES: [ResizeMode; 2] = [ResizeMode::Blocking, ResizeMode::Incremental(1)];
+pub const MODES: [ResizeMode; 3] = [
+    ResizeMode::Blocking,
+    ResizeMode::Incremental(1),
+    ResizeMode::Incremental(64),
+];
 
 /// A number whose hash is that of all others.
 #[derive(Clone, Copy, Debug, PartialEq, Eq)]
@@ -75,10 +79,7 @@ pub const KEYS: [Key; 10] = [
     Key(29),
 ];
 
-/// A key as decimal digits. Where memory is refused once, they are made again.
+/// A key as decimal digits, if there is memory for them.
 pub fn digits(alloc: Global, key: &Key) -> Option<String> {
-    match key.0.to_string(alloc) {
-        Ok(text) => Some(text),
-        Err(_) => key.0.to_string(alloc).ok(),
-    }
+    key.0.to_string(alloc).ok()
 }

@@ -7,6 +7,10 @@ mod calls;
 #[cfg(test)]
 mod collection;
 #[cfg(test)]
+mod crowded;
+#[cfg(test)]
+mod crowds;
+#[cfg(test)]
 mod expect;
 #[cfg(test)]
 mod keys;

@@ -65,6 +65,10 @@ impl Collection for HashMap<Key, u64> {
         self.put(pair.0, pair.1)
     }
 
+    fn take_out<R: Wait>(&mut self, _rt: &R, key: Key) -> Result<bool, Refused> {
+        Ok(self.remove(&key)?.is_some())
+    }
+
     fn take<R: Wait>(&mut self, _rt: &R) -> Result<(), Refused> {
         self.extend(PAIRS)
     }

@@ -60,6 +60,10 @@ impl Collection for HashSet<Key> {
         self.insert(pair.0)
     }
 
+    fn take_out<R: Wait>(&mut self, _rt: &R, key: Key) -> Result<bool, Refused> {
+        self.remove(&key)
+    }
+
     fn take<R: Wait>(&mut self, _rt: &R) -> Result<(), Refused> {
         self.extend(KEYS)
     }

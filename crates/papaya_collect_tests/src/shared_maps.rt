@@ -64,6 +64,10 @@ impl Collection for HashMap<Key, u64> {
         Ok(self.pin().insert(rt, pair.0, pair.1)?.is_none())
     }
 
+    fn take_out<R: Wait>(&mut self, rt: &R, key: Key) -> Result<bool, Refused> {
+        Ok(self.pin().remove(rt, &key)?.is_some())
+    }
+
     fn take<R: Wait>(&mut self, rt: &R) -> Result<(), Refused> {
         self.extend(rt, PAIRS)
     }

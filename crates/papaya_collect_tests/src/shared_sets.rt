@@ -59,6 +59,10 @@ impl Collection for HashSet<Key> {
         self.pin().insert(rt, pair.0)
     }
 
+    fn take_out<R: Wait>(&mut self, rt: &R, key: Key) -> Result<bool, Refused> {
+        self.pin().remove(rt, &key)
+    }
+
     fn take<R: Wait>(&mut self, rt: &R) -> Result<(), Refused> {
         self.extend(rt, KEYS)
     }

@@ -1,4 +1,5 @@
 //! Hashers for the tests of the maps.
 #![tactic(auto)]
 
+pub mod same;
 pub mod times;

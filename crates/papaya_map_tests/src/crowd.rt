@@ -1,42 +1,15 @@
 // What the threads of the tests do with a map, and how they are started.
 use crate::answers::Answer;
-use crate::seen::{Gate, Says, turn_until};
+use crate::board::Board;
+use crate::held::looks_anew;
+use crate::seen::Says;
 use crate::shared::Shared;
 use crate::steps::{Calls, Step, answer, has_below, inserts};
-use crate::threads::{churn, take_left};
-use std::alloc::Global;
+use crate::threads::{churn, draw, take_left};
+use papaya_gates::gate::Gate;
 use std::sync::Wait;
-use std::sync::atomic::{AtomicBool, AtomicU64, Ordering};
+use std::sync::atomic::Ordering;
 use std::thread::{Threads, join};
-
-/// What the threads of a map tell each other.
-#[derive(Drop)]
-pub struct Board {
-    /// The thread that changes the map is through.
-    pub is_done: AtomicBool,
-    /// Where the closure of a call waits.
-    pub gate: Gate,
-    /// How many threads are here.
-    pub here: AtomicU64,
-    /// How often each value was taken out.
-    pub taken: Vec<AtomicU64>,
-}
-
-impl Board {
-    /// A new one, on which so many values can be counted, if there is memory for it.
-    pub fn new(alloc: Global, values: u64) -> Option<Board> {
-        let mut taken = Vec::new(alloc);
-        for _ in 0..values {
-            taken.push(AtomicU64::new(0)).ok()?;
-        }
-        Some(Board {
-            is_done: AtomicBool::new(false),
-            gate: Gate::new(false),
-            here: AtomicU64::new(0),
-            taken,
-        })
-    }
-}
 
 /// What a thread does with a map. It says whether all was as it should be.
 #[derive(Clone, Copy)]
@@ -47,27 +20,78 @@ pub enum Job {
     Insert(u64, u64),
     /// Does so, each with a new pass.
     Grow(u64, u64),
-    /// Makes room three times.
-    Reserve,
+    /// Stores each key below this one anew, with itself, 20 times.
+    Rewrite(u64),
+    /// Inserts and removes the absent keys of a range, one after another, 20 times.
+    ComeAndGo(u64, u64),
+    /// Makes room for so many pairs more, one number after another.
+    Reserve(&'static [usize]),
     /// Looks whether the keys below this one have themselves as values.
     Has(u64),
+    /// Does so this many times.
+    HasOften(u64, u64),
     /// Does so, each time with a new pass, until the other thread is done, and once more.
     Read(u64),
-    /// Adds 1 to each of four values 250 times, by computes.
+    /// Adds 1 to each of four values 250 times: by computes, or by updates.
     Add,
+    Count,
+    /// Reads a value, and stores the next one when all threads have read it.
+    ReadThenStore,
     /// Adds 1 to each of 64 values, by updates. Each is one or two more than its key then.
     Update,
     /// Walks over the map, and meets each key below this one once, 20 times.
     Walk(u64),
     /// Inserts, reads and removes the same keys as other threads, under this number.
     Churn(u64),
-    /// Takes out what threads have left that did so.
+    /// Stores values at the same keys as other threads, each the next one of its key, and tells
+    /// what they took the place of, or does not.
+    Draw(bool),
+    /// Takes out what threads have left that did one of the two.
     TakeLeft,
     /// Makes a call whose closure lets the other thread replace the pair (1, 10) that it was shown.
     /// The closure is then shown (1, 20), and the call answers so.
     Gated(Step, Answer),
     /// Replaces that pair.
     Replace,
+    /// Keeps the reference to the value 10 that a lookup of key 1 answered, while another thread
+    /// wears it out. Or looks it up anew.
+    Hold,
+    LookAnew,
+    /// Replaces that value 1000 times, and removes it.
+    WearOut,
+    /// Makes a call whose closure does not come back before all other threads have ended.
+    Stuck(Step, Answer),
+}
+
+/// Threads that do a job each.
+#[derive(Clone, Copy)]
+pub enum Crowd {
+    Two([Job; 2]),
+    /// No threads: the second job is done when the first one is.
+    Apart([Job; 2]),
+    Eight([Job; 4], [Job; 4]),
+    /// Four that count what they take out, which ends with what is left.
+    Four([Job; 4]),
+    /// One makes a call whose closure does not come back before all other threads have ended.
+    Stuck(Step, Answer),
+}
+
+impl Crowd {
+    /// How many threads start at once, and for how many ends a gate waits.
+    pub fn size(self) -> (u64, u64) {
+        match self {
+            Crowd::Two(_) => (2, 0),
+            Crowd::Apart(_) => (1, 1),
+            Crowd::Eight(_, _) => (8, 0),
+            Crowd::Four(_) => (4, 0),
+            Crowd::Stuck(_, _) => (8, 7),
+        }
+    }
+
+    /// Is what they take out counted?
+    pub fn counts(self) -> bool {
+        matches!(self, Crowd::Four(_))
+    }
 }
 
 /// Stores this value at each key below 64.
@@ -80,33 +104,80 @@ fn stores<R: Wait, C: Calls>(rt: &R, map: &mut C, value: u64) -> bool {
     true
 }
 
-/// For how many pairs more room is made, one after another. Each takes a longer table.
-const ROOMS: [usize; 3] = [2048, 4096, 8192];
+/// Stores each key below this one anew: was it there each time?
+fn rewrites<R: Wait, C: Calls>(rt: &R, map: &mut C, end: u64) -> bool {
+    for _ in 0..20u64 {
+        for key in 0..end {
+            if map.insert(rt, key, key) != Answer::Number(key) {
+                return false;
+            }
+        }
+    }
+    true
+}
+
+/// Inserts and removes these keys: was each absent before, and there then?
+fn comes_and_goes<R: Wait, C: Calls>(rt: &R, map: &mut C, from: u64, end: u64) -> bool {
+    for _ in 0..20u64 {
+        for key in from..end {
+            let came = map.insert(rt, key, key) == Answer::Absent;
+            if !came || map.remove(rt, key) != Answer::Number(key) {
+                return false;
+            }
+        }
+    }
+    true
+}
 
 /// Makes room for so many more.
-fn reserves<R: Wait, C: Calls>(rt: &R, map: &mut C) -> bool {
+fn reserves<R: Wait, C: Calls>(rt: &R, map: &mut C, rooms: &[usize]) -> bool {
     let mut is_done = true;
-    for more in ROOMS {
+    for &more in rooms {
         is_done = map.reserve(rt, more) == Answer::Done && is_done;
     }
     is_done
 }
 
-/// Adds 1 to each of four values 250 times.
-fn adds<R: Wait, C: Calls>(rt: &R, map: &mut C) -> bool {
-    let gate = Gate::new(true);
-    for at in 0..1000u64 {
-        if let Answer::Refused(_) = map.compute(rt, at % 4, Says::Next, &gate) {
+/// Looks so often whether the keys below this one have themselves as values.
+fn has_often<C: Calls>(map: &mut C, end: u64, times: u64) -> bool {
+    for _ in 0..times {
+        if !has_below(map, end, 1, 0) {
             return false;
         }
     }
     true
 }
 
+/// Adds 1 to each of four values 250 times, by computes or by updates.
+fn adds<R: Wait, C: Calls>(rt: &R, map: &mut C, computes: bool) -> bool {
+    let gate = Gate::open();
+    for at in 0..1000u64 {
+        let added = match computes {
+            true => map.compute(rt, at % 4, Says::Next, &gate),
+            false => map.other(rt, Step::UpdateOrInsert(at % 4, 1)),
+        };
+        if let Answer::Refused(_) = added {
+            return false;
+        }
+    }
+    true
+}
+
+/// Reads the value of key 0, and stores the next one when all have read it.
+fn reads_then_stores<R: Wait, C: Calls>(rt: &R, map: &mut C, board: &Board) -> bool {
+    match map.get(0) {
+        Answer::Number(value) if board.crossing.meets(2) => {
+            map.insert(rt, 0, value.wrapping_add(1)) != Answer::Absent
+        }
+        _ => false,
+    }
+}
+
 /// Adds 1 to each of 64 values: is each one or two more than the key?
 fn updates<R: Wait, C: Calls>(rt: &R, map: &mut C) -> bool {
+    let gate = Gate::open();
     for key in 0..64u64 {
-        match map.update(rt, key) {
+        match map.update(rt, key, &gate) {
             Answer::Number(value) if value == key + 1 || value == key + 2 => {}
             _ => return false,
         }
@@ -125,6 +196,16 @@ fn walks<R: Wait, C: Calls>(rt: &R, map: &mut C, keys: u64) -> bool {
     true
 }
 
+/// Makes the call, whose closure waits at the gate: was it open in time, and did the call answer
+/// so?
+fn passes<R: Wait, C: Calls>(rt: &R, map: &mut C, call: Step, wanted: Answer, gate: &Gate) -> bool {
+    let found = answer(rt, map, call, gate);
+    let was_passed = gate.was_passed();
+    // So that the other threads end, whatever happened.
+    gate.reached.store(true, Ordering::SeqCst);
+    was_passed && found == wanted
+}
+
 /// Makes the call: was its closure shown both pairs, and did it answer so?
 fn is_gated<R: Wait, C: Calls>(
     rt: &R,
@@ -133,21 +214,48 @@ fn is_gated<R: Wait, C: Calls>(
     wanted: Answer,
     gate: &Gate,
 ) -> bool {
-    let found = answer(rt, map, call, gate);
-    // So that the other thread ends, whatever happened.
-    gate.shown.store(true, Ordering::SeqCst);
+    let was_passed = passes(rt, map, call, wanted, gate);
     let seen = map.seen();
-    let is_first = seen.met && seen.first == Some((1, 10));
-    is_first && seen.told() == Answer::Saw(0, 2, Some((1, 20))) && found == wanted
+    let is_first = seen.first == Some((1, 10));
+    was_passed && is_first && seen.told() == Answer::Saw(0, 2, Some((1, 20)))
 }
 
 /// Replaces the pair once it was shown: was it there, and replaced?
 fn is_replaced<R: Wait, C: Calls>(rt: &R, map: &mut C, gate: &Gate) -> bool {
-    let met = turn_until(&gate.shown);
+    let met = gate.turn_until(&gate.reached);
     let found = map.get(1);
     let old = map.insert(rt, 1, 20);
-    gate.replaced.store(true, Ordering::SeqCst);
+    gate.open.store(true, Ordering::SeqCst);
     met && found == Answer::Number(10) && old == Answer::Number(10)
+}
+
+/// Replaces the value of key 1 and removes it, once another thread has it: was it there each time?
+fn wears_out<R: Wait, C: Calls>(rt: &R, map: &mut C, gate: &Gate) -> bool {
+    let mut is_there = gate.turn_until(&gate.reached);
+    let mut last = 10;
+    for value in 1000..2000u64 {
+        is_there = map.insert(rt, 1, value) == Answer::Number(last) && is_there;
+        last = value;
+    }
+    is_there = map.remove(rt, 1) == Answer::Number(last) && is_there;
+    gate.open.store(true, Ordering::SeqCst);
+    is_there
+}
+
+/// Does a job that several threads do at the same keys, or at a gate.
+fn meets<R: Wait, C: Calls>(rt: &R, map: &mut C, job: Job, board: &Board) -> bool {
+    match job {
+        Job::ReadThenStore => reads_then_stores(rt, map, board),
+        Job::Churn(thread) => churn(rt, map, board, thread),
+        Job::Draw(tells) => draw(rt, map, board, tells),
+        Job::TakeLeft => take_left(map, board.taken.as_slice()),
+        Job::Gated(call, wanted) => is_gated(rt, map, call, wanted, &board.crossing.gate),
+        Job::Replace => is_replaced(rt, map, &board.crossing.gate),
+        Job::LookAnew => looks_anew(map, &board.crossing.gate),
+        Job::WearOut => wears_out(rt, map, &board.crossing.gate),
+        Job::Stuck(call, wanted) => passes(rt, map, call, wanted, &board.crossing.gate),
+        _ => false,
+    }
 }
 
 /// Does a job with a pass of its own, but for reading.
@@ -155,15 +263,16 @@ pub fn does<R: Wait, C: Calls>(rt: &R, map: &mut C, job: Job, board: &Board) -> 
     match job {
         Job::Store(value) => stores(rt, map, value),
         Job::Insert(from, end) | Job::Grow(from, end) => inserts(rt, map, from, end),
-        Job::Reserve => reserves(rt, map),
+        Job::Rewrite(end) => rewrites(rt, map, end),
+        Job::ComeAndGo(from, end) => comes_and_goes(rt, map, from, end),
+        Job::Reserve(rooms) => reserves(rt, map, rooms),
         Job::Has(end) | Job::Read(end) => has_below(map, end, 1, 0),
-        Job::Add => adds(rt, map),
+        Job::HasOften(end, times) => has_often(map, end, times),
+        Job::Add => adds(rt, map, true),
+        Job::Count => adds(rt, map, false),
         Job::Update => updates(rt, map),
         Job::Walk(keys) => walks(rt, map, keys),
-        Job::Churn(thread) => churn(rt, map, board, thread),
-        Job::TakeLeft => take_left(map, board.taken.as_slice()),
-        Job::Gated(call, wanted) => is_gated(rt, map, call, wanted, &board.gate),
-        Job::Replace => is_replaced(rt, map, &board.gate),
+        _ => meets(rt, map, job, board),
     }
 }
 
@@ -196,19 +305,21 @@ fn work<R: Wait, M: Shared>(rt: &R, map: &M, job: Job, board: &Board) -> bool {
     match job {
         Job::Read(end) => reads(rt, map, end, board),
         Job::Grow(from, end) => grows(rt, map, from, end, board),
+        Job::Hold => map.holds(&board.crossing.gate),
         _ => map.does(rt, job, board),
     }
 }
 
-/// Does a job, and says then that it is done.
+/// Does a job once all threads are there, and says then that it is done.
 fn says<R: Wait, M: Shared>(rt: &R, map: &M, job: Job, board: &Board) -> bool {
+    let began = board.begins(job);
     let did = work(rt, map, job, board);
-    board.is_done.store(true, Ordering::SeqCst);
-    did
+    board.ends();
+    began && did
 }
 
 /// Two threads do a job each.
-pub fn two<R: Threads + Wait + Sync, M: Shared + Sync>(
+fn two<R: Threads + Wait + Sync, M: Shared + Sync>(
     rt: &R,
     map: &M,
     board: &Board,
@@ -222,8 +333,15 @@ pub fn two<R: Threads + Wait + Sync, M: Shared + Sync>(
     )
 }
 
-/// So do four.
-pub fn four<R: Threads + Wait + Sync, M: Shared + Sync>(
+/// One after the other.
+fn apart<R: Wait, M: Shared>(rt: &R, map: &M, board: &Board, jobs: [Job; 2]) -> (bool, bool) {
+    let [first, second] = jobs;
+    let did = says(rt, map, first, board);
+    (did, says(rt, map, second, board))
+}
+
+/// Four threads do so.
+fn four<R: Threads + Wait + Sync, M: Shared + Sync>(
     rt: &R,
     map: &M,
     board: &Board,
@@ -239,7 +357,7 @@ pub fn four<R: Threads + Wait + Sync, M: Shared + Sync>(
 }
 
 /// So do eight.
-pub fn eight<R: Threads + Wait + Sync, M: Shared + Sync>(
+fn eight<R: Threads + Wait + Sync, M: Shared + Sync>(
     rt: &R,
     map: &M,
     board: &Board,
@@ -251,4 +369,46 @@ pub fn eight<R: Threads + Wait + Sync, M: Shared + Sync>(
         || four(rt, map, board, low),
         || four(rt, map, board, high),
     )
+}
+
+/// What three of seven threads do while one is stuck.
+fn low_beside(call: Step, wanted: Answer) -> [Job; 4] {
+    [
+        Job::Stuck(call, wanted),
+        Job::HasOften(6, 20),
+        Job::Rewrite(6),
+        Job::Insert(100, 150),
+    ]
+}
+
+/// For how many pairs more one of the others makes room.
+const ROOMS: &[usize] = &[64, 128, 256];
+
+/// What the other four do.
+const HIGH_BESIDE: [Job; 4] = [
+    Job::Insert(150, 200),
+    Job::Reserve(ROOMS),
+    Job::Walk(6),
+    Job::ComeAndGo(300, 310),
+];
+
+/// A crowd does its jobs: was all as it should be?
+pub fn gathers<R: Threads + Wait + Sync, M: Shared + Sync>(
+    rt: &R,
+    map: &M,
+    board: &Board,
+    crowd: Crowd,
+) -> (bool, bool) {
+    match crowd {
+        Crowd::Two(jobs) => two(rt, map, board, jobs),
+        Crowd::Apart(jobs) => apart(rt, map, board, jobs),
+        Crowd::Eight(low, high) => eight(rt, map, board, low, high),
+        Crowd::Four(jobs) => (
+            four(rt, map, board, jobs),
+            map.does(rt, Job::TakeLeft, board),
+        ),
+        Crowd::Stuck(call, wanted) => {
+            eight(rt, map, board, low_beside(call, wanted), HIGH_BESIDE)
+        }
+    }
 }

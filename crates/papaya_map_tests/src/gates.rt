@@ -1,9 +1,10 @@
 // A pair that is replaced while a closure is shown it.
 use crate::answers::Answer::{Absent, Number, Pair, Updated};
+use crate::crowd::Crowd::{Apart, Two};
 use crate::crowd::Job::{Gated, Replace};
 use crate::numbers::Numbers;
 use crate::seen::Says;
-use crate::shared::Turn::{self, Calls, Two};
+use crate::shared::Turn::{self, Calls, Fails, Threads};
 use crate::shared::{MODES, runs};
 use crate::steps::Step::{Compute, Get, Insert, Len, RemoveIf};
 use std::test::Fail;
@@ -11,7 +12,7 @@ use std::test::Fail;
 /// A pair is stored, and then removed and replaced at once.
 const REMOVES_WHAT_REPLACED: [Turn; 3] = [
     Calls(&[(Insert(1, 10), Absent)]),
-    Two([Gated(RemoveIf(1, true), Pair(1, 20)), Replace]),
+    Threads(Two([Gated(RemoveIf(1, true), Pair(1, 20)), Replace])),
     Calls(&[(Get(1), Absent), (Len, Number(0))]),
 ];
 
@@ -25,7 +26,7 @@ fn a_removal_shows_what_replaced_its_pair(rt: HostRuntime) -> Result<(), Fail> {
 /// A pair is stored, and then added to and replaced at once.
 const UPDATES_WHAT_REPLACED: [Turn; 3] = [
     Calls(&[(Insert(1, 10), Absent)]),
-    Two([Gated(Compute(1, Says::Next), Updated(20, 21)), Replace]),
+    Threads(Two([Gated(Compute(1, Says::Next), Updated(20, 21)), Replace])),
     Calls(&[(Get(1), Number(21)), (Len, Number(1))]),
 ];
 
@@ -34,4 +35,20 @@ const UPDATES_WHAT_REPLACED: [Turn; 3] = [
 #[test]
 fn a_compute_shows_what_replaced_its_pair(rt: HostRuntime) -> Result<(), Fail> {
     runs::<_, Numbers>(&rt, rt.alloc(), &MODES, &UPDATES_WHAT_REPLACED)
+}
+
+/// The first call has ended when the second one is made.
+const ONE_CALL_AFTER_THE_OTHER: [Turn; 3] = [
+    Calls(&[(Insert(1, 10), Absent)]),
+    Fails(
+        Apart([Gated(Compute(1, Says::Next), Updated(20, 21)), Replace]),
+        (false, false),
+    ),
+    Calls(&[(Get(1), Number(20))]),
+];
+
+/// Calls that do not overlap do not pass the gate.
+#[test]
+fn one_call_after_the_other_is_found_out(rt: HostRuntime) -> Result<(), Fail> {
+    runs::<_, Numbers>(&rt, rt.alloc(), &MODES, &ONE_CALL_AFTER_THE_OTHER)
 }

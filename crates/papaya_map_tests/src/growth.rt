@@ -1,8 +1,9 @@
 // Threads that share a map while it grows, or while room is made.
 use crate::answers::Answer::{Done, Is, Number, Refused};
-use crate::crowd::Job::{Grow, Insert, Read, Reserve, Store, Walk};
+use crate::crowd::Crowd::{Eight, Two};
+use crate::crowd::Job::{Grow, HasOften, Insert, Read, Reserve, Store, Walk};
 use crate::numbers::Numbers;
-use crate::shared::Turn::{self, Calls, Eight, Guarded, Two};
+use crate::shared::Turn::{self, Calls, Fails, Guarded, Threads};
 use crate::shared::{Holder, MODES, Making, runs};
 use crate::steps::Step::{self, HasBelow, HasEither, InsertBelow, Len};
 use papaya_hashers::times::APART;
@@ -11,7 +12,7 @@ use std::test::Fail;
 
 /// Two threads store the same keys in a map of no pairs.
 const STORES_TWICE: [Turn; 2] = [
-    Two([Store(0), Store(1)]),
+    Threads(Two([Store(0), Store(1)])),
     Calls(&[(HasEither(64), Is(true)), (Len, Number(64))]),
 ];
 
@@ -21,17 +22,18 @@ fn two_threads_store_the_same_keys(rt: HostRuntime) -> Result<(), Fail> {
 }
 
 /// Maps for six pairs, with a table of 8 slots.
-const FOR_SIX: [Making; 3] = [
+pub const FOR_SIX: [Making; 3] = [
     Making::Parts(ResizeMode::Blocking, 6, APART),
     Making::Parts(ResizeMode::Incremental(1), 6, APART),
     Making::Parts(ResizeMode::Incremental(64), 6, APART),
 ];
 
-/// One thread makes the table grow to one of 2^15 slots, and the other finds the first keys each time.
+/// One thread makes the table grow to one of 256 slots, and the other finds the first keys each
+/// time. Keys over 255 would share their paths with lower ones, and take far longer tables.
 const READS_WHILE_GROWING: [Turn; 3] = [
     Calls(&[(InsertBelow(6), Is(true))]),
-    Two([Grow(6, 16_000), Read(6)]),
-    Calls(&[(Len, Number(16_000))]),
+    Threads(Two([Grow(6, 256), Read(6)])),
+    Calls(&[(Len, Number(256))]),
 ];
 
 #[test]
@@ -39,34 +41,34 @@ fn a_reader_finds_the_first_keys_while_the_map_grows(rt: HostRuntime) -> Result<
     runs::<_, Numbers>(&rt, rt.alloc(), &FOR_SIX, &READS_WHILE_GROWING)
 }
 
-/// Eight threads insert 128 keys each in a map of no pairs, so that all need each next table at once.
+/// Eight threads insert 32 keys each, so that all need each next table at once.
 const INSERTS_EIGHT: [Turn; 2] = [
-    Eight(
+    Threads(Eight(
         [
-            Insert(0, 128),
-            Insert(128, 256),
-            Insert(256, 384),
-            Insert(384, 512),
+            Insert(0, 32),
+            Insert(32, 64),
+            Insert(64, 96),
+            Insert(96, 128),
         ],
         [
-            Insert(512, 640),
-            Insert(640, 768),
-            Insert(768, 896),
-            Insert(896, 1024),
+            Insert(128, 160),
+            Insert(160, 192),
+            Insert(192, 224),
+            Insert(224, 256),
         ],
-    ),
-    Calls(&[(HasBelow(1024, 1, 0), Is(true)), (Len, Number(1024))]),
+    )),
+    Calls(&[(HasBelow(256, 1, 0), Is(true)), (Len, Number(256))]),
 ];
 
 #[test]
 fn eight_threads_that_need_a_next_table_lose_no_key(rt: HostRuntime) -> Result<(), Fail> {
-    runs::<_, Numbers>(&rt, rt.alloc(), &MODES, &INSERTS_EIGHT)
+    runs::<_, Numbers>(&rt, rt.alloc(), &FOR_SIX, &INSERTS_EIGHT)
 }
 
 /// One thread makes the map grow, and the other walks over it.
 const WALKS_BESIDE: [Turn; 3] = [
     Calls(&[(InsertBelow(6), Is(true))]),
-    Two([Insert(6, 300), Walk(6)]),
+    Threads(Two([Insert(6, 300), Walk(6)])),
     Calls(&[(Len, Number(300))]),
 ];
 
@@ -75,16 +77,40 @@ fn a_walker_meets_the_first_keys_while_the_map_grows(rt: HostRuntime) -> Result<
     runs::<_, Numbers>(&rt, rt.alloc(), &MODES, &WALKS_BESIDE)
 }
 
-/// One thread makes room, and the other finds all keys each time.
+/// For how many pairs more room is made, one after another. Each takes a longer table.
+const ROOMS: &[usize] = &[2048, 4096, 8192, 16_384, 32_768];
+
+/// One thread makes room, and the other finds all keys 32 times.
 const READS_BESIDE: [Turn; 3] = [
     Calls(&[(InsertBelow(1024), Is(true))]),
-    Two([Reserve, Read(1024)]),
+    Threads(Two([Reserve(ROOMS), HasOften(1024, 32)])),
     Calls(&[(Len, Number(1024))]),
 ];
 
 #[test]
 fn a_reader_finds_all_keys_while_room_is_made(rt: HostRuntime) -> Result<(), Fail> {
-    runs::<_, Numbers>(&rt, rt.alloc(), &MODES, &READS_BESIDE)
+    runs::<_, Numbers>(&rt, rt.alloc(), &[MODES[0]], &READS_BESIDE)
+}
+
+#[test]
+fn a_reader_finds_all_keys_while_one_slot_is_copied_at_a_time(rt: HostRuntime) -> Result<(), Fail> {
+    runs::<_, Numbers>(&rt, rt.alloc(), &[MODES[1]], &READS_BESIDE)
+}
+
+#[test]
+fn a_reader_finds_all_keys_while_chunks_are_copied(rt: HostRuntime) -> Result<(), Fail> {
+    runs::<_, Numbers>(&rt, rt.alloc(), &[MODES[2]], &READS_BESIDE)
+}
+
+/// One key more is looked for than there are.
+const READS_TOO_FAR: [Turn; 2] = [
+    Calls(&[(InsertBelow(64), Is(true))]),
+    Fails(Two([Reserve(&[128, 256]), HasOften(65, 32)]), (true, false)),
+];
+
+#[test]
+fn a_key_that_a_reader_misses_is_found_out(rt: HostRuntime) -> Result<(), Fail> {
+    runs::<_, Numbers>(&rt, rt.alloc(), &MODES, &READS_TOO_FAR)
 }
 
 /// More pairs than a table has slots for: 2^61.

@@ -1,8 +1,9 @@
 // Maps of numbers: their calls with a guard.
 use crate::answers::{Answer, computed, done, made, pair, removal, there, tried, truth, value};
 use crate::numbers::{Numbers, said};
-use crate::seen::{Gate, Says, Seen, agrees, operation};
+use crate::seen::{Says, Seen, agrees, next, next_at, operation};
 use crate::steps::{Calls, Keeps, Step};
+use papaya_gates::gate::Gate;
 use papaya_keys::guard::Guard;
 use papaya_words::probe::Refused;
 use std::sync::Wait;
@@ -13,11 +14,6 @@ pub struct Guarded<'a, G> {
     map: &'a Numbers,
     guard: &'a G,
     seen: Seen,
-}
-
-/// The value after one.
-fn next(value: &u64) -> u64 {
-    value.wrapping_add(1)
 }
 
 impl<'a, G: Guard> Guarded<'a, G> {
@@ -125,8 +121,9 @@ impl<G: Guard> Calls for Guarded<'_, G> {
         removal(removed)
     }
 
-    fn update<R: Wait>(&mut self, rt: &R, key: u64) -> Answer {
-        value(self.map.update(rt, key, next, self.guard))
+    fn update<R: Wait>(&mut self, rt: &R, key: u64, gate: &Gate) -> Answer {
+        let map = self.map;
+        value(map.update(rt, key, |value| next_at(gate, value), self.guard))
     }
 
     fn compute<R: Wait>(&mut self, rt: &R, key: u64, says: Says, gate: &Gate) -> Answer {
@@ -149,9 +146,9 @@ impl<G: Guard> Calls for Guarded<'_, G> {
         done(self.map.reserve(rt, more, self.guard))
     }
 
-    fn retain<R: Wait>(&mut self, rt: &R, keeps: Keeps) -> Answer {
+    fn retain<R: Wait>(&mut self, rt: &R, keeps: Keeps, gate: &Gate) -> Answer {
         let map = self.map;
-        done(map.retain(rt, |key, value| keeps.has(*key, *value), self.guard))
+        done(map.retain(rt, |key, value| keeps.at(gate, *key, *value), self.guard))
     }
 
     fn clear<R: Wait>(&mut self, rt: &R) -> Answer {

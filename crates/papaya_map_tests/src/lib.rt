@@ -6,6 +6,8 @@ mod additions;
 #[cfg(test)]
 mod answers;
 #[cfg(test)]
+mod board;
+#[cfg(test)]
 mod builders;
 #[cfg(test)]
 mod computes;
@@ -21,6 +23,8 @@ mod growth;
 mod guarded;
 #[cfg(test)]
 mod guards;
+#[cfg(test)]
+mod held;
 #[cfg(test)]
 mod numbers;
 #[cfg(test)]
@@ -39,6 +43,8 @@ mod shared;
 mod steps;
 #[cfg(test)]
 mod stored_keys;
+#[cfg(test)]
+mod stuck;
 #[cfg(test)]
 mod sweeps;
 #[cfg(test)]

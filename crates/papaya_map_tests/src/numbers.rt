@@ -1,9 +1,10 @@
 // Maps of numbers, pinned: their calls by a pass, and those that take none.
 ghost use Rattle.std.specs.Prelude.{◌≡◌};
 
-use crate::answers::{Answer, computed, done, pair, removal, value};
-use crate::seen::{Gate, Says, Seen, agrees, operation};
+use crate::answers::{Answer, computed, done, pair, removal, there, value};
+use crate::seen::{Says, Seen, agrees, next, next_at, operation};
 use crate::steps::{Calls, Keeps, Step};
+use papaya_gates::gate::Gate;
 use papaya_hashers::times::Times;
 use papaya_map::map::{HashMap, HashMapRef, Pass};
 use papaya_words::probe::Refused;
@@ -130,8 +131,8 @@ impl Calls for Pinned<'_> {
         removal(removed)
     }
 
-    fn update<R: Wait>(&mut self, rt: &R, key: u64) -> Answer {
-        value(self.map.update(rt, key, |value| value.wrapping_add(1)))
+    fn update<R: Wait>(&mut self, rt: &R, key: u64, gate: &Gate) -> Answer {
+        value(self.map.update(rt, key, |value| next_at(gate, value)))
     }
 
     fn compute<R: Wait>(&mut self, rt: &R, key: u64, says: Says, gate: &Gate) -> Answer {
@@ -154,8 +155,9 @@ impl Calls for Pinned<'_> {
         done(self.map.reserve(rt, more))
     }
 
-    fn retain<R: Wait>(&mut self, rt: &R, keeps: Keeps) -> Answer {
-        done(self.map.retain(rt, |key, value| keeps.has(*key, *value)))
+    fn retain<R: Wait>(&mut self, rt: &R, keeps: Keeps, gate: &Gate) -> Answer {
+        let map = &self.map;
+        done(map.retain(rt, |key, value| keeps.at(gate, *key, *value)))
     }
 
     fn clear<R: Wait>(&mut self, rt: &R) -> Answer {
@@ -189,6 +191,7 @@ impl Calls for Pinned<'_> {
             Step::RemoveAlone(key) => value(self.map.remove(rt, &key)),
             Step::Meet => self.meet(),
             Step::Swap => self.swap(),
+            Step::UpdateOrInsert(key, to) => there(self.map.update_or_insert(rt, key, next, to)),
             Step::GetKeyValue(key) => pair(Ok(self.map.get_key_value(&key))),
             _ => Answer::Number(self.map.map().len() as u64),
         }

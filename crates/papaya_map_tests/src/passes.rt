@@ -1,10 +1,19 @@
 // What two passes have seen of a map is brought together.
-use crate::answers::Answer::{Absent, Done, Number};
+ghost use Rattle.std.specs.Prelude.{◌≡◌};
+
+use crate::answers::Answer::{self, Absent, Done, Number};
+use crate::answers::value;
+use crate::expect::is;
 use crate::numbers::Numbers;
-use crate::shared::Turn::{self, Calls};
+use crate::shared::Turn::{self, Calls, Meets};
 use crate::shared::{MODES, runs};
 use crate::steps::Step::{Get, Insert, Meet, Swap};
+use papaya_hashers::times::Times;
+use papaya_map::map::Pass;
+use papaya_words::probe::Refused;
+use std::sync::Wait;
 use std::test::Fail;
+use std::thread::{Threads, join};
 
 /// Two passes meet, and each has no value of the other's key, and stores its own. They meet again, and
 /// each finds both keys.
@@ -28,4 +37,118 @@ const MEETS: [Turn; 1] = [Calls(&[
 #[test]
 fn two_passes_meet(rt: HostRuntime) -> Result<(), Fail> {
     runs::<_, Numbers>(&rt, rt.alloc(), &MODES, &MEETS)
+}
+
+/// What a thread knows that has stored a pair: what it was answered, and its pass.
+type Stored = (Answer, Pass<u64, u64, Times>);
+
+/// Stores a pair by a pass of its own.
+fn stored<R: Wait>(rt: &R, map: &Numbers, key: u64, to: u64) -> Stored
+    ensures { result.1.book ≡ map.book }
+{
+    let mut pass = map.pass();
+    let old = value(map.pin().insert_as(rt, key, to, &mut pass));
+    (old, pass)
+}
+
+/// How many of the pairs are (1, 10), and how many (2, 20).
+#[derive(Clone, Copy)]
+struct Given {
+    first: u64,
+    second: u64,
+    other: u64,
+}
+
+impl Given {
+    /// None yet.
+    fn nothing() -> Given {
+        Given {
+            first: 0,
+            second: 0,
+            other: 0,
+        }
+    }
+
+    /// A walk gives this.
+    fn give(&mut self, key: u64, value: u64) {
+        match (key, value) {
+            (1, 10) => self.first = self.first.wrapping_add(1),
+            (2, 20) => self.second = self.second.wrapping_add(1),
+            _ => self.other = self.other.wrapping_add(1),
+        }
+    }
+
+    /// Was each of the two given once, and nothing else?
+    fn is_both(self) -> bool {
+        (self.first, self.second, self.other) == (1, 1, 0)
+    }
+}
+
+/// What a walk gives by a pass.
+fn walked<R: Wait>(
+    rt: &R,
+    map: &Numbers,
+    pass: &mut Pass<u64, u64, Times>,
+) -> Result<Given, Refused>
+    requires { pass.old.book ≡ map.book }
+    ensures { pass.new.book ≡ pass.old.book }
+{
+    let mut given = Given::nothing();
+    for (key, value) in map.pin().iter_as(rt, pass)? {
+        given.give(*key, *value);
+    }
+    Ok(given)
+}
+
+/// Does a pass find both pairs, by lookups and by a walk?
+fn finds_both<R: Wait>(rt: &R, map: &Numbers, mut pass: Pass<u64, u64, Times>) -> bool
+    requires { pass.book ≡ map.book }
+{
+    let first = value(Ok(map.pin().get_as(&1, &mut pass)));
+    let second = value(Ok(map.pin().get_as(&2, &mut pass)));
+    let is_walked = match walked(rt, map, &mut pass) {
+        Ok(given) => given.is_both(),
+        Err(_) => false,
+    };
+    first == Number(10) && second == Number(20) && is_walked
+}
+
+/// Two threads store a pair each by a pass, and the passes meet: does each then find both?
+pub fn meets<R: Threads + Wait + Sync>(rt: &R, map: &Numbers) -> bool {
+    let ((one, mut first), (other, mut second)) = join(
+        rt,
+        || stored(rt, map, 1, 10),
+        || stored(rt, map, 2, 20),
+    );
+    map.pin().meet(&mut first, &mut second);
+    let is_new = one == Absent && other == Absent;
+    finds_both(rt, map, first) && finds_both(rt, map, second) && is_new
+}
+
+/// What a thread stored, the pass of another thread finds when the two passes have met.
+#[test]
+fn passes_of_two_threads_meet(rt: HostRuntime) -> Result<(), Fail> {
+    runs::<_, Numbers>(&rt, rt.alloc(), &MODES, &[Meets])
+}
+
+/// What walks may give, and whether it is just the two pairs.
+const GIVEN: [(&[(u64, u64)], bool); 6] = [
+    (&[], false),
+    (&[(1, 10)], false),
+    (&[(2, 20), (1, 10)], true),
+    (&[(1, 10), (2, 20), (1, 10)], false),
+    (&[(1, 20), (2, 10)], false),
+    (&[(1, 10), (2, 20), (3, 30)], false),
+];
+
+/// A walk that gives nothing, or less or more than both pairs, is found out.
+#[test]
+fn a_walk_that_gives_nothing_is_found_out(rt: HostRuntime) {
+    for (pairs, wanted) in GIVEN {
+        let mut given = Given::nothing();
+        for &(key, value) in pairs {
+            given.give(key, value);
+        }
+        is(&rt, given.is_both(), wanted);
+    }
 }

@@ -1,6 +1,7 @@
 // What a map with one pair and its walks print, and a map with two. Which pair comes first is left open.
 use crate::answers::Answer::Absent;
-use crate::crowd::{Board, Job};
+use crate::board::Board;
+use crate::crowd::Job;
 use crate::expect::is;
 use crate::numbers::Numbers;
 use crate::shared::Turn::{self, Calls, PrintEach, Prints, PrintsEither};
@@ -100,7 +101,7 @@ fn colons(text: &str) -> u64 {
 
 /// While pairs are being moved, each is printed once.
 pub fn prints_each<R: Wait + Abort, M: Shared>(rt: &R, alloc: Global, map: &M) {
-    let board = Board::new(alloc, 0).expect(rt, "a board");
+    let board = Board::new(alloc, 1, 0);
     for key in 0..99u64 {
         is(rt, map.does(rt, Job::Insert(key, key + 1), &board), true);
         let text = map.printed(rt, alloc, What::Map).expect(rt, "a text");

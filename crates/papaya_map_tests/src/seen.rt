@@ -1,38 +1,7 @@
 // What closures are shown, and what they answer.
 use crate::answers::Answer;
 use papaya_call::answers::Operation;
-use std::sync::atomic::{AtomicBool, Ordering};
-use std::thread::yield_now;
-
-/// Where a closure that is shown a pair waits for another thread.
-#[derive(Drop)]
-pub struct Gate {
-    /// The closure was shown a pair.
-    pub shown: AtomicBool,
-    /// The pair was replaced.
-    pub replaced: AtomicBool,
-}
-
-impl Gate {
-    /// One at which a closure waits, or does not.
-    pub fn new(is_open: bool) -> Gate {
-        Gate {
-            shown: AtomicBool::new(false),
-            replaced: AtomicBool::new(is_open),
-        }
-    }
-}
-
-/// Waits until the flag is set, if it ever is.
-pub fn turn_until(flag: &AtomicBool) -> bool {
-    for _ in 0..100_000_000u64 {
-        if flag.load(Ordering::SeqCst) {
-            return true;
-        }
-        yield_now();
-    }
-    false
-}
+use papaya_gates::gate::Gate;
 
 /// What the closure of a call was shown.
 #[derive(Clone, Copy)]
@@ -42,8 +11,6 @@ pub struct Seen {
     pub pairs: u64,
     pub first: Option<(u64, u64)>,
     pub last: Option<(u64, u64)>,
-    /// Was what it waited for at the gate there in time?
-    pub met: bool,
 }
 
 impl Seen {
@@ -54,12 +21,12 @@ impl Seen {
             pairs: 0,
             first: None,
             last: None,
-            met: false,
         }
     }
 
-    /// The closure is shown this. At the first pair it waits at the gate.
+    /// The closure is shown this, and waits at the gate.
     pub fn see(&mut self, shown: Option<(u64, u64)>, gate: &Gate) {
+        gate.wait();
         if shown.is_none() {
             self.nones = self.nones.wrapping_add(1);
             return;
@@ -68,8 +35,6 @@ impl Seen {
         self.last = shown;
         if self.first.is_none() {
             self.first = shown;
-            gate.shown.store(true, Ordering::SeqCst);
-            self.met = turn_until(&gate.replaced);
         }
     }
 
@@ -109,6 +74,17 @@ pub fn numbers_of(shown: Option<(&u64, &u64)>) -> Option<(u64, u64)> {
         Some((key, value)) => Some((*key, *value)),
         None => None,
     }
+}
+
+/// The value after one.
+pub fn next(value: &u64) -> u64 {
+    value.wrapping_add(1)
+}
+
+/// The same by a closure that waits at the gate.
+pub fn next_at(gate: &Gate, value: &u64) -> u64 {
+    gate.wait();
+    next(value)
 }
 
 /// The closure of a compute is shown this, and answers so.

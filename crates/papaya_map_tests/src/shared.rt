@@ -1,13 +1,16 @@
 // The tests of maps: how one is made, and what is done with it in turn. Functions are generic over the
 // map, so that each is proved once, and with no map's destructor to look into.
+use crate::board::Board;
 use crate::builders::{Asked, built, sharing};
-use crate::crowd::{Board, Job, does, eight, four, two};
+use crate::crowd::{Crowd, Job, does, gathers};
 use crate::expect::is;
 use crate::guarded::Guarded;
+use crate::held::holds;
 use crate::numbers::{Numbers, Pinned};
+use crate::passes::meets;
 use crate::printing::{What, printed, prints, prints_each, prints_either};
 use crate::steps::{Script, goes};
-use crate::threads::VALUES;
+use papaya_gates::gate::Gate;
 use papaya_hashers::times::{APART, Times};
 use papaya_keys::guard::Collector;
 use papaya_map::map::HashMap;
@@ -56,11 +59,12 @@ pub enum Turn {
     Calls(Script),
     /// Calls with a guard.
     Guarded(Holder, Script),
-    /// Threads that do a job each.
-    Two([Job; 2]),
-    Eight([Job; 4], [Job; 4]),
-    /// Four that count what they take out, which ends with what is left.
-    Churn([Job; 4]),
+    /// Threads do their jobs, and find all as it should be.
+    Threads(Crowd),
+    /// They do not: this is what the two halves say.
+    Fails(Crowd, (bool, bool)),
+    /// What two passes have seen is brought together.
+    Meets,
     /// This is printed, or the map prints one of two texts, or each pair once while it grows.
     Prints(What, &'static str),
     PrintsEither(&'static str, &'static str),
@@ -95,6 +99,12 @@ pub trait Shared: Sized {
 
     /// A thread does a job.
     fn does<R: Wait>(&self, rt: &R, job: Job, board: &Board) -> bool;
+
+    /// A thread keeps the reference that a lookup answered.
+    fn holds(&self, gate: &Gate) -> bool;
+
+    /// Two threads store a pair each, and their passes meet: does each then find both pairs?
+    fn meets<R: Threads + Wait + Sync>(&self, rt: &R) -> bool;
 }
 
 impl Shared for Numbers {
@@ -151,6 +161,14 @@ impl Shared for Numbers {
     fn does<R: Wait>(&self, rt: &R, job: Job, board: &Board) -> bool {
         does(rt, &mut Pinned::of(self), job, board)
     }
+
+    fn holds(&self, gate: &Gate) -> bool {
+        holds(self, gate)
+    }
+
+    fn meets<R: Threads + Wait + Sync>(&self, rt: &R) -> bool {
+        meets(rt, self)
+    }
 }
 
 /// The calls of a script answer so with a guard.
@@ -171,34 +189,16 @@ fn goes_guarded<R: Wait + Abort, M: Shared>(
     }
 }
 
-/// Four threads count what they take out of a map of no pairs: was each value taken once, or left?
-fn churns<R: Threads + Wait + Sync, M: Shared + Sync>(
-    rt: &R,
-    alloc: Global,
-    map: &M,
-    jobs: [Job; 4],
-) -> bool {
-    match Board::new(alloc, VALUES) {
-        Some(board) => four(rt, map, &board, jobs) && map.does(rt, Job::TakeLeft, &board),
-        None => false,
-    }
-}
-
-/// Threads do a job each.
+/// Threads do a job each, and say so.
 fn crowds<R: Threads + Wait + Sync + Abort, M: Shared + Sync>(
     rt: &R,
     alloc: Global,
     map: &M,
-    turn: Turn,
+    crowd: Crowd,
+    wanted: (bool, bool),
 ) {
-    let board = Board::new(alloc, 0).expect(rt, "a board");
-    let did = match turn {
-        Turn::Two(jobs) => two(rt, map, &board, jobs),
-        Turn::Eight(low, high) => eight(rt, map, &board, low, high),
-        Turn::Churn(jobs) => (churns(rt, alloc, map, jobs), true),
-        _ => (false, false),
-    };
-    is(rt, did, (true, true));
+    let board = Board::of(alloc, crowd).expect(rt, "a board");
+    is(rt, gathers(rt, map, &board, crowd), wanted);
 }
 
 /// Takes a turn on a map.
@@ -215,7 +215,9 @@ fn takes<R: Threads + Wait + Sync + Abort, M: Shared + Sync>(
         Turn::Prints(what, wanted) => prints(rt, alloc, map, what, wanted),
         Turn::PrintsEither(one, other) => prints_either(rt, alloc, map, one, other),
         Turn::PrintEach => prints_each(rt, alloc, map),
-        _ => crowds(rt, alloc, map, turn),
+        Turn::Threads(crowd) => crowds(rt, alloc, map, crowd, (true, true)),
+        Turn::Fails(crowd, wanted) => crowds(rt, alloc, map, crowd, wanted),
+        Turn::Meets => is(rt, map.meets(rt), true),
     }
 }
 

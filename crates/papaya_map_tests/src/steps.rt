@@ -1,7 +1,8 @@
 // Calls of maps as values, and what makes them.
 use crate::answers::Answer;
 use crate::refused::{empties, fills, replaces, stores_again};
-use crate::seen::{Gate, Says, Seen};
+use crate::seen::{Says, Seen};
+use papaya_gates::gate::Gate;
 use std::process::Abort;
 use std::sync::Wait;
 
@@ -21,6 +22,12 @@ impl Keeps {
             Keeps::ValuesAbove(start) => value > start,
             Keeps::EvenKeys => key % 2 == 0,
         }
+    }
+
+    /// The same by a closure that waits at the gate.
+    pub fn at(self, gate: &Gate, key: u64, value: u64) -> bool {
+        gate.wait();
+        self.has(key, value)
     }
 }
 
@@ -70,6 +77,8 @@ pub enum Step {
     /// The two passes of a pinned map meet, or trade places: calls are by the first of them.
     Meet,
     Swap,
+    /// Adds 1 to the value of the first, or stores the second there.
+    UpdateOrInsert(u64, u64),
     // Those that are made with a guard alone.
     Verify,
     GetKeyValue(u64),
@@ -77,8 +86,6 @@ pub enum Step {
     TryInsertWith(u64, u64),
     GetOrInsert(u64, u64),
     GetOrInsertWith(u64, u64),
-    /// Adds 1 to the value of the first, or stores the second there.
-    UpdateOrInsert(u64, u64),
     UpdateOrInsertWith(u64, u64),
 }
 
@@ -99,7 +106,7 @@ pub trait Calls {
 
     fn remove_if<R: Wait>(&mut self, rt: &R, key: u64, says: bool, gate: &Gate) -> Answer;
 
-    fn update<R: Wait>(&mut self, rt: &R, key: u64) -> Answer;
+    fn update<R: Wait>(&mut self, rt: &R, key: u64, gate: &Gate) -> Answer;
 
     fn compute<R: Wait>(&mut self, rt: &R, key: u64, says: Says, gate: &Gate) -> Answer;
 
@@ -108,7 +115,7 @@ pub trait Calls {
 
     fn reserve<R: Wait>(&mut self, rt: &R, more: usize) -> Answer;
 
-    fn retain<R: Wait>(&mut self, rt: &R, keeps: Keeps) -> Answer;
+    fn retain<R: Wait>(&mut self, rt: &R, keeps: Keeps, gate: &Gate) -> Answer;
 
     fn clear<R: Wait>(&mut self, rt: &R) -> Answer;
 
@@ -194,10 +201,10 @@ pub fn answer<R: Wait, C: Calls>(rt: &R, map: &mut C, step: Step, gate: &Gate) -
         Step::Remove(key) => map.remove(rt, key),
         Step::RemoveEntry(key) => map.remove_entry(rt, key),
         Step::RemoveIf(key, says) => map.remove_if(rt, key, says, gate),
-        Step::Update(key) => map.update(rt, key),
+        Step::Update(key) => map.update(rt, key, gate),
         Step::Compute(key, says) => map.compute(rt, key, says, gate),
         Step::Reserve(more) => map.reserve(rt, more),
-        Step::Retain(keeps) => map.retain(rt, keeps),
+        Step::Retain(keeps) => map.retain(rt, keeps, gate),
         Step::Clear => map.clear(rt),
         _ => came_to(rt, map, step),
     }
@@ -210,7 +217,7 @@ pub fn answers(rt: &impl Abort, at: usize, step: usize, found: Answer, wanted: A
 
 /// The calls of a script answer so. The map is the one of this number in its test.
 pub fn goes<R: Wait + Abort, C: Calls>(rt: &R, at: usize, map: &mut C, script: &[(Step, Answer)]) {
-    let gate = Gate::new(true);
+    let gate = Gate::open();
     for (step, &(call, wanted)) in script.iter().enumerate() {
         answers(rt, at, step, answer(rt, map, call, &gate), wanted);
     }

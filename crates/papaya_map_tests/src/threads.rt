@@ -1,35 +1,34 @@
-// Threads that insert, read and remove the same keys, each with a pass of its own.
+// Threads that store, read and remove values at the same keys, each with a pass of its own, and
+// count what they take out.
 use crate::answers::Answer;
-use crate::crowd::{Board, Job};
+use crate::board::Board;
+use crate::crowd::Crowd::Four;
+use crate::crowd::Job::{Churn, Draw};
 use crate::numbers::Numbers;
-use crate::shared::{MODES, Turn, runs};
+use crate::shared::Turn::{Fails, Threads};
+use crate::shared::{MODES, runs};
 use crate::steps::Calls;
 use std::sync::Wait;
 use std::sync::atomic::{AtomicU64, Ordering};
 use std::test::Fail;
-use std::thread::yield_now;
 
-const KEYS: u64 = 16;
+pub const KEYS: u64 = 16;
 
 const ROUNDS: u64 = 256;
 
-/// Four threads store so many.
-pub const VALUES: u64 = 16_384;
+/// Four threads store so many values at each key, from 0 on.
+pub const EACH: u64 = 1024;
 
-/// The value that a thread stores at a key in a round. No two stores have the same.
-fn value_of(thread: u64, round: u64, key: u64) -> u64 {
-    thread
-        .wrapping_mul(ROUNDS)
-        .wrapping_add(round)
-        .wrapping_mul(KEYS)
-        .wrapping_add(key)
+/// The value that a thread stores at each key in a round. No two stores at a key have the same.
+fn value_of(thread: u64, round: u64) -> u64 {
+    thread.wrapping_mul(ROUNDS).wrapping_add(round)
 }
 
-/// Is what was answered for a key none, or a value that some thread stores there?
-fn is_legal(key: u64, answer: Answer) -> bool {
+/// Is what was answered none, or a value that some thread stores?
+fn is_legal(answer: Answer) -> bool {
     match answer {
         Answer::Absent => true,
-        Answer::Number(value) => value < VALUES && value % KEYS == key,
+        Answer::Number(value) => value < EACH,
         _ => false,
     }
 }
@@ -37,29 +36,19 @@ fn is_legal(key: u64, answer: Answer) -> bool {
 /// Counts what was taken out at a key: is it legal?
 fn take(taken: &[AtomicU64], key: u64, answer: Answer) -> bool {
     if let Answer::Number(value) = answer {
-        if let Some(count) = taken.get(value as usize) {
+        let place = key.wrapping_mul(EACH).wrapping_add(value);
+        if let Some(count) = taken.get(place as usize) {
             count.fetch_add(1, Ordering::SeqCst);
         }
     }
-    is_legal(key, answer)
-}
-
-/// Waits until all four threads are here, if they ever are.
-fn meet(here: &AtomicU64) {
-    here.fetch_add(1, Ordering::SeqCst);
-    for _ in 0..1_000_000u64 {
-        if here.load(Ordering::SeqCst) >= 4 {
-            return;
-        }
-        yield_now();
-    }
+    is_legal(answer)
 }
 
 /// Inserts and reads a key, and removes it in three rounds of four: was all that was found legal?
 fn turn<R: Wait, C: Calls>(rt: &R, map: &mut C, taken: &[AtomicU64], key: u64, value: u64) -> bool {
     let is_old = take(taken, key, map.insert(rt, key, value));
-    let is_seen = is_legal(key, map.get(key));
-    if (key ^ (value / KEYS)) % 4 == 0 {
+    let is_seen = is_legal(map.get(key));
+    if (key ^ value) % 4 == 0 {
         return is_old && is_seen;
     }
     take(taken, key, map.remove(rt, key)) && is_old && is_seen
@@ -67,11 +56,30 @@ fn turn<R: Wait, C: Calls>(rt: &R, map: &mut C, taken: &[AtomicU64], key: u64, v
 
 /// Does so with each key in each round.
 pub fn churn<R: Wait, C: Calls>(rt: &R, map: &mut C, board: &Board, thread: u64) -> bool {
-    meet(&board.here);
     for round in 0..ROUNDS {
         for key in 0..KEYS {
-            let value = value_of(thread, round, key);
-            if !turn(rt, map, board.taken.as_slice(), key, value) {
+            if !turn(
+                rt,
+                map,
+                board.taken.as_slice(),
+                key,
+                value_of(thread, round),
+            ) {
+                return false;
+            }
+        }
+    }
+    true
+}
+
+/// Stores the next value of each key in each round. What it took the place of is counted, if it
+/// is told.
+pub fn draw<R: Wait, C: Calls>(rt: &R, map: &mut C, board: &Board, tells: bool) -> bool {
+    for _ in 0..ROUNDS {
+        for (key, next) in board.drawn.iter().enumerate() {
+            let key = key as u64;
+            let old = map.insert(rt, key, next.fetch_add(1, Ordering::SeqCst));
+            if tells && !take(board.taken.as_slice(), key, old) {
                 return false;
             }
         }
@@ -110,6 +118,27 @@ fn each_value_is_taken_out_once(rt: HostRuntime) -> Result<(), Fail> {
         &rt,
         rt.alloc(),
         &MODES,
-        &[Turn::Churn([Job::Churn(0), Job::Churn(1), Job::Churn(2), Job::Churn(3)])],
+        &[Threads(Four([Churn(0), Churn(1), Churn(2), Churn(3)]))],
+    )
+}
+
+/// Four threads make 256 insertions at each of 16 keys. The values of a key are drawn from one
+/// counter. What was replaced and what is there last are 0 to 1023, each once.
+#[test]
+fn each_value_is_replaced_once(rt: HostRuntime) -> Result<(), Fail> {
+    runs::<_, Numbers>(&rt, rt.alloc(), &MODES, &[Threads(Four([Draw(true); 4]))])
+}
+
+/// Where one thread does not tell what it has replaced, that is found out.
+#[test]
+fn a_value_that_nobody_tells_of_is_missed(rt: HostRuntime) -> Result<(), Fail> {
+    runs::<_, Numbers>(
+        &rt,
+        rt.alloc(),
+        &MODES,
+        &[Fails(
+            Four([Draw(true), Draw(true), Draw(true), Draw(false)]),
+            (true, false),
+        )],
     )
 }

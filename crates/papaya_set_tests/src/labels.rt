@@ -5,7 +5,10 @@ ghost use Rattle.std.specs.Cmp.{nat_eq_equiv, on_equiv, partial_equiv_from_equiv
 ghost use Rattle.std.specs.Hash as fed;
 
 use papaya_set::set::{HashSet, HashSetRef};
+use papaya_words::probe::{Refused, ResizeMode};
+use std::alloc::Global;
 use std::hash::{BuildHasherDefault, FoldHasher, Hash, Hasher};
+use std::sync::Wait;
 
 /// A number with a label that no comparison looks at.
 #[derive(Clone, Copy, Debug)]
@@ -51,4 +54,16 @@ pub fn key(number: u64, label: char) -> Labelled {
 /// The same with no label to speak of.
 pub fn any(number: u64) -> Labelled {
     key(number, '?')
+}
+
+/// How the sets of the tests resize.
+pub const MODES: [ResizeMode; 3] = [
+    ResizeMode::Blocking,
+    ResizeMode::Incremental(1),
+    ResizeMode::Incremental(64),
+];
+
+/// A set that resizes so, with a table of 8 slots.
+pub fn made<R: Wait>(rt: &R, alloc: Global, mode: ResizeMode) -> Result<Keys, Refused> {
+    HashSet::with_parts(rt, alloc, mode, 6, 4, BuildHasherDefault::new())
 }

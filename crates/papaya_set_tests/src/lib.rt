@@ -8,6 +8,8 @@ mod expect;
 #[cfg(test)]
 mod labels;
 #[cfg(test)]
+mod overlaps;
+#[cfg(test)]
 mod refused;
 #[cfg(test)]
 mod shared;

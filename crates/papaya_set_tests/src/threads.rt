@@ -1,43 +1,71 @@
-// Threads that store the same keys: of each class just one of them is told that its key is new.
+// Threads that store and remove the same keys: of each just one of them is told so.
 use crate::expect::is;
-use crate::labels::{Keys, any};
-use papaya_set::set::HashSet;
-use papaya_words::probe::{Refused, ResizeMode};
-use std::hash::BuildHasherDefault;
+use crate::labels::{Keys, MODES, any, made};
+use papaya_gates::crossing::Crossing;
+use papaya_words::probe::Refused;
 use std::process::Abort;
 use std::sync::Wait;
 use std::test::Fail;
 use std::thread::{Threads, join};
 
-/// Stores 64 keys: which of them were new, with a bit for each?
-fn stores<R: Wait>(rt: &R, set: &Keys) -> Result<u64, Refused> {
-    let mut new = 0u64;
+/// What a thread calls for each key.
+#[derive(Clone, Copy)]
+enum Call {
+    Insert,
+    Remove,
+    Contains,
+}
+
+/// Calls it for one key.
+fn answer<R: Wait>(rt: &R, set: &Keys, call: Call, number: u64) -> Result<bool, Refused> {
+    match call {
+        Call::Insert => set.pin().insert(rt, any(number)),
+        Call::Remove => set.pin().remove(rt, &any(number)),
+        Call::Contains => Ok(set.pin().contains(&any(number))),
+    }
+}
+
+/// Calls it for 64 keys once both threads are there: for which was the answer true, with a bit
+/// for each?
+fn told<R: Wait>(rt: &R, set: &Keys, call: Call, crossing: &Crossing) -> Result<u64, Refused> {
+    crossing.meets(1);
+    let mut yes = 0u64;
     let mut bit = 1u64;
     for number in 0..64u64 {
-        if set.pin().insert(rt, any(number))? {
-            new |= bit;
+        if answer(rt, set, call, number)? {
+            yes |= bit;
         }
         bit = bit.wrapping_mul(2);
     }
-    Ok(new)
+    Ok(yes)
 }
 
-/// Two threads do so at once.
-fn store_both<R: Threads + Wait + Sync + Abort>(rt: &R, set: &Keys) -> Result<(), Refused> {
-    let (first, second) = join(rt, || stores(rt, set), || stores(rt, set));
+/// Two threads do so at once: was the answer true once for each key?
+fn is_told_once<R: Threads + Wait + Sync>(rt: &R, set: &Keys, call: Call) -> Result<bool, Refused> {
+    let crossing = Crossing::new(2, 0);
+    let (first, second) = join(
+        rt,
+        || told(rt, set, call, &crossing),
+        || told(rt, set, call, &crossing),
+    );
     let (first, second) = (first?, second?);
-    is(rt, (first & second, first | second), (0, u64::MAX));
+    Ok((first & second, first | second) == (0, u64::MAX))
+}
+
+/// Two threads store the keys, and two remove them. Two that only look are told of each key twice.
+fn share<R: Threads + Wait + Sync + Abort>(rt: &R, set: &Keys) {
+    is(rt, is_told_once(rt, set, Call::Insert), Ok(true));
     is(rt, set.len(), 64);
-    Ok(())
+    is(rt, is_told_once(rt, set, Call::Contains), Ok(false));
+    is(rt, is_told_once(rt, set, Call::Remove), Ok(true));
+    is(rt, set.len(), 0);
 }
 
 #[test]
-fn one_thread_stores_each_key(rt: HostRuntime) -> Result<(), Fail> {
-    for mode in [ResizeMode::Blocking, ResizeMode::Incremental(1)] {
-        for _ in 0..40u64 {
-            let hasher = BuildHasherDefault::new();
-            let set: Keys = HashSet::with_parts(&rt, rt.alloc(), mode, 0, 4, hasher)?;
-            store_both(&rt, &set)?;
+fn one_thread_stores_each_key_and_one_removes_it(rt: HostRuntime) -> Result<(), Fail> {
+    for mode in MODES {
+        for _ in 0..20u64 {
+            share(&rt, &made(&rt, rt.alloc(), mode)?);
         }
     }
     Ok(())

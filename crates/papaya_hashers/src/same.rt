@@ -1,4 +1,4 @@
-// A hasher that hashes each key to the same number.
+//! A hasher that hashes each key to the same number.
 ghost use Rattle.std.specs.Prelude.{◌≡◌};
 
 use std::hash::{BuildHasher, Hasher};

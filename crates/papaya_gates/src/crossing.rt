@@ -1,0 +1,62 @@
+//! Where threads start at once, and where one waits until the others have ended.
+use crate::gate::{FEW_TURNS, Gate, TURNS};
+use std::sync::atomic::{AtomicU64, Ordering};
+use std::thread::yield_now;
+
+/// Where threads start at once. It has a gate, which is opened when some of them have ended.
+#[derive(Drop)]
+pub struct Crossing {
+    pub gate: Gate,
+    /// How many start at once, and how often one has come to where they meet.
+    threads: u64,
+    here: AtomicU64,
+    /// How many are to end before the gate is opened, or 0, and how many have ended.
+    others: u64,
+    ended: AtomicU64,
+}
+
+impl Crossing {
+    /// One for so many threads. Its gate is opened when so many others have ended; where that is
+    /// 0, a thread opens it. Where one thread does all, nobody comes to open it, and it waits for
+    /// few turns.
+    pub fn new(threads: u64, others: u64) -> Crossing {
+        let turns = if threads > 1 { TURNS } else { FEW_TURNS };
+        Crossing {
+            gate: Gate::closed(turns),
+            threads,
+            here: AtomicU64::new(0),
+            others,
+            ended: AtomicU64::new(0),
+        }
+    }
+
+    /// Waits until all threads have come here so often.
+    pub fn meets(&self, times: u64) -> bool {
+        self.here.fetch_add(1, Ordering::SeqCst);
+        for _ in 0..TURNS {
+            if self.here.load(Ordering::SeqCst) >= self.threads.wrapping_mul(times) {
+                return true;
+            }
+            yield_now();
+        }
+        false
+    }
+
+    /// A thread begins once all are there. Where one is to wait at the gate for others to end,
+    /// these begin when it is at the gate.
+    pub fn begins(&self, is_awaited: bool) -> bool {
+        let met = self.meets(1);
+        if self.others == 0 || !is_awaited {
+            return met;
+        }
+        self.gate.turn_until(&self.gate.reached) && met
+    }
+
+    /// A thread has ended. The last one that the gate waits for opens it.
+    pub fn ends(&self) {
+        let before = self.ended.fetch_add(1, Ordering::SeqCst);
+        if before.wrapping_add(1) == self.others {
+            self.gate.open.store(true, Ordering::SeqCst);
+        }
+    }
+}

@@ -1,0 +1,62 @@
+// What the threads of a map tell each other.
+use crate::crowd::{Crowd, Job};
+use crate::threads::{EACH, KEYS};
+use papaya_gates::crossing::Crossing;
+use std::alloc::Global;
+use std::sync::atomic::{AtomicBool, AtomicU64, Ordering};
+
+/// What the threads of a map tell each other.
+#[derive(Drop)]
+pub struct Board {
+    /// A thread is through.
+    pub is_done: AtomicBool,
+    /// Where they meet, and where the closure of a call waits.
+    pub crossing: Crossing,
+    /// How often each value was taken out.
+    pub taken: Vec<AtomicU64>,
+    /// The next value of each key.
+    pub drawn: Vec<AtomicU64>,
+}
+
+/// So many counts, if there is memory for them.
+fn zeros(alloc: Global, many: u64) -> Option<Vec<AtomicU64>> {
+    let mut counts = Vec::new(alloc);
+    for _ in 0..many {
+        counts.push(AtomicU64::new(0)).ok()?;
+    }
+    Some(counts)
+}
+
+impl Board {
+    /// One for so many threads, of which a closure waits for so many.
+    pub fn new(alloc: Global, threads: u64, others: u64) -> Board {
+        Board {
+            is_done: AtomicBool::new(false),
+            crossing: Crossing::new(threads, others),
+            taken: Vec::new(alloc),
+            drawn: Vec::new(alloc),
+        }
+    }
+
+    /// One for a crowd, if there is memory for it.
+    pub fn of(alloc: Global, crowd: Crowd) -> Option<Board> {
+        let (threads, others) = crowd.size();
+        let mut board = Board::new(alloc, threads, others);
+        if crowd.counts() {
+            board.taken = zeros(alloc, KEYS.wrapping_mul(EACH))?;
+            board.drawn = zeros(alloc, KEYS)?;
+        }
+        Some(board)
+    }
+
+    /// A thread begins.
+    pub fn begins(&self, job: Job) -> bool {
+        self.crossing.begins(!matches!(job, Job::Stuck(_, _)))
+    }
+
+    /// A thread has ended.
+    pub fn ends(&self) {
+        self.is_done.store(true, Ordering::SeqCst);
+        self.crossing.ends();
+    }
+}

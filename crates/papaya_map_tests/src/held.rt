@@ -1,0 +1,67 @@
+// A reference that a lookup has answered, while the pair is replaced and removed.
+use crate::answers::Answer::{Absent, Number};
+use crate::crowd::Crowd::Two;
+use crate::crowd::Job::{Hold, LookAnew, WearOut};
+use crate::numbers::Numbers;
+use crate::shared::Turn::{self, Calls, Fails, Threads};
+use crate::shared::{MODES, runs};
+use crate::steps;
+use crate::steps::Step::{Get, Insert, Len};
+use papaya_gates::gate::{Gate, Look};
+use std::test::Fail;
+
+/// The reference that a lookup answered, and what it was of.
+#[derive(Drop)]
+struct Held<'a>(&'a u64);
+
+impl Look for Held<'_> {
+    fn is_same(&mut self) -> bool {
+        *self.0 == 10
+    }
+}
+
+/// What the map has of key 1.
+#[derive(Drop)]
+struct Anew<'a, C>(&'a mut C);
+
+impl<C: steps::Calls> Look for Anew<'_, C> {
+    fn is_same(&mut self) -> bool {
+        self.0.get(1) == Number(10)
+    }
+}
+
+/// Does the reference that a lookup answers stay as it is?
+pub fn holds(map: &Numbers, gate: &Gate) -> bool {
+    match map.pin().get(&1) {
+        Some(value) => gate.stays(&mut Held(value)),
+        None => false,
+    }
+}
+
+/// Does what the map answers stay as it is?
+pub fn looks_anew<C: steps::Calls>(map: &mut C, gate: &Gate) -> bool {
+    gate.stays(&mut Anew(map))
+}
+
+/// What a reference is of stays while another thread replaces the pair 1000 times and removes it.
+const HOLDS: [Turn; 3] = [
+    Calls(&[(Insert(1, 10), Absent)]),
+    Threads(Two([Hold, WearOut])),
+    Calls(&[(Get(1), Absent), (Len, Number(0))]),
+];
+
+#[test]
+fn a_reference_stays_as_it_is(rt: HostRuntime) -> Result<(), Fail> {
+    runs::<_, Numbers>(&rt, rt.alloc(), &MODES, &HOLDS)
+}
+
+/// One that looks the key up anew does not find its value again.
+const LOOKS_ANEW: [Turn; 2] = [
+    Calls(&[(Insert(1, 10), Absent)]),
+    Fails(Two([LookAnew, WearOut]), (false, true)),
+];
+
+#[test]
+fn a_lookup_anew_is_found_out(rt: HostRuntime) -> Result<(), Fail> {
+    runs::<_, Numbers>(&rt, rt.alloc(), &MODES, &LOOKS_ANEW)
+}

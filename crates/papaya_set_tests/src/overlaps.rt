@@ -1,0 +1,329 @@
+// Calls of a set that overlap: a closure or a reference of one thread, and changes by others.
+use crate::expect::is;
+use crate::labels::{Keys, Labelled, MODES, any, key, made};
+use papaya_gates::crossing::Crossing;
+use papaya_gates::gate::{Gate, Look};
+use papaya_words::probe::{Refused, ResizeMode};
+use std::alloc::Global;
+use std::process::Abort;
+use std::sync::Wait;
+use std::sync::atomic::Ordering;
+use std::test::Fail;
+use std::thread::{Threads, join, map_indices};
+
+/// What a thread does with a set. It says whether all was as it should be.
+#[derive(Clone, Copy)]
+enum Job {
+    /// Retains the keys of this label, by a closure that waits at the gate.
+    Retain(char),
+    /// Stores a key labelled y in the place of 7, which is labelled x, once a closure is shown it.
+    Replace,
+    /// Keeps the reference to the key 7 that a lookup answered, or looks it up anew.
+    Hold,
+    LookAnew,
+    /// Replaces that key 1000 times and removes it, once another thread has it.
+    WearOut,
+    /// Looks for the keys below 6, 20 times.
+    Has,
+    /// Stores keys labelled y in their place, 20 times.
+    Rewrite,
+    /// Inserts the absent keys of a range.
+    Insert(u64, u64),
+    /// Inserts and removes the absent keys of a range, one after another, 20 times.
+    ComeAndGo(u64, u64),
+    /// Makes room three times.
+    Reserve,
+    /// Walks over the set, and meets each key below 6 once, 20 times.
+    Walk,
+}
+
+/// The label of the stored key 7.
+fn label(set: &Keys) -> Option<char> {
+    match set.pin().get(&any(7)) {
+        Some(key) => Some(key.label),
+        None => None,
+    }
+}
+
+/// Retains by a closure that waits at the gate: was it open in time?
+fn retains<R: Wait>(rt: &R, set: &Keys, stays: char, gate: &Gate) -> Result<bool, Refused> {
+    let pinned = set.pin();
+    let retained = pinned.retain(rt, |key| {
+        gate.wait();
+        key.label == stays
+    });
+    let was_passed = gate.was_passed();
+    // So that the other threads end, whatever happened.
+    gate.reached.store(true, Ordering::SeqCst);
+    retained?;
+    Ok(was_passed)
+}
+
+/// Replaces key 7 once it was shown: was it there, and replaced?
+fn replaces<R: Wait>(rt: &R, set: &Keys, gate: &Gate) -> Result<bool, Refused> {
+    let met = gate.turn_until(&gate.reached);
+    let was_there = label(set) == Some('x');
+    let is_new = set.pin().insert(rt, key(7, 'y'));
+    gate.open.store(true, Ordering::SeqCst);
+    Ok(!is_new? && met && was_there)
+}
+
+/// The reference that a lookup answered.
+#[derive(Drop)]
+struct Held<'a>(&'a Labelled);
+
+impl Look for Held<'_> {
+    fn is_same(&mut self) -> bool {
+        self.0.label == 'x'
+    }
+}
+
+/// What the set has.
+#[derive(Drop)]
+struct Anew<'a>(&'a Keys);
+
+impl Look for Anew<'_> {
+    fn is_same(&mut self) -> bool {
+        label(self.0) == Some('x')
+    }
+}
+
+/// Does the reference that a lookup answers stay as it is?
+fn holds(set: &Keys, gate: &Gate) -> bool {
+    match set.pin().get(&any(7)) {
+        Some(key) => gate.stays(&mut Held(key)),
+        None => false,
+    }
+}
+
+/// Replaces key 7 and removes it: was it there each time?
+fn replaces_often<R: Wait>(rt: &R, set: &Keys) -> Result<bool, Refused> {
+    for _ in 0..1000u64 {
+        if set.pin().insert(rt, key(7, 'y'))? {
+            return Ok(false);
+        }
+    }
+    set.pin().remove(rt, &any(7))
+}
+
+/// Does so once another thread has it.
+fn wears_out<R: Wait>(rt: &R, set: &Keys, gate: &Gate) -> Result<bool, Refused> {
+    let met = gate.turn_until(&gate.reached);
+    let was_there = replaces_often(rt, set);
+    gate.open.store(true, Ordering::SeqCst);
+    Ok(was_there? && met)
+}
+
+/// Is each key below 6 there, each time?
+fn has(set: &Keys) -> bool {
+    for at in 0..120u64 {
+        if !set.pin().contains(&any(at % 6)) {
+            return false;
+        }
+    }
+    true
+}
+
+/// Was each key below 6 there, and replaced, each time?
+fn rewrites<R: Wait>(rt: &R, set: &Keys) -> Result<bool, Refused> {
+    for at in 0..120u64 {
+        if set.pin().insert(rt, key(at % 6, 'y'))? {
+            return Ok(false);
+        }
+    }
+    Ok(true)
+}
+
+/// Inserts these keys: was each absent?
+fn inserts<R: Wait>(rt: &R, set: &Keys, from: u64, end: u64) -> Result<bool, Refused> {
+    for number in from..end {
+        if !set.pin().insert(rt, any(number))? {
+            return Ok(false);
+        }
+    }
+    Ok(true)
+}
+
+/// Removes these keys: was each there?
+fn removes<R: Wait>(rt: &R, set: &Keys, from: u64, end: u64) -> Result<bool, Refused> {
+    for number in from..end {
+        if !set.pin().remove(rt, &any(number))? {
+            return Ok(false);
+        }
+    }
+    Ok(true)
+}
+
+/// Inserts and removes these keys: was each absent before, and there then?
+fn comes_and_goes<R: Wait>(rt: &R, set: &Keys, from: u64, end: u64) -> Result<bool, Refused> {
+    for _ in 0..20u64 {
+        if !inserts(rt, set, from, end)? || !removes(rt, set, from, end)? {
+            return Ok(false);
+        }
+    }
+    Ok(true)
+}
+
+/// Makes room for so many keys more, one number after another.
+fn reserves<R: Wait>(rt: &R, set: &Keys) -> Result<bool, Refused> {
+    for more in [64, 128, 256] {
+        set.pin().reserve(rt, more)?;
+    }
+    Ok(true)
+}
+
+/// How many keys below 6 a walk gives.
+fn walked<R: Wait>(rt: &R, set: &Keys) -> Result<u64, Refused> {
+    let mut below = 0u64;
+    for key in set.pin().iter(rt)? {
+        below = below.wrapping_add(u64::from(key.number < 6));
+    }
+    Ok(below)
+}
+
+/// Was each of them met once, each time?
+fn walks<R: Wait>(rt: &R, set: &Keys) -> Result<bool, Refused> {
+    for _ in 0..20u64 {
+        if walked(rt, set)? != 6 {
+            return Ok(false);
+        }
+    }
+    Ok(true)
+}
+
+/// Does a job that is done beside others.
+fn works<R: Wait>(rt: &R, set: &Keys, job: Job) -> Result<bool, Refused> {
+    match job {
+        Job::Rewrite => rewrites(rt, set),
+        Job::Insert(from, end) => inserts(rt, set, from, end),
+        Job::ComeAndGo(from, end) => comes_and_goes(rt, set, from, end),
+        Job::Reserve => reserves(rt, set),
+        Job::Walk => walks(rt, set),
+        _ => Ok(has(set)),
+    }
+}
+
+/// Does a job.
+fn does<R: Wait>(rt: &R, set: &Keys, job: Job, gate: &Gate) -> Result<bool, Refused> {
+    match job {
+        Job::Retain(stays) => retains(rt, set, stays, gate),
+        Job::Replace => replaces(rt, set, gate),
+        Job::Hold => Ok(holds(set, gate)),
+        Job::LookAnew => Ok(gate.stays(&mut Anew(set))),
+        Job::WearOut => wears_out(rt, set, gate),
+        _ => works(rt, set, job),
+    }
+}
+
+/// Does a job once all threads are there, and says then that it is done.
+fn says<R: Wait>(rt: &R, set: &Keys, job: Job, crossing: &Crossing) -> bool {
+    let began = crossing.begins(!matches!(job, Job::Retain(_)));
+    let did = does(rt, set, job, &crossing.gate);
+    crossing.ends();
+    began && did == Ok(true)
+}
+
+/// Two threads do a job each.
+fn both<R: Threads + Wait + Sync>(rt: &R, set: &Keys, first: Job, second: Job) -> (bool, bool) {
+    let crossing = Crossing::new(2, 0);
+    join(
+        rt,
+        || says(rt, set, first, &crossing),
+        || says(rt, set, second, &crossing),
+    )
+}
+
+/// One job is done after the other.
+fn apart<R: Wait>(rt: &R, set: &Keys, first: Job, second: Job) -> (bool, bool) {
+    let crossing = Crossing::new(1, 0);
+    let did = says(rt, set, first, &crossing);
+    (did, says(rt, set, second, &crossing))
+}
+
+/// What eight threads do of which the first one is stuck.
+const BESIDE: [Job; 8] = [
+    Job::Retain('y'),
+    Job::Has,
+    Job::Rewrite,
+    Job::Insert(100, 150),
+    Job::Insert(150, 200),
+    Job::Reserve,
+    Job::Walk,
+    Job::ComeAndGo(300, 310),
+];
+
+/// They do so: was all as it should be?
+fn beside<R: Threads + Wait + Sync>(rt: &R, alloc: Global, set: &Keys) -> Result<bool, Fail> {
+    let crossing = Crossing::new(8, 7);
+    let did = map_indices(
+        rt,
+        alloc,
+        8,
+        &|at| { says(rt, set, BESIDE[at % 8], &crossing) },
+    )?;
+    Ok(did.iter().all(|did| *did))
+}
+
+/// A set with the key 7, labelled x.
+fn with_seven<R: Wait>(rt: &R, alloc: Global, mode: ResizeMode) -> Result<Keys, Refused> {
+    let set = made(rt, alloc, mode)?;
+    set.pin().insert(rt, key(7, 'x'))?;
+    Ok(set)
+}
+
+/// A closure is shown a key that is replaced before it answers, and then the one that took its
+/// place. What is left is what it answers of that.
+fn overlaps<R: Threads + Wait + Sync + Abort>(rt: &R, set: &Keys, stays: char, left: Option<char>) {
+    let did = both(rt, set, Job::Retain(stays), Job::Replace);
+    is(rt, (did, label(set)), ((true, true), left));
+}
+
+#[test]
+fn a_retain_shows_what_replaced_its_key(rt: HostRuntime) -> Result<(), Fail> {
+    for mode in MODES {
+        let set = with_seven(&rt, rt.alloc(), mode)?;
+        overlaps(&rt, &set, 'y', Some('y'));
+        let set = with_seven(&rt, rt.alloc(), mode)?;
+        overlaps(&rt, &set, 'z', None);
+    }
+    Ok(())
+}
+
+/// Calls that do not overlap do not pass the gate.
+#[test]
+fn one_call_after_the_other_is_found_out(rt: HostRuntime) -> Result<(), Fail> {
+    for mode in MODES {
+        let set = with_seven(&rt, rt.alloc(), mode)?;
+        let did = apart(&rt, &set, Job::Retain('z'), Job::Replace);
+        is(&rt, did, (false, false));
+    }
+    Ok(())
+}
+
+/// A reference stays as it is while another thread replaces its key 1000 times and removes it.
+/// One that looks the key up anew does not find it again.
+#[test]
+fn a_reference_stays_as_it_is(rt: HostRuntime) -> Result<(), Fail> {
+    for mode in MODES {
+        let set = with_seven(&rt, rt.alloc(), mode)?;
+        is(&rt, both(&rt, &set, Job::Hold, Job::WearOut), (true, true));
+        let set = with_seven(&rt, rt.alloc(), mode)?;
+        let did = both(&rt, &set, Job::LookAnew, Job::WearOut);
+        is(&rt, did, (false, true));
+    }
+    Ok(())
+}
+
+/// While a closure of a retain does not come back, seven threads look keys up, store, replace and
+/// remove them, make the table grow, and walk. They wait for nobody. The keys below 6 stay, since
+/// the closure is shown then what took their place.
+#[test]
+fn a_retain_is_stuck(rt: HostRuntime) -> Result<(), Fail> {
+    for mode in MODES {
+        let set = made(&rt, rt.alloc(), mode)?;
+        is(&rt, inserts(&rt, &set, 0, 6), Ok(true));
+        is(&rt, beside(&rt, rt.alloc(), &set)?, true);
+        is(&rt, has(&set), true);
+    }
+    Ok(())
+}
