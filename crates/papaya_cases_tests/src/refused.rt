@@ -4,7 +4,6 @@ use crate::answers::Answer::{
     self, Aborted, Absent, Kept, NotMade, Number, Occupied, Pair, Updated,
 };
 use crate::expect::is;
-use crate::hashers::FIRST;
 use crate::shared::Shared;
 use crate::steps::Agrees::{Always, Never};
 use crate::steps::Step::{
@@ -12,6 +11,7 @@ use crate::steps::Step::{
     RemoveIf, TryInsert, TryInsertWith, Update, UpdateOrInsert, UpdateOrInsertWith,
 };
 use crate::steps::{Calls, answer};
+use papaya_hashers::same::FIRST;
 use papaya_map::map;
 use papaya_refusals::tries::{Outcome, Ready, Trial, fails_at, tries};
 use papaya_seq::seq;
