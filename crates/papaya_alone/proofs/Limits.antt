@@ -1,5 +1,5 @@
 -- A call takes a number for each pair that it makes, where there is a limit on them.
-use Rattle.std.proofs.Common.{◌≡◌, ◌⊎◌, inl, inr, ℕ, ◌+◌, ◌<◌, ◌≤◌, ◌==◌, nat_lt, le-ltb, lt-ltb, cond, Option, None, Some, refl, sym, ap, ◌∙◌, subst}
+use Rattle.std.proofs.Common.{◌≡◌, ◌⊎◌, inl, inr, ℕ, ◌+◌, ◌<◌, ◌≤◌, ◌==◌, nat_lt, le-ltb, lt-ltb, Bool, true, false, cond, Option, None, Some, refl, sym, ap, ◌∙◌, subst}
 use Rattle.std.proofs.lemmas.Bool.{cond_both, cond-false, cond-true}
 use Rattle.papaya_words.specs.declared.probe.Refused.TheVariants.{Limit}
 use Rattle.papaya_words.specs.declared.probe.ResizeMode.{ResizeMode}
@@ -24,7 +24,7 @@ use Rattle.papaya_call.specs.declared.made.Number.{Number}
 use Rattle.papaya_call.specs.declared.made.Number.TheVariants.{Wanted, Free, Taken}
 use Rattle.papaya_call.specs.declared.machine.Machine.{Machine as Call_machine}
 use Rattle.papaya_call.specs.declared.machine.State.{State}
-use Rattle.papaya_call.specs.declared.machine.State.TheVariants.{AtRoot, Making, Opening, Searching, Writing, Offering, Showing, Pairing, Putting, Burying, Counting, Noting, Uncounting, Leaving, Growing, Ended}
+use Rattle.papaya_call.specs.declared.machine.State.TheVariants.{Searching, Writing, Offering, Showing, Pairing, Leaving, Growing}
 use Rattle.papaya_call.specs.declared.need.Need.{Need}
 use Rattle.papaya_call.specs.declared.write.Write.{Write}
 use Rattle.papaya_call.specs.Compute.{in_place_of}
@@ -45,10 +45,10 @@ use Rattle.papaya_chain.specs.declared.ask.Answer.TheVariants as answers
 use Rattle.papaya_chain.specs.declared.machine.Machine.{Machine}
 use Rattle.papaya_chain.specs.declared.machine.Phase.{Phase}
 use Rattle.papaya_chain.specs.declared.machine.Phase.TheVariants.{Calling, Linking, Copying as Copying_root}
-use Rattle.papaya_chain.specs.Machine.{after, after_copied, after_in, after_linked, aim_for, ask_of, asks_in, called, copying_after, goes_on, grows_as, kind_in, kind_of_ask, leaves, link_after, onward, started, stepped, told_next}
+use Rattle.papaya_chain.specs.Machine.{after, after_copied, after_in, after_linked, aim_for, ask_of, asks_in, called, copying_after, goes_on, grows_as, kind_in, kind_of_ask, leaves, link_after, onward, stepped, told_next}
 use Rattle.papaya_rests.specs.Alone.{IsNumberRead}
 use Rattle.papaya_rests.specs.Says.{MakesPair}
-use Rattle.papaya_rests.proofs.Makings.{HoldsOfPairAsks, IsMakeAsk, make_asks, pair_holds, pair_made}
+use Rattle.papaya_rests.proofs.Makings.{IsMakeAsk, make_asks, pair_holds, pair_made}
 use Rattle.papaya_chain_rests.proofs.Names.{call_asks}
 use Rattle.papaya_alone.specs.Limits.{HasNumber, IsLogAsk, IsLogging, IsNumberTaken, IsPairLogged, IsTakeAsk}
 
