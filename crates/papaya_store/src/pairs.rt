@@ -1,6 +1,9 @@
 //! Pairs as they are logged, and calls under way.
-ghost use Rattle.std.specs.Prelude.{◌≡◌};
+ghost use Rattle.std.specs.Prelude.{◌≡◌, ℕ, List, ◌++◌, length, Some};
+ghost use Rattle.papaya_ask.specs.declared.ask.Answer.{Answer};
 ghost use Rattle.papaya_store.specs.Pairs.{brought_by, key_part, pair_with};
+ghost use Rattle.papaya_store.specs.Performs.{LogsOf, LogsOwn, own_key, own_value};
+ghost use Rattle.papaya_store.specs.Store.{StoreState, Stored, pair_of};
 
 use papaya_chain::machine::Machine;
 
@@ -76,3 +79,21 @@ impl<K, V> Pair<K, V> {
         }
     }
 }
+
+/// What the numbers of pairs mean. A pair that is logged for a call has the call's key, or that of
+/// the pair that was named, and the call's value; the call has both from then on too. And a number
+/// means the same in each longer log. The function does nothing: its contract is the law.
+pub fn numbers_mean<K, V, S, A>()
+    ensures stays { (s : StoreState K V S) (more : List (Pair K V)) (n : ℕ) (p : Stored K V)
+        → pair_of s n ≡ Some p → pair_of (record s { pairs = s.pairs ++ more }) n ≡ Some p }
+    ensures own { (s s' : StoreState K V S) (r r' : Running K V A) (a : Answer) (k : K) (v : V)
+        → own_key s r ≡ Some k → own_value s r ≡ Some v → LogsOwn a s r s' r'
+        → (pair_of s' (length s.pairs)
+        ≡ Some (record { number = length s.pairs; key = k; value = v }))
+        × (own_key s' r' ≡ Some k) × (own_value s' r' ≡ Some v) }
+    ensures of { (s s' : StoreState K V S) (r r' : Running K V A) (a : Answer) (k : K) (n : ℕ)
+        (p : Stored K V) (v : V) → own_key s r ≡ Some k → pair_of s n ≡ Some p
+        → own_value s r ≡ Some v → LogsOf n a s r s' r' → (pair_of s' (length s.pairs)
+        ≡ Some (record { number = length s.pairs; key = p.key; value = v }))
+        × (own_key s' r' ≡ Some k) × (own_value s' r' ≡ Some v) }
+{}

@@ -4,7 +4,6 @@ use Rattle.std.proofs.Math.Nat.{div-le_self}
 use Rattle.papaya_words.specs.Chunks.{chunk_len}
 use Rattle.papaya_words.specs.Table.{TableWords, new_table}
 use Rattle.papaya_words.specs.declared.limits.TheConstants.{MAX_TABLES, MAX_LOG_LEN}
-use Rattle.papaya_words.specs.declared.probe.ResizeMode.{ResizeMode}
 use Rattle.papaya_call.specs.Answers.{Says}
 use Rattle.papaya_ask.specs.declared.ask.At.{At}
 use Rattle.papaya_ask.specs.declared.ask.At.TheVariants.{Root}
@@ -54,6 +53,7 @@ use Rattle.papaya_timeline.proofs.KeptTables.{IsPlaced, placed-many, table_low}
 use Rattle.papaya_timeline.proofs.KeptWritten.{asked_call, asked_copy, placed_call, placed_copy}
 use Rattle.papaya_timeline.proofs.ShowLemmas.{none_shown, pair_shown}
 use Rattle.papaya_timeline.proofs.StoreLemmas.{matched}
+use Rattle.papaya_store.specs.declared.mode.Mode.{Mode}
 
 module _ (w : Tables) (at : At) (new : ℕ) (placed : IsPlaced w.tables at) (chunk_is : IsChunkOf at) where
   -- a write spends no table
@@ -80,7 +80,7 @@ module _ (w : Tables) (at : At) (new : ℕ) (placed : IsPlaced w.tables at) (chu
 made_spends : (w : Tables) (n slots limit chunks : ℕ) → length w.tables < MAX_TABLES → (budget_in (record w { tables = w.tables ++ new_table n slots limit chunks ∷ [] })).tables < (budget_in w).tables
 made_spends w n slots limit chunks few = let more : length (w.tables ++ new_table n slots limit chunks ∷ []) ≡ length w.tables + 1 = length-append w.tables (new_table n slots limit chunks ∷ []) in omega (arith, more, few)
 
-module _ {K V S A : Type 0} (eq : K → K → Bool) (hash : K → ℕ) (law : IsLawfulKeys eq hash) (mode : ResizeMode) (store : StoreState K V S) (callers : List (Seat K V A)) (core : IsCore store callers mode)
+module _ {K V S A : Type 0} (eq : K → K → Bool) (hash : K → ℕ) (law : IsLawfulKeys eq hash) (mode : Mode) (store : StoreState K V S) (callers : List (Seat K V A)) (core : IsCore store callers mode)
     (es : List (Exchange (Stored K V))) (tales : ℕ → Tale K V) (kept : IsKept eq hash mode store callers es tales) where
   -- the setting, the coding and the state
   abbrev g : Setting K (Stored K V)
@@ -116,7 +116,7 @@ module _ {K V S A : Type 0} (eq : K → K → Bool) (hash : K → ℕ) (law : Is
 
   -- a slot's chunk has no greater number than the slot
   cut_low : (x : ℕ) → g.chunk_of x ≤ x
-  cut_low x = div-le_self x (chunk_len mode)
+  cut_low x = div-le_self x (chunk_len mode.resize)
 
   -- the words are within bounds
   pub kept_bounded : IsBounded g now

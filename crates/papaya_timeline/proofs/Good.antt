@@ -70,7 +70,7 @@ WasSaid store r caller h said (Removes n) = WasAnswered caller (Some n) ops.Remo
 module _ {K V : Type 0} (eq : K → K → Bool) where
   -- the map m after these exchanges, whatever tables there are
   abbrev pub replayed : Map K V → List (Exchange (Stored K V)) → Map K V
-  replayed m es = map_of (setting_of eq (λ k. 0) Blocking []) m es
+  replayed m es = map_of (setting_of eq (λ k. 0) (record { resize = Blocking; limit = None }) []) m es
 
   -- the map that these exchanges leave, from the empty one
   abbrev pub replay : List (Exchange (Stored K V)) → Map K V
@@ -78,7 +78,7 @@ module _ {K V : Type 0} (eq : K → K → Bool) where
 
   -- the setting in which it is replayed
   abbrev pub replaying : Setting K (Stored K V)
-  replaying = setting_of eq (λ k. 0) Blocking []
+  replaying = setting_of eq (λ k. 0) (record { resize = Blocking; limit = None }) []
 
   -- each pair of the map has a key of its class
   abbrev pub IsKeyed : Map K V → Type 0

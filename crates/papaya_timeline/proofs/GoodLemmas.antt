@@ -1,7 +1,6 @@
 -- Begins and steps keep a good history.
 use Rattle.std.proofs.Common.{rules, arith, ◌≡◌, ◌≢◌, ◌⊎◌, inl, inr, ⊎_elim, ℕ, ◌<◌, Bool, true, false, cond, Option, None, Some, List, [], ◌∷◌, ◌++◌, length, slice_get, refl, sym, ◌∙◌, ap, subst, eq-eqb, append_assoc}
 use Rattle.std.proofs.lemmas.Bool.{cases_Bool}
-use Rattle.papaya_words.specs.declared.probe.ResizeMode.{ResizeMode}
 use Rattle.papaya_words.specs.declared.probe.Refused.TheVariants.{RemoveNothing}
 use Rattle.papaya_ask.specs.declared.ask.Ask.TheVariants.{ShowNone, MakePair, Done as Ask_done}
 use Rattle.papaya_ask.specs.declared.ask.Answer.TheVariants.{Op, Made as Made_number}
@@ -41,7 +40,7 @@ use Rattle.papaya_timeline.specs.declared.trace.Event.{Event}
 use Rattle.papaya_timeline.specs.declared.trace.Event.TheVariants.{Begun, Changed, Moved, Asked, Shown, Gave, Other, Replied}
 use Rattle.papaya_timeline.specs.Advances.{Advances, goes_on}
 use Rattle.papaya_timeline.specs.Begins.{Begins, answers_of_call, begun, begun_work, value_of_call, visitor_begun}
-use Rattle.papaya_timeline.proofs.Begun.{IsBegun, call_begun, task_is_own, the_task}
+use Rattle.papaya_timeline.proofs.Begun.{IsBegun, begun_stands, call_begun, task_is_own, the_task}
 use Rattle.papaya_timeline.specs.declared.seat.Work.{Work}
 use Rattle.papaya_timeline.specs.declared.seat.Work.TheVariants as works
 use Rattle.papaya_timeline.specs.Callers.{as_work, resizer_in, resizing, running, visiting, visitor_in, with_call, with_seat, with_work}
@@ -65,7 +64,7 @@ use Rattle.papaya_timeline.proofs.EntersOnce.{timeline_steady}
 use Rattle.papaya_timeline.proofs.Good.{IsGood, IsKeyed, IsResize, IsTied, IsValueOf, IsVisitOf, IsVisitTied, replay, replayed}
 use Rattle.papaya_timeline.proofs.GoodVisits.{replay_keyed, visit_begins, visit_entry, visit_other}
 use Rattle.papaya_timeline.proofs.KeptLemmas.{IsLawfulKeys, IsStep, kept_step, kept_begin, map_kept, hashed_setting}
-use Rattle.papaya_timeline.proofs.KeptLogs.{pair_below}
+use Rattle.papaya_store.proofs.Logs.{pair_below}
 use Rattle.papaya_timeline.proofs.AdvanceLemmas.{advance_legal, changed as advance_changed, moved as advance_moved, order as advance_order}
 use Rattle.papaya_timeline.proofs.LegalLemmas.{IsMoved, MayPut, MayReplace, MayTell, Moves, fits_asked, insertion_does, own_change, removal_does, replaces_own}
 use Rattle.papaya_timeline.proofs.MachineLemmas.{machine_offers, machine_shows, machine_shows_none}
@@ -76,15 +75,12 @@ use Rattle.papaya_timeline.proofs.StepTells.{Tells, answering as answered_by, ev
 use Rattle.papaya_timeline.proofs.TellLemmas.{IsAnswering}
 use Rattle.papaya_timeline.proofs.TiedLemmas.{IsEnding, HasMoreLogs, grown, tied_other, tied_entry, tied_fits, at_showing, at_showing_none, moments_more}
 use Rattle.papaya_timeline.proofs.TimelineLemmas.{entry, open_call-own, open_call-other, change_of-other, change_of-own, not_begin-own, logged_more, logged_unused, was_shown_none-own}
+use Rattle.papaya_store.specs.declared.mode.Mode.{Mode}
 
 -- a call that goes on is the one after its step
 goes : {A : Type 0} (reply : Option Reply) (r' r : A) → goes_on reply r' ≡ Some r → (reply ≡ None) × (r' ≡ r)
 goes None r' r e = (refl, same_item r' r e)
 goes (Some reply) r' r e = let f : None ≡ Some r = e in cc
-
--- a call that begins stands on nothing that its closure said
-begun_stands : (task : Task) (hash : ℕ) (mode : ResizeMode) (initial : ℕ) (said : Said) → StandsOn (calls.started task hash mode initial) said → ⊥
-begun_stands task hash mode initial said stands = search rules
 
 -- no pair has a number past a log that has its pairs and more
 past_log : {K V S : Type 0} (first s : StoreState K V S) → KeepsPairs first s → (o : Option (Stored K V)) → pair_of first (length s.pairs) ≡ o → o ≡ None
@@ -106,7 +102,7 @@ computed Clear is v = absurd cc
 computed (Retain a) is v = absurd cc
 computed Walk is v = absurd cc
 
-module _ {K V A : Type 0} (hash : K → ℕ) (mode : ResizeMode) (initial number : ℕ) where
+module _ {K V A : Type 0} (hash : K → ℕ) (mode : Mode) (initial number : ℕ) where
   -- a resizer begins for a call that resizes the map
   resize_begun : (call : Call K V A) (z : Resizer) → begun_work hash mode initial number call ≡ works.Resize z → IsResize call
   resize_begun (Reserve more) z e = tt
@@ -121,9 +117,9 @@ module _ {K V A : Type 0} (hash : K → ℕ) (mode : ResizeMode) (initial number
   resize_begun Walk z e = let f : None ≡ Some z = ap (λ (w : Work K V A). resizer_in (Some w)) e in absurd cc
 
   -- and a visitor for one that visits a table, with the answers of its closure
-  visit_is : (call : Call K V A) (visit : Visit) (answers : Option A) (v : Visiting A) → IsVisitOf call visit → works.Visit (visitor_begun mode initial number visit answers) ≡ begun_work hash mode initial number call → answers ≡ answers_of_call call → begun_work hash mode initial number call ≡ works.Visit v → IsVisitOf call v.visitor.visit × (v.answers ≡ answers_of_call call)
+  visit_is : (call : Call K V A) (visit : Visit) (answers : Option A) (v : Visiting A) → IsVisitOf call visit → works.Visit (visitor_begun mode.resize initial number visit answers) ≡ begun_work hash mode initial number call → answers ≡ answers_of_call call → begun_work hash mode initial number call ≡ works.Visit v → IsVisitOf call v.visitor.visit × (v.answers ≡ answers_of_call call)
   visit_is call visit answers v of begins are e =
-      let same : visitor_begun mode initial number visit answers ≡ v = same_item (visitor_begun mode initial number visit answers) v (ap (λ (w : Work K V A). visitor_in (Some w)) (begins ∙ e)) in
+      let same : visitor_begun mode.resize initial number visit answers ≡ v = same_item (visitor_begun mode.resize initial number visit answers) v (ap (λ (w : Work K V A). visitor_in (Some w)) (begins ∙ e)) in
       (subst (λ (u : Visiting A). IsVisitOf call u.visitor.visit) same of, ap (λ (u : Visiting A). u.answers) (sym same) ∙ are)
 
   visit_begun : (call : Call K V A) (v : Visiting A) → begun_work hash mode initial number call ≡ works.Visit v → IsVisitOf call v.visitor.visit × (v.answers ≡ answers_of_call call)
@@ -705,7 +701,7 @@ module _ {K V S A : Type 0} (eq : K → K → Bool) (hash : K → ℕ) (law : Is
             value = begun_value call;
             made = λ q made. absurd made;
             change = change_of-own c turn Begun h;
-            said = λ said stands. absurd (begun_stands is.task (hash is.key) s.mode s.initial said stands);
+            said = λ said stands. absurd (begun_stands is.task (hash is.key) s.mode.resize s.initial s.mode.limit said stands);
             shows = tt;
             once = λ shown. let f : false ≡ true = sym (was_shown_none-own c turn Begun h) ∙ shown in absurd cc;
             moments = λ so_far rest none. inl (ap (λ l. at_key (replayed eq (replay eq good.es) l) (key_of call)) (sym (nothing_before so_far rest none)));

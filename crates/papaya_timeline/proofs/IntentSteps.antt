@@ -46,7 +46,7 @@ use Rattle.papaya_timeline.proofs.KeptCore.{keys_lawful}
 use Rattle.papaya_timeline.proofs.KeptLemmas.{IsLawfulKeys, IsStep, kept_step}
 use Rattle.papaya_timeline.proofs.LawfulVisits.{visit_keeps}
 use Rattle.papaya_keys.specs.Hashes.{hash_of}
-use Rattle.papaya_timeline.proofs.KeptLogs.{pair_below}
+use Rattle.papaya_store.proofs.Logs.{pair_below}
 use Rattle.papaya_timeline.proofs.MachineLemmas.{machine_offers}
 use Rattle.papaya_timeline.proofs.StepTells.{answering as answered_by, made_number, told_made}
 use Rattle.papaya_timeline.proofs.TellLemmas.{IsAnswering}

@@ -52,6 +52,8 @@ use Rattle.papaya_timeline.proofs.SaidLemmas.{inserting, one_value, pair_made, r
 use Rattle.papaya_timeline.proofs.StepEvents.{event_shown}
 use Rattle.papaya_timeline.proofs.StepTells.{Tells, at_hand, event_tells}
 use Rattle.papaya_timeline.proofs.TellLemmas.{IsAnswering}
+use Rattle.papaya_store.specs.declared.mode.Mode.{Mode}
+use Rattle.papaya_timeline.proofs.Begun.{begun_stands}
 
 -- a pair that a machine stands on is one that its call made
 module _ {K P : Type 0} (g : Setting K P) (c : Coding K P) (begun since : List (Exchange P)) (k : K) where
@@ -61,10 +63,6 @@ module _ {K P : Type 0} (g : Setting K P) (c : Coding K P) (begun since : List (
 -- what was made is the answer to an ask for it
 after_made : (m : Call_machine) (a : Call_answer) (n : ℕ) → (calls.after m a).made ≡ Pair n → (m.made ≡ Pair n) ⊎ ((calls.ask_of m ≡ MakePair) × (a ≡ Made_number n))
 after_made m a n e = search rules
-
--- a call that begins stands on nothing that its closure said
-begun_stands : (task : Task) (hash : ℕ) (mode : ResizeMode) (initial : ℕ) (said : Said) → StandsOn (calls.started task hash mode initial) said → ⊥
-begun_stands task hash mode initial said stands = search rules
 
 -- an insertion writes the pair that it made
 writes_made : (made : Made) (hash : ℕ) (stage : Stage) (replace : Bool) → IsStandingState (tasks.Insert replace) stage → (at : At) (from to : ℕ) → calls.asks made hash stage ≡ Ask_exchange at from to → (old : Option ℕ) (n : ℕ) → change_in (calls.at_exchanged made stage) ≡ Some (old, Some n) → made ≡ Pair n
@@ -103,7 +101,7 @@ handed w made op v is (inl same) none = (v, is, same)
 handed w made op v is (inr so) none = absurd (none so)
 
 -- A call that begins intends to store what it was handed.
-module _ {K V S A : Type 0} (store : StoreState K V S) (hash : K → ℕ) (mode : ResizeMode) (initial number : ℕ) where
+module _ {K V S A : Type 0} (store : StoreState K V S) (hash : K → ℕ) (mode : Mode) (initial number : ℕ) where
   pub begun_intends : (call : Call K V A) → IntendsHanded store call (begun_work hash mode initial number call)
   begun_intends (Get k) shown op h = absurd h
   begun_intends (Insert k w) shown (ops.Insert v) h = handed w _ (ops.Insert v) v refl h (λ is. let f = is.1 in absurd cc)
@@ -112,15 +110,15 @@ module _ {K V S A : Type 0} (store : StoreState K V S) (hash : K → ℕ) (mode 
   begun_intends (TryInsert k w) shown (ops.Insert v) h = handed w _ (ops.Insert v) v refl h (λ is. let f = is.1 in absurd cc)
   begun_intends (TryInsert k w) shown ops.Remove h = absurd h
   begun_intends (TryInsert k w) shown (ops.Abort t) h = absurd h
-  begun_intends (RemoveIf k a) (Some n) ops.Remove h = absurd (begun_stands tasks.RemoveIf (hash k) mode initial (Agrees n true) h)
+  begun_intends (RemoveIf k a) (Some n) ops.Remove h = absurd (begun_stands tasks.RemoveIf (hash k) mode.resize initial mode.limit (Agrees n true) h)
   begun_intends (RemoveIf k a) (Some n) (ops.Insert v) h = absurd h
   begun_intends (RemoveIf k a) (Some n) (ops.Abort t) h = absurd h
   begun_intends (RemoveIf k a) None ops.Remove h = absurd h
   begun_intends (RemoveIf k a) None (ops.Insert v) h = absurd h
   begun_intends (RemoveIf k a) None (ops.Abort t) h = absurd h
-  begun_intends (Compute k a) shown (ops.Insert v) (inl h) = absurd (begun_stands tasks.Compute (hash k) mode initial (Inserts shown) h.0)
-  begun_intends (Compute k a) shown (ops.Insert v) (inr h) = absurd (begun_stands tasks.Compute (hash k) mode initial (Makes shown h.0) h.1)
-  begun_intends (Compute k a) (Some n) ops.Remove h = absurd (begun_stands tasks.Compute (hash k) mode initial (Removes n) h)
+  begun_intends (Compute k a) shown (ops.Insert v) (inl h) = absurd (begun_stands tasks.Compute (hash k) mode.resize initial mode.limit (Inserts shown) h.0)
+  begun_intends (Compute k a) shown (ops.Insert v) (inr h) = absurd (begun_stands tasks.Compute (hash k) mode.resize initial mode.limit (Makes shown h.0) h.1)
+  begun_intends (Compute k a) (Some n) ops.Remove h = absurd (begun_stands tasks.Compute (hash k) mode.resize initial mode.limit (Removes n) h)
   begun_intends (Compute k a) (Some n) (ops.Abort t) h = absurd h
   begun_intends (Compute k a) None ops.Remove h = absurd h
   begun_intends (Compute k a) None (ops.Abort t) h = absurd h
@@ -134,7 +132,7 @@ module _ {K V S A : Type 0} (store : StoreState K V S) (hash : K → ℕ) (mode 
   begun_intends Walk (Some n) (ops.Insert v) h = absurd h
   begun_intends Walk (Some n) (ops.Abort t) h = absurd h
   begun_intends Walk None op h = absurd h
-  begun_intends (Retain a) (Some n) ops.Remove h = absurd (nothing mode h.1)
+  begun_intends (Retain a) (Some n) ops.Remove h = absurd (nothing mode.resize h.1)
     where
       nothing : (mode : ResizeMode) → TakesOut (begun_in mode) n → ⊥
       nothing (Incremental chunk) takes = takes

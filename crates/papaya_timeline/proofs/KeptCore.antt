@@ -1,7 +1,6 @@
 -- A core keeps to the law when it is made, and by each begin and each step.
 use Rattle.std.proofs.Common.{◌≡◌, ℕ, ◌==◌, Bool, true, List, [], ◌++◌, Option, Some, inl, inr, refl, sym, ap, subst, fold}
 use Rattle.std.specs.Cmp.{IsEquivalence}
-use Rattle.papaya_words.specs.declared.probe.ResizeMode.{ResizeMode}
 use Rattle.papaya_call.specs.Answers.{Says}
 use Rattle.papaya_ask.specs.declared.ask.Ask as call_asks
 use Rattle.papaya_ask.specs.declared.ask.Ask.TheVariants.{Load, Exchange as Ask_exchange, SameKey, ShowNone, ShowPair, SizeOf, MakeKey, MakePair, MakeTable, AddToShard, Done as Ask_done, LoadHint, WriteHint}
@@ -43,6 +42,7 @@ use Rattle.papaya_timeline.proofs.KeptLemmas.{IsLawfulKeys, kept_begin, kept_new
 use Rattle.papaya_timeline.proofs.KeptStep as kept_steps
 use Rattle.papaya_timeline.proofs.ShowLemmas.{none_shown, pair_shown}
 use Rattle.papaya_timeline.proofs.StoreLemmas.{matched}
+use Rattle.papaya_store.specs.declared.mode.Mode.{Mode}
 
 module _ {K V S A : Type 0} (eq : K → K → Bool) (says : Says K V A) where
   -- a step keeps the hasher
@@ -107,7 +107,7 @@ module _ {K V S A H : Type 0} (eq : K → K → Bool) (input : K → List (List 
   Lawful s = IsLawfulCore eq (hash_of input build write finish s.store.hasher) s.store s.callers s.mode
 
   -- a new one
-  pub new_lawful : (mode : ResizeMode) (capacity initial : ℕ) (store : StoreState K V S) (callers : List (Seat K V A)) → IsCore store callers mode → HasCapacity capacity initial store.words → store.pairs ≡ [] → callers ≡ [] → IsLawfulCore eq (hash_of input build write finish store.hasher) store callers mode
+  pub new_lawful : (mode : Mode) (capacity initial : ℕ) (store : StoreState K V S) (callers : List (Seat K V A)) → IsCore store callers mode → HasCapacity capacity initial store.words → store.pairs ≡ [] → callers ≡ [] → IsLawfulCore eq (hash_of input build write finish store.hasher) store callers mode
   new_lawful mode capacity initial store callers core words pairs none =
       let tales : ℕ → Tale K V = λ d. record { begun = []; since = []; hands = no_hands; visit = visits.no_hands } in
       let kept = kept_new eq (hash_of input build write finish store.hasher) (keys_lawful eq input build write finish classes respects store.hasher) mode capacity initial store callers words pairs none tales in

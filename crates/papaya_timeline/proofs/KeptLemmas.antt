@@ -1,6 +1,5 @@
 -- A core's words keep to the law of exchanges: the statements that the timeline rests on.
 use Rattle.std.proofs.Common.{◌≡◌, ℕ, Bool, Option, None, Some, List, [], ◌++◌, length, ◌≤◌, ◌⊎◌, refl, sym, subst}
-use Rattle.papaya_words.specs.declared.probe.ResizeMode.{ResizeMode}
 use Rattle.papaya_call.specs.Answers.{Says}
 use Rattle.papaya_ask.specs.declared.call.Call.{Call}
 use Rattle.papaya_law.specs.Exchange.{Exchange, run, start}
@@ -25,6 +24,7 @@ use Rattle.papaya_timeline.proofs.KeptMap.{kept_map}
 use Rattle.papaya_timeline.proofs.KeptTables.{HasMoreTables}
 use Rattle.papaya_timeline.proofs.KeptStep as step
 use Rattle.papaya_store.specs.New.{HasCapacity}
+use Rattle.papaya_store.specs.declared.mode.Mode.{Mode}
 pub use Rattle.papaya_timeline.proofs.KeptSettings.{IsLawfulKeys}
 
 -- a call that goes on is the one that was put back
@@ -88,7 +88,7 @@ module _ {K V S A : Type 0} (eq : K → K → Bool) (hash : K → ℕ) (law : Is
       (subst (λ (y : List (Seat K V A)). IsKept eq hash s.mode s.store y es tales') (sym begins.callers) (begin_kept eq hash s caller call begins.fits begins.number es tales kept)))
 
   -- a core as it is made has made no exchange, or has opened its first table
-  pub kept_new : (mode : ResizeMode) (capacity initial : ℕ) (store : StoreState K V S) (callers : List (Seat K V A)) → HasCapacity capacity initial store.words → store.pairs ≡ [] → callers ≡ [] → (tales : ℕ → Tale K V) → (es : List (Exchange (Stored K V))) × IsKept eq hash mode store callers es tales
+  pub kept_new : (mode : Mode) (capacity initial : ℕ) (store : StoreState K V S) (callers : List (Seat K V A)) → HasCapacity capacity initial store.words → store.pairs ≡ [] → callers ≡ [] → (tales : ℕ → Tale K V) → (es : List (Exchange (Stored K V))) × IsKept eq hash mode store callers es tales
   kept_new mode capacity initial store callers words pairs none tales =
       let new = new_kept A eq hash mode store pairs tales capacity initial words in
       (new.0, subst (λ (y : List (Seat K V A)). IsKept eq hash mode store y new.0 tales) (sym none) new.1)

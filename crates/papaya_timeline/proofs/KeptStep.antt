@@ -34,7 +34,7 @@ use Rattle.papaya_timeline.proofs.KeptOthers as others
 use Rattle.papaya_timeline.proofs.KeptAnswer.{IsAnswered, Stands}
 use Rattle.papaya_timeline.proofs.KeptClosures.{answers_asked}
 use Rattle.papaya_timeline.proofs.KeptCopied.{answered_copy}
-use Rattle.papaya_timeline.proofs.KeptLogs.{pair_below}
+use Rattle.papaya_store.proofs.Logs.{pair_below}
 use Rattle.papaya_timeline.proofs.KeptPerformed.{answered_call}
 use Rattle.papaya_timeline.proofs.KeptSettings.{IsLawfulKeys, tables_hashed}
 use Rattle.papaya_chain_rests.proofs.LinkMade.{is_made, made_is, machine_made}
@@ -75,7 +75,7 @@ module _ {K V S A : Type 0} (eq : K → K → Bool) (hash : K → ℕ) (law : Is
       by_ask : (ask : Ask) → ask_of before.machine ≡ ask → PerformsAsk eq says hashes refuse ask s.store before a s'.store later → IsAnswered g c s.store before es (tales caller) (Some call.key) call.key ask a s'.store later
       by_ask (asks.Call ask) e (told, is, h) =
           subst (λ y. IsAnswered g c s.store before es (tales caller) (Some call.key) call.key (asks.Call ask) y s'.store later) (sym is)
-          (answered_call eq says hash s.mode s.store before es (tales caller) hashed call.key call.split (may (tales caller) call.split) call.rests kept.coded kept.made kept.hints call.last call.opens call.links call.own refuse ask e told s'.store later h)
+          (answered_call eq says hash s.mode s.store before es (tales caller) hashed call.key call.split (may (tales caller) call.split) call.rests kept.coded kept.made kept.hints call.last call.valued call.opens call.links call.own refuse ask e told s'.store later h)
       by_ask (asks.Copy ask) e (h, same) =
           answered_copy eq hashes g c s.store before es (tales caller) (Some call.key) hashed call.key call.split (may (tales caller) call.split) call.rests kept.coded kept.made kept.hints call.last call.carried call.opens call.links call.own (record { sizes = λ t. refl; places = λ t. refl; chunks = λ t. refl; numbers = λ p. refl; hashes_of = λ p. ap (λ (f : K → ℕ). f p.key % 2 ^ 64) (sym hasher); sames = λ p q. refl }) refuse ask e a s'.store later h same
 
@@ -101,6 +101,7 @@ module _ {K V S A : Type 0} (eq : K → K → Bool) (hash : K → ℕ) (law : Is
   leaving = record {
     allowed = all;
     keys = left.keys;
+    values = left.values;
     logged = left.logged;
     few = left.few;
     tables_few = left.tables_few;
@@ -155,7 +156,7 @@ module _ {K V S A : Type 0} (eq : K → K → Bool) (hash : K → ℕ) (law : Is
   own_carried p (inr told) = left.logged p.number p (call.last p told)
 
   -- each pair that it made is logged
-  own_made : (p : Stored K V) → (IsOneOf (tales caller).hands.call.made p ⊎ ((p.number ≡ length s.store.pairs) × (before.value ≡ Some p.value) × (pair_of s'.store p.number ≡ Some p))) → IsLogged s'.store p
+  own_made : (p : Stored K V) → (IsOneOf (tales caller).hands.call.made p ⊎ ((p.number ≡ length s.store.pairs) × (own_value s.store before ≡ Some p.value) × (pair_of s'.store p.number ≡ Some p))) → IsLogged s'.store p
   own_made p (inl old) = left.logged p.number p (call.made p old)
   own_made p (inr (number, value, there)) = there
 
@@ -184,6 +185,19 @@ module _ {K V S A : Type 0} (eq : K → K → Bool) (hash : K → ℕ) (law : Is
         | inr (number, value, there) ↦ (λ same. let lt : q.number < length s.store.pairs = below q (kept.logged v y q stood) in omega arith)
       ]
 
+  -- its value is at hand or logged
+  own_valued : (part : Part V) → later.value ≡ Some part → (v : V) × (value_in s'.store.pairs part ≡ Some v)
+  own_valued part is = elim left.value [
+    | inl keeps ↦
+        let (old, had) = keeps.had part is in
+        let (v, there) = call.valued old had in
+        (v, sym (ap (value_at s'.store.pairs) is) ∙ keeps.same v (ap (value_at s.store.pairs) had ∙ there))
+    | inr said ↦ (said.value, ap (value_in s'.store.pairs) (same_item part (Own said.value) (sym is ∙ said.is)))
+  ]
+
+  -- and a pair that is to take the place of another has it, but while a newer answer waits
+  own_again : (i n : ℕ) → StandsOn (after before.machine a).call (Makes (Some i) n) → IsWaiting (after before.machine a).call.state ⊎ ((p : Stored K V) × (pair_of s'.store n ≡ Some p) × (own_value s'.store later ≡ Some p.value))
+  own_again i n stands = again_after before.machine a order left.value_of i n stands
   -- so it rests on what is told of it after the step
   pub own_call : (hands : Hands (Stored K V)) → left.hands ≡ hands → IsCall eq hash s'.mode s'.store (record later { machine = after before.machine a }) es' (record { begun = (tales caller).begun; since = (tales caller).since ++ left.made; hands = hands; visit = (tales caller).visit })
   own_call hands e = record {
@@ -199,6 +213,8 @@ module _ {K V S A : Type 0} (eq : K → K → Bool) (hash : K → ℕ) (law : Is
     links = own_links;
     unwritten = λ p l. own_unwritten p (subst (λ (y : Hands (Stored K V)). IsOneOf y.call.made p) (sym e) l);
     shows = chain_shows before.machine a order call.shows;
+    valued = own_valued;
+    again = own_again;
   }
 
   -- with the key that it had

@@ -3,7 +3,6 @@ use mathlib.Core.Path.{fun_ext}
 use Rattle.std.proofs.Common.{◌≡◌, ◌⊎◌, inl, inr, ⊎_elim, ℕ, Bool, true, false, cond, Option, None, Some, List, [], ◌∷◌, ◌++◌, refl, sym, ◌∙◌, ap, subst, append-nil}
 use Rattle.papaya_words.specs.Word.{pair_of}
 use Rattle.papaya_words.specs.Table.{TableWords}
-use Rattle.papaya_words.specs.declared.probe.ResizeMode.{ResizeMode}
 use Rattle.papaya_ask.specs.declared.ask.At.{At}
 use Rattle.papaya_ask.specs.declared.ask.At.TheVariants.{Root, Next, Aborted, Done, Slot}
 use Rattle.papaya_ask.specs.declared.ask.Ask.TheVariants.{Exchange as Ask_exchange}
@@ -56,6 +55,7 @@ use Rattle.papaya_timeline.proofs.MachineLemmas.{machine_replaces, machine_takes
 use Rattle.papaya_timeline.proofs.ReplayLemmas.{replay-append, replay-alike, next_legal}
 use Rattle.papaya_timeline.proofs.StepEvents.{IsCopied, copy_kind, copy_moves, copy_told}
 use Rattle.papaya_timeline.proofs.TimelineLemmas.{at_weaker}
+use Rattle.papaya_store.specs.declared.mode.Mode.{Mode}
 
 -- only a call that replaces puts a pair in place of another
 abbrev pub MayReplace : {K V : Type 0} → Option (Stored K V) → Task → Type 0
@@ -136,7 +136,7 @@ module _ {K V : Type 0} where
   Moves eq k task made m m' (events.Gave n) = ⊥
   Moves eq k task made m m' (events.Replied reply) = Same m m'
 
-module _ {K V : Type 0} (eq : K → K → Bool) (hash : K → ℕ) (mode mode' : ResizeMode) (tables tables' : List TableWords) where
+module _ {K V : Type 0} (eq : K → K → Bool) (hash : K → ℕ) (mode mode' : Mode) (tables tables' : List TableWords) where
   -- the law's settings before a step and after it
   abbrev g : Setting K (Stored K V)
   g = setting_of eq (low hash) mode tables
@@ -287,7 +287,7 @@ module _ {K V : Type 0} (eq : K → K → Bool) where
       (λ (x : IsCopied g c s kind hands.kept ask made). ap (λ fs. replay eq (es ++ fs) j) x.made ∙ ap (λ m. m j) (replay-append eq es (x.by ∷ []) ∙ copied_same c kind x.at x.new s hands.kept x.by (replay eq es) x.asked))
       (copy_told g c s kind follows hands ask answer made hands' told)
 
-module _ {K V : Type 0} (eq : K → K → Bool) (hash : K → ℕ) (mode mode' : ResizeMode) (tables tables' : List TableWords) where
+module _ {K V : Type 0} (eq : K → K → Bool) (hash : K → ℕ) (mode mode' : Mode) (tables tables' : List TableWords) where
   module _ (hashed : IsHashed (setting_of {V = V} eq (low hash) mode tables) (coding_of (low hash))) (lawful' : IsLawful (setting_of {V = V} eq (low hash) mode' tables')) (begun since : List (Exchange (Stored K V))) (k : K) (m : Chain_machine) (hands : Chain_hands (Stored K V)) (rests : Chain_rests (setting_of eq (low hash) mode tables) (coding_of (low hash)) begun since k m hands) (buries_own : BuriesOwn eq hash mode mode' tables tables' hashed lawful' begun since k m.call hands.call rests.call) where
     -- the event of a step moves the map so, and that of a copy leaves it
     pub step_moves : (answer : Answer) (made : List (Exchange (Stored K V))) (hands' : Chain_hands (Stored K V)) → Chain_told (setting_of eq (low hash) mode tables) (coding_of (low hash)) k (run (begun ++ since) start) (kind_of_ask m) (follows_of m) hands (ask_of m) answer made hands' → AllAllowed (setting_of eq (low hash) mode' tables') start ((begun ++ since) ++ made)

@@ -38,7 +38,6 @@ pub mod KeptCore
 pub mod KeptExchange
 pub mod KeptHints
 pub mod KeptLemmas
-pub mod KeptLogs
 pub mod KeptMade
 pub mod KeptMap
 pub mod KeptOthers

@@ -116,7 +116,7 @@ module _ {K V S A : Type 0} (eq : K → K → Bool) (hash : S → K → ℕ) (s 
           record {
             callers = alone (works.Visit v) e;
             lawful = in_order';
-            read = subst (λ (y : Visiting A). IsVisitorRead (word_at s'.store.words) y.visitor) (sym is.is) (visit_read s.mode is.visit);
+            read = subst (λ (y : Visiting A). IsVisitorRead (word_at s'.store.words) y.visitor) (sym is.is) (visit_read s.mode.resize is.visit);
           }
 
   module _ (says : Says K V A) (refuse : Bool) (s' : CoreState K V S A) (event : Event) (x : Advances eq says hash refuse s 0 s' event None) (core : IsCore s.store s.callers s.mode) (es : List (Exchange (Stored K V))) (tales : ℕ → Tale K V) (kept : IsKept eq (hash s.store.hasher) s.mode s.store s.callers es tales)

@@ -48,7 +48,7 @@ use Rattle.papaya_timeline.proofs.StepEvents.{event_begins, event_open, stage_mo
 use Rattle.papaya_timeline.proofs.HeadlineLemmas.{advance-core, begin-core, resize-core}
 use Rattle.papaya_timeline.proofs.KeptCore.{performs-hasher}
 use Rattle.papaya_timeline.proofs.KeptLemmas.{IsLawfulKeys, IsStep, kept_begin, kept_step}
-use Rattle.papaya_timeline.proofs.KeptLogs.{pair_below}
+use Rattle.papaya_store.proofs.Logs.{pair_below}
 use Rattle.papaya_timeline.proofs.MachineLemmas.{machine_replies}
 use Rattle.papaya_timeline.proofs.SoloTimeline.{AreOfSteps, IsOfStep, open_history}
 use Rattle.papaya_words.specs.declared.probe.Refused.{Refused as Refusal}
@@ -438,7 +438,7 @@ module _ {K V S A : Type 0} (eq : K → K → Bool) (hash : S → K → ℕ) (s 
   pub without_seat : (s' : CoreState K V S A) {says : Says K V A} → Follows eq hash s law says s' → IsLawfulCore {A = A} eq (hash s'.store.hasher) s'.store [] s'.mode
   without_seat s' f =
       record {
-        core = record { chunked = f.core.chunked; sizes = f.core.sizes; standing = λ caller r e. let n : None ≡ Some r = e in absurd cc; going = λ caller r e. let n : None ≡ Some r = e in absurd cc; resizers = λ caller z e. let n : None ≡ Some z = e in absurd cc; visitors = λ caller v e. let n : None ≡ Some v = e in absurd cc };
+        core = record { chunked = f.core.chunked; limit = f.core.limit; sizes = f.core.sizes; standing = λ caller r e. let n : None ≡ Some r = e in absurd cc; going = λ caller r e. let n : None ≡ Some r = e in absurd cc; resizers = λ caller z e. let n : None ≡ Some z = e in absurd cc; visitors = λ caller v e. let n : None ≡ Some v = e in absurd cc };
         law = subst (λ y. (es : _) × ((tales : _) × IsKept {A = A} eq (hash y) s'.mode s'.store [] es tales)) (sym f.hasher_is) (
           f.es,
           (

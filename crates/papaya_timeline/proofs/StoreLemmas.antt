@@ -6,7 +6,7 @@ use Rattle.papaya_timeline.proofs.ShowLemmas.{IsShowing, none_shown, pair_shown}
 use Rattle.papaya_words.specs.Table.{TableWords, new_table, noted as noted_hints}
 use Rattle.papaya_call.specs.Answers.{Says}
 use Rattle.papaya_ask.specs.declared.ask.At.{At}
-use Rattle.papaya_ask.specs.declared.ask.At.TheVariants.{Root, Next, Aborted, Done, Slot}
+use Rattle.papaya_ask.specs.declared.ask.At.TheVariants.{Root, Next, Aborted, Done, Slot, Made}
 use Rattle.papaya_ask.specs.declared.ask.Ask.{Ask}
 use Rattle.papaya_ask.specs.declared.ask.Ask.TheVariants.{Load, Exchange, LoadHint, WriteHint, SameKey, ShowNone, ShowPair, SizeOf, MakeKey, MakePair, MakeTable, AddToShard, Done as Ask_done}
 use Rattle.papaya_ask.specs.declared.ask.Answer.{Answer}
@@ -55,6 +55,7 @@ unnumbered tables all i t e =
 -- a write keeps a table's size
 written-size : (at : At) (t : TableWords) (word : ℕ) → IsSize (length t.slots) t.limit → IsSize (length (written at t word).slots) (written at t word).limit
 written-size Root t word h = h
+written-size Made t word h = h
 written-size (Next n) t word h = h
 written-size (Aborted n) t word h = h
 written-size (Done n chunk) t word h = elim (nat_lt chunk (length t.done)) as (λ b. IsSize (length (cond b (record t { done = slice_set t.done chunk word }) t).slots) (cond b (record t { done = slice_set t.done chunk word }) t).limit) [ true ↦ h | false ↦ h ]
@@ -96,6 +97,7 @@ put_at-sized at n w word all = go (n == 0)
 
 pub put-sized : (w : Tables) (at : At) (word : ℕ) → AllSized w.tables → AllSized (put w at word).tables
 put-sized w Root word all = all
+put-sized w Made word all = all
 put-sized w (Next n) word all = put_at-sized (Next n) n w word all
 put-sized w (Aborted n) word all = put_at-sized (Aborted n) n w word all
 put-sized w (Done n chunk) word all = put_at-sized (Done n chunk) n w word all

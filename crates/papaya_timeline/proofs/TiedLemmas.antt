@@ -30,7 +30,6 @@ use Rattle.papaya_words.specs.Table.{TableWords}
 use Rattle.papaya_words.specs.declared.limits.TheConstants.{MAX_LOG_LEN}
 use Rattle.papaya_words.specs.declared.probe.Refused.{Refused as Refusal}
 use Rattle.papaya_words.specs.declared.probe.Refused.TheVariants.{RemoveNothing}
-use Rattle.papaya_words.specs.declared.probe.ResizeMode.{ResizeMode}
 use Rattle.papaya_store.specs.declared.pairs.KeyOf.{KeyOf}
 use Rattle.papaya_store.specs.declared.pairs.KeyOf.TheVariants.{Own, Logged}
 use Rattle.papaya_store.specs.declared.pairs.Running.{Running}
@@ -49,11 +48,12 @@ use Rattle.papaya_timeline.specs.Timeline.{Answered, is_begin, change_of, last_s
 use Rattle.papaya_timeline.proofs.CallersLemmas.{differs}
 use Rattle.papaya_timeline.proofs.ChainLemmas.{own_asks}
 use Rattle.papaya_timeline.proofs.Good.{IsTied, WasSaid, replay, replayed}
-use Rattle.papaya_timeline.proofs.KeptLogs.{pair-more_keys, pair-more_pairs}
+use Rattle.papaya_store.proofs.Logs.{pair-more_keys, pair-more_pairs}
 use Rattle.papaya_timeline.proofs.MachineLemmas.{machine_replies, machine_says}
 use Rattle.papaya_timeline.proofs.ReplayLemmas.{beginning-cases, map_replayed, replay-three}
 use Rattle.papaya_timeline.proofs.StoreLemmas.{matched}
 use Rattle.papaya_timeline.proofs.TimelineLemmas.{entry, answered-other, answered_shown, asked-other, at_weaker, change_of-other, not_begin-other, was_shown_none-other}
+use Rattle.papaya_store.specs.declared.mode.Mode.{Mode}
 
 -- an item of a list is one of a longer list
 pub get-append : {A : Type 0} (xs ys : List A) (n : ℕ) (x : A) → slice_get xs n ≡ Some x → slice_get (xs ++ ys) n ≡ Some x
@@ -243,7 +243,7 @@ module _ {K V A : Type 0} (eq : K → K → Bool) where
   abbrev pub Moments : Call K V A → ℕ → Tale K V → History → List (Map K V) → Type 0
   Moments call caller tale h maps = (so_far rest : List (Exchange (Stored K V))) → so_far ++ rest ≡ tale.since → AtSomeMoment (λ m. at_key m (key_of call) ≡ at_key (replayed eq (replay eq tale.begun) so_far) (key_of call)) caller h maps
 
-  module _ (call : Call K V A) (caller : ℕ) (tale : Tale K V) (h : History) (maps : List (Map K V)) (hash : K → ℕ) (mode : ResizeMode) (tables : List TableWords) (k : K) (own : Some k ≡ key_of call) (moments : Moments call caller tale h maps) where
+  module _ (call : Call K V A) (caller : ℕ) (tale : Tale K V) (h : History) (maps : List (Map K V)) (hash : K → ℕ) (mode : Mode) (tables : List TableWords) (k : K) (own : Some k ≡ key_of call) (moments : Moments call caller tale h maps) where
     -- so what a machine rests on of a moment was so at a moment of the run
     pub at_moment : (v : Option (Stored K V)) → WasAtMoment (setting_of eq hash mode tables) (coding_of hash) tale.begun tale.since k v → AtSomeMoment (λ m. at_key m (key_of call) ≡ v) caller h maps
     at_moment v was =
@@ -309,7 +309,7 @@ module _ {K V A : Type 0} (eq : K → K → Bool) where
     }
 
     -- where the machine asks no more, its reply fits
-    pub tied_fits : (s : StoreState K V S) (r : Running K V A) (call : Call K V A) (caller : ℕ) (tale : Tale K V) (h : History) (maps : List (Map K V)) (answers : Answered V) (hash : K → ℕ) (mode : ResizeMode) (tables : List TableWords) (k : K) → Some k ≡ key_of call
+    pub tied_fits : (s : StoreState K V S) (r : Running K V A) (call : Call K V A) (caller : ℕ) (tale : Tale K V) (h : History) (maps : List (Map K V)) (answers : Answered V) (hash : K → ℕ) (mode : Mode) (tables : List TableWords) (k : K) → Some k ≡ key_of call
         → IsTied eq s r call caller tale h maps answers → Rests (setting_of eq hash mode tables) (coding_of hash) tale.begun tale.since k r.machine tale.hands → (reply : Reply) → ask_of r.machine ≡ asks.Call (Ask_done reply) → IsEnding r.machine.call.task call reply caller h maps → Fits eq call reply caller h maps
     tied_fits s r call caller tale h maps answers hash mode tables k own tied rests reply done ending =
         let replied = (own_asks r.machine (Ask_done reply) done).1 in
