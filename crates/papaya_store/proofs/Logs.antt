@@ -133,33 +133,30 @@ module _ {K V S : Type 0} (s : StoreState K V S) where
 
 -- a pair was logged
 module _ {K V S A : Type 0} (s : StoreState K V S) (r : Running K V A) (s' : StoreState K V S) (r' : Running K V A) where
+  -- the call has its value still
+  pub value_logged : (key later : Part K) (a : Answer) (v : V) → own_value s r ≡ Some v → LogsPair key later a s r s' r' → own_value s' r' ≡ Some v
+  value_logged key later a v value_is (value, has, is, few, grown, left) =
+      let more : List (Pair K V) = pair_with key value ∷ [] in
+      let brought : value_brought (slice_get (s.pairs ++ more) (length s.pairs)) ≡ owned value = ap value_brought (get-append_last s.pairs (pair_with key value)) ∙ ap owned (value_with key value) in
+      ap (λ (y : StoreState K V S). value_at y.pairs r'.value) grown ∙ ap (λ (y : Running K V A). value_at (s.pairs ++ more) y.value) left
+      ∙ value_known (s.pairs ++ more) (length s.pairs) value brought ∙ value-more s.pairs more value v (sym (ap (value_at s.pairs) has) ∙ value_is)
+
   -- What it means, and what the call has.
   pub record IsLogged (k : K) (v : V) : Type 0 where
     pub pair : pair_of s' (length s.pairs) ≡ Some (record { number = length s.pairs; key = k; value = v })
     pub value : own_value s' r' ≡ Some v
 
   pub pair_logged : (key later : Part K) (a : Answer) (k : K) (v : V) → key_in s.pairs key ≡ Some k → own_value s r ≡ Some v → LogsPair key later a s r s' r' → IsLogged k v
-  pair_logged key later a k v key_is value_is (value, has, is, few, grown, left) = record {
-    pair = ap (λ (y : StoreState K V S). pair_of y n) grown ∙ entry_stored longer n (pair_with key value) k v there
-        (ap (key_in longer.pairs) (key_with key value) ∙ key-more s.pairs (pair_with key value ∷ []) key k key_is)
-        (ap (value_in longer.pairs) (value_with key value) ∙ value_now);
-    value = ap (λ (y : StoreState K V S). value_at y.pairs r'.value) grown ∙ ap (λ (y : Running K V A). value_at longer.pairs y.value) left ∙ value_known longer.pairs n value brought ∙ value_now;
-  }
+  pair_logged key later a k v key_is value_is logs = record { pair = stands logs; value = value_logged key later a v value_is logs }
     where
-      n : ℕ
-      n = length s.pairs
-
-      longer : StoreState K V S
-      longer = record s { pairs = s.pairs ++ pair_with key value ∷ [] }
-
-      there : slice_get longer.pairs n ≡ Some (pair_with key value)
-      there = get-append_last s.pairs (pair_with key value)
-
-      brought : value_brought (slice_get longer.pairs n) ≡ owned value
-      brought = ap value_brought there ∙ ap owned (value_with key value)
-
-      value_now : value_in longer.pairs value ≡ Some v
-      value_now = value-more s.pairs (pair_with key value ∷ []) value v (sym (ap (value_at s.pairs) has) ∙ value_is)
+      stands : LogsPair key later a s r s' r' → pair_of s' (length s.pairs) ≡ Some (record { number = length s.pairs; key = k; value = v })
+      stands (value, has, is, few, grown, left) =
+          let more : List (Pair K V) = pair_with key value ∷ [] in
+          let longer : StoreState K V S = record s { pairs = s.pairs ++ more } in
+          ap (λ (y : StoreState K V S). pair_of y (length s.pairs)) grown
+          ∙ entry_stored longer (length s.pairs) (pair_with key value) k v (get-append_last s.pairs (pair_with key value))
+          (ap (key_in longer.pairs) (key_with key value) ∙ key-more s.pairs more key k key_is)
+          (ap (value_in longer.pairs) (value_with key value) ∙ value-more s.pairs more value v (sym (ap (value_at s.pairs) has) ∙ value_is))
 
   -- a call's own key stays its own
   pub own_logged : (a : Answer) (k : K) (v : V) → own_key s r ≡ Some k → own_value s r ≡ Some v → LogsOwn a s r s' r' → IsLogged k v × (own_key s' r' ≡ Some k)

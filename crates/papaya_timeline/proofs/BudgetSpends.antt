@@ -8,7 +8,7 @@ use Rattle.papaya_call.specs.Answers.{Says}
 use Rattle.papaya_ask.specs.declared.ask.At.{At}
 use Rattle.papaya_ask.specs.declared.ask.At.TheVariants.{Root}
 use Rattle.papaya_ask.specs.declared.ask.Ask.{Ask as Call_ask}
-use Rattle.papaya_ask.specs.declared.ask.Ask.TheVariants.{Load, Exchange as Ask_exchange, SameKey, ShowNone, ShowPair, SizeOf, MakeKey, MakePair, MakeTable, AddToShard, Done as Ask_done, LoadHint, WriteHint}
+use Rattle.papaya_ask.specs.declared.ask.Ask.TheVariants.{Load, Exchange as Ask_exchange, SameKey, ShowNone, ShowPair, SizeOf, MakeKey, MakeValue, MakePair, MakePairOf, MakeTable, AddToShard, Done as Ask_done, LoadHint, WriteHint}
 use Rattle.papaya_ask.specs.declared.ask.Answer.{Answer as Call_answer}
 use Rattle.papaya_ask.specs.declared.ask.Answer.TheVariants.{Made as Made_number, Refused as Was_refused}
 use Rattle.papaya_ask.specs.declared.ask.StepKind.{StepKind}
@@ -36,7 +36,7 @@ use Rattle.papaya_alone.specs.Prompt.{IsBounded}
 use Rattle.papaya_store.specs.declared.pairs.Running.{Running}
 use Rattle.papaya_store.specs.Asks.{PerformsAsk}
 use Rattle.papaya_store.specs.Copies.{PerformsCopy}
-use Rattle.papaya_store.specs.Performs.{Exchanges, HasKey, HasNoPair, LogsKey, LogsPair, MakesTable, Performs, Refuses, Stays}
+use Rattle.papaya_store.specs.Performs.{Exchanges, MakesTable, Performs, Refuses}
 use Rattle.papaya_store.specs.Store.{StoreState, Stored}
 use Rattle.papaya_store.specs.Tables.{Tables, note, put, table_of, word_at}
 use Rattle.papaya_timeline.specs.declared.seat.Seat.{Seat}
@@ -52,7 +52,7 @@ use Rattle.papaya_timeline.proofs.KeptSettings.{IsLawfulKeys, tables_hashed}
 use Rattle.papaya_timeline.proofs.KeptTables.{IsPlaced, placed-many, table_low}
 use Rattle.papaya_timeline.proofs.KeptWritten.{asked_call, asked_copy, placed_call, placed_copy}
 use Rattle.papaya_timeline.proofs.ShowLemmas.{none_shown, pair_shown}
-use Rattle.papaya_timeline.proofs.StoreLemmas.{matched}
+use Rattle.papaya_timeline.proofs.StoreLemmas.{LogsOrNot, matched, of_logs, own_logs, part_logs}
 use Rattle.papaya_store.specs.declared.mode.Mode.{Mode}
 
 module _ (w : Tables) (at : At) (new : ℕ) (placed : IsPlaced w.tables at) (chunk_is : IsChunkOf at) where
@@ -200,7 +200,7 @@ module _ {K V S A : Type 0} (eq : K → K → Bool) (hash : K → ℕ) (law : Is
         let x = asked_call g c store r es tale (Some call.key) hashed call.key call.split may call.rests kept.coded kept.made call.opens call.links call.own (λ t. refl) (λ t. refl) at old new e stands in
         let placed = placed_call g c store r es tale (Some call.key) hashed call.key call.split may call.rests kept.coded kept.made call.opens call.links call.own (λ t. refl) (λ t. refl) at old new e (changes now tale.hands.call new c (kind_of_ask r.machine) at x.0 x.1).place in
         let opened : at ≡ Root → new ≤ length store.words.tables = λ root.
-        let none : now.root ≡ 0 = root_empty g c now tale.hands.call new (kind_of_ask r.machine) x.0 (subst (λ y. IsAsked c (kind_of_ask r.machine) y new now tale.hands.call x.0) root x.1) x.2 in
+        let none : now.root ≡ 0 = root_empty g c call.key now tale.hands.call new (kind_of_ask r.machine) x.0 (subst (λ y. IsAsked g c call.key (kind_of_ask r.machine) y new now tale.hands.call x.0) root x.1) x.2 in
         let zero : old ≡ 0 = sym stands ∙ ap (word_of g c now) root ∙ none in
         made_low new (call.opens new (e ∙ ap (λ y. asks.Call (Ask_exchange y old new)) root ∙ ap (λ y. asks.Call (Ask_exchange Root y new)) zero))
         in
@@ -225,6 +225,11 @@ module _ {K V S A : Type 0} (eq : K → K → Bool) (hash : K → ℕ) (law : Is
           (subst (λ (y : StoreState K V S). SpendsExchange (kind_of_ask r.machine) (budget_of store) (budget_of y)) (sym done.1) (call_exchanges at old new e hit)))
           (λ miss lost. subst (λ y. SpendsCall (kind_of_ask r.machine) (Ask_exchange at old new) y (budget_of store) (budget_of store')) (sym lost.0) (same_words store' lost.1))
 
+      -- a key, a value or a pair takes none
+      made_spends : (told : Call_answer) → LogsOrNot store r told store' later → budget_of store' ≡ budget_of store
+      made_spends told (inl (unlogged, stays)) = same_words store' stays.0
+      made_spends told (inr (key, left, (value, has, is, few, grown, moved))) = ap (λ (y : StoreState K V S). budget_of y) grown
+
       -- what a call asks
       spends_call : (ask : Call_ask) → ask_of r.machine ≡ asks.Call ask → (told : Call_answer) → Performs eq says refuse ask store r told store' later → SpendsCall (kind_of_ask r.machine) ask told (budget_of store) (budget_of store')
       spends_call (Load at) e told (is, stays) = same_words store' stays.0
@@ -235,18 +240,10 @@ module _ {K V S A : Type 0} (eq : K → K → Bool) (hash : K → ℕ) (law : Is
       spends_call (LoadHint t x) e told (is, stays) = same_words store' stays.0
       spends_call (WriteHint t x hint) e told (is, same, as_was) = noted_words store' t x hint same
       spends_call (SizeOf n) e told (is, stays) = same_words store' stays.0
-      spends_call MakeKey e told h = matched (budget_of store' ≡ budget_of store) refuse _ _ h (λ _ none. same_words store' none.1.0) (λ _ makes. key_spends makes)
-        where
-          key_spends : (Refuses MAX_LOG_LEN (length store.keys) told × Stays store r store' later) ⊎ (HasKey told r × Stays store r store' later) ⊎ LogsKey told store r store' later → budget_of store' ≡ budget_of store
-          key_spends (inl (refuses, stays)) = same_words store' stays.0
-          key_spends (inr (inl (has, stays))) = same_words store' stays.0
-          key_spends (inr (inr (k, own, is, few, grown, moved))) = ap (λ (y : StoreState K V S). budget_of y) grown
-      spends_call MakePair e told h = matched (budget_of store' ≡ budget_of store) refuse _ _ h (λ _ none. same_words store' none.1.0) (λ _ makes. pair_spends makes)
-        where
-          pair_spends : (Refuses MAX_LOG_LEN (length store.pairs) told × Stays store r store' later) ⊎ (HasNoPair told r × Stays store r store' later) ⊎ LogsPair told store r store' later → budget_of store' ≡ budget_of store
-          pair_spends (inl (refuses, stays)) = same_words store' stays.0
-          pair_spends (inr (inl (has, stays))) = same_words store' stays.0
-          pair_spends (inr (inr (n, v, key, value, is, few, grown, moved))) = ap (λ (y : StoreState K V S). budget_of y) grown
+      spends_call MakeKey e told h = made_spends told (part_logs store r told store' later refuse h)
+      spends_call MakeValue e told h = made_spends told (part_logs store r told store' later refuse h)
+      spends_call MakePair e told h = made_spends told (own_logs store r told store' later refuse h)
+      spends_call (MakePairOf n) e told h = made_spends told (of_logs store r told store' later refuse n h)
       spends_call (MakeTable slots limit chunks) e told h =
           matched (SpendsCall (kind_of_ask r.machine) (MakeTable slots limit chunks) told (budget_of store) (budget_of store')) refuse _ _ h
           (λ _ none. subst (λ y. SpendsCall (kind_of_ask r.machine) (MakeTable slots limit chunks) y (budget_of store) (budget_of store')) (sym none.0) (same_words store' none.1.0))

@@ -7,7 +7,7 @@ use Rattle.papaya_call.specs.Answers.{Says}
 use Rattle.papaya_ask.specs.declared.ask.At.{At}
 use Rattle.papaya_ask.specs.declared.ask.At.TheVariants.{Root, Next, Aborted, Done, Slot}
 use Rattle.papaya_ask.specs.declared.ask.Ask.{Ask as Call_ask}
-use Rattle.papaya_ask.specs.declared.ask.Ask.TheVariants.{Load, Exchange as Ask_exchange, SameKey, ShowNone, ShowPair, SizeOf, MakeKey, MakePair, MakeTable, AddToShard, Done as Ask_done, LoadHint, WriteHint}
+use Rattle.papaya_ask.specs.declared.ask.Ask.TheVariants.{Load, Exchange as Ask_exchange, SameKey, ShowNone, ShowPair, SizeOf, MakeKey, MakeValue, MakePair, MakePairOf, MakeTable, AddToShard, Done as Ask_done, LoadHint, WriteHint}
 use Rattle.papaya_ask.specs.declared.ask.Answer.{Answer as Call_answer}
 use Rattle.papaya_ask.specs.declared.ask.StepKind.{StepKind}
 use Rattle.papaya_ask.specs.declared.ask.StepKind.TheVariants as kinds
@@ -31,7 +31,7 @@ use Rattle.papaya_store.specs.Performs.{Performs, Stays, LogsKey, LogsPair, Make
 use Rattle.papaya_store.specs.Store.{StoreState}
 use Rattle.papaya_store.specs.Tables.{word_at}
 use Rattle.papaya_timeline.proofs.ShowLemmas.{none_shown, pair_shown}
-use Rattle.papaya_timeline.proofs.StoreLemmas.{matched}
+use Rattle.papaya_timeline.proofs.StoreLemmas.{LogsOrNot, matched, of_logs, own_logs, part_logs}
 
 module _ {K V S : Type 0} where
   -- the sum after a step is that of before, with what the machine owed
@@ -50,16 +50,10 @@ module _ {K V S : Type 0} where
   table_made slots limit chunks s a s' Not (inr (is, few, grown)) = same_count s s' (ap (λ (y : StoreState K V S). y.count.sum) grown)
 
 module _ {K V S A : Type 0} where
-  -- nor does a key or a pair that was made
-  key_made : (s : StoreState K V S) (r : Running K V A) (a : Call_answer) (s' : StoreState K V S) (r' : Running K V A) (Not Has : Type 0) → (Not × Stays s r s' r') ⊎ (Has × Stays s r s' r') ⊎ LogsKey a s r s' r' → Adds (pos 0) s s'
-  key_made s r a s' r' Not Has (inl h) = quiet s s' h.1.0
-  key_made s r a s' r' Not Has (inr (inl h)) = quiet s s' h.1.0
-  key_made s r a s' r' Not Has (inr (inr (k, was, is, few, grown, moved))) = same_count s s' (ap (λ (y : StoreState K V S). y.count.sum) grown)
-
-  pair_made : (s : StoreState K V S) (r : Running K V A) (a : Call_answer) (s' : StoreState K V S) (r' : Running K V A) (Not Has : Type 0) → (Not × Stays s r s' r') ⊎ (Has × Stays s r s' r') ⊎ LogsPair a s r s' r' → Adds (pos 0) s s'
-  pair_made s r a s' r' Not Has (inl h) = quiet s s' h.1.0
-  pair_made s r a s' r' Not Has (inr (inl h)) = quiet s s' h.1.0
-  pair_made s r a s' r' Not Has (inr (inr (n, v, was, value, is, few, grown, moved))) = same_count s s' (ap (λ (y : StoreState K V S). y.count.sum) grown)
+  -- nor does a key, a value or a pair that was made
+  made_nothing : (s : StoreState K V S) (r : Running K V A) (a : Call_answer) (s' : StoreState K V S) (r' : Running K V A) → LogsOrNot s r a s' r' → Adds (pos 0) s s'
+  made_nothing s r a s' r' (inl (unlogged, stays)) = quiet s s' stays.0
+  made_nothing s r a s' r' (inr (key, left, (value, has, is, few, grown, moved))) = same_count s s' (ap (λ (y : StoreState K V S). y.count.sum) grown)
 
 module _ {K V S A : Type 0} (eq : K → K → Bool) (says : Says K V A) where
   -- each ask of the call itself
@@ -75,8 +69,10 @@ module _ {K V S A : Type 0} (eq : K → K → Bool) (says : Says K V A) where
   sum_called refuse (LoadHint t x) s r a s' r' h = quiet s s' h.1.0
   sum_called refuse (WriteHint t x hint) s r a s' r' h = same_count s s' (ap (λ (y : StoreState K V S). y.count.sum) h.1)
   sum_called refuse (SizeOf n) s r a s' r' h = quiet s s' h.1.0
-  sum_called refuse MakeKey s r a s' r' h = matched (Adds (pos 0) s s') refuse _ _ h (λ _ none. quiet s s' none.1.0) (λ _ makes. key_made s r a s' r' _ _ makes)
-  sum_called refuse MakePair s r a s' r' h = matched (Adds (pos 0) s s') refuse _ _ h (λ _ none. quiet s s' none.1.0) (λ _ makes. pair_made s r a s' r' _ _ makes)
+  sum_called refuse MakeKey s r a s' r' h = made_nothing s r a s' r' (part_logs s r a s' r' refuse h)
+  sum_called refuse MakeValue s r a s' r' h = made_nothing s r a s' r' (part_logs s r a s' r' refuse h)
+  sum_called refuse MakePair s r a s' r' h = made_nothing s r a s' r' (own_logs s r a s' r' refuse h)
+  sum_called refuse (MakePairOf n) s r a s' r' h = made_nothing s r a s' r' (of_logs s r a s' r' refuse n h)
   sum_called refuse (MakeTable slots limit chunks) s r a s' r' h = matched (Adds (pos 0) s s') refuse _ _ h (λ _ none. quiet s s' none.1.0) (λ _ makes. table_made slots limit chunks s a s' _ makes.0)
   sum_called refuse (AddToShard by) s r a s' r' h =
       let sum : ℤ = s.count.sum +ℤ by in

@@ -76,6 +76,8 @@ use Rattle.papaya_timeline.proofs.TellLemmas.{IsAnswering}
 use Rattle.papaya_timeline.proofs.TiedLemmas.{IsEnding, HasMoreLogs, grown, tied_other, tied_entry, tied_fits, at_showing, at_showing_none, moments_more}
 use Rattle.papaya_timeline.proofs.TimelineLemmas.{entry, open_call-own, open_call-other, change_of-other, change_of-own, not_begin-own, logged_more, logged_unused, was_shown_none-own}
 use Rattle.papaya_store.specs.declared.mode.Mode.{Mode}
+use Rattle.papaya_store.specs.Performs.{own_value}
+use Rattle.papaya_timeline.proofs.MadePairs.{MakesOver}
 
 -- a call that goes on is the one after its step
 goes : {A : Type 0} (reply : Option Reply) (r' r : A) → goes_on reply r' ≡ Some r → (reply ≡ None) × (r' ≡ r)
@@ -287,7 +289,7 @@ module _ {K V S A : Type 0} (eq : K → K → Bool) (hash : K → ℕ) (law : Is
         let none_before = unchanged_before (change_in x.before.machine.call.state) (kind_of_ask x.before.machine) (ask_of x.before.machine) x.answer (chain_once x.before.machine) (sym changed ∙ none) in
         ⊎_elim
         (λ was. good.unused c x.before x.was q was none_before)
-        (λ (new : (q.number ≡ length s.store.pairs) × (x.before.value ≡ Some q.value) × (pair_of s'.store q.number ≡ Some q)). subst (λ n. IsUnused n (replay eq good.es ∷ good.maps)) (sym new.0) (logged_unused s.store (replay eq good.es ∷ good.maps) good.logged))
+        (λ (new : (q.number ≡ length s.store.pairs) × (own_value s.store x.before ≡ Some q.value) × (pair_of s'.store q.number ≡ Some q)). subst (λ n. IsUnused n (replay eq good.es ∷ good.maps)) (sym new.0) (logged_unused s.store (replay eq good.es ∷ good.maps) good.logged))
         (step.new q made)
 
     -- each caller's call, before it and after it
@@ -321,16 +323,8 @@ module _ {K V S A : Type 0} (eq : K → K → Bool) (hash : K → ℕ) (law : Is
     no_begin = not_begin-own c c turn event (ap begins x.event_is ∙ event_begins (kind_of_ask x.before.machine) (ask_of x.before.machine) x.answer)
 
     -- a pair that is made in the step is logged, and is of the value at hand
-    made_now : (n : ℕ) → ask_of x.before.machine ≡ asks.Call MakePair → x.answer ≡ told_to.Call (Made_number n) → (q : Stored K V) × (pair_of s'.store n ≡ Some q) × (x.before.value ≡ Some q.value)
-    made_now n asking is =
-        let (q, number, hands) = told_made (setting_of eq (low hash) s.mode s.store.words.tables) (coding_of (low hash)) step.call.key (run good.es first_state) (kind_of_ask x.before.machine) (follows_of x.before.machine) (good.tales c).hands (ask_of x.before.machine) x.answer step.made step.hands n asking is step.told in
-        ⊎_elim
-        (λ old.
-        let below : q.number < length s.store.pairs = pair_below s.store q.number q (step.call.made q old) in
-        let all : n ≡ length s.store.pairs = made_number eq says hashes refuse s.store x.before x.answer s'.store x.later n (subst (λ y. PerformsAsk eq says hashes refuse y s.store x.before x.answer s'.store x.later) asking x.performs) is in
-        absurd (omega (arith, below, all, number)))
-        (λ (new : (q.number ≡ length s.store.pairs) × (x.before.value ≡ Some q.value) × (pair_of s'.store q.number ≡ Some q)). (q, subst (λ i. pair_of s'.store i ≡ Some q) number new.2, new.1))
-        (step.new q (subst (λ (y : List (Stored K V)). IsOneOf y q) (sym hands) (inl refl)))
+    made_now : (n : ℕ) → MakesOver (ask_of x.before.machine) → x.answer ≡ told_to.Call (Made_number n) → (q : Stored K V) × (pair_of s'.store n ≡ Some q) × (own_value s.store x.before ≡ Some q.value)
+    made_now n makes is = let m = step.made_now n makes is in (m.pair, m.there, m.before)
 
     -- the step's own call stands to the history, replied or not
     tied_own : (call : Call K V A) → open_call schedule c h ≡ Some call → IsTied eq s'.store r' call c (tales c) later_history later_maps later_answers
@@ -342,14 +336,14 @@ module _ {K V S A : Type 0} (eq : K → K → Bool) (hash : K → ℕ) (law : Is
           key = step.own.own;
           key_is = sym (own_is call e) ∙ ap (λ k. Some k) (sym step.own_key);
           task = (chain_task m x.answer order).0 ∙ tied.task;
-          value = λ v had. ⊎_elim (λ was. tied.value v was) (λ computes. computed call (sym tied.task ∙ computes) v) (grows.value_stays v had);
+          value = λ v had. ⊎_elim (λ was. tied.value v was) (λ computes. computed call (sym tied.task ∙ computes) v) (grows.value_stays step.call.valued v had);
           made = λ q made. ⊎_elim
               (λ was. tied.made q was)
-              (λ (new : (q.number ≡ length s.store.pairs) × (x.before.value ≡ Some q.value) × (pair_of s'.store q.number ≡ Some q)). tied.value q.value new.1)
+              (λ (new : (q.number ≡ length s.store.pairs) × (own_value s.store x.before ≡ Some q.value) × (pair_of s'.store q.number ≡ Some q)). tied.value q.value new.1)
               (step.new q (subst (λ (y : Hands (Stored K V)). IsOneOf y.call.made q) own_hands made));
           change = change_of-own c turn event h ∙ ap (change_by event) tied.change ∙ ap (λ y. change_by y (change_in m.call.state)) x.event_is
               ∙ event_change (change_in m.call.state) (kind_of_ask m) (ask_of m) x.answer (copy_kind m) (chain_once m) ∙ sym changed;
-          said = said_after eq says hashes refuse s.store x.before x.answer s'.store x.later x.performs grows.pairs_stay made_now turn c event x.event_is h good.answers answering (chain_said m x.answer order (good.core.standing c x.before x.was).call tied.shows) tied.said;
+          said = said_after eq says hashes refuse s.store x.before x.answer s'.store x.later x.performs grows.pairs_stay made_now step.call.again tied.shows turn c event x.event_is h good.answers answering (chain_said m x.answer order (good.core.standing c x.before x.was).call tied.shows) tied.said;
           shows = chain_shows m x.answer order tied.shows;
           once = λ shown. ⊎_elim
               (λ was. (shows_once m x.answer order (tied.once was)).1)
@@ -364,7 +358,7 @@ module _ {K V S A : Type 0} (eq : K → K → Bool) (hash : K → ℕ) (law : Is
     tied_others : (d : ℕ) (r : Running K V A) (call : Call K V A) → d ≢ c → running s'.callers d ≡ Some r → open_call schedule d h ≡ Some call → IsTied eq s'.store r call d (tales d) later_history later_maps later_answers
     tied_others d r call differ now e =
         let before = run_other d r differ now in
-        tied_other eq s.store s'.store r call c d turn event good.tales step.made step.hands h good.es (replay eq good.es ∷ good.maps) answering.answered good.answers grows.keys_stay grows.pairs_stay one (λ z. differ (sym z)) (good.kept.calls d r before).split (good.tied d r call before e)
+        tied_other eq s.store s'.store r call c d turn event good.tales step.made step.hands h good.es (replay eq good.es ∷ good.maps) answering.answered good.answers (record { keys = grows.keys_stay; values = grows.values_stay }) (good.kept.calls d r before).valued grows.pairs_stay one (λ z. differ (sym z)) (good.kept.calls d r before).split (good.tied d r call before e)
 
     -- a closure that ended the call did so in the step
     ending : (call : Call K V A) → open_call schedule c h ≡ Some call → (rep : Reply) → reply ≡ Some rep → ask_of (after x.before.machine x.answer) ≡ asks.Call (Ask_done rep) → IsEnding r'.machine.call.task call rep c later_history later_maps
@@ -459,7 +453,7 @@ module _ {K V S A : Type 0} (eq : K → K → Bool) (hash : K → ℕ) (law : Is
           let opened_before = sym opened ∙ ap (λ y. open_call schedule y later_history) (sym same) ∙ e in
           ⊎_elim
           (λ was. good.made_new c x.before call x.was opened_before q was)
-          (λ (new : (q.number ≡ length s.store.pairs) × (x.before.value ≡ Some q.value) × (pair_of s'.store q.number ≡ Some q)). subst (λ n. pair_of first n ≡ None) (sym new.0) past_new)
+          (λ (new : (q.number ≡ length s.store.pairs) × (own_value s.store x.before ≡ Some q.value) × (pair_of s'.store q.number ≡ Some q)). subst (λ n. pair_of first n ≡ None) (sym new.0) past_new)
           (step.new q (subst (λ (y : Hands (Stored K V)). IsOneOf y.call.made q) own_hands (subst (λ y. IsOneOf (tales y).hands.call.made q) same made)))
       | inr differ ↦ made_others d r call differ now (open_other d call differ e) q made
     ]

@@ -51,6 +51,8 @@ use Rattle.papaya_timeline.proofs.MachineLemmas.{machine_offers}
 use Rattle.papaya_timeline.proofs.StepTells.{answering as answered_by, made_number, told_made}
 use Rattle.papaya_timeline.proofs.TellLemmas.{IsAnswering}
 use Rattle.papaya_timeline.proofs.TiedLemmas.{HasMoreLogs, grown}
+use Rattle.papaya_store.specs.Performs.{own_value}
+use Rattle.papaya_timeline.proofs.MadePairs.{MakesOver}
 
 module _ {K V S A : Type 0} (eq : K → K → Bool) (hash : K → ℕ) (s : CoreState K V S A) (es : List (Exchange (Stored K V))) (tales : ℕ → Tale K V) (kept : IsKept eq hash s.mode s.store s.callers es tales) where
   -- the pairs of a call are logged
@@ -95,7 +97,7 @@ module _ {K V S A : Type 0} (eq : K → K → Bool) (hash : K → ℕ) (law : Is
       (es : List (Exchange (Stored K V))) (tales : ℕ → Tale K V) (kept : IsKept eq hash s.mode s.store s.callers es tales) (step : IsStep eq hash law refuse s c s' event reply x es tales) → KeepsIntents says s c s' event
   advance_intents {says = says} {hashes = hashes} refuse s s' c event reply x core core' es tales kept step =
       keeps eq hash s es tales kept c s' event (works.Call x.before) (as_work (goes_on reply r')) (call-under_way (working s.callers c) x.before x.was) x.callers grows.pairs_stay
-      (λ later put shown op h. call_intends eq says hashes refuse s.store x.before x.answer s'.store x.later x.performs grows.pairs_stay grows.value_stays made_now (call_logged eq hash s es tales kept c x.before x.was) (machine_goes m x.answer order) (chain_task m x.answer order).0
+      (λ later put shown op h. call_intends eq says hashes refuse s.store x.before x.answer s'.store x.later x.performs grows.pairs_stay step.call.valued (grows.value_stays step.call.valued) made_now step.call.again step.call.shows (call_logged eq hash s es tales kept c x.before x.was) (machine_goes m x.answer order) (chain_task m x.answer order).0
       (chain_said m x.answer order (core.standing c x.before x.was).call step.call.shows) event x.event_is answering shown op
       (subst (λ w. Intends s'.store w shown op) (goes reply later put) h))
     where
@@ -123,16 +125,8 @@ module _ {K V S A : Type 0} (eq : K → K → Bool) (hash : K → ℕ) (law : Is
       answering = subst (λ y. IsAnswering says s'.store x.before x.later y) (sym x.event_is) (answered_by eq says hashes refuse (kind_of_ask x.before.machine) s.store x.before x.answer s'.store x.later (ask_of x.before.machine) x.performs)
 
       -- a pair that is made in the step is of the value at hand
-      made_now : (n : ℕ) → ask_of x.before.machine ≡ asks.Call MakePair → x.answer ≡ told_to.Call (Made_number n) → (q : Stored K V) × (pair_of s'.store n ≡ Some q) × (x.before.value ≡ Some q.value)
-      made_now n asking is =
-          let (q, number, hands) = told_made (setting_of eq (low hash) s.mode s.store.words.tables) (coding_of (low hash)) step.call.key (run es first_state) (kind_of_ask x.before.machine) (follows_of x.before.machine) (tales c).hands (ask_of x.before.machine) x.answer step.made step.hands n asking is step.told in
-          ⊎_elim
-          (λ old.
-          let below = pair_below s.store q.number q (step.call.made q old) in
-          let all = made_number eq says hashes refuse s.store x.before x.answer s'.store x.later n (subst (λ y. PerformsAsk eq says hashes refuse y s.store x.before x.answer s'.store x.later) asking x.performs) is in
-          absurd (omega (arith, below, all, number)))
-          (λ (new : (q.number ≡ length s.store.pairs) × (x.before.value ≡ Some q.value) × (pair_of s'.store q.number ≡ Some q)). (q, subst (λ i. pair_of s'.store i ≡ Some q) number new.2, new.1))
-          (step.new q (subst (λ (y : List (Stored K V)). IsOneOf y q) (sym hands) (inl refl)))
+      made_now : (n : ℕ) → MakesOver (ask_of x.before.machine) → x.answer ≡ told_to.Call (Made_number n) → (q : Stored K V) × (pair_of s'.store n ≡ Some q) × (own_value s.store x.before ≡ Some q.value)
+      made_now n makes is = let made = step.made_now n makes is in (made.pair, made.there, made.before)
 
 -- The same of a core whose invariant holds, with keys that are hashed as its hasher does.
 module _ {K V S A H : Type 0} (eq : K → K → Bool) (input : K → List (List ℕ)) (build : S → H) (write : H → List ℕ → H) (finish : H → ℕ) (classes : IsEquivalence eq) (respects : (x y : K) → eq x y ≡ true → input x ≡ input y) (says : Says K V A) (refuse : Bool) (s : CoreState K V S A) (lawful : IsLawfulCore eq (hash_of input build write finish s.store.hasher) s.store s.callers s.mode) (caller : ℕ) (s' : CoreState K V S A) (event : Event) (reply : Option Reply) where

@@ -22,7 +22,7 @@ use Rattle.papaya_chain_rests.specs.Told.{Hands, IsTold}
 use Rattle.papaya_law.specs.Code.{IsHashed}
 use Rattle.papaya_chain_rests.proofs.Learns.{all_learns}
 use Rattle.papaya_chain_rests.proofs.Order.{in_order}
-use Rattle.papaya_chain_rests.proofs.Replies.{chain_shows, chain_task}
+use Rattle.papaya_chain_rests.proofs.Replies.{chain_said, chain_shows, chain_task, machine_goes}
 use Rattle.papaya_store.specs.declared.pairs.Running.{Running}
 use Rattle.papaya_timeline.specs.Callers.{as_work, running, with_call}
 use Rattle.papaya_timeline.specs.Core.{CoreState, IsCore}
@@ -40,6 +40,20 @@ use Rattle.papaya_timeline.proofs.KeptSettings.{IsLawfulKeys, tables_hashed}
 use Rattle.papaya_chain_rests.proofs.LinkMade.{is_made, made_is, machine_made}
 use Rattle.papaya_timeline.proofs.LinkWords.{link_words}
 use Rattle.papaya_timeline.proofs.MadeTables.{chain_opens, copy_made}
+use Rattle.papaya_ask.specs.declared.ask.Ask.TheVariants.{MakePairOf}
+use Rattle.papaya_ask.specs.declared.ask.Answer.TheVariants.{Made as Made_number}
+use Rattle.papaya_chain.specs.declared.ask.Answer.TheVariants as answers
+use Rattle.papaya_chain.specs.Machine.{asks_in}
+use Rattle.papaya_rests.specs.Says.{IsAnswered as IsAnsweredStage, Makes, StandsOn}
+use Rattle.papaya_rests.proofs.RestsCopied.{machine_copied}
+use Rattle.papaya_chain_rests.proofs.Names.{call_asks}
+use Rattle.papaya_store.specs.declared.pairs.Part.{Part}
+use Rattle.papaya_store.specs.declared.pairs.Part.TheVariants.{Own}
+use Rattle.papaya_store.specs.Pairs.{value_at, value_in}
+use Rattle.papaya_store.specs.Performs.{own_value}
+use Rattle.papaya_timeline.proofs.CallersLemmas.{same_item}
+use Rattle.papaya_timeline.proofs.MadePairs.{IsMadeNow, MakesOver, pair_made_now}
+use Rattle.papaya_timeline.proofs.Waits.{chain_answered, chain_waits}
 
 module _ {K V S A : Type 0} (eq : K → K → Bool) (hash : K → ℕ) (law : IsLawfulKeys eq hash) (says : Says K V A) (hashes : S → K → ℕ) (refuse : Bool) (s : CoreState K V S A) (caller : ℕ) (s' : CoreState K V S A)
     (before : Running K V A) (a : Answer) (later : Running K V A) (was : running s.callers caller ≡ Some before) (performs : PerformsAsk eq says hashes refuse (ask_of before.machine) s.store before a s'.store later) (hasher : hashes s.store.hasher ≡ hash)
@@ -195,9 +209,32 @@ module _ {K V S A : Type 0} (eq : K → K → Bool) (hash : K → ℕ) (law : Is
     | inr said ↦ (said.value, ap (value_in s'.store.pairs) (same_item part (Own said.value) (sym is ∙ said.is)))
   ]
 
+  -- a pair of whose key one is to be made is logged
+  loaded : (i : ℕ) → ask_of before.machine ≡ asks.Call (MakePairOf i) → (p : Stored K V) × (pair_of s.store i ≡ Some p)
+  loaded i asking =
+      let of = machine_copied g c hashed (tales caller).begun (tales caller).since call.key (tales caller).hands.call before.machine.call call.rests.call i (call_asks before.machine (MakePairOf i) asking).1 in
+      (of.0, subst (λ j. pair_of s.store j ≡ Some of.0) of.2 (call.last of.0 of.1))
+
+  -- a pair that is made in the step has the value of the call
+  pub made_now : (n : ℕ) → MakesOver (ask_of before.machine) → a ≡ answers.Call (Made_number n) → IsMadeNow s.store before s'.store later n
+  made_now n makes told = pair_made_now eq says refuse s.store before s'.store later hashes (ask_of before.machine) a performs makes n told call.key call.own call.valued loaded
+
   -- and a pair that is to take the place of another has it, but while a newer answer waits
-  own_again : (i n : ℕ) → StandsOn (after before.machine a).call (Makes (Some i) n) → IsWaiting (after before.machine a).call.state ⊎ ((p : Stored K V) × (pair_of s'.store n ≡ Some p) × (own_value s'.store later ≡ Some p.value))
-  own_again i n stands = again_after before.machine a order left.value_of i n stands
+  own_again : (i n : ℕ) → StandsOn (after before.machine a).call (Makes (Some i) n) → IsAnsweredStage (after before.machine a).call.state ⊎ ((p : Stored K V) × (pair_of s'.store n ≡ Some p) × (own_value s'.store later ≡ Some p.value))
+  own_again i n stands = elim (chain_said before.machine a order (core.standing caller before was).call call.shows (Makes (Some i) n) stands) [
+    | inl stood ↦ elim (call.again i n stood) [
+      | inl waits ↦ elim (chain_waits before.machine a (machine_goes before.machine a order) waits i n stands) [
+        | inl still ↦ inl still
+        | inr (makes, told) ↦ (let m = made_now n makes told in inr (m.pair, m.there, m.after))
+      ]
+      | inr (p, there, value) ↦ elim left.value [
+        | inl keeps ↦ inr (p, left.logged n p there, keeps.same p.value value)
+        | inr said ↦ inl (chain_answered before.machine a (machine_goes before.machine a order) said.told said.shown)
+      ]
+    ]
+    | inr (own, said, makes, told) ↦ (let m = made_now n (subst MakesOver (sym (ap (λ p. asks_in before.machine.call p) own.phase)) makes) (own.is ∙ ap answers.Call told) in inr (m.pair, m.there, m.after))
+  ]
+
   -- so it rests on what is told of it after the step
   pub own_call : (hands : Hands (Stored K V)) → left.hands ≡ hands → IsCall eq hash s'.mode s'.store (record later { machine = after before.machine a }) es' (record { begun = (tales caller).begun; since = (tales caller).since ++ left.made; hands = hands; visit = (tales caller).visit })
   own_call hands e = record {

@@ -100,3 +100,5 @@ pub mod VisitAlone
 pub mod EntersOnce
 -- what is so at the end
 pub mod VisitOver
+pub mod MadePairs
+pub mod Waits

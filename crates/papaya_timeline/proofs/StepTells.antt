@@ -73,30 +73,23 @@ module _ {K V S A : Type 0} (eq : K → K → Bool) (says : Says K V A) (hash : 
       silent eq says refuse kind s r (Yes false) s' r' (event_of kind (asks.Copy ask) a) (λ asking. let f : false ≡ true = sym (unasked kind ask a) ∙ asking in absurd cc) (ap (λ (z : Running K V A). z.answers) as_was)
 
   module _ (s : StoreState K V S) (r : Running K V A) (a : Answer) (s' : StoreState K V S) (r' : Running K V A) where
-    -- the value at hand is that of before, or a pair was made of it, or a closure answered
+    -- the value of the call is that of before, or a closure answered
     abbrev pub AtHand : Ask → Type 0
-    AtHand ask = (r'.value ≡ r.value) ⊎ ((n : ℕ) × (ask ≡ asks.Call MakePair) × (a ≡ answers.Call (Made_number n)) × (r'.value ≡ None)) ⊎ ((shown : Option ℕ) × (op : OpKind) × (ask ≡ asks.Call (show shown)) × (a ≡ answers.Call (Op op)))
+    AtHand ask = ((v : V) → own_value s r ≡ Some v → own_value s' r' ≡ Some v) ⊎ ((shown : Option ℕ) × (op : OpKind) × (ask ≡ asks.Call (show shown)) × (a ≡ answers.Call (Op op)))
 
     pub at_hand : (ask : Ask) → PerformsAsk eq says hash refuse ask s r a s' r' → AtHand ask
     at_hand (asks.Call ask) (told, is, performs) =
         ⊎_elim
-        (λ (kept : r'.value ≡ r.value). inl kept)
-        (λ z. ⊎_elim
-        (λ (pair : (n : ℕ) × (ask ≡ MakePair) × (told ≡ Made_number n) × (r'.value ≡ None)). inr (inl (pair.0, ap asks.Call pair.1, is ∙ ap answers.Call pair.2, pair.3)))
-        (λ (showing : (shown : Option ℕ) × (op : OpKind) × (ask ≡ show shown) × (told ≡ Op op)). inr (inr (showing.0, showing.1, ap asks.Call showing.2, is ∙ ap answers.Call showing.3)))
-        z)
+        (λ (kept : (v : V) → own_value s r ≡ Some v → own_value s' r' ≡ Some v). inl kept)
+        (λ (showing : (shown : Option ℕ) × (op : OpKind) × (ask ≡ show shown) × (told ≡ Op op)). inr (showing.0, showing.1, ap asks.Call showing.2, is ∙ ap answers.Call showing.3))
         (calls.at_hand eq says refuse s r told s' r' ask performs)
-    at_hand (asks.Copy ask) (performs, as_was) = inl (ap (λ (y : Running K V A). y.value) as_was)
-
-    -- a pair that is made has the number after all others
-    pub made_number : (n : ℕ) → PerformsAsk eq says hash refuse (asks.Call MakePair) s r a s' r' → a ≡ answers.Call (Made_number n) → n ≡ length s.pairs
-    made_number n (told, is, performs) made = let same : told ≡ Made_number n = cc (is, made) in calls.made_number eq says refuse s r told s' r' n performs same
+    at_hand (asks.Copy ask) (performs, as_was) = inl (λ v h. ap (λ l. value_at l r'.value) (copy_pairs eq hash refuse ask s a s' performs) ∙ ap (λ (y : Running K V A). value_at s.pairs y.value) as_was ∙ h)
 
 module _ {K P : Type 0} (g : Setting K P) (c : Coding K P) (k : K) (s : State P) (kind : Option StepKind) (follows : ℕ) (hands : Hands P) where
   -- a pair that was made is at the head of those that the machine was told of
-  pub told_made : (ask : Ask) (a : Answer) (es : List (Exchange P)) (hands' : Hands P) (n : ℕ) → ask ≡ asks.Call MakePair → a ≡ answers.Call (Made_number n) → IsTold g c k s kind follows hands ask a es hands' → (q : P) × (c.number q ≡ n) × (hands'.call.made ≡ q ∷ hands.call.made)
-  told_made ask a es hands' n asking is told =
+  pub told_made : (asked : Call_ask) (ask : Ask) (a : Answer) (es : List (Exchange P)) (hands' : Hands P) (n : ℕ) → ask ≡ asks.Call asked → MakesPair asked → a ≡ answers.Call (Made_number n) → IsTold g c k s kind follows hands ask a es hands' → (q : P) × (c.number q ≡ n) × (hands'.call.made ≡ q ∷ hands.call.made)
+  told_made asked ask a es hands' n asking makes is told =
       let h = subst (λ y. IsTold g c k s kind follows hands y a es hands') asking told in
       let same : h.told ≡ Made_number n = cc (h.is, is) in
-      let (q, number, made) = calls.told_made g c k s kind hands.call MakePair h.told es h.call n refl same h.tells in
+      let (q, number, made) = calls.told_made g c k s kind hands.call asked h.told es h.call n makes same h.tells in
       (q, number, ap (λ (y : Hands P). y.call.made) h.handed ∙ made)
