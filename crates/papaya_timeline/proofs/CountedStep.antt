@@ -5,7 +5,7 @@ use Rattle.std.proofs.lemmas.Int.{ints, int_wrap_fits, SFits-int_wrap}
 use Rattle.std.specs.Int.{w64, int_wrap}
 use Rattle.papaya_call.specs.Answers.{Says}
 use Rattle.papaya_ask.specs.declared.ask.At.{At}
-use Rattle.papaya_ask.specs.declared.ask.At.TheVariants.{Root, Next, Aborted, Done, Slot}
+use Rattle.papaya_ask.specs.declared.ask.At.TheVariants.{Root, Next, Aborted, Done, Slot, Made}
 use Rattle.papaya_ask.specs.declared.ask.Ask.{Ask as Call_ask}
 use Rattle.papaya_ask.specs.declared.ask.Ask.TheVariants.{Load, Exchange as Ask_exchange, SameKey, ShowNone, ShowPair, SizeOf, MakeKey, MakeValue, MakePair, MakePairOf, MakeTable, AddToShard, Done as Ask_done, LoadHint, WriteHint}
 use Rattle.papaya_ask.specs.declared.ask.Answer.{Answer as Call_answer}
@@ -104,12 +104,13 @@ module _ {K V S A : Type 0} (eq : K → K → Bool) (says : Says K V A) where
 abbrev pub Grows : {P : Type 0} → ℤ → Exchange P → Type 0
 Grows by e = (before now : ℕ) → IsCountAfter e before now → pos now ≡ pos before +ℤ by
 
-module _ {K P : Type 0} (c : Coding K P) (s : State P) (hands : Hands P) (new : ℕ) where
+module _ {K P : Type 0} (g : Setting K P) (c : Coding K P) (k : K) (s : State P) (hands : Hands P) (new : ℕ) where
   -- by the kind of the exchange
-  asked_grows : (kind : Option StepKind) (at : At) (e : Exchange P) → IsAsked c kind at new s hands e → Grows (grows_of kind) e
+  asked_grows : (kind : Option StepKind) (at : At) (e : Exchange P) → IsAsked g c k kind at new s hands e → Grows (grows_of kind) e
   asked_grows (Some kinds.Open) Root e is = subst (Grows (pos 0)) (sym is) (λ before now count. omega (arith, ints, count))
-  asked_grows (Some kinds.Claim) (Slot t x) e (q, own, is) = subst (Grows (pos 1)) (sym is) (λ before now count. omega (arith, ints, count))
-  asked_grows (Some kinds.Replace) (Slot t x) e (p, q, live, own, is) = subst (Grows (pos 0)) (sym is) (λ before now count. omega (arith, ints, count))
+  asked_grows (Some kinds.Claim) (Slot t x) e (q, own, key, is) = subst (Grows (pos 1)) (sym is) (λ before now count. omega (arith, ints, count))
+  asked_grows (Some kinds.Replace) (Slot t x) e (p, q, live, own, key, is) = subst (Grows (pos 0)) (sym is) (λ before now count. omega (arith, ints, count))
+  asked_grows (Some kinds.Take) Made e is = subst (Grows (pos 0)) (sym is) (λ before now count. omega (arith, ints, count))
   asked_grows (Some kinds.Bury) (Slot t x) e (q, live, is) = subst (Grows (negsuc 0)) (sym is) (λ before now count. omega (arith, ints, count))
   asked_grows _ _ e h = absurd h
 
@@ -134,7 +135,7 @@ module _ {K P : Type 0} (g : Setting K P) (c : Coding K P) (k : K) (s : State P)
   call_grows : (hands : Hands P) (ask : Call_ask) (a : Call_answer) (es : List (Exchange P)) (hands' : Hands P) → IsTold g c k s kind hands ask a es hands' → IsGrowth (grows_by kind ask a) es
   call_grows hands (Ask_exchange at old new) a es hands' h =
       matched (IsGrowth (grows_by kind (Ask_exchange at old new) a) es) (word_of g c s at == old) _ _ h
-      (λ _ done. inr (let asked = done.1 in (asked.0, asked.2, subst (λ y. Grows (grows_by kind (Ask_exchange at old new) y) asked.0) (sym done.0) (asked_grows c s hands new kind at asked.0 asked.1))))
+      (λ _ done. inr (let asked = done.1 in (asked.0, asked.2, subst (λ y. Grows (grows_by kind (Ask_exchange at old new) y) asked.0) (sym done.0) (asked_grows g c k s hands new kind at asked.0 asked.1))))
       (λ _ lost. inl (lost.1, ap (grows_by kind (Ask_exchange at old new)) lost.0))
   call_grows hands (Load at) a es hands' h = inl (h.1, refl)
   call_grows hands (SameKey n) a es hands' h = inl (h.1.0, refl)
@@ -144,8 +145,11 @@ module _ {K P : Type 0} (g : Setting K P) (c : Coding K P) (k : K) (s : State P)
   call_grows hands (WriteHint t x hint) a es hands' h = inl (h.1.0, refl)
   call_grows hands (SizeOf t) a es hands' h = inl (h.1.0, refl)
   call_grows hands MakeKey a es hands' h = inl (h.1.0, refl)
+  call_grows hands MakeValue a es hands' h = inl (h.1.0, refl)
   call_grows hands MakePair a es hands' (inl h) = inl (h.1.0, refl)
   call_grows hands MakePair a es hands' (inr (q, key, is, none, made)) = inl (none, refl)
+  call_grows hands (MakePairOf n) a es hands' (inl h) = inl (h.1.0, refl)
+  call_grows hands (MakePairOf n) a es hands' (inr (q, key, is, none, made)) = inl (none, refl)
   call_grows hands (MakeTable slots limit chunks) a es hands' h = inl (h.1.0, refl)
   call_grows hands (AddToShard by) a es hands' h = inl (h.1.0, refl)
   call_grows hands (Ask_done reply) a es hands' h = inl (h.1.0, refl)

@@ -93,7 +93,7 @@ module _ {K V S A : Type 0} (eq : K → K → Bool) (says : Says K V A) (hash : 
       still_said (Inserts shown) before stands (v, has, was) = (v, value, answered_still shown (ops.Insert v) was)
         where
           value : own_value s' later ≡ Some v
-          value = ⊎_elim (λ kept. kept v has) (λ showing. absurd (one_value r.machine shown showing.0 before showing.2)) (at_hand eq says hash refuse s r a s' r' (ask_of r.machine) performs)
+          value = ⊎_elim (λ kept. kept.0 v has) (λ showing. absurd (one_value r.machine shown showing.0 before showing.2)) (at_hand eq says hash refuse s r a s' r' (ask_of r.machine) performs)
       still_said (Makes shown n) before stands (q, there, was) = (q, stay n q there, answered_still shown (ops.Insert q.value) was)
       still_said (Removes n) before stands was = answered_still (Some n) ops.Remove was
 

@@ -22,7 +22,8 @@ use Rattle.papaya_timeline.specs.declared.trace.Event.{Event}
 use Rattle.papaya_timeline.specs.declared.trace.Event.TheVariants as events
 use Rattle.papaya_timeline.specs.Advances.{call_event, answered_event, kind_event, shown_event}
 use Rattle.papaya_timeline.specs.Given.{GivesIn, IsEntryOf, asks_closure}
-use Rattle.papaya_store.specs.Pairs.{value_at}
+use Rattle.papaya_store.specs.declared.pairs.Part.{Part}
+use Rattle.papaya_store.specs.Pairs.{value_at, value_in}
 use Rattle.papaya_store.specs.Performs.{Performs, Decides, ShowsNothing, ShowsPair, Stays, own_value, value_answered}
 use Rattle.papaya_store.specs.Store.{StoreState, Stored, pair_of}
 use Rattle.papaya_timeline.specs.Timeline.{IsAnsweredIn}
@@ -261,19 +262,29 @@ module _ {K V S A : Type 0} (eq : K → K → Bool) (says : Says K V A) (refuse 
 
   module _ (s : StoreState K V S) (r : Running K V A) (a : Answer) (s' : StoreState K V S) (r' : Running K V A) where
     -- the value of the call is that of before, or a closure answered
+    abbrev pub SameValue : Type 0
+    SameValue = ((v : V) → own_value s r ≡ Some v → own_value s' r' ≡ Some v)
+        × (((part : Part V) → r.value ≡ Some part → (w : V) × (value_in s.pairs part ≡ Some w)) → (v : V) → own_value s' r' ≡ Some v → own_value s r ≡ Some v)
+
     abbrev pub AtHand : Ask → Type 0
-    AtHand ask = ((v : V) → own_value s r ≡ Some v → own_value s' r' ≡ Some v) ⊎ ((shown : Option ℕ) × (op : OpKind) × (ask ≡ show shown) × (a ≡ Op op))
+    AtHand ask = SameValue ⊎ ((shown : Option ℕ) × (op : OpKind) × (ask ≡ show shown) × (a ≡ Op op))
 
     -- where the log is the same, or longer
     kept : (ask : Ask) → s'.pairs ≡ s.pairs → r'.value ≡ r.value → AtHand ask
-    kept ask log value = inl (λ v h. ap (λ l. value_at l r'.value) log ∙ ap (value_at s.pairs) value ∙ h)
+    kept ask log value = let same : own_value s' r' ≡ own_value s r = ap (λ l. value_at l r'.value) log ∙ ap (value_at s.pairs) value in inl (λ v h. same ∙ h, λ valued v h. sym same ∙ h)
 
     stayed : (ask : Ask) → Stays s r s' r' → AtHand ask
     stayed ask stays = kept ask (ap (λ (y : StoreState K V S). y.pairs) stays.0) (ap (λ (y : Running K V A). y.value) stays.1)
 
     made : (ask : Ask) → LogsOrNot s r a s' r' → AtHand ask
     made ask (inl (unlogged, stays)) = stayed ask stays
-    made ask (inr (key, left, logs)) = inl (λ v h. value_logged s r s' r' key left a v h logs)
+    made ask (inr (key, left, logs)) = inl (
+      λ v h. value_logged s r s' r' key left a v h logs,
+      λ valued v h.
+          let (w, there) = valued logs.0 logs.1 in
+          let before : own_value s r ≡ Some w = ap (value_at s.pairs) logs.1 ∙ there in
+          before ∙ sym (value_logged s r s' r' key left a w before logs) ∙ h,
+    )
 
     pub at_hand : (ask : Ask) → Performs eq says refuse ask s r a s' r' → AtHand ask
     at_hand (Load at) (e, stays) = stayed (Load at) stays

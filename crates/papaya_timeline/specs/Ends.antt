@@ -1,6 +1,6 @@
 -- The end of a call that is made alone: how many tables may still be made and words exchanged, and
 -- what holds of the core while nobody else has a call under way.
-use Rattle.std.specs.Prelude.{◌≡◌, ℕ, ◌+◌, ◌-◌, ◌^◌, ◌<◌, ◌==◌, if◌then◌else◌, Bool, List, [], ◌∷◌, length, Option, Some, sum_by, take}
+use Rattle.std.specs.Prelude.{◌≡◌, ◌⊎◌, ℕ, ◌+◌, ◌-◌, ◌^◌, ◌<◌, ◌==◌, if◌then◌else◌, Bool, List, [], ◌∷◌, length, Option, Some, sum_by, take}
 use Rattle.papaya_words.specs.Table.{TableWords}
 use Rattle.papaya_words.specs.Word.{kind_of}
 use Rattle.papaya_words.specs.declared.word.Kind.{Kind}
@@ -72,15 +72,15 @@ abbrev pub HasValue : {V : Type 0} → Task → Option (Part V) → Type 0
 HasValue (Insert replace) value = IsThere value
 HasValue task value = Unit {0}
 
--- and a compute has the one that its closure answered, where a pair is to be made of it, now or again
-abbrev pub HasAnswered : {V : Type 0} → Machine → Option (Part V) → Type 0
-HasAnswered m value = ((purpose : Purpose) → m.state ≡ Pairing purpose → IsThere value)
-    × ((old : ℕ) (new : Of) → m.remembered.choice ≡ Some (To_replace old new) → IsThere value)
+-- a compute is to make a pair of the value that its closure answered, now or again
+abbrev pub IsToPair : Machine → Type 0
+IsToPair m = ((purpose : Purpose) × (m.state ≡ Pairing purpose))
+    ⊎ ((old : ℕ) × (new : Of) × (m.remembered.choice ≡ Some (To_replace old new)))
 
 -- a call has the value that it has yet to make something of
 pub record IsMaker {K V A : Type 0} (r : Running K V A) : Type 0 where
   pub value : HasValue r.machine.call.task r.value
-  pub answered : HasAnswered r.machine.call r.value
+  pub answered : IsToPair r.machine.call → IsThere r.value
 
 -- The one caller has this call under way: the core is in order, what the call has read stands there
 -- still, and it has what it is to make.
