@@ -74,6 +74,7 @@ module _ (w : Tables) (at : At) (new : ℕ) (placed : IsPlaced w.tables at) (chu
   -- by its kind
   write_spends_kind : (kind : Option StepKind) → IsFewer kind (changes_at (length w.tables) at new) (changes_at (length w.tables) at (word_at w at)) → SpendsExchange kind (budget_in w) (budget_in (put w at new))
   write_spends_kind (Some kinds.Replace) h = write_leaves h
+  write_spends_kind (Some kinds.Take) h = write_leaves h
   write_spends_kind kind h = write_spends h
 
 -- a table that is made is spent
@@ -204,9 +205,9 @@ module _ {K V S A : Type 0} (eq : K → K → Bool) (hash : K → ℕ) (law : Is
         let zero : old ≡ 0 = sym stands ∙ ap (word_of g c now) root ∙ none in
         made_low new (call.opens new (e ∙ ap (λ y. asks.Call (Ask_exchange y old new)) root ∙ ap (λ y. asks.Call (Ask_exchange Root y new)) zero))
         in
-        write_spends_kind store.words at new placed (call_chunk g c now (length store.words.tables) (kind_of_ask r.machine) at new tale.hands.call x.0 x.1) (kind_of_ask r.machine)
+        write_spends_kind store.words at new placed (call_chunk g c now (length store.words.tables) (kind_of_ask r.machine) at new tale.hands.call call.key x.0 x.1) (kind_of_ask r.machine)
         (subst (λ y. IsFewer (kind_of_ask r.machine) (changes_at (length store.words.tables) at new) (changes_at (length store.words.tables) at y)) (kept.coded at)
-        (call_fewer g c now (length store.words.tables) (kind_of_ask r.machine) at new tale.hands.call x.0 x.1 x.2 (sym x.3.here) opened))
+        (call_fewer g c now (length store.words.tables) (kind_of_ask r.machine) at new tale.hands.call call.key x.0 x.1 x.2 (sym x.3.here) opened))
 
     -- and one of its copy
     copy_exchanges : (at : At) (old new : ℕ) → ask_of r.machine ≡ asks.Copy (copies.Exchange at old new) → (word_at store.words at == old) ≡ true → ((budget_in (put store.words at new)).tables ≡ (budget_of store).tables) × ((budget_in (put store.words at new)).exchanges < (budget_of store).exchanges)

@@ -57,6 +57,7 @@ use Rattle.papaya_store.specs.declared.mode.Mode.{Mode}
 use Rattle.papaya_timeline.proofs.Begun.{begun_stands}
 use Rattle.papaya_store.specs.declared.pairs.Part.{Part}
 use Rattle.papaya_timeline.proofs.MadePairs.{MakesOver}
+use Rattle.papaya_timeline.proofs.TiedLemmas.{value_back}
 
 -- a pair that a machine stands on is one that its call made
 module _ {K P : Type 0} (g : Setting K P) (c : Coding K P) (begun since : List (Exchange P)) (k : K) where
@@ -188,7 +189,7 @@ module _ {K V S A : Type 0} where
     where
       by_task : (task : Task) (shown : Option ℕ) (op : Operation V ℕ) → IntendsAs store' task r shown op → IntendsAs store task r shown op
       by_task tasks.Get shown op h = absurd h
-      by_task (tasks.Insert replace) shown (ops.Insert v) (inl h) = inl h
+      by_task (tasks.Insert replace) shown (ops.Insert v) (inl h) = inl (value_back store.pairs store'.pairs values r.value logged.valued v h)
       by_task (tasks.Insert replace) shown (ops.Insert v) (inr (n, made, value)) = inr (n, made, value_before store store' stay n v (logged.made n made) value)
       by_task (tasks.Insert replace) shown ops.Remove h = absurd h
       by_task (tasks.Insert replace) shown (ops.Abort t) h = absurd h
@@ -198,7 +199,7 @@ module _ {K V S A : Type 0} where
       by_task tasks.RemoveIf None ops.Remove h = absurd h
       by_task tasks.RemoveIf None (ops.Insert v) h = absurd h
       by_task tasks.RemoveIf None (ops.Abort t) h = absurd h
-      by_task tasks.Compute shown (ops.Insert v) (inl h) = inl h
+      by_task tasks.Compute shown (ops.Insert v) (inl h) = inl (h.0, value_back store.pairs store'.pairs values r.value logged.valued v h.1)
       by_task tasks.Compute shown (ops.Insert v) (inr (n, stands, value)) = inr (n, stands, value_before store store' stay n v (logged.stood shown n stands) value)
       by_task tasks.Compute (Some n) ops.Remove h = h
       by_task tasks.Compute (Some n) (ops.Abort t) h = absurd h

@@ -57,11 +57,11 @@ use Rattle.papaya_timeline.proofs.TimelineLemmas.{entry, answered-other, answere
 use Rattle.papaya_store.specs.declared.mode.Mode.{Mode}
 
 -- the value of a call, where the log is as long or longer
-value_forth : {K V : Type 0} (log log' : List (Pair K V)) → ((at : Part V) (v : V) → value_in log at ≡ Some v → value_in log' at ≡ Some v) → (value : Option (Part V)) (v : V) → value_at log value ≡ Some v → value_at log' value ≡ Some v
+pub value_forth : {K V : Type 0} (log log' : List (Pair K V)) → ((at : Part V) (v : V) → value_in log at ≡ Some v → value_in log' at ≡ Some v) → (value : Option (Part V)) (v : V) → value_at log value ≡ Some v → value_at log' value ≡ Some v
 value_forth log log' stay None v e = let f : None ≡ Some v = e in absurd cc
 value_forth log log' stay (Some part) v e = stay part v e
 
-value_back : {K V : Type 0} (log log' : List (Pair K V)) → ((at : Part V) (v : V) → value_in log at ≡ Some v → value_in log' at ≡ Some v) → (value : Option (Part V)) → ((part : Part V) → value ≡ Some part → (v : V) × (value_in log part ≡ Some v)) → (v : V) → value_at log' value ≡ Some v → value_at log value ≡ Some v
+pub value_back : {K V : Type 0} (log log' : List (Pair K V)) → ((at : Part V) (v : V) → value_in log at ≡ Some v → value_in log' at ≡ Some v) → (value : Option (Part V)) → ((part : Part V) → value ≡ Some part → (v : V) × (value_in log part ≡ Some v)) → (v : V) → value_at log' value ≡ Some v → value_at log value ≡ Some v
 value_back log log' stay None valued v e = let f : None ≡ Some v = e in cc
 value_back log log' stay (Some part) valued v e = let (w, there) = valued part refl in there ∙ sym (stay part w there) ∙ e
 
