@@ -116,7 +116,6 @@ fn call_on<K: Hash + Eq, V: Drop, S: BuildHasher, A>(
     handed: (Option<V>, Option<A>),
 ) -> Work<K, V, A>
     requires chunked { IsChunked mode.resize }
-    requires limit { IsLimit mode.limit }
     requires initial { IsPowerOfTwo initial }
     ensures begun { result ≡ Work.Call (begun (hash_of K.hash_input S.build_hasher S.Hasher.write
         S.Hasher.finish store.now.hasher) mode initial number task key handed.0 handed.1) }
@@ -169,7 +168,6 @@ fn begin_call<K: Hash + Eq, V: Drop, S: BuildHasher, A>(
     call: Call<K, V, A>,
 ) -> Work<K, V, A>
     requires chunked { IsChunked mode.resize }
-    requires limit { IsLimit mode.limit }
     requires initial { IsPowerOfTwo initial }
     ensures begun { result ≡ begun_work (hash_of K.hash_input S.build_hasher S.Hasher.write
         S.Hasher.finish store.now.hasher) mode initial number call }
@@ -369,6 +367,7 @@ impl<K: Hash + Eq + Drop, V: Drop, S: BuildHasher + Drop, A> Core<K, V, S, A> {
         hasher: S,
         limit: Option<u64>,
     ) -> Result<Core<K, V, S, A>, Refused>
+        requires { IsLimit limit }
         ensures ok { IfOk result (λ core. IsAllowed mode capacity shards
             × IsNew mode capacity shards hasher limit core) }
         ensures err { IfErr result (λ e. IsSizeRefusal mode capacity shards e) }
