@@ -33,7 +33,7 @@ ghost use Rattle.papaya_timeline.specs.Advances.{AddsToShard, event_of, reply_in
 ghost use Rattle.papaya_timeline.specs.Headline.{HasTimeline};
 ghost use Rattle.papaya_timeline.specs.Intends.{IntendsHanded, KeepsIntents};
 ghost use Rattle.papaya_timeline.specs.Moves.{MovesMap};
-ghost use Rattle.papaya_timeline.specs.New.{IsNew};
+ghost use Rattle.papaya_timeline.specs.New.{IsNew, IsNewLimited};
 ghost use Rattle.papaya_keys.specs.Sizes.{IsSizeRefusal};
 ghost use Rattle.papaya_keys.specs.Sizes.{IsAllowed};
 ghost use Rattle.papaya_timeline.specs.Runs.{Steps, TurnsRun, StopsEarly, TurnRuns, IsCutShort, BeginRuns, StepRuns, StepsRun};
@@ -328,7 +328,7 @@ impl<K: Hash + Eq + Drop, V: Drop, S: BuildHasher + Drop, A> Core<K, V, S, A> {
         hasher: S,
     ) -> Result<Core<K, V, S, A>, Refused>
         ensures ok { IfOk result (λ core. IsAllowed mode capacity shards
-            × IsNew mode capacity shards hasher None core) }
+            × IsNew mode capacity shards hasher core) }
         ensures err { IfErr result (λ e. IsSizeRefusal mode capacity shards e) }
         ensures content { IfOk result (λ core. content K.eq core.store ≡ []) }
         ensures counted { IfOk result (λ core. IsCounted K.eq core.store core.callers) }
@@ -350,7 +350,7 @@ impl<K: Hash + Eq + Drop, V: Drop, S: BuildHasher + Drop, A> Core<K, V, S, A> {
         n: u64,
     ) -> Result<Core<K, V, S, A>, Refused>
         ensures ok { IfOk result (λ core. IsAllowed mode capacity shards
-            × IsNew mode capacity shards hasher (Some n) core) }
+            × IsNewLimited mode capacity shards hasher (Some n) core) }
         ensures err { IfErr result (λ e. IsSizeRefusal mode capacity shards e) }
         ensures content { IfOk result (λ core. content K.eq core.store ≡ []) }
         ensures counted { IfOk result (λ core. IsCounted K.eq core.store core.callers) }
@@ -369,7 +369,7 @@ impl<K: Hash + Eq + Drop, V: Drop, S: BuildHasher + Drop, A> Core<K, V, S, A> {
     ) -> Result<Core<K, V, S, A>, Refused>
         requires { IsLimit limit }
         ensures ok { IfOk result (λ core. IsAllowed mode capacity shards
-            × IsNew mode capacity shards hasher limit core) }
+            × IsNewLimited mode capacity shards hasher limit core) }
         ensures err { IfErr result (λ e. IsSizeRefusal mode capacity shards e) }
         ensures content { IfOk result (λ core. content K.eq core.store ≡ []) }
         ensures counted { IfOk result (λ core. IsCounted K.eq core.store core.callers) }
