@@ -1,6 +1,7 @@
 -- What the core holds, and what always holds of it.
 use Rattle.std.specs.Prelude.{◌≡◌, ℕ, List, None, Option, Some, length}
 use Rattle.papaya_words.specs.Table.{TableWords}
+use Rattle.papaya_words.specs.declared.probe.ResizeMode.{ResizeMode}
 use Rattle.papaya_ask.specs.Search.{IsSize}
 use Rattle.papaya_ask.specs.declared.ask.Ask.TheVariants.{Done as Ask_done}
 use Rattle.papaya_ask.specs.declared.call.Reply.{Reply}
@@ -28,6 +29,10 @@ pub record CoreState (K V S A : Type 0) : Type 0 where
   pub callers : List (Seat K V A)
   pub mode : Mode
   pub initial : ℕ
+
+-- how a core resizes that has no limit
+abbrev pub unlimited : ResizeMode → Mode
+unlimited mode = record { resize = mode; limit = None }
 
 -- what a caller has under way
 abbrev pub work_of : {K V S A : Type 0} → CoreState K V S A → ℕ → Option (Work K V A)
