@@ -335,9 +335,11 @@ OVERLAPPING = [
 
 def rounds_of(runs, args, lines, steps, most=1000):
     """How often these lines go on before one of them is bad: a step of a caller whose call has replied. The
-    program says which line is."""
+    program says which line is. At most so often."""
     script = "".join(f"{it}\n" for it in [*lines, *steps * most])
     said = runs.printed_by(args, script.encode())[1]
+    if not said:
+        return most
     bad = int(said.removeprefix("papaya-run: line ").split(":")[0])
     return (bad - 1 - len(lines)) // len(steps)
 

@@ -107,7 +107,12 @@ fn held<R: Wait + Abort>(rt: &R, at: usize, case: Case, set: &Keys, holder: Hold
 #[test]
 fn cases_of_sets_with_a_guard(rt: HostRuntime) -> Result<(), Fail> {
     for mode in MODES {
-        for holder in [Holder::Set, Holder::SetOwned, Holder::Other, Holder::OtherOwned] {
+        for holder in [
+            Holder::Set,
+            Holder::SetOwned,
+            Holder::Other,
+            Holder::OtherOwned,
+        ] {
             for (at, case) in CASES.iter().enumerate() {
                 let set = HashSet::with_parts(&rt, rt.alloc(), mode, 0, 4, FIRST)?;
                 held(&rt, at, case, &set, holder);

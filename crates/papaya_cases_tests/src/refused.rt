@@ -19,7 +19,6 @@ use papaya_words::probe::{Refused, ResizeMode};
 use std::alloc::Global;
 use std::process::Abort;
 use std::sync::Wait;
-use std::test::Fail;
 
 /// A key that is there, with this value, and one that is not.
 const OLD: u64 = 200;
@@ -39,7 +38,12 @@ const AT_NEW: [Row; 11] = [
     (GetOrInsert(NEW, 7), Number(7), Number(VALUE), Number(7)),
     (GetOrInsertWith(NEW, 7), Number(7), Number(VALUE), Number(7)),
     (UpdateOrInsert(NEW, 7), Number(7), Number(VALUE), Number(7)),
-    (UpdateOrInsertWith(NEW, 7), Number(7), Number(VALUE), Number(7)),
+    (
+        UpdateOrInsertWith(NEW, 7),
+        Number(7),
+        Number(VALUE),
+        Number(7),
+    ),
     (Update(NEW, 7), Absent, Number(VALUE), Absent),
     (Compute(NEW), Aborted, Number(VALUE), Absent),
     (Remove(NEW), Absent, Number(VALUE), Absent),
@@ -52,14 +56,24 @@ const AT_OLD: [Row; 12] = [
     (TryInsert(OLD, 7), Occupied(VALUE, 7), Number(VALUE), Absent),
     (TryInsertWith(OLD, 7), NotMade(VALUE), Number(VALUE), Absent),
     (GetOrInsert(OLD, 7), Number(VALUE), Number(VALUE), Absent),
-    (GetOrInsertWith(OLD, 7), Number(VALUE), Number(VALUE), Absent),
+    (
+        GetOrInsertWith(OLD, 7),
+        Number(VALUE),
+        Number(VALUE),
+        Absent,
+    ),
     (UpdateOrInsert(OLD, 7), Number(6), Number(6), Absent),
     (UpdateOrInsertWith(OLD, 7), Number(6), Number(6), Absent),
     (Update(OLD, 7), Number(12), Number(12), Absent),
     (Compute(OLD), Updated(VALUE, 6), Number(6), Absent),
     (Remove(OLD), Number(VALUE), Absent, Absent),
     (RemoveIf(OLD, Always), Pair(OLD, VALUE), Absent, Absent),
-    (RemoveIf(OLD, Never), Kept(OLD, VALUE), Number(VALUE), Absent),
+    (
+        RemoveIf(OLD, Never),
+        Kept(OLD, VALUE),
+        Number(VALUE),
+        Absent,
+    ),
 ];
 
 /// What a map has before a call: the keys below a number, each with itself, and the old one.
@@ -104,13 +118,7 @@ impl<C: Calls> Ready for OnKey<'_, C> {
 }
 
 /// Fills a map, and makes the call with the request of this number refused.
-fn tries_on<C: Calls>(
-    alloc: Global,
-    map: &mut C,
-    keys: u64,
-    row: Row,
-    number: usize,
-) -> Outcome {
+fn tries_on<C: Calls>(alloc: Global, map: &mut C, keys: u64, row: Row, number: usize) -> Outcome {
     let filled = answer(map, InsertBelow(keys, 0)) == Number(keys);
     if !filled || answer(map, Insert(OLD, VALUE)) != Absent {
         return Outcome::Fails;
@@ -243,7 +251,11 @@ impl Trial for Long {
         let mut map = seq::HashMap::with_parts(self.alloc, mode, capacity, 1, FIRST)?;
         let [insertion, ..] = AT_NEW;
         let outcome = tries_on(self.alloc, &mut map, keys, insertion, number);
-        Ok(if map.slots() == slots { outcome } else { Outcome::Fails })
+        Ok(if map.slots() == slots {
+            outcome
+        } else {
+            Outcome::Fails
+        })
     }
 }
 

@@ -281,8 +281,9 @@ impl<R: Wait, C: Collection + Drop> Trial for Making<'_, R, C> {
     }
 }
 
-/// What makes one of no keys, beside `with_parts`.
-const MAKERS: [Maker; 6] = [
+/// What makes one of no keys.
+const MAKERS: [Maker; 7] = [
+    Maker::Parts(ResizeMode::Blocking),
     Maker::New,
     Maker::Default,
     Maker::Capacity,
@@ -310,8 +311,8 @@ const STAGES: [u64; 10] = [0, 20, 25, 26, 27, 47, 63, 64, 65, 67];
 
 /// Of so many keys some are copied into a second table, or that is made at the next call.
 const COPIED: [u64; 32] = [
-    32, 33, 34, 35, 36, 37, 38, 39, 40, 41, 42, 43, 44, 45, 46, 47, 48, 49, 50, 51, 52, 53, 54, 55, 56,
-    57, 58, 59, 60, 61, 62, 63,
+    32, 33, 34, 35, 36, 37, 38, 39, 40, 41, 42, 43, 44, 45, 46, 47, 48, 49, 50, 51, 52, 53, 54, 55,
+    56, 57, 58, 59, 60, 61, 62, 63,
 ];
 
 /// Does a call take the ten keys that follow on those that are there at least?

@@ -100,7 +100,11 @@ impl Crowded for HashSet<u64, Times> {
     }
 
     fn find(&self, key: u64) -> Option<u64> {
-        if self.pin().contains(&key) { Some(0) } else { None }
+        if self.pin().contains(&key) {
+            Some(0)
+        } else {
+            None
+        }
     }
 
     fn make_room<R: Wait>(&self, rt: &R, more: usize) -> Result<(), Refused> {

@@ -224,9 +224,14 @@ fn eight<R: Threads + Wait + Sync, C: Crowded + Sync>(
     every: usize,
 ) -> bool {
     let mut did = [false; 8];
-    for_each_mut(rt, &mut did, 8, &|thread, did| {
-        *did = works(rt, alloc, it, board, thread as u64, every);
-    });
+    for_each_mut(
+        rt,
+        &mut did,
+        8,
+        &|thread, did| {
+            *did = works(rt, alloc, it, board, thread as u64, every);
+        },
+    );
     did == [true; 8]
 }
 

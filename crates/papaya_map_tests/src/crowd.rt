@@ -24,8 +24,8 @@ pub enum Job {
     Rewrite(u64),
     /// Inserts and removes the absent keys of a range, one after another, 20 times.
     ComeAndGo(u64, u64),
-    /// Makes room for so many pairs more, one number after another.
-    Reserve(&'static [usize]),
+    /// Makes room for so many pairs more, and then for twice as many, so many times in all.
+    Reserve(usize, u64),
     /// Looks whether the keys below this one have themselves as values.
     Has(u64),
     /// Does so this many times.
@@ -129,11 +129,13 @@ fn comes_and_goes<R: Wait, C: Calls>(rt: &R, map: &mut C, from: u64, end: u64) -
     true
 }
 
-/// Makes room for so many more.
-fn reserves<R: Wait, C: Calls>(rt: &R, map: &mut C, rooms: &[usize]) -> bool {
+/// Makes room for so many more, and then for twice as many, so many times in all.
+fn reserves<R: Wait, C: Calls>(rt: &R, map: &mut C, first: usize, times: u64) -> bool {
     let mut is_done = true;
-    for &more in rooms {
+    let mut more = first;
+    for _ in 0..times {
         is_done = map.reserve(rt, more) == Answer::Done && is_done;
+        more = more.wrapping_mul(2);
     }
     is_done
 }
@@ -265,7 +267,7 @@ pub fn does<R: Wait, C: Calls>(rt: &R, map: &mut C, job: Job, board: &Board) -> 
         Job::Insert(from, end) | Job::Grow(from, end) => inserts(rt, map, from, end),
         Job::Rewrite(end) => rewrites(rt, map, end),
         Job::ComeAndGo(from, end) => comes_and_goes(rt, map, from, end),
-        Job::Reserve(rooms) => reserves(rt, map, rooms),
+        Job::Reserve(first, times) => reserves(rt, map, first, times),
         Job::Has(end) | Job::Read(end) => has_below(map, end, 1, 0),
         Job::HasOften(end, times) => has_often(map, end, times),
         Job::Add => adds(rt, map, true),
@@ -381,13 +383,10 @@ fn low_beside(call: Step, wanted: Answer) -> [Job; 4] {
     ]
 }
 
-/// For how many pairs more one of the others makes room.
-const ROOMS: &[usize] = &[64, 128, 256];
-
 /// What the other four do.
 const HIGH_BESIDE: [Job; 4] = [
     Job::Insert(150, 200),
-    Job::Reserve(ROOMS),
+    Job::Reserve(64, 3),
     Job::Walk(6),
     Job::ComeAndGo(300, 310),
 ];

@@ -77,13 +77,11 @@ fn a_walker_meets_the_first_keys_while_the_map_grows(rt: HostRuntime) -> Result<
     runs::<_, Numbers>(&rt, rt.alloc(), &MODES, &WALKS_BESIDE)
 }
 
-/// For how many pairs more room is made, one after another. Each takes a longer table.
-const ROOMS: &[usize] = &[2048, 4096, 8192, 16_384, 32_768];
-
-/// One thread makes room, and the other finds all keys 32 times.
+/// One thread makes room for 2048 pairs more, and so on to 32,768, each time in a longer table. The
+/// other finds all keys 32 times.
 const READS_BESIDE: [Turn; 3] = [
     Calls(&[(InsertBelow(1024), Is(true))]),
-    Threads(Two([Reserve(ROOMS), HasOften(1024, 32)])),
+    Threads(Two([Reserve(2048, 5), HasOften(1024, 32)])),
     Calls(&[(Len, Number(1024))]),
 ];
 
@@ -105,7 +103,7 @@ fn a_reader_finds_all_keys_while_chunks_are_copied(rt: HostRuntime) -> Result<()
 /// One key more is looked for than there are.
 const READS_TOO_FAR: [Turn; 2] = [
     Calls(&[(InsertBelow(64), Is(true))]),
-    Fails(Two([Reserve(&[128, 256]), HasOften(65, 32)]), (true, false)),
+    Fails(Two([Reserve(128, 2), HasOften(65, 32)]), (true, false)),
 ];
 
 #[test]

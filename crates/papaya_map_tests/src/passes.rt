@@ -44,7 +44,7 @@ type Stored = (Answer, Pass<u64, u64, Times>);
 
 /// Stores a pair by a pass of its own.
 fn stored<R: Wait>(rt: &R, map: &Numbers, key: u64, to: u64) -> Stored
-    ensures { result.1.book ≡ map.book }
+    ensures { result.1.book ≡ map.now.book }
 {
     let mut pass = map.pass();
     let old = value(map.pin().insert_as(rt, key, to, &mut pass));
@@ -90,7 +90,7 @@ fn walked<R: Wait>(
     map: &Numbers,
     pass: &mut Pass<u64, u64, Times>,
 ) -> Result<Given, Refused>
-    requires { pass.old.book ≡ map.book }
+    requires { pass.old.book ≡ map.now.book }
     ensures { pass.new.book ≡ pass.old.book }
 {
     let mut given = Given::nothing();
@@ -102,7 +102,7 @@ fn walked<R: Wait>(
 
 /// Does a pass find both pairs, by lookups and by a walk?
 fn finds_both<R: Wait>(rt: &R, map: &Numbers, mut pass: Pass<u64, u64, Times>) -> bool
-    requires { pass.book ≡ map.book }
+    requires { pass.book ≡ map.now.book }
 {
     let first = value(Ok(map.pin().get_as(&1, &mut pass)));
     let second = value(Ok(map.pin().get_as(&2, &mut pass)));

@@ -5,13 +5,14 @@ use crate::answers::Answer::{
 };
 use crate::expect::is;
 use crate::numbers::Numbers;
-use crate::seen::{Gate, Says};
+use crate::seen::Says;
 use crate::shared::{Making, Shared};
 use crate::steps::Step::{
     self, Compute, GetOrInsert, GetOrInsertWith, Insert, Iter, Keys, Remove, RemoveEntry, RemoveIf,
     Reserve, TryInsert, TryInsertWith, Update, UpdateOrInsert, UpdateOrInsertWith, Values,
 };
 use crate::steps::{Calls, answer, has_below, inserts};
+use papaya_gates::gate::Gate;
 use papaya_hashers::times::TOGETHER;
 use papaya_refusals::tries::{Outcome, Ready, Trial, fails_at, tries};
 use papaya_words::probe::{Refused, ResizeMode};
@@ -34,15 +35,40 @@ type Row = (Step, Answer, Answer, Answer);
 const EITHER: [Row; 15] = [
     (Insert(NEW, 7), Absent, Number(VALUE), Number(7)),
     (Insert(OLD, 7), Number(VALUE), Number(7), Absent),
-    (Compute(NEW, Says::Next), Inserted(NEW, 1), Number(VALUE), Number(1)),
-    (Compute(OLD, Says::Next), Updated(VALUE, 6), Number(6), Absent),
-    (Compute(OLD, Says::Remove), Removed(OLD, VALUE), Absent, Absent),
-    (Compute(OLD, Says::Leave(9)), Aborted(9), Number(VALUE), Absent),
+    (
+        Compute(NEW, Says::Next),
+        Inserted(NEW, 1),
+        Number(VALUE),
+        Number(1),
+    ),
+    (
+        Compute(OLD, Says::Next),
+        Updated(VALUE, 6),
+        Number(6),
+        Absent,
+    ),
+    (
+        Compute(OLD, Says::Remove),
+        Removed(OLD, VALUE),
+        Absent,
+        Absent,
+    ),
+    (
+        Compute(OLD, Says::Leave(9)),
+        Aborted(9),
+        Number(VALUE),
+        Absent,
+    ),
     (Update(OLD), Number(6), Number(6), Absent),
     (Remove(OLD), Number(VALUE), Absent, Absent),
     (RemoveEntry(OLD), Pair(OLD, VALUE), Absent, Absent),
     (RemoveIf(OLD, true), Pair(OLD, VALUE), Absent, Absent),
-    (RemoveIf(OLD, false), Kept(OLD, VALUE), Number(VALUE), Absent),
+    (
+        RemoveIf(OLD, false),
+        Kept(OLD, VALUE),
+        Number(VALUE),
+        Absent,
+    ),
     (Reserve(100), Done, Number(VALUE), Absent),
     (Iter, Done, Number(VALUE), Absent),
     (Keys(OLD), Done, Number(VALUE), Absent),
@@ -54,14 +80,29 @@ const GUARDED: [Row; 12] = [
     (TryInsert(NEW, 7), Number(7), Number(VALUE), Number(7)),
     (TryInsert(OLD, 7), Kept(VALUE, 7), Number(VALUE), Absent),
     (TryInsertWith(NEW, 7), Number(7), Number(VALUE), Number(7)),
-    (TryInsertWith(OLD, 7), Kept(VALUE, VALUE), Number(VALUE), Absent),
+    (
+        TryInsertWith(OLD, 7),
+        Kept(VALUE, VALUE),
+        Number(VALUE),
+        Absent,
+    ),
     (GetOrInsert(NEW, 7), Number(7), Number(VALUE), Number(7)),
     (GetOrInsert(OLD, 7), Number(VALUE), Number(VALUE), Absent),
     (GetOrInsertWith(NEW, 7), Number(7), Number(VALUE), Number(7)),
-    (GetOrInsertWith(OLD, 7), Number(VALUE), Number(VALUE), Absent),
+    (
+        GetOrInsertWith(OLD, 7),
+        Number(VALUE),
+        Number(VALUE),
+        Absent,
+    ),
     (UpdateOrInsert(NEW, 7), Number(7), Number(VALUE), Number(7)),
     (UpdateOrInsert(OLD, 7), Number(6), Number(6), Absent),
-    (UpdateOrInsertWith(NEW, 7), Number(7), Number(VALUE), Number(7)),
+    (
+        UpdateOrInsertWith(NEW, 7),
+        Number(7),
+        Number(VALUE),
+        Number(7),
+    ),
     (UpdateOrInsertWith(OLD, 7), Number(6), Number(6), Absent),
 ];
 
@@ -95,7 +136,7 @@ struct OnKey<'r, 'm, R, C> {
 impl<R: Wait, C: Calls> Ready for OnKey<'_, '_, R, C> {
     fn is_made(&mut self) -> Result<bool, Refused> {
         let (call, _, old, new) = self.row;
-        match answer(self.rt, self.map, call, &Gate::new(true)) {
+        match answer(self.rt, self.map, call, &Gate::open()) {
             Answer::Refused(refused) => Err(refused),
             found => {
                 let is_answered = found == wanted(self.row, self.keys);
@@ -128,16 +169,7 @@ pub fn tries_on<R: Wait, C: Calls>(
     if !inserts(rt, map, 0, keys) || map.insert(rt, OLD, VALUE) != Absent {
         return Outcome::Fails;
     }
-    tries(
-        alloc,
-        &mut OnKey {
-            rt,
-            map,
-            keys,
-            row,
-        },
-        number,
-    )
+    tries(alloc, &mut OnKey { rt, map, keys, row }, number)
 }
 
 /// How a call is made.

@@ -105,8 +105,8 @@ pub trait Shared: Sized {
     /// A thread keeps the reference that a lookup answered.
     fn holds(&self, gate: &Gate) -> bool;
 
-    /// Two threads store a pair each, and their passes meet: does each then find both pairs?
-    fn meets<R: Threads + Wait + Sync>(&self, rt: &R) -> bool;
+    /// The map itself.
+    fn numbers(&self) -> &Numbers;
 
     /// The map is filled, and a call is made with the request of this number refused.
     fn tries<R: Wait>(
@@ -178,8 +178,8 @@ impl Shared for Numbers {
         holds(self, gate)
     }
 
-    fn meets<R: Threads + Wait + Sync>(&self, rt: &R) -> bool {
-        meets(rt, self)
+    fn numbers(&self) -> &Numbers {
+        self
     }
 
     fn tries<R: Wait>(
@@ -246,7 +246,7 @@ fn takes<R: Threads + Wait + Sync + Abort, M: Shared + Sync>(
         Turn::PrintEach => prints_each(rt, alloc, map),
         Turn::Threads(crowd) => crowds(rt, alloc, map, crowd, (true, true)),
         Turn::Fails(crowd, wanted) => crowds(rt, alloc, map, crowd, wanted),
-        Turn::Meets => is(rt, map.meets(rt), true),
+        Turn::Meets => is(rt, meets(rt, map.numbers()), true),
     }
 }
 
