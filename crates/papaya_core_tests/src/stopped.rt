@@ -347,5 +347,17 @@ fn beside_a_stopped_call_in_a_table_of_removed_pairs(rt: HostRuntime) -> Result<
 
 #[test]
 fn beside_a_stopped_call_in_the_midst_of_a_copy(rt: HostRuntime) -> Result<(), Fail> {
-    each_path(&rt, rt.alloc(), ResizeMode::Incremental(1), COPIED)
+    each_pair(&rt, rt.alloc(), (ResizeMode::Incremental(1), APART), COPIED)
+}
+
+#[test]
+fn beside_a_stopped_call_in_the_midst_of_a_copy_of_one_path(rt: HostRuntime) -> Result<(), Fail> {
+    each_pair(&rt, rt.alloc(), (ResizeMode::Incremental(1), FIRST), COPIED)
+}
+
+#[test]
+fn beside_a_stopped_call_in_the_midst_of_a_copy_of_the_last_path(
+    rt: HostRuntime,
+) -> Result<(), Fail> {
+    each_pair(&rt, rt.alloc(), (ResizeMode::Incremental(1), LAST), COPIED)
 }
