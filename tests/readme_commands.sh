@@ -1,7 +1,7 @@
 #!/usr/bin/env bash
 # Does what README.md tells a reader to type. In this checkout: the first run, and what rt says of itself.
-# With --all besides, in a fresh clone: a run without the proof, and one that proves and builds first; and
-# in two fresh repositories of a user: a program over papaya, taken by tools/take and by tools/kit, which
+# With --all besides, in a fresh clone: a run without the proof, one that proves and builds first, and the programs
+# of examples/; and in two fresh repositories of a user: a program over papaya, taken by tools/take and by tools/kit, which
 # the user's own gate proves and runs. That takes hours where nothing was proved before.
 set -euo pipefail
 top="$(cd "$(dirname "${BASH_SOURCE[0]}")/.." && pwd)"
@@ -75,6 +75,7 @@ if [[ "${1-}" == --all ]]; then
     while IFS= read -r line; do
         same "in a fresh clone: $line" "$answers" "$(cd "$room/clone" && bash -c "$line")"
     done <<<"$typed"
+    same 'the programs of examples/ pass' 0 "$(bash "$room/clone/tests/examples.sh" >&2 && echo 0)"
     shop "$room/taken"
     "$room/clone/tools/take" "$room/taken"
     same 'a program over what was taken passes' 0 "$(cd "$room/taken" && rt ci >&2 && echo 0)"
