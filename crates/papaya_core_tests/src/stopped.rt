@@ -67,7 +67,8 @@ const BURIED: Start = Start {
     left: 1,
 };
 
-/// Keys stand in a table of 8 slots, and one in the next, to which the others are copied.
+/// A table of 8 slots is full, and of its chunks of one slot the first is copied to the next table, where
+/// one key more stands.
 const COPIED: Start = Start {
     capacity: 6,
     stored: 9,
@@ -299,37 +300,64 @@ fn each_pair<S: BuildHasher + Copy>(
     Ok(())
 }
 
-/// Each two calls in each mode, where keys have paths of their own, and where they share one.
-fn each_map(rt: &impl Abort, alloc: Global, start: Start) -> Result<(), Fail> {
+/// Each two calls, where keys have paths of their own, and where they share one.
+fn each_path(rt: &impl Abort, alloc: Global, mode: ResizeMode, start: Start) -> Result<(), Fail> {
+    each_pair(rt, alloc, (mode, APART), start)?;
+    each_pair(rt, alloc, (mode, FIRST), start)?;
+    each_pair(rt, alloc, (mode, LAST), start)
+}
+
+/// The same in each mode.
+fn each_mode(rt: &impl Abort, alloc: Global, start: Start) -> Result<(), Fail> {
     for mode in MODES {
-        each_pair(rt, alloc, (mode, APART), start)?;
-        each_pair(rt, alloc, (mode, FIRST), start)?;
-        each_pair(rt, alloc, (mode, LAST), start)?;
+        each_path(rt, alloc, mode, start)?;
     }
     Ok(())
 }
 
 #[test]
-fn calls_beside_a_stopped_one_in_a_new_map(rt: HostRuntime) -> Result<(), Fail> {
-    each_map(&rt, rt.alloc(), NEW)
+fn beside_a_stopped_call_in_a_new_map(rt: HostRuntime) -> Result<(), Fail> {
+    each_mode(&rt, rt.alloc(), NEW)
 }
 
 #[test]
-fn calls_beside_a_stopped_one_in_a_map_of_one_key(rt: HostRuntime) -> Result<(), Fail> {
-    each_map(&rt, rt.alloc(), ONE)
+fn beside_a_stopped_call_in_a_map_of_one_key(rt: HostRuntime) -> Result<(), Fail> {
+    each_mode(&rt, rt.alloc(), ONE)
 }
 
 #[test]
-fn calls_beside_a_stopped_one_in_a_full_table(rt: HostRuntime) -> Result<(), Fail> {
-    each_map(&rt, rt.alloc(), FULL)
+fn beside_a_stopped_call_in_a_full_table_that_blocks(rt: HostRuntime) -> Result<(), Fail> {
+    each_path(&rt, rt.alloc(), ResizeMode::Blocking, FULL)
 }
 
 #[test]
-fn calls_beside_a_stopped_one_in_a_table_of_removed_pairs(rt: HostRuntime) -> Result<(), Fail> {
-    each_map(&rt, rt.alloc(), BURIED)
+fn beside_a_stopped_call_in_a_full_table_of_many_chunks(rt: HostRuntime) -> Result<(), Fail> {
+    each_path(&rt, rt.alloc(), ResizeMode::Incremental(1), FULL)
 }
 
 #[test]
-fn calls_beside_a_stopped_one_in_the_midst_of_a_copy(rt: HostRuntime) -> Result<(), Fail> {
-    each_map(&rt, rt.alloc(), COPIED)
+fn beside_a_stopped_call_in_a_full_table_of_one_chunk(rt: HostRuntime) -> Result<(), Fail> {
+    each_path(&rt, rt.alloc(), ResizeMode::Incremental(64), FULL)
+}
+
+#[test]
+fn beside_a_stopped_call_in_a_table_of_removed_pairs(rt: HostRuntime) -> Result<(), Fail> {
+    each_mode(&rt, rt.alloc(), BURIED)
+}
+
+#[test]
+fn beside_a_stopped_call_in_the_midst_of_a_copy(rt: HostRuntime) -> Result<(), Fail> {
+    each_pair(&rt, rt.alloc(), (ResizeMode::Incremental(1), APART), COPIED)
+}
+
+#[test]
+fn beside_a_stopped_call_in_the_midst_of_a_copy_of_one_path(rt: HostRuntime) -> Result<(), Fail> {
+    each_pair(&rt, rt.alloc(), (ResizeMode::Incremental(1), FIRST), COPIED)
+}
+
+#[test]
+fn beside_a_stopped_call_in_the_midst_of_a_copy_of_the_last_path(
+    rt: HostRuntime,
+) -> Result<(), Fail> {
+    each_pair(&rt, rt.alloc(), (ResizeMode::Incremental(1), LAST), COPIED)
 }
