@@ -121,7 +121,7 @@ module _ (m : Machine) (answer : Answer) (t : ℕ) (left : left_by m.call.state 
 
 module _ {K P : Type 0} (g : Setting K P) (c : Coding K P) (k : K) (s : State P) (m : Machine) (hands : Hands P) (answer : Answer) (es : List (Exchange P)) (hands' : Hands P) (order : IsInOrder m answer m.phase) (tells : IsTold g c k s (kind_of_ask m) (follows_of m) hands (ask_of m) answer es hands') where
   -- what the call itself was told
-  own_told : (own : IsOwnStep m answer) → (call' : call_told.Hands P) × call_told.IsTold g c k s (call_machine.kind_of_ask m.call) hands.call (call_machine.ask_of m.call) own.told es call'
+  pub own_told : (own : IsOwnStep m answer) → (call' : call_told.Hands P) × call_told.IsTold g c k s (call_machine.kind_of_ask m.call) hands.call (call_machine.ask_of m.call) own.told es call'
   own_told own =
       let h = subst (λ phase. IsTold g c k s (kind_in m.call phase) (follows_of m) hands (asks_in m.call phase) answer es hands') own.phase tells in
       let same : own.told ≡ h.told = cc (own.is, h.is) in
