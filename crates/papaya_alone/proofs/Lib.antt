@@ -18,7 +18,7 @@ pub mod AsideCopies
 pub mod MachineLaw
 pub mod Measures
 pub mod ChainLaw
-pub mod Limits
+pub mod AtLimit
 pub mod CopyLeads
 pub mod ResizerLaw
 pub mod ResizerEnds

@@ -1,4 +1,4 @@
-use Rattle.papaya_alone.proofs.Limits.{limit_each, limit_free, limit_full, limit_goes_on, limit_logs, limit_takes}
+use Rattle.papaya_alone.proofs.AtLimit.{limit_each, limit_free, limit_full, limit_goes_on, limit_logs, limit_takes}
 use Rattle.papaya_alone.proofs.limits.alone_limits.Goals as goal
 
 pub returns-clause-full : goal.returns-clause-full
