@@ -28,6 +28,7 @@ use Rattle.papaya_copy.specs.declared.step.Stepped.TheVariants as stepped
 use Rattle.papaya_copy.specs.Settle.{settle_ask}
 use Rattle.papaya_copy.specs.Step.{chunk_at, next_scan, scanned, step_ask}
 use Rattle.papaya_copy.specs.Copying.{all_of, copying_ask, further as further_of, leads, lone, over}
+use Rattle.papaya_call.specs.declared.made.Number.TheVariants.{Wanted}
 use Rattle.papaya_chain.specs.declared.ask.Answer.{Answer}
 use Rattle.papaya_chain.specs.declared.ask.Answer.TheVariants as answers
 use Rattle.papaya_chain.specs.declared.machine.Machine.{Machine}
@@ -243,7 +244,7 @@ module _ (words words' : At → ℕ) (bare : IsBare words) (bare' : IsBare words
   met_lowers blocks met root is same was kept false =
       subst (λ r. Lowers words words' before later m (rank 3 0 0) (after_copied m (copied.Root r))) is (
         inr (kept, anew_rank words' m),
-        anew_current words' m (machine_stays words words' (record m.call { state = At_root }) bare (Word_read (words' words_at.Root)) tt (ap Word_read (same words_at.Root), same)).read,
+        anew_current words' m (machine_stays words words' (record m.call { state = At_root; made = record m.call.made { number = Wanted } }) bare (Word_read (words' words_at.Root)) tt (ap Word_read (same words_at.Root), same)).read,
       )
 
   -- a chunk begins at the root
