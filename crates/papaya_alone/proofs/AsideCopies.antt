@@ -244,7 +244,7 @@ module _ (words words' : At → ℕ) (bare : IsBare words) (bare' : IsBare words
   met_lowers blocks met root is same was kept false =
       subst (λ r. Lowers words words' before later m (rank 3 0 0) (after_copied m (copied.Root r))) is (
         inr (kept, anew_rank words' m),
-        anew_current words' m (machine_stays words words' (record m.call { state = At_root; made = record m.call.made { number = Wanted } }) bare (Word_read (words' words_at.Root)) tt (ap Word_read (same words_at.Root), same)).read,
+        anew_current words' m (machine_stays words words' (record m.call { state = At_root; made = record m.call.made { number = Wanted } }) bare (Word_read (words' words_at.Root)) tt tt (ap Word_read (same words_at.Root), same)).read,
       )
 
   -- a chunk begins at the root
