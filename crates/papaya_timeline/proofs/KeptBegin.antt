@@ -24,7 +24,7 @@ use Rattle.papaya_copy.specs.declared.link.Link.{Link}
 use Rattle.papaya_copy.specs.declared.link.Link.TheVariants.{Linking}
 use Rattle.papaya_timeline.specs.declared.seat.Work.{Work}
 use Rattle.papaya_timeline.specs.declared.seat.Work.TheVariants as works
-use Rattle.papaya_timeline.specs.Begins.{begun_work}
+use Rattle.papaya_timeline.specs.Begins.{begun_work, value_of_call}
 use Rattle.papaya_timeline.specs.Callers.{resizing, running, visiting, with_seat, with_work}
 use Rattle.papaya_timeline.specs.Maps.{key_of}
 use Rattle.papaya_timeline.proofs.Begun.{IsBegun, IsResizeBegun, IsVisitBegun, begun_stands, call_begun, handed_there, resizer_begun_is, visitor_begun_is}
@@ -194,7 +194,7 @@ module _ {K V S : Type 0} (A : Type 0) (eq : K → K → Bool) (hash : K → ℕ
     IsFresh words es = IsKept {A = A} eq hash mode (record store { words = words }) [] es tales
 
     few : length store.pairs ≤ MAX_LOG_LEN
-    few = subst (λ (l : List (Pair V)). length l ≤ MAX_LOG_LEN) (sym pairs) (omega arith)
+    few = subst (λ (l : List (Pair K V)). length l ≤ MAX_LOG_LEN) (sym pairs) (omega arith)
 
     -- without a table nothing was exchanged
     empty_kept : IsFresh (record { root = 0; tables = []; made = 0 }) []

@@ -1,5 +1,5 @@
 -- What a showing to a closure does: the store stays, and of the call only its value and its answers may be others.
-use Rattle.std.proofs.Common.{◌≡◌, ℕ, Bool, Option, Some, ◌⊎◌, inl, inr}
+use Rattle.std.proofs.Common.{◌≡◌, ℕ, Bool, Option, Some, ◌⊎◌, inl, inr, refl}
 use Rattle.papaya_call.specs.Answers.{Says, op_kind}
 use Rattle.papaya_ask.specs.declared.ask.Answer.{Answer}
 use Rattle.papaya_ask.specs.declared.ask.Answer.TheVariants.{Yes, Op, Ok as Ok_done}
