@@ -1,8 +1,8 @@
-//! A hint: a word that stands beside a word of a book, and says of it what lasts.
+//! Hints: numbers that stand each beside a word of a book.
 //!
-//! Begin with [`hint::Hint`]. The book does not track a hint's number, as it does not track those of
-//! `logbook`. But the rule of the book is told beside which word the hint stands, so the number need
-//! not say it.
+//! Begin with [`hint::Hint`]. A book of `logbook` does not track what a hint holds, and only knows that
+//! its rule allows the number. Here the rule is told beside which word the hint stands, so the number
+//! need not say it.
 #![tactic(auto)]
 
 pub mod hint;

@@ -4,8 +4,8 @@ use mir.Syntax.{a_type, dcons, dnil, named}
 use mir.Val.{Val, vptr}
 use mir.MapTy.{inst_fn}
 use base.Logic.{SProp, emp}
-use base.Fml.{ftrue, fhide}
-use types.Kit.{‵, raw, ◌⊛◌, given, ◌$◌, ◌∵◌, !, qed, by, move, keep, drop, split, fsplit, fjoin, learn, use1, rewrite}
+use base.Fml.{ftrue}
+use types.Kit.{‵, raw, ◌⊛◌, given, ◌$◌, ◌∵◌, !, qed, by, move, keep, drop, split, fsplit, fjoin, learn, use1}
 use types.Run.{lit, no_more, and_then, returns, enter}
 use types.ByLocal.{alloc_all, pass_all, free_all, look_at, get, sets}
 use types.Part.{agg}
@@ -16,26 +16,22 @@ use denote.RattleType.{RattleType, owns}
 use denote.Signature.{types_at, plain}
 use denote.Builtin.{RefOf}
 use denote.Ref.{shr_vals, shr_Tells}
-use denote.Memory.{hidden_shr}
-use denote.Opens.{unhide}
 use denote.Steps.{nothing}
 use denote.Param.{param, bounded}
-use denote.Struct.Tuple.{Tuple}
-use denote.Struct.Lending.{lent_out}
 use denote.Triple.Entry.{alive}
 use denote.Triple.Walked.{Stays, stay_dropped, walk_of, Goes-dropped}
-use Rattle.std.specs.contracts.marker.PhantomData as marker
 use Rattle.atomic_table.proofs.Walks.{proved}
-use Rattle.logbook.specs.Kept.{rules, seen_owns, reached, inner}
+use Rattle.logbook.specs.Kept.{rules, reached, inner}
 use Rattle.logbook.specs.contracts.tokens.Seen as Seen
 use Rattle.logbook.specs.contracts.word.Word as Word
 use Rattle.logbook.proofs.Steps as steps
-use Rattle.logbook.proofs.Fields.{word_val, Token, word_made, ends}
+use Rattle.logbook.proofs.Fields.{word_val, word_made, ends}
 use Rattle.papaya_hint.specs.Untracked.{untracked}
 use Rattle.papaya_hint.specs.contracts.hint.Hint as Hint
 use Rattle.papaya_hint.specs.contracts.hint.Hint.beside.{ended, clauses}
 use Rattle.papaya_hint.specs.contracts.hint.Hint.beside.Key.{name as #self}
 use Rattle.papaya_hint.proofs.Keyed.{at_key}
+use Rattle.papaya_hint.proofs.Walks.{lent_log}
 use Rattle.papaya_hint.proofs.hint.Hint.beside.Statement.{statement}
 use Rattle.papaya_hint.proofs.hint.Hint.beside.Code as code
 
@@ -46,22 +42,25 @@ beside_spec 𝓤 𝓛 𝓜 𝓡 wired E A P _ _ _ g d h d' _ _ =
     let A' : RattleType = param 1 A in
     let P' : RattleType = param 2 P in
     let En = ended E A P g d h d' in
-    let inst = bounded (a_type ∷ a_type ∷ a_type ∷ []) (E, (A, (P, tt))) (dcons d (dcons d' dnil)) in
+    let dicts = dcons d (dcons d' dnil) in
+    let inst = bounded (a_type ∷ a_type ∷ a_type ∷ []) (E, (A, (P, tt))) dicts in
     let fn = inst_fn inst code.function in
     let c = clauses E A P g d h d' 𝓛 𝓜.mem 𝓡.returns in
     let rule = rules g.holds g.shows g.keeps in
     let cv = E'.coded in
-    let All : RattleType = Tuple (E' ∷ A' ∷ P' ∷ []) in
     let Book : RattleType = Seen.the_row E' A' P' g in
-    let a_word = RefOf (0 ∷ []) tt (plain (λ _. Word.the_row E' A' P' g)) (λ _. tt) in
+    let Near : RattleType = Word.the_row E' A' P' g in
+    let a_word = RefOf (0 ∷ []) tt (plain (λ _. Near)) (λ _. tt) in
     let a_book = RefOf (1 ∷ []) tt (plain (λ _. Book)) (λ _. tt) in
     let hs : Stays En.signature.params En.kept =
     (stay_dropped a_word yes, (stay_dropped a_book yes, tt)) in
-    proved 𝓛 En hs c 𝓜 𝓡
-    (Goes-dropped 𝓛 5 a_word yes (λ κs x f. refl), (Goes-dropped 𝓛 5 a_book yes (λ κs x f. refl), tt))
+    proved 𝓛 En hs c 𝓜 𝓡 (
+      Goes-dropped 𝓛 5 a_word yes (λ κs x f. refl),
+      (Goes-dropped 𝓛 5 a_book yes (λ κs x f. refl), tt),
+    )
     (#self inst) fn (code.unfolded 𝓤 𝓛.H 𝓜 𝓡 wired (E, (A, (P, tt))) d d')
     (λ κs. (shr_vals, (shr_vals, tt)))
-    (λ κs. (shr_Tells (named 0) κs.0 (Word.the_row E' A' P' g), (shr_Tells (named 1) κs.1.0 Book, tt)))
+    (λ κs. (shr_Tells (named 0) κs.0 Near, (shr_Tells (named 1) κs.1.0 Book, tt)))
     (λ κs qs bounds a gh are.
     let word = a.0.now in
     let seen = a.1.0.now in
@@ -77,15 +76,8 @@ beside_spec 𝓤 𝓛 𝓜 𝓡 wired E A P _ _ _ g d h d' _ _ =
     move ! (1 ∷ []) $ fsplit ! $ move ! (1 ∷ []) $ fsplit ! $ fsplit ! $ keep ! (1 ∷ 4 ∷ []) $
     enter ! 𝓣.C 𝓣.Λ fn (p ∷ p' ∷ []) Post $ alloc_all ! (λ l.
     pass_all ! refl ((tt, tt), ((tt, tt), tt)) $
-    use1 𝓛 (‵ (hidden_shr (Token All) κs.1.0 (record {}, tt) at.0 at.1)
-    ⊛ ‵ (fhide (seen_owns cv.code rule seen.book seen.names seen.log)))
-    (lent_out 𝓛 (Seen.struct E' A' P' g)
-    (Seen.the_codes E.Denot A.Denot P.Denot E'.coded A'.coded P'.coded (marker.the_row All).coded)
-    (Seen.the_heap E' A' P' g) (Seen.the_lent E' A' P' g) κs.1.0 seen at.0 at.1) $
-    split ! $ drop ! $ unhide ! $
-    use1 𝓛 (‵ (reached cv.code seen.book.log_name seen.log))
-    (steps.seen_log 𝓛 cv rule seen.book seen.names seen.log) $
-    rewrite ! 0 (λ (z : _). ‵ (reached cv.code z.log_name seen.log)) asked.0 refl $
+    use1 𝓛 (‵ (reached cv.code word.book.log_name seen.log))
+    (lent_log 𝓛 E' A' P' g κs.1.0 seen at.0 at.1 word.book asked.0) $
     use1 𝓛 (‵ (inner cv.code hinted (untracked word) 0))
     (steps.tells 𝓛 cv rule word.book seen.names hinted false word.key 0 0 [] qs.0 0 0 seen.log
     asked.1) $

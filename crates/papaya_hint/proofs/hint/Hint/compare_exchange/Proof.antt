@@ -4,8 +4,8 @@ use mir.Syntax.{a_type, dcons, dnil, named}
 use mir.Val.{Val, vint, vptr}
 use mir.MapTy.{inst_fn}
 use base.Logic.{SProp, wand, emp, id⊢, via, apply∗}
-use base.Fml.{Share, Fml, ftrue, fsep, flft, fhide}
-use types.Kit.{‵, raw, ◌⊛◌, some, given, later, mean, at_ret, ◌$◌, ◌∵◌, !, qed, by, move, keep, drop, split, fsplit, fsplit3, fjoin, fpick, pick, learn, use1, use2, use3, await, rewrite, feq_i, flt_i}
+use base.Fml.{Share, Fml, ftrue, fsep, flft}
+use types.Kit.{‵, raw, ◌⊛◌, some, given, later, mean, at_ret, ◌$◌, ◌∵◌, !, qed, by, move, keep, drop, split, fsplit, fsplit3, fjoin, fpick, pick, learn, use1, use2, use3, await, feq_i, flt_i}
 use types.Run.{stop, addr, of_opd, no_more, and_then, first, blocks, exec, Calls-last, returns, enter}
 use types.ByLocal.{alloc_all, pass_all, free_all, look_at, get, through, sets, lands_last, env}
 use contract.Monad.{fact}
@@ -17,25 +17,21 @@ use denote.Signature.{types_at, plain}
 use denote.Builtin.{RefOf, u64}
 use denote.Ref.{shr_vals, shr_Tells}
 use denote.Plain.{uint_vals, uint_Tells}
-use denote.Memory.{hidden_shr}
 use denote.RawPtr.{block_ptr}
 use denote.Opens.{unhide}
 use denote.Steps.{nothing}
 use denote.Param.{param, bounded}
-use denote.Struct.Tuple.{Tuple}
-use denote.Struct.Lending.{lent_out}
 use denote.Triple.Walked.{Stays, stay_dropped, walk_of, Goes-dropped}
-use Rattle.std.specs.contracts.marker.PhantomData as marker
 use Rattle.atomic_table.proofs.Walks.{proved}
 use Rattle.atomic_table.proofs.Calls.{fm, found, finds, exchanges}
-use Rattle.logbook.specs.Kept.{rules, seen_owns, reached}
+use Rattle.logbook.specs.Kept.{rules, reached}
 use Rattle.logbook.specs.contracts.tokens.Seen as Seen
 use Rattle.logbook.proofs.Steps as steps
-use Rattle.logbook.proofs.Fields.{Token, ends}
+use Rattle.logbook.proofs.Fields.{ends}
 use Rattle.papaya_hint.specs.contracts.hint.Hint as Hint
 use Rattle.papaya_hint.specs.contracts.hint.Hint.compare_exchange.{ended, clauses}
 use Rattle.papaya_hint.specs.contracts.hint.Hint.compare_exchange.Key.{name as #self}
-use Rattle.papaya_hint.proofs.Keyed.{after_first}
+use Rattle.papaya_hint.proofs.Walks.{after_first, lent_log}
 use Rattle.papaya_hint.proofs.hint.Hint.compare_exchange.Statement.{statement}
 use Rattle.papaya_hint.proofs.hint.Hint.compare_exchange.Code as code
 
@@ -46,12 +42,12 @@ compare_exchange_spec 𝓤 𝓛 𝓜 𝓡 wired E A P _ _ _ g d h d' _ _ =
     let A' : RattleType = param 1 A in
     let P' : RattleType = param 2 P in
     let En = ended E A P g d h d' in
-    let inst = bounded (a_type ∷ a_type ∷ a_type ∷ []) (E, (A, (P, tt))) (dcons d (dcons d' dnil)) in
+    let dicts = dcons d (dcons d' dnil) in
+    let inst = bounded (a_type ∷ a_type ∷ a_type ∷ []) (E, (A, (P, tt))) dicts in
     let fn = inst_fn inst code.function in
     let c = clauses E A P g d h d' 𝓛 𝓜.mem 𝓡.returns in
     let rule = rules g.holds g.shows g.keeps in
     let cv = E'.coded in
-    let All : RattleType = Tuple (E' ∷ A' ∷ P' ∷ []) in
     let Book : RattleType = Seen.the_row E' A' P' g in
     let Mine : RattleType = Hint.the_row E' A' P' g h in
     let a_hint = RefOf (0 ∷ []) tt (plain (λ _. Mine)) (λ _. tt) in
@@ -111,7 +107,8 @@ compare_exchange_spec 𝓤 𝓛 𝓜 𝓡 wired E A P _ _ _ g d h d' _ _ =
     ∷ raw (fact 𝓤 _) ∷ raw (fact 𝓤 _) ∷ raw (fact 𝓤 _) ∷ given _ (‵ ftrue) ∷ []) ∵
     keep ! (4 ∷ 0 ∷ []) $ learn ! (λ asked. drop ! $ split ! $
     fsplit ! $ move ! (2 ∷ []) $ fsplit ! $ fsplit ! $
-    move ! (2 ∷ []) $ fsplit ! $ move ! (1 ∷ []) $ fsplit ! $ move ! (1 ∷ []) $ fsplit ! $ fsplit ! $
+    move ! (2 ∷ []) $ fsplit ! $ move ! (1 ∷ []) $ fsplit ! $ move ! (1 ∷ []) $ fsplit ! $
+    fsplit ! $
     keep ! (1 ∷ 6 ∷ 7 ∷ 8 ∷ []) $
     enter ! 𝓣.C 𝓣.Λ fn (p ∷ vint w64 old ∷ vint w64 new ∷ p' ∷ []) Post $ alloc_all ! (λ l.
     pass_all ! refl (
@@ -129,15 +126,8 @@ compare_exchange_spec 𝓤 𝓛 𝓜 𝓡 wired E A P _ _ _ g d h d' _ _ =
     (Lends-one 𝓛 𝓜 𝓡 κs.0 t.0 qs.0) $
     await ! tt $ pick ! (λ s. split ! $
     move ! (3 ∷ []) $
-    use1 𝓛 (‵ (hidden_shr (Token All) κs.1.0 (record {}, tt) at'.0 at'.1)
-    ⊛ ‵ (fhide (seen_owns cv.code rule seen.book seen.names seen.log)))
-    (lent_out 𝓛 (Seen.struct E' A' P' g)
-    (Seen.the_codes E.Denot A.Denot P.Denot E'.coded A'.coded P'.coded (marker.the_row All).coded)
-    (Seen.the_heap E' A' P' g) (Seen.the_lent E' A' P' g) κs.1.0 seen at'.0 at'.1) $
-    split ! $ drop ! $ unhide ! $
-    use1 𝓛 (‵ (reached cv.code seen.book.log_name seen.log))
-    (steps.seen_log 𝓛 cv rule seen.book seen.names seen.log) $
-    rewrite ! 0 (λ (z : _). ‵ (reached cv.code z.log_name seen.log)) asked.0 refl $
+    use1 𝓛 (‵ (reached cv.code me.book.log_name seen.log))
+    (lent_log 𝓛 E' A' P' g κs.1.0 seen at'.0 at'.1 me.book asked.0) $
     let out : ℕ → Fml = λ n. fsep (flft t.0 s) ftrue in
     first ! $ blocks ! $ sets ! (addr ! (through ! refl (stop !))) refl (tt, tt) $
     sets ! (of_opd ! (get ! refl)) refl (tt, tt) $
@@ -156,7 +146,8 @@ compare_exchange_spec 𝓤 𝓛 𝓜 𝓡 wired E A P _ _ _ g d h d' _ _ =
     fsplit ! $ move ! (0 ∷ 2 ∷ []) $
     use2 𝓛 (later (‵ (flft κs.0 qs.0))) (apply∗ 𝓤 (𝓛.A.lft t.0 s) (𝓛.H.⇛ (𝓛.A.lft κs.0 qs.0))) $
     await ! tt $ move ! (1 ∷ []) $ drop ! $
-    flt_i ! n (2 ^ 64) fits $ feq_i ! (List Val) (vint w64 n ∷ []) (vint w64 n ∷ []) refl $ fjoin ! $
+    flt_i ! n (2 ^ 64) fits $ feq_i ! (List Val) (vint w64 n ∷ []) (vint w64 n ∷ []) refl $
+    fjoin ! $
     move ! (1 ∷ 2 ∷ []) $ fjoin ! $ nothing ! $ nothing ! $ fjoin ! $
     nothing ! $ fjoin ! $ nothing ! $ fjoin ! $ nothing ! $ fjoin ! $
     returns ! (look_at ! 0 refl) $ free_all ! refl $ keep ! (1 ∷ 0 ∷ 2 ∷ []) $

@@ -31,7 +31,7 @@ use Rattle.logbook.proofs.Fields.{ends}
 use Rattle.papaya_hint.specs.contracts.hint.Hint as Hint
 use Rattle.papaya_hint.specs.contracts.hint.Hint.load.{ended, clauses}
 use Rattle.papaya_hint.specs.contracts.hint.Hint.load.Key.{name as #self}
-use Rattle.papaya_hint.proofs.Keyed.{after_first}
+use Rattle.papaya_hint.proofs.Walks.{after_first}
 use Rattle.papaya_hint.proofs.hint.Hint.load.Statement.{statement}
 use Rattle.papaya_hint.proofs.hint.Hint.load.Code as code
 
@@ -42,7 +42,8 @@ load_spec 𝓤 𝓛 𝓜 𝓡 wired E A P _ _ _ g d h d' _ _ =
     let A' : RattleType = param 1 A in
     let P' : RattleType = param 2 P in
     let En = ended E A P g d h d' in
-    let inst = bounded (a_type ∷ a_type ∷ a_type ∷ []) (E, (A, (P, tt))) (dcons d (dcons d' dnil)) in
+    let dicts = dcons d (dcons d' dnil) in
+    let inst = bounded (a_type ∷ a_type ∷ a_type ∷ []) (E, (A, (P, tt))) dicts in
     let fn = inst_fn inst code.function in
     let c = clauses E A P g d h d' 𝓛 𝓜.mem 𝓡.returns in
     let rule = rules g.holds g.shows g.keeps in
@@ -84,10 +85,11 @@ load_spec 𝓤 𝓛 𝓜 𝓡 wired E A P _ _ _ g d h d' _ _ =
     ⊛ raw (wand 𝓤 (𝓛.A.lft t.0 s) (𝓛.H.⇛ (𝓛.A.lft κs.0 qs.0))))))
     (Lends-one 𝓛 𝓜 𝓡 κs.0 t.0 qs.0) $
     await ! tt $ pick ! (λ s. split ! $
-    move ! (3 ∷ 4 ∷ 5 ∷ []) $ opens ! tt Book at'.0 at'.1 (λ vs. move ! (1 ∷ []) $ fsplit ! $ move ! (1 ∷ []) $
+    move ! (3 ∷ 4 ∷ 5 ∷ []) $ opens ! tt Book at'.0 at'.1 (λ vs.
+    move ! (1 ∷ []) $ fsplit ! $ move ! (1 ∷ []) $
     rewrite ! 0 (λ (z : _). ‵ (seen_owns cv.code rule z seen.names seen.log)) asked.0 refl $
-    let out : ℕ → Fml = λ n. fsep (flft t.0 s) (fex (List E.Denot)
-    (steps.heard 𝓛 cv rule me.book seen.names hinted false me.key at.0 at.1 t.0 s t.1 seen.log n)) in
+    let heard = steps.heard 𝓛 cv rule me.book seen.names hinted false me.key at.0 at.1 t.0 s t.1 in
+    let out : ℕ → Fml = λ n. fsep (flft t.0 s) (fex (List E.Denot) (heard seen.log n)) in
     first ! $ blocks ! $ sets ! (addr ! (through ! refl (stop !))) refl (tt, tt) $
     sets ! (of_opd ! (get ! refl)) refl (tt, tt) $
     move ! (8 ∷ 6 ∷ 0 ∷ []) $
@@ -97,7 +99,8 @@ load_spec 𝓤 𝓛 𝓜 𝓡 wired E A P _ _ _ g d h d' _ _ =
     past asked.1)
     (loads 𝓛 𝓜 𝓡 (code.calls-std::sync::atomic::raw::load 𝓡.env wired) (block_ptr at.0 at.1) out)) $
     sets ! (agg ! (and_then ! (lit ! tt) (no_more !))) refl (tt, (record { fits = lit< tt }, tt)) $
-    Calls-last ! (fm 𝓛 𝓜 𝓡) (found out) (and_then ! (get ! refl) (and_then ! (get ! refl) (no_more !)))
+    Calls-last ! (fm 𝓛 𝓜 𝓡) (found out)
+    (and_then ! (get ! refl) (and_then ! (get ! refl) (no_more !)))
     (λ u. finds ! out (λ n fits. lands_last ! refl (tt, record { fits = fits }) $
     exec ! 𝓣.C 𝓣.Λ Ev (after_first fn.body) (at_ret Ev Post) $
     sets ! (of_opd ! (get ! refl)) refl (tt, record { fits = fits }) $
@@ -108,7 +111,8 @@ load_spec 𝓤 𝓛 𝓜 𝓡 wired E A P _ _ _ g d h d' _ _ =
     record { marker = record {}; book = me.book; names = seen.names; log = log } in
     move ! (2 ∷ 0 ∷ []) $ fjoin ! $ move ! (2 ∷ 0 ∷ 3 ∷ 4 ∷ 5 ∷ []) $
     closes ! tt Book left vs at'.0 at'.1 $
-    flt_i ! n (2 ^ 64) fits $ feq_i ! (List Val) (vint w64 n ∷ []) (vint w64 n ∷ []) refl $ fjoin ! $
+    flt_i ! n (2 ^ 64) fits $ feq_i ! (List Val) (vint w64 n ∷ []) (vint w64 n ∷ []) refl $
+    fjoin ! $
     move ! (3 ∷ 5 ∷ []) $ fjoin ! $ move ! (4 ∷ 0 ∷ []) $ fjoin ! $ nothing ! $
     feq_i ! (List Val) (p' ∷ []) (p' ∷ []) refl $ move ! (0 ∷ 4 ∷ 5 ∷ []) $ fjoin3 ! $ fjoin ! $
     nothing ! $ fjoin ! $
