@@ -37,6 +37,9 @@ const EMPTY: u64 = 0;
 /// What an insertion puts where its pair has the number 12.
 const LIVE_12: u64 = 12_289;
 
+/// The same of the number 13.
+const LIVE_13: u64 = 13_313;
+
 /// The machine asks this, and is answered.
 fn told(rt: &impl Abort, machine: &mut Machine, ask: Ask, answer: Answer)
     requires standing { IsStanding machine.old }
@@ -96,24 +99,6 @@ fn compares(rt: &impl Abort, machine: &mut Machine, pair: u64, same: bool)
     told(rt, machine, Ask::SameKey(pair), Answer::Yes(same));
 }
 
-/// The machine tries to put its pair in place of a word.
-fn tries(
-    rt: &impl Abort,
-    machine: &mut Machine,
-    slot: usize,
-    old: u64,
-    kind: StepKind,
-    answer: Answer,
-)
-    requires standing { IsStanding machine.old }
-    requires fit { IsFit answer }
-    ensures { IsStanding machine.new }
-{
-    is(rt, machine.kind() == Some(kind), true);
-    let ask = Ask::Exchange(At::Slot(2, slot), old, LIVE_12);
-    told(rt, machine, ask, answer);
-}
-
 /// The machine replies.
 fn replies(rt: &impl Abort, machine: &Machine, reply: Reply)
     requires { IsStanding machine.now }
@@ -123,7 +108,7 @@ fn replies(rt: &impl Abort, machine: &Machine, reply: Reply)
 
 #[test]
 fn lookup_passes_each_kind_of_word(rt: HostRuntime) {
-    let mut lookup = Machine::new(Task::Get, HASH, ResizeMode::Incremental(64), 1);
+    let mut lookup = Machine::new(Task::Get, HASH, ResizeMode::Incremental(64), 1, None);
     enters_root(&rt, &mut lookup, 1);
     hints(&rt, &mut lookup, 1, 2, HINT_OF_ANOTHER);
     hints(&rt, &mut lookup, 1, 3, SHUT as u64);
@@ -143,7 +128,7 @@ fn lookup_passes_each_kind_of_word(rt: HostRuntime) {
 
 #[test]
 fn lookup_follows_a_copied_pair(rt: HostRuntime) {
-    let mut lookup = Machine::new(Task::Get, HASH, ResizeMode::Incremental(64), 1);
+    let mut lookup = Machine::new(Task::Get, HASH, ResizeMode::Incremental(64), 1, None);
     enters_root(&rt, &mut lookup, 1);
     loads(&rt, &mut lookup, 1, 2, COPIED);
     compares(&rt, &mut lookup, 4, true);
@@ -182,14 +167,25 @@ fn decides(rt: &impl Abort, machine: &mut Machine, pair: u64, kind: OpKind)
     told(rt, machine, Ask::ShowPair(pair), Answer::Op(kind));
 }
 
-/// The machine makes its key and the pair 12 of what its closure answered.
+/// The machine makes the pair 12 of its key and of what its closure answered.
 fn makes_12(rt: &impl Abort, machine: &mut Machine)
     requires { IsStanding machine.old }
     ensures { IsStanding machine.new }
 {
     is(rt, machine.kind().is_none(), true);
-    told(rt, machine, Ask::MakeKey, Answer::Made(11));
+    told(rt, machine, Ask::MakeKey, Answer::Made(0));
+    told(rt, machine, Ask::MakeValue, Answer::Made(0));
     told(rt, machine, Ask::MakePair, Answer::Made(12));
+}
+
+/// The machine makes a pair of the key of the pair 3 and of the value that it has logged.
+fn makes_of_3(rt: &impl Abort, machine: &mut Machine, pair: u64)
+    requires standing { IsStanding machine.old }
+    requires pair { pair < 2 ^ 48 }
+    ensures { IsStanding machine.new }
+{
+    is(rt, machine.kind().is_none(), true);
+    told(rt, machine, Ask::MakePairOf(3), Answer::Made(pair));
 }
 
 /// The machine tries to put a pair into an empty slot of table 1.
@@ -217,7 +213,7 @@ fn replaces(rt: &impl Abort, machine: &mut Machine, old: u64, new: u64, answer: 
 /// what to insert, is not shown again that its key is absent.
 #[test]
 fn compute_remembers_what_it_inserts(rt: HostRuntime) {
-    let mut compute = Machine::new(Task::Compute, HASH, ResizeMode::Blocking, 1);
+    let mut compute = Machine::new(Task::Compute, HASH, ResizeMode::Blocking, 1, None);
     enters_root(&rt, &mut compute, 1);
     loads(&rt, &mut compute, 1, 2, EMPTY);
     shows_none(&rt, &mut compute, OpKind::Insert);
@@ -233,28 +229,26 @@ fn compute_remembers_what_it_inserts(rt: HostRuntime) {
     replies(&rt, &compute, Reply::Inserted(12));
 }
 
-/// The pair 3 was copied meanwhile: in the next table the closure is not shown it again.
+/// The pair 3 was copied meanwhile: in the next table the closure is not shown it again. The pair
+/// 12 has the key that stood in the first table, and so the next slot gets another with its value.
 #[test]
 fn compute_remembers_what_it_answered_to_a_pair(rt: HostRuntime) {
-    let mut compute = Machine::new(Task::Compute, HASH, ResizeMode::Incremental(64), 1);
+    let mut compute = Machine::new(Task::Compute, HASH, ResizeMode::Incremental(64), 1, None);
     enters_root(&rt, &mut compute, 1);
     loads(&rt, &mut compute, 1, 2, LIVE);
     compares(&rt, &mut compute, 3, true);
     decides(&rt, &mut compute, 3, OpKind::Insert);
-    makes_12(&rt, &mut compute);
+    told(&rt, &mut compute, Ask::MakeValue, Answer::Made(0));
+    makes_of_3(&rt, &mut compute, 12);
     replaces(&rt, &mut compute, LIVE, LIVE_12, Answer::Found(COPIED_3));
     compares(&rt, &mut compute, 3, true);
     told(&rt, &mut compute, Ask::Load(At::Next(1)), Answer::Word(2));
     enters(&rt, &mut compute, 2);
     loads(&rt, &mut compute, 2, 2, LIVE);
     compares(&rt, &mut compute, 3, true);
-    tries(
-        &rt,
-        &mut compute,
-        2,
-        LIVE,
-        StepKind::Replace,
-        Answer::Exchanged,
-    );
-    replies(&rt, &compute, Reply::Replaced { old: 3, new: 12 });
+    makes_of_3(&rt, &mut compute, 13);
+    is(&rt, compute.kind() == Some(StepKind::Replace), true);
+    let ask = Ask::Exchange(At::Slot(2, 2), LIVE, LIVE_13);
+    told(&rt, &mut compute, ask, Answer::Exchanged);
+    replies(&rt, &compute, Reply::Replaced { old: 3, new: 13 });
 }

@@ -17,9 +17,9 @@ use std::process::Abort;
 use std::test::Fail;
 
 /// An insertion into a new map makes so many steps: it loads the root, makes a table and opens it,
-/// learns its size, loads a hint and its slot, makes the key and the pair, claims the slot, counts,
-/// and writes the hint.
-const STEPS_OF_INSERT: usize = 11;
+/// learns its size, loads a hint and its slot, makes the key, the value and the pair, claims the
+/// slot, counts, and writes the hint.
+const STEPS_OF_INSERT: usize = 12;
 
 /// A removal of a pair that the map has, which agrees at once, makes so many steps: it loads the
 /// root, learns its size, loads the hint and the slot, compares the key, shows the pair, buries it,
@@ -28,13 +28,13 @@ const STEPS_OF_REMOVAL: usize = 8;
 
 /// A compute of a pair that the map has, whose closure answers an insertion, makes so many steps:
 /// it loads the root, learns its size, loads the hint and the slot, compares the key, shows the
-/// pair, makes the key and the new pair, and replaces the old one.
+/// pair, makes the value and the new pair of the old one's key, and replaces the old one.
 const STEPS_OF_UPDATE: usize = 9;
 
 /// A compute in a new map, whose closure answers an insertion, makes so many steps: it loads the
-/// root, shows that there is none, makes the key, the pair and a table, opens that, learns its
-/// size, loads a hint and its slot, claims that, counts, and writes the hint.
-const STEPS_OF_FILL: usize = 12;
+/// root, shows that there is none, makes the key, the value, the pair and a table, opens that,
+/// learns its size, loads a hint and its slot, claims that, counts, and writes the hint.
+const STEPS_OF_FILL: usize = 13;
 
 /// What is replied to callers 0 and 1, and to a lookup of 7 afterwards.
 type Replies = (Reply, Reply, Reply);

@@ -57,4 +57,4 @@ module _ {K V S F : Type 0} (g : Mut F (Bor K × (Bor V × Unit {0})) Bool) (mat
   abbrev pub IsRemovedAtOnce : (hashed : ℕ) → StoreState K V S → F → Reply → StoreState K V S → F
       → Type 0
   IsRemovedAtOnce hashed s f reply s' f' = (mode : ResizeMode) (initial : ℕ)
-      → IsRemovedFrom s f (itself (started RemoveIf hashed mode initial)) reply s' f'
+      → IsRemovedFrom s f (itself (started RemoveIf hashed mode initial None)) reply s' f'

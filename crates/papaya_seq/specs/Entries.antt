@@ -31,9 +31,15 @@ IsPut eq k v s (Err refused) s' = IsWriteCauseAt s (map_in eq s.store k) refused
     × Unchanged eq s.store s'.store × KeepsAndGrows s s'
 
 module _ {K V : Type 0} (eq : K → K → Bool) where
-  -- the class of the pair's key has the pair, and each other class has what it had
+  -- an entry of this value, of the key that is there, or else of this one
+  abbrev pub kept : Option (K × V) → K × V → K × V
+  kept None p = p
+  kept (Some there) p = (there.0, p.1)
+
+  -- the class of the pair's key has its value, by the key that it had, or else by this one, and each
+  -- other class has what it had
   abbrev pub put : Entries K V → K × V → Entries K V
-  put m p k = cond (eq k p.0) (Some p) (m k)
+  put m p k = cond (eq k p.0) (Some (kept (m p.0) p)) (m k)
 
   -- The pairs that the items show are put in one after the other, a later one in the place of an
   -- earlier one of its class.

@@ -14,7 +14,7 @@ use papaya_call::answers::{Listed, Operation};
 use papaya_chain::ask::{Answer, Ask};
 use papaya_chain::machine::Machine;
 use papaya_keys::compute::Computed;
-use papaya_store::pairs::{KeyOf, Running};
+use papaya_store::pairs::{Part, Running};
 use papaya_store::store::Store;
 use papaya_words::probe::Refused;
 use std::hash::{BuildHasher, Hash};
@@ -30,7 +30,7 @@ fn no_pair<K: Hash + Eq, V, S: BuildHasher>(_store: &Store<K, V, S>) -> Option<(
 fn show<K, V: Drop, T: Drop, F: FnOnce(Option<(&K, &V)>) -> Operation<V, T>>(
     shown: Option<(&K, &V)>,
     closure: &mut Option<F>,
-    value: &mut Option<V>,
+    value: &mut Option<Part<V>>,
     aborted: &mut Option<T>,
 ) -> CallAnswer
     requires { (f : F) × (closure.old ≡ Some f) × F.pre f shown }
@@ -43,7 +43,7 @@ fn show<K, V: Drop, T: Drop, F: FnOnce(Option<(&K, &V)>) -> Operation<V, T>>(
     };
     CallAnswer::Op(match f(shown) {
         Operation::Insert(made) => {
-            *value = Some(made);
+            *value = Some(Part::Own(made));
             OpKind::Insert
         }
         Operation::Remove => OpKind::Remove,
@@ -88,8 +88,15 @@ impl<K: Hash + Eq + Drop, V: Drop, S: BuildHasher> HashMap<K, V, S> {
         let hash = self.store.hash(&key);
         let number = copies_from(&self.store);
         let mut running: Running<K, V, Listed<V>> = Running {
-            machine: Machine::new(Task::Compute, hash, self.mode, self.initial, number),
-            key: KeyOf::Own(key),
+            machine: Machine::new(
+                Task::Compute,
+                hash,
+                self.mode,
+                self.initial,
+                number,
+                None,
+            ),
+            key: Part::Own(key),
             value: None,
             answers: None,
         };

@@ -4,6 +4,7 @@ ghost use Rattle.papaya_words.specs.declared.probe.Refused.{Refused};
 ghost use Rattle.papaya_keys.specs.Hashes.{hash_of};
 ghost use Rattle.papaya_timeline.specs.Content.{map_in};
 ghost use Rattle.papaya_timeline.specs.Solo.{IsAnswered, IsNewIn};
+ghost use Rattle.papaya_seq.specs.Drives.{value_left};
 ghost use Rattle.papaya_seq.specs.MadeAlone.{IsMadeAlone};
 ghost use Rattle.papaya_seq.specs.Map.{IsTryCause, IsWriteCauseAt, KeepsAndGrows, LogsOne, insertion};
 
@@ -15,16 +16,18 @@ use papaya_ask::call::{Reply, Task};
 use papaya_call::answers::Listed;
 use papaya_chain::ask::Ask;
 use papaya_chain::machine::Machine;
-use papaya_store::pairs::{KeyOf, Running};
+use papaya_store::pairs::{Part, Running};
 use std::hash::{BuildHasher, Hash};
 
 /// The value that a call was handed and has not logged.
 #[inline(always)]
 pub(crate) fn value_left<K: Drop, V, A: Drop>(running: Running<K, V, A>) -> Option<V>
-    ensures { result ≡ running.value }
+    ensures { result ≡ value_left running.value }
 {
-    let Running { value, .. } = running;
-    value
+    match running.value {
+        Some(Part::Own(value)) => Some(value),
+        _ => None,
+    }
 }
 
 impl<K: Hash + Eq + Drop, V: Drop, S: BuildHasher> HashMap<K, V, S> {
@@ -79,9 +82,10 @@ impl<K: Hash + Eq + Drop, V: Drop, S: BuildHasher> HashMap<K, V, S> {
                 self.mode,
                 self.initial,
                 number,
+                None,
             ),
-            key: KeyOf::Own(key),
-            value: Some(value),
+            key: Part::Own(key),
+            value: Some(Part::Own(value)),
             answers: None,
         };
         loop {

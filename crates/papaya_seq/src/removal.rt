@@ -170,7 +170,14 @@ impl<K: Hash + Eq + Drop, V: Drop, S: BuildHasher> HashMap<K, V, S> {
     {
         let hash = self.store.hash(key);
         let number = copies_from(&self.store);
-        let mut machine = Machine::new(Task::RemoveIf, hash, self.mode, self.initial, number);
+        let mut machine = Machine::new(
+            Task::RemoveIf,
+            hash,
+            self.mode,
+            self.initial,
+            number,
+            None,
+        );
         loop {
             let answer = match machine.ask() {
                 Ask::Call(ask) => match ask {

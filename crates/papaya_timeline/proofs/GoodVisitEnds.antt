@@ -2,7 +2,6 @@
 use Rattle.std.proofs.Common.{◌≡◌, inl, inr, ⊎_elim, ℕ, suc, Bool, true, false, cond, Option, None, Some, is_some, IsSome, List, [], ◌∷◌, ◌++◌, refl, sym, ◌∙◌, ap, subst, eq-eqb}
 use Rattle.std.proofs.lemmas.Bool.{cases_Bool}
 use Rattle.papaya_words.specs.Table.{TableWords}
-use Rattle.papaya_words.specs.declared.probe.ResizeMode.{ResizeMode}
 use Rattle.papaya_ask.specs.declared.call.Call.{Call}
 use Rattle.papaya_ask.specs.declared.call.Call.TheVariants.{Get, Insert, TryInsert, RemoveIf, Compute, Reserve, CopyAll, Clear, Retain, Walk}
 use Rattle.papaya_call.specs.Answers.{Says}
@@ -28,6 +27,7 @@ use Rattle.papaya_chain_rests.specs.VisitTold.{IsLastAnswer, count_of}
 use Rattle.papaya_chain_rests.specs.Visits.{HadPair, HasVisited}
 use Rattle.papaya_chain_rests.specs.Visits as visit_law
 use Rattle.papaya_store.specs.declared.visits.Visiting.{Visiting}
+use Rattle.papaya_store.specs.declared.mode.Mode.{Mode}
 
 -- a pair of which an answer is known was shown
 pub answered_shown : {P : Type 0} (l : List (P × Bool)) (p : P) (stays : Bool) → IsLastAnswer l p stays → WasShown l p
@@ -100,7 +100,7 @@ module _ {K V S : Type 0} (store : StoreState K V S) where
     not_had (m ∷ since) keyed logged (inl is) = not_pair m keyed.0 logged.0 (m k) refl is
     not_had (m ∷ since) keyed logged (inr x) = not_had since keyed.1 logged.1 x
 
-module _ {K V : Type 0} (eq : K → K → Bool) (hash : K → ℕ) (mode : ResizeMode) (tables : List TableWords) where
+module _ {K V : Type 0} (eq : K → K → Bool) (hash : K → ℕ) (mode : Mode) (tables : List TableWords) where
   abbrev g : Setting K (Stored K V)
   g = setting_of eq hash mode tables
 

@@ -2,7 +2,6 @@
 use Rattle.std.proofs.Common.{◌≡◌, ◌≢◌, ◌⊎◌, inl, inr, ⊎_elim, ℕ, Bool, true, false, cond, Option, None, Some, List, [], ◌∷◌, ◌++◌, slice_get, refl, sym, ◌∙◌, ap, subst, eq-eqb, append-nil, append_assoc}
 use Rattle.std.proofs.lemmas.Bool.{cases_Bool}
 use Rattle.papaya_words.specs.Table.{TableWords}
-use Rattle.papaya_words.specs.declared.probe.ResizeMode.{ResizeMode}
 use Rattle.papaya_ask.specs.declared.call.Call.{Call}
 use Rattle.papaya_call.specs.Answers.{Says}
 use Rattle.papaya_call.specs.declared.answers.Operation.{Operation}
@@ -28,6 +27,7 @@ use Rattle.papaya_chain.specs.declared.visitor.Visit.TheVariants as visits
 use Rattle.papaya_chain_rests.specs.VisitTaken.{IsTakenOut, takes_out}
 use Rattle.papaya_chain_rests.specs.VisitTold.{Hands, no_hands}
 use Rattle.papaya_store.specs.declared.visits.Visiting.{Visiting}
+use Rattle.papaya_store.specs.declared.mode.Mode.{Mode}
 
 -- what a caller's call has given, and what it was answered, after another's entry and after its own
 pub given_by-other : (c d turn : ℕ) (event : Event) (before : History) → c ≢ d → given_by d (entry turn c event ∷ before) ≡ given_by d before
@@ -117,7 +117,7 @@ module _ {K V : Type 0} (eq : K → K → Bool) where
   ]
 
   -- so each pair of the map has a key of its class
-  module _ (hash : K → ℕ) (mode : ResizeMode) (tables : List TableWords) (law : IsLawful (setting_of {V = V} eq hash mode tables)) where
+  module _ (hash : K → ℕ) (mode : Mode) (tables : List TableWords) (law : IsLawful (setting_of {V = V} eq hash mode tables)) where
     claim_keyed : (q : Stored K V) (k : K) (p : Stored K V) → Some q ≡ Some p → eq k q.key ≡ true → eq k p.key ≡ true
     claim_keyed q k p is here = let same : q ≡ p = cc in ap (λ (r : Stored K V). eq k r.key) (sym same) ∙ here
 

@@ -38,7 +38,6 @@ pub mod KeptCore
 pub mod KeptExchange
 pub mod KeptHints
 pub mod KeptLemmas
-pub mod KeptLogs
 pub mod KeptMade
 pub mod KeptMap
 pub mod KeptOthers
@@ -101,3 +100,5 @@ pub mod VisitAlone
 pub mod EntersOnce
 -- what is so at the end
 pub mod VisitOver
+pub mod MadePairs
+pub mod Waits
