@@ -102,3 +102,5 @@ pub mod EntersOnce
 pub mod VisitOver
 pub mod MadePairs
 pub mod Waits
+pub mod MadeBefore
+pub mod MadeStands

@@ -11,8 +11,19 @@ use Rattle.papaya_call.specs.Answers.{Says, op_kind}
 use Rattle.papaya_call.specs.declared.answers.Operation.{Operation}
 use Rattle.papaya_call.specs.declared.answers.Operation.TheVariants as operations
 use Rattle.papaya_call.specs.declared.machine.Machine.{Machine as Call_machine}
-use Rattle.papaya_call.specs.Machine.{HasClosure, IsStandingState, IsWriter}
+use Rattle.papaya_call.specs.Machine.{HasClosure, IsStandingState, IsWriter, found, goes_as}
 use Rattle.papaya_call.specs.Machine as calls
+use Rattle.papaya_call.specs.Compute.{recalls}
+use Rattle.papaya_call.specs.declared.compute.Choice.{Choice}
+use Rattle.papaya_call.specs.declared.compute.Choice.TheVariants.{Replace as To_replace, Remove as To_remove}
+use Rattle.papaya_call.specs.declared.compute.Purpose.{Purpose}
+use Rattle.papaya_call.specs.declared.compute.Remembered.{Remembered}
+use Rattle.papaya_call.specs.declared.made.Of.{Of}
+use Rattle.papaya_call.specs.declared.machine.State.{State as Stage}
+use Rattle.papaya_call.specs.declared.machine.State.TheVariants.{AtRoot, Making, Opening, Searching, Writing, Offering, Showing, Pairing, Putting, Burying, Counting, Noting, Uncounting, Leaving, Growing, Ended}
+use Rattle.papaya_ask.specs.declared.search.Place.{Place}
+use Rattle.papaya_ask.specs.declared.search.Seen.{Seen}
+use Rattle.papaya_words.specs.declared.probe.ResizeMode.{ResizeMode}
 use Rattle.papaya_rests.specs.Says.{MakesPair}
 use Rattle.papaya_store.specs.declared.pairs.Part.{Part}
 use Rattle.papaya_store.specs.declared.pairs.Part.TheVariants.{Own, Logged}
@@ -22,6 +33,21 @@ use Rattle.papaya_store.specs.Store.{StoreState}
 use Rattle.papaya_store.specs.Tables.{put, word_at}
 use Rattle.papaya_timeline.specs.Ends.{IsThere, IsToPair}
 use Rattle.papaya_timeline.proofs.StoreLemmas.{LogsOrNot, matched, of_logs, own_logs, part_logs}
+
+-- where its key's pair is met, a compute makes one again of what it answered before
+abbrev IsRecalled : Remembered → Type 0
+IsRecalled held = (old : ℕ) × (new : Of) × (held.choice ≡ Some (To_replace old new))
+
+recalls_pairs : (held : Remembered) (choice : Option Choice) → held.choice ≡ choice → (at : Place) (word n : ℕ) (purpose : Purpose) → recalls choice at word n ≡ Pairing purpose → IsRecalled held
+recalls_pairs held None is at word n purpose e = absurd cc
+recalls_pairs held (Some (To_replace old new)) is at word n purpose e = (old, new, is)
+recalls_pairs held (Some (To_remove old)) is at word n purpose e = search rules
+
+found_pairs : (task : Task) (held : Remembered) (at : Place) (word : ℕ) (purpose : Purpose) → found task held at word ≡ Pairing purpose → IsRecalled held
+found_pairs task held at word purpose e = search rules
+
+goes_pairs : (task : Task) (mode : ResizeMode) (held : Remembered) (s : Seen) (purpose : Purpose) → goes_as task mode held s ≡ Pairing purpose → IsRecalled held
+goes_pairs task mode held s purpose e = search rules
 
 -- a call that is to make a pair was before, or its closure answers a value now
 pub pairs_before : (m : Call_machine) (told : Call_answer) → IsToPair (calls.after m told) → IsToPair m ⊎ ((told ≡ Op op_kinds.Insert) × ((calls.ask_of m ≡ ShowNone) ⊎ ((n : ℕ) × (calls.ask_of m ≡ ShowPair n) × (m.task ≡ tasks.Compute))))
