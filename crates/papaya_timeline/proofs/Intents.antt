@@ -105,18 +105,18 @@ handed w made op v is (inl same) none = (v, is, same)
 handed w made op v is (inr so) none = absurd (none so)
 
 -- one that begins has made no pair
-made_none : {limit : Option ℕ} {n : ℕ} → HasMade (nothing_made limit) n → ⊥
-made_none (inl own) = cc
-made_none (inr (of, is, number)) = cc
+made_none : (limit : Option ℕ) (n : ℕ) → HasMade (nothing_made limit) n → ⊥
+made_none limit n (inl own) = cc
+made_none limit n (inr (of, is, number)) = cc
 
 -- A call that begins intends to store what it was handed.
 module _ {K V S A : Type 0} (store : StoreState K V S) (hash : K → ℕ) (mode : Mode) (initial number : ℕ) where
   pub begun_intends : (call : Call K V A) → IntendsHanded store call (begun_work hash mode initial number call)
   begun_intends (Get k) shown op h = absurd h
-  begun_intends (Insert k w) shown (ops.Insert v) h = handed w _ (ops.Insert v) v refl h (λ is. absurd (made_none is.1))
+  begun_intends (Insert k w) shown (ops.Insert v) h = handed w _ (ops.Insert v) v refl h (λ is. absurd (made_none mode.limit is.0 is.1))
   begun_intends (Insert k w) shown ops.Remove h = absurd h
   begun_intends (Insert k w) shown (ops.Abort t) h = absurd h
-  begun_intends (TryInsert k w) shown (ops.Insert v) h = handed w _ (ops.Insert v) v refl h (λ is. absurd (made_none is.1))
+  begun_intends (TryInsert k w) shown (ops.Insert v) h = handed w _ (ops.Insert v) v refl h (λ is. absurd (made_none mode.limit is.0 is.1))
   begun_intends (TryInsert k w) shown ops.Remove h = absurd h
   begun_intends (TryInsert k w) shown (ops.Abort t) h = absurd h
   begun_intends (RemoveIf k a) (Some n) ops.Remove h = absurd (begun_stands tasks.RemoveIf (hash k) mode.resize initial mode.limit (Agrees n true) h)

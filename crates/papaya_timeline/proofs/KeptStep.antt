@@ -22,7 +22,8 @@ use Rattle.papaya_chain_rests.specs.Told.{Hands, IsTold}
 use Rattle.papaya_law.specs.Code.{IsHashed}
 use Rattle.papaya_chain_rests.proofs.Learns.{all_learns}
 use Rattle.papaya_chain_rests.proofs.Order.{in_order}
-use Rattle.papaya_chain_rests.proofs.Replies.{chain_said, chain_shows, chain_task, machine_goes}
+use Rattle.papaya_chain_rests.proofs.Goes.{machine_goes}
+use Rattle.papaya_chain_rests.proofs.Replies.{chain_said, chain_shows, chain_task}
 use Rattle.papaya_store.specs.declared.pairs.Running.{Running}
 use Rattle.papaya_timeline.specs.Callers.{as_work, running, with_call}
 use Rattle.papaya_timeline.specs.Core.{CoreState, IsCore}
