@@ -128,7 +128,7 @@ module _ {Q K V S A : Type 0} (g : Setting Q (Stored K V)) (c : Coding Q (Stored
       let (v, there) = valued value has in
       let known = own_logged store r store' later a k v (owns ∙ is_key) (ap (value_at store.pairs) has ∙ there) logs in
       logged_pair MakePair e r.key (Logged (brought_by (length store.pairs) r.key)) a store' later logs k (owns ∙ is_key) (known.1 ∙ sym is_key)
-      (λ q same number made. inr (q, keyed q same, made ∙ ap Made_number (sym number), refl, refl)) numbered valued refl (λ slots limit chunks f. absurd cc)
+      (λ q same number made. inr (q, keyed q same, (made ∙ ap Made_number (sym number), refl, refl))) numbered valued refl (λ slots limit chunks f. absurd cc)
 
   -- of the key of the pair last loaded
   pub pair_of_made : (k : K) → own ≡ Some k → (n : ℕ) (p : Stored K V) → tale.hands.call.last ≡ Some p → pair_of store n ≡ Some p → ((q : Stored K V) → q.key ≡ p.key → g.key q ≡ g.key p) → ((q : Stored K V) → c.number q ≡ q.number)
@@ -141,7 +141,7 @@ module _ {Q K V S A : Type 0} (g : Setting Q (Stored K V)) (c : Coding Q (Stored
       let (v, there) = valued value has in
       let known = of_logged store r store' later a n p v loaded (ap (value_at store.pairs) has ∙ there) (first, from, logs) in
       logged_pair (MakePairOf n) e (Logged first) r.key a store' later logs p.key (key_from-same store n p loaded first from) (known.1 k (owns ∙ is_key) ∙ sym is_key)
-      (λ q same number made. inr (q, (λ p' told number'. let f : p ≡ p' = same_item p p' (sym last ∙ told) in keyed q same ∙ ap g.key f), made ∙ ap Made_number (sym number), refl, refl)) numbered valued refl (λ slots limit chunks f. absurd cc)
+      (λ q same number made. inr (q, (λ p' told number'. let f : p ≡ p' = same_item p p' (sym last ∙ told) in keyed q same ∙ ap g.key f), (made ∙ ap Made_number (sym number), refl, refl))) numbered valued refl (λ slots limit chunks f. absurd cc)
 
   -- a table, asked for by a call or by its copy
   pub table_made : (ask : Ask) → ask_of r.machine ≡ ask → (slots limit chunks : ℕ) (a : Call_answer) → Hears ask (answers.Call a) tale.hands → change_by (kind_of_ask r.machine) ask (answers.Call a) (change_in r.machine.call.state) ≡ change_in r.machine.call.state

@@ -233,7 +233,7 @@ module _ {K V S A : Type 0} (eq : K → K → Bool) (hash : K → ℕ) (law : Is
         | inr said ↦ inl (chain_answered before.machine a (machine_goes before.machine a order) said.told said.shown)
       ]
     ]
-    | inr (own, said, makes, told) ↦ (let m = made_now n (subst MakesOver (sym (ap (λ p. asks_in before.machine.call p) own.phase)) makes) (own.is ∙ ap answers.Call told) in inr (m.pair, m.there, m.after))
+    | inr (own, (said, makes, told)) ↦ (let m = made_now n (subst MakesOver (sym (ap (λ p. asks_in before.machine.call p) own.phase)) makes) (own.is ∙ ap answers.Call told) in inr (m.pair, m.there, m.after))
   ]
 
   -- so it rests on what is told of it after the step
