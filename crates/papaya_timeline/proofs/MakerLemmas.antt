@@ -23,10 +23,6 @@ use Rattle.papaya_store.specs.Tables.{put, word_at}
 use Rattle.papaya_timeline.specs.Ends.{IsThere, IsToPair}
 use Rattle.papaya_timeline.proofs.StoreLemmas.{LogsOrNot, matched, of_logs, own_logs, part_logs}
 
--- a call that is to make a pair was before, or its closure answers a value now
-pub pairs_before : (m : Call_machine) (told : Call_answer) → IsToPair (calls.after m told) → IsToPair m ⊎ ((told ≡ Op op_kinds.Insert) × ((calls.ask_of m ≡ ShowNone) ⊎ ((n : ℕ) × (calls.ask_of m ≡ ShowPair n) × (m.task ≡ tasks.Compute))))
-pairs_before m told pairs = search rules
-
 -- one that makes a pair is an insertion, or is to make it
 pub makes_for : (m : Call_machine) → IsStandingState m.task m.state → MakesPair (calls.ask_of m) → IsWriter m.task ⊎ IsToPair m
 makes_for m stands makes = search rules
