@@ -50,6 +50,7 @@ pub mod KeptWritten
 pub mod LegalLemmas
 pub mod LinkWords
 pub mod MachineLemmas
+pub mod PairsBefore
 pub mod MakerLemmas
 pub mod MakerSteps
 pub mod MadeTables

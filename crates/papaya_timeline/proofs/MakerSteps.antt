@@ -41,7 +41,8 @@ use Rattle.papaya_rests.specs.Says.{MakesPair}
 use Rattle.papaya_store.specs.Store.{StoreState, Stored, pair_of}
 use Rattle.papaya_timeline.specs.Ends.{HasValue, IsMaker, IsThere, IsToPair}
 use Rattle.papaya_timeline.proofs.KeptMade.{refusal}
-use Rattle.papaya_timeline.proofs.MakerLemmas.{answered_there, makes_for, pairs_before, shows_closure, shows_none, value_there}
+use Rattle.papaya_timeline.proofs.MakerLemmas.{answered_there, makes_for, shows_closure, shows_none, value_there}
+use Rattle.papaya_timeline.proofs.PairsBefore.{pairs_before}
 use Rattle.papaya_timeline.proofs.StoreLemmas.{matched}
 
 module _ {K V S A : Type 0} (eq : K → K → Bool) (says : Says K V A) (hash : S → K → ℕ) (refuse : Bool) (s : StoreState K V S) (r : Running K V A) (answer : Answer) (s' : StoreState K V S) (r' : Running K V A) (performs : PerformsAsk eq says hash refuse (ask_of r.machine) s r answer s' r')
