@@ -1,7 +1,7 @@
 -- A step gives what is under way no other intent than what a closure answers in it.
-use Rattle.std.proofs.Common.{◌≡◌, ◌⊎◌, inl, inr, ⊎_elim, ℕ, Bool, true, Option, None, Some, List, length, refl, sym, ◌∙◌, ap, subst, arith}
+use Rattle.std.proofs.Common.{◌≡◌, ◌⊎◌, inl, inr, ⊎_elim, ℕ, Bool, true, Option, None, Some, List, refl, sym, ◌∙◌, ap, subst}
 use Rattle.std.specs.Cmp.{IsEquivalence}
-use Rattle.papaya_ask.specs.declared.ask.Ask.TheVariants.{MakePair, ShowNone}
+use Rattle.papaya_ask.specs.declared.ask.Ask.TheVariants.{ShowNone}
 use Rattle.papaya_ask.specs.declared.ask.Answer.TheVariants.{Made as Made_number}
 use Rattle.papaya_ask.specs.declared.call.Reply.{Reply}
 use Rattle.papaya_ask.specs.declared.call.Task.TheVariants.{Compute}
@@ -10,19 +10,18 @@ use Rattle.papaya_call.specs.declared.answers.Operation.{Operation}
 use Rattle.papaya_call.specs.declared.answers.Operation.TheVariants as ops
 use Rattle.papaya_chain.specs.declared.ask.Ask.TheVariants as asks
 use Rattle.papaya_chain.specs.declared.ask.Answer.TheVariants as told_to
-use Rattle.papaya_chain.specs.Machine.{after, ask_of, follows_of, kind_of_ask}
+use Rattle.papaya_chain.specs.Machine.{after, ask_of, kind_of_ask}
 use Rattle.papaya_chain.specs.Resizer as resizer
 use Rattle.papaya_chain.specs.Visitor as visitor
 use Rattle.papaya_chain.specs.declared.machine.Machine.{Machine}
 use Rattle.papaya_chain_rests.specs.Goes.{IsInOrder}
 use Rattle.papaya_chain_rests.proofs.Goes.{machine_goes}
 use Rattle.papaya_chain_rests.proofs.Replies.{chain_said, chain_task}
-use Rattle.papaya_law.specs.Exchange.{Exchange, run, start as first_state}
+use Rattle.papaya_law.specs.Exchange.{Exchange}
 use Rattle.papaya_rests.specs.Rests.{RestsFill, RestsOf}
 use Rattle.papaya_rests.specs.Told.{IsOneOf}
 use Rattle.papaya_store.specs.declared.pairs.Running.{Running}
 use Rattle.papaya_store.specs.declared.visits.Visiting.{Visiting}
-use Rattle.papaya_store.specs.Asks.{PerformsAsk}
 use Rattle.papaya_store.specs.Store.{KeepsPairs, StoreState, Stored, pair_of}
 use Rattle.papaya_timeline.specs.declared.seat.Seat.{Seat}
 use Rattle.papaya_timeline.specs.declared.seat.Work.{Work}
@@ -46,9 +45,8 @@ use Rattle.papaya_timeline.proofs.KeptCore.{keys_lawful}
 use Rattle.papaya_timeline.proofs.KeptLemmas.{IsLawfulKeys, IsStep, kept_step}
 use Rattle.papaya_timeline.proofs.LawfulVisits.{visit_keeps}
 use Rattle.papaya_keys.specs.Hashes.{hash_of}
-use Rattle.papaya_store.proofs.Logs.{pair_below}
 use Rattle.papaya_timeline.proofs.MachineLemmas.{machine_offers}
-use Rattle.papaya_timeline.proofs.StepTells.{answering as answered_by, told_made}
+use Rattle.papaya_timeline.proofs.StepTells.{answering as answered_by}
 use Rattle.papaya_timeline.proofs.TellLemmas.{IsAnswering}
 use Rattle.papaya_timeline.proofs.TiedLemmas.{HasMoreLogs, KeepsParts, grown, same_parts}
 use Rattle.papaya_store.specs.Performs.{own_value}

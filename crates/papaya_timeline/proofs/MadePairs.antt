@@ -1,7 +1,6 @@
 -- A pair that was made has the value that its call had, and has still.
-use Rattle.std.proofs.Common.{◌≡◌, ℕ, ◌+◌, length, slice_get, Bool, Some, None, ◌⊎◌, inl, inr, sym, ◌∙◌, ap, subst, refl}
+use Rattle.std.proofs.Common.{◌≡◌, ℕ, length, Bool, Some, ◌⊎◌, inl, inr, sym, ◌∙◌, ap, refl}
 use Rattle.papaya_words.specs.declared.limits.TheConstants.{MAX_LOG_LEN}
-use Rattle.papaya_ask.specs.declared.ask.Ask.{Ask as Call_ask}
 use Rattle.papaya_ask.specs.declared.ask.Ask.TheVariants.{MakePair, MakePairOf}
 use Rattle.papaya_ask.specs.declared.ask.Answer.{Answer as Call_answer}
 use Rattle.papaya_ask.specs.declared.ask.Answer.TheVariants.{Made as Made_number}

@@ -1,5 +1,5 @@
 -- A call has the value that it is to make pairs of.
-use Rattle.std.proofs.Common.{rules, ◌≡◌, ◌⊎◌, inl, inr, ℕ, ◌==◌, Bool, Option, None, Some, refl, sym, ◌∙◌, ap, subst}
+use Rattle.std.proofs.Common.{rules, ◌≡◌, ◌⊎◌, inl, inr, ℕ, Bool, Option, None, Some, refl, sym, ◌∙◌, ap, subst}
 use Rattle.papaya_ask.specs.declared.ask.Ask.{Ask as Call_ask}
 use Rattle.papaya_ask.specs.declared.ask.Ask.TheVariants.{Load, Exchange, LoadHint, WriteHint, SameKey, ShowNone, ShowPair, SizeOf, MakeKey, MakeValue, MakePair, MakePairOf, MakeTable, AddToShard, Done as Ask_done}
 use Rattle.papaya_ask.specs.declared.ask.Answer.{Answer as Call_answer}
@@ -15,11 +15,10 @@ use Rattle.papaya_call.specs.Machine.{HasClosure, IsStandingState, IsWriter}
 use Rattle.papaya_call.specs.Machine as calls
 use Rattle.papaya_rests.specs.Says.{MakesPair}
 use Rattle.papaya_store.specs.declared.pairs.Part.{Part}
-use Rattle.papaya_store.specs.declared.pairs.Part.TheVariants.{Own, Logged}
+use Rattle.papaya_store.specs.declared.pairs.Part.TheVariants.{Own}
 use Rattle.papaya_store.specs.declared.pairs.Running.{Running}
 use Rattle.papaya_store.specs.Performs.{Decides, Performs, ShowsPair, value_answered}
 use Rattle.papaya_store.specs.Store.{StoreState}
-use Rattle.papaya_store.specs.Tables.{put, word_at}
 use Rattle.papaya_timeline.specs.Ends.{IsThere, IsToPair}
 use Rattle.papaya_timeline.proofs.StoreLemmas.{LogsOrNot, matched, of_logs, own_logs, part_logs}
 

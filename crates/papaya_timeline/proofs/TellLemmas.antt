@@ -1,6 +1,5 @@
 -- What the event of an ask of a call tells of the ask and the answer, what a closure answered to it, and which value is at hand after it.
-use Rattle.std.proofs.Common.{◌≡◌, ◌⊎◌, inl, inr, ⊎_elim, ℕ, ◌==◌, Bool, true, false, Option, None, Some, List, ◌∷◌, length, refl, sym, ◌∙◌, ap, subst}
-use Rattle.papaya_words.specs.declared.limits.TheConstants.{MAX_LOG_LEN}
+use Rattle.std.proofs.Common.{◌≡◌, ◌⊎◌, inl, inr, ⊎_elim, ℕ, ◌==◌, Bool, true, false, Option, None, Some, List, ◌∷◌, refl, sym, ◌∙◌, ap, subst}
 use Rattle.papaya_call.specs.Answers.{Says, op_kind}
 use Rattle.papaya_call.specs.declared.answers.Operation.{Operation}
 use Rattle.papaya_ask.specs.declared.ask.At.{At}
