@@ -86,8 +86,8 @@ module _ {K V S : Type 0} (eq : K → K → Bool) (hash : S → K → ℕ) where
     pub meant : IsMeant at kind new made brings log step
     pub allowed : Allows (setting_with eq (hash b.hasher) b.mode b.limit brings log) (state_of log)
         (exchange_of step)
-    pub written : IsWritten (setting_of eq (hash b.hasher) b.mode b.limit log) (coding_of (hash b.hasher))
-        (state_of log) at new (after (state_of log) (exchange_of step))
+    pub written : IsWritten (setting_of eq (hash b.hasher) b.mode b.limit log)
+        (coding_of (hash b.hasher)) (state_of log) at new (after (state_of log) (exchange_of step))
 
   abbrev pub CanExchange : Begun K V S → At → Option StepKind → (old new : ℕ) → Option (Stored K V)
       → Named K V → List (Event K V S) → Type 0

@@ -60,7 +60,8 @@ module _ {K V S : Type 0} where
     pub record IsLawfulLog (b : Begun K V S) (log : List (Event K V S)) : Type 0 where
       pub rest : List (Event K V S)
       pub is : log ≡ Begin b ∷ rest
-      pub allowed : AllAllowed (setting_of eq (hash b.hasher) b.mode b.limit log) start (exchanges_of log)
+      pub allowed : AllAllowed (setting_of eq (hash b.hasher) b.mode b.limit log) start
+          (exchanges_of log)
       pub sized : AllSized (entries_of log)
       pub placed : (n : Named K V) → Entered n log → IsPlaced b (name_in log) n
       -- a table that has not come is blank, and before there is a root none has come
