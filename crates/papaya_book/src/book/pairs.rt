@@ -1,7 +1,7 @@
 //! Pairs in the log of pairs: what they hold, and logging what callers put into a map.
 ghost use Rattle.papaya_book.specs.Books.{IsIn};
 ghost use Rattle.std.specs.Prelude.{◌≡◌, None, Some, IfErr, IfOk, [], ◌∷◌};
-ghost use Rattle.boxcar.specs.Table.{Shows};
+ghost use Rattle.boxcar.specs.Table.{Shows, id_at};
 ghost use Rattle.papaya_book.specs.Brought.{IsBrought, pair_held};
 ghost use Rattle.papaya_book.specs.PairParts.{IsKeyPartIn, IsValuePartIn, key_in, value_in};
 ghost use Rattle.papaya_book.specs.Pairs.{IsKeyIn, IsValueIn};
@@ -39,6 +39,22 @@ impl<K: Hash + Eq, V, S: BuildHasher> Book<K, V, S> {
         self.parts.pairs.value(stored)
     }
 
+    /// Its key and its value. The first two kinds, of a fresh pair and of one that took another's
+    /// place, are told apart by a test each, and the rare ones out of line.
+    #[inline(always)]
+    pub fn entry<'a>(&'a self, pair: &'a Pair<K, V>) -> (&'a K, &'a V)
+        requires key { IsKeyIn self.now.parts.pairs pair.now.key }
+        requires value { IsValueIn self.now.parts.pairs pair.now }
+        ensures key { result.0.now ≡ pair.now.key.value }
+        ensures value { result.1.now ≡ pair.now.value }
+    {
+        match &pair.held {
+            Held::Own(key, value) => (key, value),
+            Held::Keyed(first, value) => (self.key_of_first(first), value),
+            _ => (self.key_apart(pair), self.value_apart(pair)),
+        }
+    }
+
     /// Its key.
     #[inline(always)]
     pub fn key<'a>(&'a self, pair: &'a Pair<K, V>) -> &'a K
@@ -47,15 +63,53 @@ impl<K: Hash + Eq, V, S: BuildHasher> Book<K, V, S> {
     {
         match &pair.held {
             Held::Own(key, _) => key,
-            Held::Lent(key, _) => key,
-            Held::Keyed(first, _) => self.parts.pairs.value(&first_of(first)).brought_key(),
-            Held::Both(first, _) => self.parts.pairs.value(&first_of(first)).brought_key(),
+            Held::Keyed(first, _) => self.key_of_first(first),
+            _ => self.key_apart(pair),
         }
     }
 
     /// Its value.
     #[inline(always)]
     pub fn value<'a>(&'a self, pair: &'a Pair<K, V>) -> &'a V
+        requires { IsValueIn self.now.parts.pairs pair.now }
+        ensures { result.now ≡ pair.now.value }
+    {
+        match &pair.held {
+            Held::Own(_, value) => value,
+            Held::Keyed(_, value) => value,
+            _ => self.value_apart(pair),
+        }
+    }
+
+    /// The key of the pair that brought it.
+    #[inline(always)]
+    fn key_of_first<'a>(&'a self, first: &'a Pushed<Shown<K, V>>) -> &'a K
+        requires in_log { first.now.row ≡ id_at self.now.parts.pairs.buckets first.now.bucket }
+        requires brought { first.now.value.key.at ≡ None }
+        ensures { result.now ≡ first.now.value.key.value }
+    {
+        self.parts.pairs.value(&first_of(first)).brought_key()
+    }
+
+    /// Its key, whatever kind of pair it is.
+    #[cold]
+    #[inline(never)]
+    fn key_apart<'a>(&'a self, pair: &'a Pair<K, V>) -> &'a K
+        requires { IsKeyIn self.now.parts.pairs pair.now.key }
+        ensures { result.now ≡ pair.now.key.value }
+    {
+        match &pair.held {
+            Held::Own(key, _) => key,
+            Held::Lent(key, _) => key,
+            Held::Keyed(first, _) => self.key_of_first(first),
+            Held::Both(first, _) => self.key_of_first(first),
+        }
+    }
+
+    /// Its value, whatever kind of pair it is.
+    #[cold]
+    #[inline(never)]
+    fn value_apart<'a>(&'a self, pair: &'a Pair<K, V>) -> &'a V
         requires { IsValueIn self.now.parts.pairs pair.now }
         ensures { result.now ≡ pair.now.value }
     {
