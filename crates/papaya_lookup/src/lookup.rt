@@ -99,7 +99,7 @@ fn read_at<'a, K: Hash + Eq, V, S: BuildHasher, Q: Equivalent<K>>(
             let compared = Search::Comparing(at, word).at_yes(same);
             match compared {
                 Seen::Here(..) => {
-                    let entry = (stored_key, pair.value());
+                    let entry = (stored_key, book.value(pair));
                     let met = Met {
                         place: at,
                         word,
