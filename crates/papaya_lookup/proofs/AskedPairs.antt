@@ -1,4 +1,4 @@
--- The pair that a machine asks to put in is one that its call made for the place: of the call's own key where the place is empty, and else of the key that is there.
+-- Which of its pairs a machine asks to put in, and by an exchange of which kind.
 use Rattle.std.proofs.Common.{◌≡◌, ⊎_elim, ℕ, ◌==◌, eqb-true, Bool, true, false, cond, MatchBool, Option, None, Some, List, sym, ap, ◌∙◌, subst, refl}
 use Rattle.std.proofs.lemmas.Bool.{and_parts}
 use Rattle.papaya_words.specs.Word.{live_word, pair_of}
@@ -10,7 +10,6 @@ use Rattle.papaya_ask.specs.declared.call.Task.{Task}
 use Rattle.papaya_ask.specs.declared.call.Task.TheVariants.{Get, Insert, RemoveIf, Compute}
 use Rattle.papaya_ask.specs.declared.search.Place.{Place}
 use Rattle.papaya_ask.specs.declared.search.Search.TheVariants.{Sizing, Looking, Reading, Comparing}
-use Rattle.papaya_call.specs.declared.compute.Remembered.{Remembered}
 use Rattle.papaya_call.specs.declared.machine.Machine.{Machine}
 use Rattle.papaya_call.specs.declared.machine.State.{State as Stage}
 use Rattle.papaya_call.specs.declared.machine.State.TheVariants.{AtRoot, Making, Opening, Searching, Writing, Offering, Showing, Pairing, Putting, Burying, Counting, Noting, Uncounting, Leaving, Growing, Ended}
@@ -20,13 +19,8 @@ use Rattle.papaya_call.specs.declared.write.Write.{Write}
 use Rattle.papaya_call.specs.Made.{serves_at}
 use Rattle.papaya_call.specs.Machine.{HasClosure, IsComputer, IsStandingState, IsWriter, ask_of, asks, kind_asked, kind_of_ask, served_kind}
 use Rattle.papaya_call.specs.Write.{put_ask, served_ask, served_of, serves, write_kind}
-use Rattle.papaya_law.specs.Code.{Coding}
-use Rattle.papaya_law.specs.Exchange.{Exchange, Setting}
-use Rattle.papaya_rests.specs.Rests.{IsOwnPair, IsPairAt, IsPairFor, Rests, RestsHands, RestsStage}
-use Rattle.papaya_rests.specs.Told.{Hands}
 use Rattle.papaya_rests.proofs.Makings.{IsPairAsk, pair_asks, pairing_asks}
 use Rattle.papaya_rests.proofs.NewWords.{pair_of-live_word}
-use Rattle.papaya_rests.proofs.RestsServed.{served_pair}
 use Rattle.papaya_book.specs.Plays.{IsPutting}
 
 -- a burial puts none in
@@ -43,40 +37,6 @@ module _ (Holds : (t x old n : ℕ) → Type 0) where
       let is : live_word n ≡ new = cc e in
       let number : n ≡ pair_of new = sym (pair_of-live_word n) ∙ ap pair_of is in
       subst (λ z. Holds z x old (pair_of new)) table (subst (λ z. Holds write.place.table z old (pair_of new)) place (subst (λ z. Holds write.place.table write.place.probe.i z (pair_of new)) word (subst (Holds write.place.table write.place.probe.i write.old) number holds)))
-
-module _ {K P : Type 0} (g : Setting K P) (c : Coding K P) (begun since : List (Exchange P)) (k : K) (hands : Hands P) where
-  -- the pair of this number may stand in the slot where this word is
-  abbrev pub IsPairTo : (t x old n : ℕ) → Type 0
-  IsPairTo t x old n = MatchBool (old == 0) (IsOwnPair g c begun since k hands n) (IsPairAt g c begun since k hands n t x)
-
-  write_puts : (made : Made) (held : Remembered) → RestsHands g c begun since k hands made held → (write : Write) (served : Option ℕ) → serves made write ≡ served → (t x old new : ℕ) → served_ask served write made ≡ Ask_exchange (Slot t x) old new → IsPairTo t x old (pair_of new)
-  write_puts made held r write None is t x old new e = absurd (subst IsPairAsk e (pair_asks made write.old))
-  write_puts made held r write (Some n) is t x old new e = of_ask IsPairTo write n (served_pair g c begun since k hands made held r write n is) t x old new e
-
-  put_in_stage : (task : Task) (hash : ℕ) (made : Made) (held : Remembered) → RestsHands g c begun since k hands made held → (stage : Stage) → RestsStage g c begun since k hands task stage → (t x old new : ℕ) → asks made hash stage ≡ Ask_exchange (Slot t x) old new → IsPutting (kind_asked made stage) → IsPairTo t x old (pair_of new)
-  put_in_stage task hash made held m AtRoot r t x old new e puts = absurd cc
-  put_in_stage task hash made held m Making r t x old new e puts = absurd cc
-  put_in_stage task hash made held m (Opening u) r t x old new e puts = absurd cc
-  put_in_stage task hash made held m (Searching (Sizing u)) r t x old new e puts = absurd cc
-  put_in_stage task hash made held m (Searching (Looking place)) r t x old new e puts = absurd cc
-  put_in_stage task hash made held m (Searching (Reading place)) r t x old new e puts = absurd cc
-  put_in_stage task hash made held m (Searching (Comparing place word)) r t x old new e puts = absurd cc
-  put_in_stage task hash made held m (Writing write) r t x old new e puts = write_puts made held m write (serves made write) refl t x old new e
-  put_in_stage task hash made held m (Offering gap) r t x old new e puts = absurd cc
-  put_in_stage task hash made held m (Showing removal) r t x old new e puts = absurd cc
-  put_in_stage task hash made held m (Pairing purpose) r t x old new e puts = absurd (subst IsPairAsk e (pairing_asks made purpose))
-  put_in_stage task hash made held m (Putting put) r t x old new e puts = of_ask IsPairTo put.write put.pair r.2 t x old new e
-  put_in_stage task hash made held m (Burying removal) r t x old new e puts = absurd (not_buried (kind_asked made (Burying removal)) refl puts)
-  put_in_stage task hash made held m (Counting n) r t x old new e puts = absurd cc
-  put_in_stage task hash made held m (Noting n) r t x old new e puts = absurd cc
-  put_in_stage task hash made held m (Uncounting n) r t x old new e puts = absurd cc
-  put_in_stage task hash made held m (Leaving u) r t x old new e puts = absurd cc
-  put_in_stage task hash made held m (Growing u) r t x old new e puts = absurd cc
-  put_in_stage task hash made held m (Ended reply) r t x old new e puts = absurd cc
-
-  -- the machine's exchange that puts a pair in puts in one that was made for the place
-  pub asked_pair : (m : Machine) → Rests g c begun since k m hands → (t x old new : ℕ) → ask_of m ≡ Ask_exchange (Slot t x) old new → IsPutting (kind_of_ask m) → IsPairTo t x old (pair_of new)
-  asked_pair m r t x old new e puts = put_in_stage m.task m.hash m.made m.remembered r.made m.state r.stage t x old new e puts
 
 -- An insertion puts in the pair of the call's key, or the one that it made for this very place.
 abbrev pub IsServed : Made → (t x old n : ℕ) → Type 0

@@ -1,5 +1,5 @@
 -- What a machine rests on makes its exchanges possible, and what the calls of a book tell is what machines are to be told.
-use Rattle.std.proofs.Common.{◌≡◌, inl, inr, ℕ, Bool, true, Option, None, Some, List, ◌++◌, ◌==◌, cond, false, MatchBool, refl, sym, ap, ◌∙◌, subst, append_assoc}
+use Rattle.std.proofs.Common.{◌≡◌, inl, inr, ℕ, Bool, true, Option, None, Some, List, ◌++◌, refl, sym, ap, ◌∙◌, subst, append_assoc}
 use Rattle.papaya_words.specs.Word.{pair_of}
 use Rattle.std.specs.Cmp.{IsEquivalence}
 use mathlib.Core.List.{IsPrefix}
@@ -37,7 +37,6 @@ use Rattle.papaya_book.specs.Logs.{Stored, coding_of, exchanges_of, setting_of, 
 use Rattle.papaya_book.specs.Plays.{CanExchange, IsCallAsked, IsPutting, MayStep, Numbered, made_list}
 use Rattle.papaya_book.specs.Rule.{IsLawfulLog, word_in}
 use Rattle.papaya_book.proofs.Logs.{exchanges_of-append}
-use Rattle.papaya_lookup.proofs.AskedPairs.{asked_kind}
 use Rattle.papaya_lookup.proofs.KeptKeys.{HasKeyAt, key_at_stays}
 use Rattle.papaya_lookup.proofs.Namesakes.{claimed_instead, replaced_instead, written_instead}
 use Rattle.papaya_lookup.proofs.Readings.{IsQuery, allowed_with, coding, fed, hashed_with, setting}
@@ -217,9 +216,9 @@ module _ {K V S H : Type 0} (eq : K → K → Bool) (input : K → List (List �
         };
       }
 
-  -- A pair of this key may stand in the slot where this word is: of the call's own key where the slot is empty, and else of the key that is there.
-  abbrev pub IsKeyFor : List (Event K V S) → (t x old : ℕ) → K → Type 0
-  IsKeyFor log t x old key = MatchBool (old == 0) (Some key ≡ k) (HasKeyAt log t x key)
+  -- A pair of this key may be put in by an exchange of this kind: it is claimed with the call's own key, and replaces one of its key.
+  abbrev pub IsKeyFor : List (Event K V S) → Option StepKind → (t x : ℕ) → K → Type 0
+  IsKeyFor log kind t x key = (kind ≡ Some kinds.Claim → Some key ≡ k) × (kind ≡ Some kinds.Replace → HasKeyAt log t x key)
 
   module _ (log : List (Event K V S)) (hands : Hands (Stored K V)) (t x new : ℕ) where
     -- a pair that the call made is put in, where one of its number was asked for
@@ -253,12 +252,9 @@ module _ {K V S H : Type 0} (eq : K → K → Bool) (input : K → List (List �
             written = written_instead (plain log) c p q key (own.named ∙ number) (state_of log) t x (Slot t x) new (subst (λ (e : Exchange (Stored K V)). IsWritten (plain log) c (state_of log) (Slot t x) new (after_exchange (state_of log) e)) is g.written);
           }
 
-      may_put : (old : ℕ) → IsKeyFor log t x old (key_of q) → (kind : Option StepKind) → kind ≡ Some (cond (old == 0) kinds.Claim kinds.Replace) → IsGranted log kind hands (Slot t x) new → MayPut kind
-      may_put old for kind is g = subst MayPut (sym is) (by_old (old == 0) for (subst (λ (z : Option StepKind). IsGranted log z hands (Slot t x) new) is g))
-        where
-          by_old : (empty : Bool) → MatchBool empty (Some (key_of q) ≡ k) (HasKeyAt log t x (key_of q)) → IsGranted log (Some (cond empty kinds.Claim kinds.Replace)) hands (Slot t x) new → MayPut (Some (cond empty kinds.Claim kinds.Replace))
-          by_old true own h = may_claim own h
-          by_old false there h = may_replace there h
+      may_put : (kind : Option StepKind) → IsPutting kind → IsKeyFor log kind t x (key_of q) → IsGranted log kind hands (Slot t x) new → MayPut kind
+      may_put kind (inl is) for g = subst MayPut (sym is) (may_claim (for.0 is) (subst (λ (z : Option StepKind). IsGranted log z hands (Slot t x) new) is g))
+      may_put kind (inr is) for g = subst MayPut (sym is) (may_replace (for.1 is) (subst (λ (z : Option StepKind). IsGranted log z hands (Slot t x) new) is g))
 
     -- a pair is taken out
     abbrev MayBury : Option StepKind → Type 0
@@ -274,19 +270,15 @@ module _ {K V S H : Type 0} (eq : K → K → Bool) (input : K → List (List �
           written = subst (λ (e : Exchange (Stored K V)). IsWritten (plain log) c (state_of log) (Slot t x) new (after_exchange (state_of log) e)) by g.written;
         })
 
-  -- the key of a slot stays, so that a pair which may stand there may do so later
-  pub key_for_stays : (v log : List (Event K V S)) → IsLawfulLog eq hash b log → IsPrefix v log → (t x old : ℕ) (key : K) → IsKeyFor v t x old key → IsKeyFor log t x old key
-  key_for_stays v log l pre t x old key for = by_old (old == 0) for
-    where
-      by_old : (empty : Bool) → MatchBool empty (Some key ≡ k) (HasKeyAt v t x key) → MatchBool empty (Some key ≡ k) (HasKeyAt log t x key)
-      by_old true own = own
-      by_old false there = key_at_stays eq input build write finish classes respects b v log l pre t x key there
+  -- which it may later too, since the key of a filled slot stays
+  key_for_stays : (v log : List (Event K V S)) → IsLawfulLog eq hash b log → IsPrefix v log → (kind : Option StepKind) (t x : ℕ) (key : K) → IsKeyFor v kind t x key → IsKeyFor log kind t x key
+  key_for_stays v log l pre kind t x key for = (for.0, λ is. key_at_stays eq input build write finish classes respects b v log l pre t x key (for.1 is))
 
   module _ (v : List (Event K V S)) (l : IsLawfulLog eq hash b v) (m : Machine) (hands : Hands (Stored K V)) (r : IsResting v m hands) (t x old new : ℕ) (asks : ask_of m ≡ Ask_exchange (Slot t x) old new) where
     -- An exchange that puts a pair in may be tried with any pair that has the number asked for and the right key.
-    pub can_put : IsPutting (kind_of_ask m) → (q : Stored K V) → IsKeyFor v t x old (key_of q) → pair_of new ≡ q.index → CanExchange eq hash b (Slot t x) (kind_of_ask m) old new (Some q) (names.Pair q) v
+    pub can_put : IsPutting (kind_of_ask m) → (q : Stored K V) → IsKeyFor v (kind_of_ask m) t x (key_of q) → pair_of new ≡ q.index → CanExchange eq hash b (Slot t x) (kind_of_ask m) old new (Some q) (names.Pair q) v
     can_put kind q for number log pre l' stands =
-        may_put log hands t x new q number old (key_for_stays v log l' pre t x old (key_of q) for) (kind_of_ask m) (asked_kind m t x old new asks kind) (can_exchange v l m hands r (Slot t x) old new asks log pre l' stands)
+        may_put log hands t x new q number (kind_of_ask m) kind (key_for_stays v log l' pre (kind_of_ask m) t x (key_of q) for) (can_exchange v l m hands r (Slot t x) old new asks log pre l' stands)
 
     -- An exchange that takes a pair out may be tried with no pair, whatever the call has made.
     pub can_bury : kind_of_ask m ≡ Some kinds.Bury → CanExchange eq hash b (Slot t x) (kind_of_ask m) old new None names.Nothing v
