@@ -175,7 +175,7 @@ numbered_none n e = ap numbered e
 -- A lookup was told this number, and holds the table.
 pub record IsHeld {K V S H : Type 0} (eq : K → K → Bool) (hash : S → K → ℕ) (matches : K → Bool) (query : S → ℕ) (begun : List (Exchange (Stored K V))) (h : ℕ) (book : Book K V S H) (log : List (Event K V S)) (number : ℕ) (held : Option (Bor Sheet)) : Type 0 where
   pub pair : Option (Stored K V)
-  pub reading : IsReading eq hash (begun_of book.parts) matches (query book.parts.hasher) begun log (lookup_at h book.parts.mode (numbered number)) held pair
+  pub reading : IsReading eq hash (begun_of book.parts) matches (query book.parts.hasher) begun log (lookup_at h book.parts.mode book.parts.limit (numbered number)) held pair
   pub names : MatchOption held (number ≡ 0) (λ r. IsTable log number r.now × (r.now.book ≡ book.begun.book))
 
 -- the pair that is held is the one last told of
