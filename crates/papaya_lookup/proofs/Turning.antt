@@ -19,7 +19,7 @@ use Rattle.papaya_ask.specs.declared.search.Search.TheVariants.{Sizing, Looking,
 use Rattle.papaya_ask.specs.declared.search.Seen.{Seen}
 use Rattle.papaya_ask.specs.declared.search.Seen.TheVariants.{On, Empty, Here, Over}
 use Rattle.papaya_call.specs.Compute.{nothing}
-use Rattle.papaya_call.specs.Machine.{IsStandingState, goes_as, passes, started}
+use Rattle.papaya_call.specs.Machine.{goes_as, passes, started}
 use Rattle.papaya_ask.specs.Search.{IsSeen, IsSize, IsWithin, at_yes, first_place, go_on, hinted, look, look_at, match_at, next_place}
 use Rattle.papaya_rests.specs.Told.{or_last}
 use Rattle.papaya_rests.proofs.LoadsLeft.{chosen}

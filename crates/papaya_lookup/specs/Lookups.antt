@@ -70,8 +70,8 @@ module _ {K V S : Type 0} where
   -- the setting of a log, with what is looked up as a further key
   abbrev pub setting_for : (K → K → Bool) → (S → K → ℕ) → Begun K V S → (K → Bool) → ℕ
       → List (Event K V S) → Setting (Option K) (Stored K V)
-  setting_for eq hash b matches fed log = with_key (setting_of eq (hash b.hasher) b.mode b.limit log)
-      matches fed
+  setting_for eq hash b matches fed log =
+      with_key (setting_of eq (hash b.hasher) b.mode b.limit log) matches fed
 
 abbrev pub coding_for : {K V S : Type 0} → (S → K → ℕ) → S → ℕ → Coding (Option K) (Stored K V)
 coding_for hash hasher fed = coding_with (coding_of (hash hasher)) fed
