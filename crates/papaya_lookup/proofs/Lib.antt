@@ -1,5 +1,6 @@
 -- what machines are told
 pub mod AskedPairs
+pub mod KeptKeys
 pub mod Namesakes
 pub mod Driving
 pub mod Replies

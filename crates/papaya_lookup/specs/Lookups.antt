@@ -70,8 +70,8 @@ module _ {K V S : Type 0} where
   -- the setting of a log, with what is looked up as a further key
   abbrev pub setting_for : (K → K → Bool) → (S → K → ℕ) → Begun K V S → (K → Bool) → ℕ
       → List (Event K V S) → Setting (Option K) (Stored K V)
-  setting_for eq hash b matches fed log = with_key (setting_of eq (hash b.hasher) b.mode log)
-      matches fed
+  setting_for eq hash b matches fed log =
+      with_key (setting_of eq (hash b.hasher) b.mode b.limit log) matches fed
 
 abbrev pub coding_for : {K V S : Type 0} → (S → K → ℕ) → S → ℕ → Coding (Option K) (Stored K V)
 coding_for hash hasher fed = coding_with (coding_of (hash hasher)) fed
@@ -96,8 +96,8 @@ pub record IsReading {K V S : Type 0} (eq : K → K → Bool) (hash : S → K �
       (Some p)
 
 -- the machine of a lookup that stands here
-abbrev pub lookup_at : (hash : ℕ) → ResizeMode → Stage → Machine
-lookup_at hash mode stage = record (started Get hash mode 0) { state = stage }
+abbrev pub lookup_at : (hash : ℕ) → ResizeMode → (limit : Option ℕ) → Stage → Machine
+lookup_at hash mode limit stage = record (started Get hash mode 0 limit) { state = stage }
 
 -- The lookup's machine, that nothing runs, would stand here by now. It rests on this table, and on
 -- some pair that it was told of last.
@@ -105,7 +105,7 @@ abbrev pub IsReadingAt : {K V S : Type 0} → (K → K → Bool) → (S → K �
     → ℕ → List (Exchange (Stored K V)) → ℕ → List (Event K V S) → Stage → Sheet → Type 0
 IsReadingAt {K} {V} eq hash b matches fed begun h log stage table = (lent : Bor Sheet)
     × (lent.now ≡ table) × (pair : Option (Stored K V))
-    × IsReading eq hash b matches fed begun log (lookup_at h b.mode stage) (Some lent) pair
+    × IsReading eq hash b matches fed begun log (lookup_at h b.mode b.limit stage) (Some lent) pair
 
 -- where a search goes on that has found no pair
 abbrev pub turn_of : {M E : Type 0} → Seen → Turn M E
@@ -146,7 +146,7 @@ pub record IsTurned {K V S : Type 0} (eq : K → K → Bool) (hash : S → K →
   pub pair : Option (Stored K V)
   pub number : ℕ
   pub reading : IsReading eq hash b matches fed begun log
-      (lookup_at h b.mode (led_to b.mode number turn)) (Some lent) pair
+      (lookup_at h b.mode b.limit (led_to b.mode number turn)) (Some lent) pair
   pub within : (at : Place) → turn ≡ turns.Next at → IsWithin at
   pub found : (met : Met K V) (entry : Bor K × Bor V) → turn ≡ turns.Found met entry
       → (pair ≡ Some met.stored) × (entry.0.now ≡ key_of met.stored)

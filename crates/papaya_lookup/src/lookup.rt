@@ -94,12 +94,12 @@ fn read_at<'a, K: Hash + Eq, V, S: BuildHasher, Q: Equivalent<K>>(
             let book = window.book;
             let stored = named_pair(word, trade);
             let pair = book.pair(&stored);
-            let stored_key = book.key(pair);
+            let (stored_key, value) = book.entry(pair);
             let same = key.equivalent(stored_key);
             let compared = Search::Comparing(at, word).at_yes(same);
             match compared {
                 Seen::Here(..) => {
-                    let entry = (stored_key, pair.value());
+                    let entry = (stored_key, value);
                     let met = Met {
                         place: at,
                         word,
