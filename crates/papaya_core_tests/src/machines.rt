@@ -1,5 +1,6 @@
 // What machines ask and reply over words that stand in tables: worked values, where specs and
 // code might agree and both be wrong.
+ghost use Rattle.std.specs.Prelude.{◌<◌, ◌^◌};
 ghost use Rattle.papaya_words.specs.Mode.{IsChunked};
 ghost use Rattle.papaya_call.specs.Machine.{IsFit, IsStanding};
 
