@@ -7,7 +7,6 @@ use Rattle.papaya_timeline.specs.Kept.{IsLawfulCore}
 use Rattle.papaya_keys.specs.Hashes.{hash_of}
 use Rattle.papaya_timeline.proofs.CallersLemmas.{with_work-twice}
 use Rattle.papaya_timeline.specs.Outcomes.{AnswersWalk, as_reply}
-use Rattle.papaya_core.specs.Limits.{IsSpent}
 use Rattle.papaya_core.proofs.LimitMet.{spent_refuses}
 use Rattle.papaya_core.proofs.LimitRefusals.{refused_spent}
 use Rattle.papaya_core.proofs.Steps.{IsSound, work_sound, work_stands}
