@@ -22,6 +22,7 @@ ghost use Rattle.papaya_store.specs.Tables.{table_of};
 ghost use Rattle.papaya_timeline.specs.Callers.{visiting, visitor_in, working};
 ghost use Rattle.papaya_timeline.specs.Maps.{key_of};
 ghost use Rattle.papaya_core.specs.Goes.{CallGoes, IsStandingWork, ResizerGoes, WorkGoes};
+ghost use Rattle.papaya_core.specs.Limits.{IsSpent, IsWithin, NeedsNumber};
 ghost use Rattle.papaya_timeline.specs.Outcomes.{AnswersWalk, as_reply};
 ghost use Rattle.papaya_store.specs.Store.{KeepsPairs, pair_of};
 ghost use Rattle.papaya_keys.specs.Hashes.{hash_of};
@@ -293,11 +294,13 @@ impl<K: Hash + Eq, V, S: BuildHasher, A> Core<K, V, S, A> {
     /// Is this caller in a call?
     ///
     /// The contract also says of any core, whatever calls are under way, that its count is the
-    /// number of pairs, but for what the calls have yet to add.
+    /// number of pairs, but for what the calls have yet to add, and that no more numbers were taken
+    /// for pairs than its limit says, where it has one.
     pub fn running(&self, caller: usize) -> bool
         ensures running { result ≡ is_some (work_of self.now caller) }
         ensures apart { AreApart K.eq (λ p. p.key) (content K.eq self.now.store) }
         ensures counted { IsCounted K.eq self.now.store self.now.callers }
+        ensures limit { IsWithin self.now }
     {
         self.callers.is_running(caller)
     }
@@ -430,6 +433,9 @@ impl<K: Hash + Eq + Drop, V: Drop, S: BuildHasher, A: Answers<K, V> + Drop> Core
         ensures keeps { KeepsPairs self.old.store self.new.store }
         ensures shard { AddsToShard self.old caller self.new }
         ensures counted { IsCounted K.eq self.new.store self.new.callers }
+        ensures limit { as_reply result.1 ≡ Some (Reply.Refused Refused.Limit) → IsSpent self.old }
+        ensures spent { NeedsNumber self.old caller → IsSpent self.old
+            → as_reply result.1 ≡ Some (Reply.Refused Refused.Limit) }
     {
         let work = self.callers.take(caller);
         let (event, outcome, rest) = advance_work(
@@ -452,6 +458,9 @@ impl<K: Hash + Eq + Drop, V: Drop, S: BuildHasher, A: Answers<K, V> + Drop> Core
     ///
     /// With `refuse_memory` a step that would log a key, a value or a pair, or make a table, answers
     /// `Refused::Memory`, and any other step is an ordinary one.
+    ///
+    /// `Refused::Limit` is answered where as many numbers were taken for pairs as the limit says
+    /// and the call needs one more, and only there.
     pub fn step(&mut self, caller: usize, refuse_memory: bool) -> Option<Outcome>
         requires { IsSome (work_of self.old caller) }
         ensures steps { (event : _) × Steps K.eq (record { op = A.op_gives; yes = A.yes_gives })
@@ -464,6 +473,9 @@ impl<K: Hash + Eq + Drop, V: Drop, S: BuildHasher, A: Answers<K, V> + Drop> Core
         ensures keeps { KeepsPairs self.old.store self.new.store }
         ensures shard { AddsToShard self.old caller self.new }
         ensures counted { IsCounted K.eq self.new.store self.new.callers }
+        ensures limit { as_reply result ≡ Some (Reply.Refused Refused.Limit) → IsSpent self.old }
+        ensures spent { NeedsNumber self.old caller → IsSpent self.old
+            → as_reply result ≡ Some (Reply.Refused Refused.Limit) }
     {
         let (_, outcome) = self.advance(caller, refuse_memory);
         outcome

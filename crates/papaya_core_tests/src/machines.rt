@@ -1,5 +1,6 @@
 // What machines ask and reply over words that stand in tables: worked values, where specs and
 // code might agree and both be wrong.
+ghost use Rattle.std.specs.Prelude.{◌<◌, ◌^◌};
 ghost use Rattle.papaya_words.specs.Mode.{IsChunked};
 ghost use Rattle.papaya_call.specs.Machine.{IsFit, IsStanding};
 
@@ -251,4 +252,88 @@ fn compute_remembers_what_it_answered_to_a_pair(rt: HostRuntime) {
     let ask = Ask::Exchange(At::Slot(2, 2), LIVE, LIVE_13);
     told(&rt, &mut compute, ask, Answer::Exchanged);
     replies(&rt, &compute, Reply::Replaced { old: 3, new: 13 });
+}
+
+/// The machine loads how many numbers were taken for pairs.
+fn counts(rt: &impl Abort, machine: &mut Machine, made: u64)
+    requires { IsStanding machine.old }
+    ensures { IsStanding machine.new }
+{
+    is(rt, machine.kind().is_none(), true);
+    told(rt, machine, Ask::Load(At::Made), Answer::Word(made));
+}
+
+/// The machine tries to take the number after so many.
+fn takes(rt: &impl Abort, machine: &mut Machine, made: u64, next: u64, answer: Answer)
+    requires standing { IsStanding machine.old }
+    requires fit { IsFit answer }
+    ensures { IsStanding machine.new }
+{
+    is(rt, machine.kind() == Some(StepKind::Take), true);
+    told(rt, machine, Ask::Exchange(At::Made, made, next), answer);
+}
+
+/// An insertion of at most three pairs finds an empty place.
+fn finds_a_place(rt: &impl Abort) -> Machine
+    ensures { IsStanding result }
+{
+    let task = Task::Insert { replace: true };
+    let mut insertion = Machine::new(task, HASH, ResizeMode::Blocking, 1, Some(3));
+    enters_root(rt, &mut insertion, 1);
+    loads(rt, &mut insertion, 1, 2, EMPTY);
+    insertion
+}
+
+/// Nothing is made then, and so no memory is wanted.
+#[test]
+fn insertion_is_refused_at_the_limit(rt: HostRuntime) {
+    let mut insertion = finds_a_place(&rt);
+    counts(&rt, &mut insertion, 3);
+    replies(&rt, &insertion, Reply::Refused(Refused::Limit));
+}
+
+/// Other calls take the last numbers.
+#[test]
+fn insertion_loses_the_last_number(rt: HostRuntime) {
+    let mut insertion = finds_a_place(&rt);
+    counts(&rt, &mut insertion, 1);
+    takes(&rt, &mut insertion, 1, 2, Answer::Found(2));
+    takes(&rt, &mut insertion, 2, 3, Answer::Found(3));
+    replies(&rt, &insertion, Reply::Refused(Refused::Limit));
+}
+
+/// One below the limit is taken, and the pair is made and claims its place.
+#[test]
+fn insertion_takes_the_last_number(rt: HostRuntime) {
+    let mut insertion = finds_a_place(&rt);
+    counts(&rt, &mut insertion, 2);
+    takes(&rt, &mut insertion, 2, 3, Answer::Exchanged);
+    makes_12(&rt, &mut insertion);
+    claims(&rt, &mut insertion, 2, LIVE_12, Answer::Exchanged);
+    told(&rt, &mut insertion, Ask::AddToShard(1), Answer::Ok);
+    told(&rt, &mut insertion, Ask::WriteHint(1, 2, HINT), Answer::Ok);
+    replies(&rt, &insertion, Reply::Inserted(12));
+}
+
+/// The second pair of a call needs a number of its own, and there is none.
+#[test]
+fn each_pair_takes_a_number(rt: HostRuntime) {
+    let mode = ResizeMode::Incremental(64);
+    let mut compute = Machine::new(Task::Compute, HASH, mode, 1, Some(3));
+    enters_root(&rt, &mut compute, 1);
+    loads(&rt, &mut compute, 1, 2, LIVE);
+    compares(&rt, &mut compute, 3, true);
+    decides(&rt, &mut compute, 3, OpKind::Insert);
+    counts(&rt, &mut compute, 2);
+    takes(&rt, &mut compute, 2, 3, Answer::Exchanged);
+    told(&rt, &mut compute, Ask::MakeValue, Answer::Made(0));
+    makes_of_3(&rt, &mut compute, 12);
+    replaces(&rt, &mut compute, LIVE, LIVE_12, Answer::Found(COPIED_3));
+    compares(&rt, &mut compute, 3, true);
+    told(&rt, &mut compute, Ask::Load(At::Next(1)), Answer::Word(2));
+    enters(&rt, &mut compute, 2);
+    loads(&rt, &mut compute, 2, 2, LIVE);
+    compares(&rt, &mut compute, 3, true);
+    counts(&rt, &mut compute, 3);
+    replies(&rt, &compute, Reply::Refused(Refused::Limit));
 }

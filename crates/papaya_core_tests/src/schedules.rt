@@ -96,8 +96,8 @@ fn stopped(
 
 /// What two insertions come to that never replace, where the first is stopped after so many steps.
 fn kept_at(steps: usize) -> Replies {
-    // Caller 0 claims the slot in its ninth step. Its hint comes later: the pair is found without.
-    if steps < 9 {
+    // Caller 0 claims the slot in its tenth step. Its hint comes later: the pair is found without.
+    if steps < 10 {
         (
             Reply::Occupied(200),
             Reply::Inserted(200),
@@ -114,12 +114,12 @@ fn kept_at(steps: usize) -> Replies {
 
 /// The values of the first two pairs then.
 fn made_at(steps: usize) -> (Option<u64>, Option<u64>) {
-    // Caller 0 loads the slot in its sixth step, and makes its pair in its eighth. Where the slot
-    // is taken, it makes no pair.
+    // Caller 0 loads the slot in its sixth step, and makes its pair in its ninth. Where the slot is
+    // taken, it makes no pair.
     match steps {
         0..6 => (Some(200), None),
-        6 | 7 => (Some(200), Some(100)),
-        8 => (Some(100), Some(200)),
+        6..9 => (Some(200), Some(100)),
+        9 => (Some(100), Some(200)),
         _ => (Some(100), None),
     }
 }
@@ -202,9 +202,9 @@ fn is_shown(rt: &impl Abort, alloc: Global, core: &mut Numbers, steps: usize) ->
 
 /// What a compute comes to that is stopped so, where a pair comes and goes meanwhile.
 fn filled_at(steps: usize) -> Replies {
-    // The compute claims a slot in its tenth step. Where 1 came and went before, its closure
+    // The compute claims a slot in its eleventh step. Where 1 came and went before, its closure
     // is shown only once that there is none, before or after that.
-    let found = if steps < 10 {
+    let found = if steps < 11 {
         Reply::Found(10)
     } else {
         Reply::Absent
