@@ -140,17 +140,17 @@ module _ {K V S T H : Type 0} (key : K) (made : List (Stored K V))
   Holds (Removes n) = (p : Stored K V) × (x.chosen ≡ Some p) × (p.index ≡ n)
       × Member (Some p, operation.Remove) said
 
-module _ {K V S T H : Type 0} (m : Machine) (x : Computing K V S T H) where
-  -- Where a pair was made in the place of another, that one was shown last, and the next pair would
-  -- have the same value.
-  pub record IsNewest : Type 0 where
-    pub shown : x.shown ≡ x.chosen
-    pub made : (q : Stored K V) × (x.made ≡ Some q)
-        × (held_value x.writer.value ≡ Some q.value.value)
+-- Where a pair was made in the place of another, that one was shown last, and the next pair would
+-- have the same value.
+pub record IsNewest {K V S T H : Type 0} (x : Computing K V S T H) : Type 0 where
+  pub shown : x.shown ≡ x.chosen
+  pub made : (q : Stored K V) × (x.made ≡ Some q)
+      × (held_value x.writer.value ≡ Some q.value.value)
 
+module _ {K V S T H : Type 0} (m : Machine) (x : Computing K V S T H) where
   -- So it is with what is remembered, but while a newer answer waits.
   abbrev pub HasNewest : Type 0
-  HasNewest = (i n : ℕ) → StandsOn m (Makes (Some i) n) → IsAnswered m.state ⊎ IsNewest
+  HasNewest = (i n : ℕ) → StandsOn m (Makes (Some i) n) → IsAnswered m.state ⊎ IsNewest x
 
   -- The pair that is remembered has the key that is in the slot that it was made for.
   abbrev pub IsOfItsSlot : List (Event K V S) → Type 0

@@ -6,7 +6,7 @@ use Rattle.papaya_chain.specs.declared.ask.Ask.TheVariants.{Call}
 use Rattle.papaya_chain_rests.proofs.Names.{call_asks}
 use Rattle.papaya_book.specs.Parts.{begun_of}
 use Rattle.papaya_change.proofs.Doing.{left_alone}
-use Rattle.papaya_compute.proofs.ComputeGoes.{goes_on}
+use Rattle.papaya_compute.proofs.ComputeGoes.{goes_untold}
 use Rattle.papaya_change.proofs.WritingSteps.{counted_on}
 use Rattle.papaya_compute.proofs.computing.Computing.turn.Goals as goal
 
@@ -15,7 +15,7 @@ returns-in-AddToShard-clause-turns g c =
     let asks : ask_of c.args.self.now.writer.call.machine ≡ Call (AddToShard c.in-AddToShard.by) = search rules in (
       λ key begun heard r.
           let on = counted_on g.K.PartialEq.eq g.K.Hash.hash_input g.S.BuildHasher.build_hasher g.S.Hasher.Hasher.write g.S.Hasher.Hasher.finish g.met.K.Eq.laws g.met.K.Hash.respects_eq (begun_of c.args.window.now.book.now.parts) c.args.window.now.book.now.begun.book key r.made begun c.args.window.now.sight.log c.args.self.now.writer r.writing c.in-AddToShard.by asks in
-          goes_on g.K.PartialEq.eq g.K.Hash.hash_input g.S.BuildHasher.build_hasher g.S.Hasher.Hasher.write g.S.Hasher.Hasher.finish g.met.K.Eq.laws g.met.K.Hash.respects_eq (begun_of c.args.window.now.book.now.parts) c.args.window.now.book.now.begun.book key begun c.args.window.now.sight.log c.args.self.now heard r c.requires.standing (AddToShard c.in-AddToShard.by) asks tt Ok c.args.window.now.sight.log ([], append-nil c.args.window.now.sight.log) c.args.self.now.writer refl refl (λ cause e. absurd (cc e)) on,
+          goes_untold g.K.PartialEq.eq g.K.Hash.hash_input g.S.BuildHasher.build_hasher g.S.Hasher.Hasher.write g.S.Hasher.Hasher.finish g.met.K.Eq.laws g.met.K.Hash.respects_eq (begun_of c.args.window.now.book.now.parts) c.args.window.now.book.now.begun.book key begun c.args.window.now.sight.log c.args.self.now heard r c.requires.standing (AddToShard c.in-AddToShard.by) asks tt Ok (λ number. number) c.args.window.now.sight.log ([], append-nil c.args.window.now.sight.log) c.args.self.now.writer refl refl (λ cause e. absurd (cc e)) on,
       left_alone (AddToShard c.in-AddToShard.by) tt _ (sym (call_asks c.args.self.now.writer.call.machine _ asks).1) (Some Ok) c.args.window.now,
     )
 
@@ -23,6 +23,6 @@ pub returns-in-WriteHint-clause-turns : goal.returns-in-WriteHint-clause-turns
 returns-in-WriteHint-clause-turns g c =
     let asks : ask_of c.args.self.now.writer.call.machine ≡ Call (WriteHint c.in-WriteHint.number c.in-WriteHint.place c.in-WriteHint.hint) = search rules in let e = c.note.ensures in (
       λ key begun heard r.
-          goes_on g.K.PartialEq.eq g.K.Hash.hash_input g.S.BuildHasher.build_hasher g.S.Hasher.Hasher.write g.S.Hasher.Hasher.finish g.met.K.Eq.laws g.met.K.Hash.respects_eq (begun_of c.args.window.now.book.now.parts) c.args.window.now.book.now.begun.book key begun c.args.window.now.sight.log c.args.self.now heard r c.requires.standing (WriteHint c.in-WriteHint.number c.in-WriteHint.place c.in-WriteHint.hint) asks tt c.note.result c.args.window.now.sight.log ([], append-nil c.args.window.now.sight.log) c.args.self.now.writer refl refl e.unsaid (e.writes key r.made begun r.writing),
+          goes_untold g.K.PartialEq.eq g.K.Hash.hash_input g.S.BuildHasher.build_hasher g.S.Hasher.Hasher.write g.S.Hasher.Hasher.finish g.met.K.Eq.laws g.met.K.Hash.respects_eq (begun_of c.args.window.now.book.now.parts) c.args.window.now.book.now.begun.book key begun c.args.window.now.sight.log c.args.self.now heard r c.requires.standing (WriteHint c.in-WriteHint.number c.in-WriteHint.place c.in-WriteHint.hint) asks tt c.note.result (λ number. number) c.args.window.now.sight.log ([], append-nil c.args.window.now.sight.log) c.args.self.now.writer refl refl e.unsaid (e.writes key r.made begun r.writing),
       left_alone (WriteHint c.in-WriteHint.number c.in-WriteHint.place c.in-WriteHint.hint) tt _ (sym (call_asks c.args.self.now.writer.call.machine _ asks).1) (Some c.note.result) c.args.window.now,
     )

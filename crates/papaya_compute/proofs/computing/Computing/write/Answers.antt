@@ -6,7 +6,7 @@ use Rattle.papaya_compute.proofs.computing.Computing.write.Goals as goal
 pub returns-in-Load-clause-computes : goal.returns-in-Load-clause-computes
 returns-in-Load-clause-computes g c = λ key begun heard r.
     let e = c.load.ensures in
-    goes_on g.K.PartialEq.eq g.K.Hash.hash_input g.S.BuildHasher.build_hasher g.S.Hasher.Hasher.write g.S.Hasher.Hasher.finish g.met.K.Eq.laws g.met.K.Hash.respects_eq (begun_of c.args.window.now.book.now.parts) c.args.window.now.book.now.begun.book key begun c.args.window.now.sight.log c.args.self.now heard r c.requires.standing c.args.ask c.requires.asks.0 (writers_silent c.args.ask c.requires.asks.1) c.load.result c.load.new.window.sight.log e.sees.log c.load.new.self e.machine e.value e.unsaid (e.writes key r.made begun r.writing)
+    goes_on g.K.PartialEq.eq g.K.Hash.hash_input g.S.BuildHasher.build_hasher g.S.Hasher.Hasher.write g.S.Hasher.Hasher.finish g.met.K.Eq.laws g.met.K.Hash.respects_eq (begun_of c.args.window.now.book.now.parts) c.args.window.now.book.now.begun.book key begun c.args.window.now.sight.log c.args.self.now heard r c.requires.standing c.args.ask c.requires.asks.0 (writers_silent c.args.ask c.requires.asks.1) c.load.result c.load.new.window.sight.log e.sees.log c.load.new.self e.machine e.value e.unsaid e.tells (e.writes key r.made begun r.writing)
 
 pub returns-in-LoadHint-clause-computes : goal.returns-in-LoadHint-clause-computes
 returns-in-LoadHint-clause-computes g c = λ key begun heard r.
