@@ -87,6 +87,7 @@ module _ {K V S H T : Type 0} (key : K) (made : List (Stored K V)) (said : List 
   holds_still w same (Makes (Some m) n) h = h
   holds_still w same (Removes n) h = h
 
+module _ {K V S H T : Type 0} (x : Computing K V S T H) where
   -- and so does the newest of what it made
   pub newest_still : (w : Writer K V S H) → held_value w.value ≡ held_value x.writer.value → IsNewest x → IsNewest (record x { writer = w })
   newest_still w same h = record { shown = h.shown; made = (h.made.0, h.made.1, same ∙ h.made.2) }

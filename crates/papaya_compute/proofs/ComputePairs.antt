@@ -20,6 +20,7 @@ use Rattle.papaya_call.specs.declared.compute.Choice.TheVariants.{Replace as To_
 use Rattle.papaya_call.specs.declared.compute.Purpose.TheVariants.{Replace, Again}
 use Rattle.papaya_call.specs.declared.machine.Machine.{Machine as Call_machine}
 use Rattle.papaya_call.specs.declared.machine.State.{State as Stage}
+use Rattle.papaya_call.specs.declared.machine.State.TheVariants.{Pairing}
 use Rattle.papaya_call.specs.declared.made.Of.{Of}
 use Rattle.papaya_call.specs.declared.write.Write.{Write}
 use Rattle.papaya_call.specs.Machine as calls
@@ -51,7 +52,9 @@ use Rattle.papaya_lookup.proofs.KeptKeys.{met_key}
 use Rattle.papaya_lookup.proofs.Readings.{hashed_with}
 use Rattle.papaya_change.specs.declared.writing.Writer.{Writer}
 use Rattle.papaya_change.specs.Showings.{HasNoNone}
-use Rattle.papaya_change.specs.Writing.{HasKeyAt, IsMemoryCapacityOrLimit, IsUnlogged, IsUnsaid, IsWritingOn, held_value}
+use Rattle.papaya_book.specs.PairParts.{key_in}
+use Rattle.papaya_book.specs.declared.book.pairs.KeyPart.{KeyPart}
+use Rattle.papaya_change.specs.Writing.{HasKey, HasKeyAt, IsMemoryCapacityOrLimit, IsUnlogged, IsUnsaid, IsWritingOn, held_value}
 use Rattle.papaya_change.proofs.OwnSteps.{own_order}
 use Rattle.papaya_change.proofs.Refusals.{refused_for, unsaid_cause, unsaid_room}
 use Rattle.papaya_change.proofs.Spent.{unsaid_limit}
@@ -198,6 +201,14 @@ module _ {K V S T H : Type 0} (eq : K → K → Bool) (hash : S → K → ℕ) (
         of_slot : (old : ℕ) (new : Of) → (calls.after m answer).remembered.choice ≡ Some (To_replace old new) → KeepsSlot x.made new
         of_slot old new e = ⊎_elim (λ choice. r.of_slot old new choice) (λ now. absurd (unlogged_no_number answer unlogged now.1.0 now.1.1)) (machine_choice m old new answer e)
 
+  -- a pair that has the key that its writer held has the call's
+  pub own_key : (q : Stored K V) → ((part : KeyPart K V) → x.writer.key ≡ Some part → key_of q ≡ key_in part) → key_of q ≡ key
+  own_key q key_is = by_key x.writer.key refl r.writing.keyed
+    where
+      by_key : (o : Option (KeyPart K V)) → x.writer.key ≡ o → HasKey b name key o → key_of q ≡ key
+      by_key None is has = absurd has
+      by_key (Some part) is has = key_is part is ∙ has.0
+
   module _ (w : Writer K V S H) (same : w.call.machine ≡ chain) (q : Stored K V) (had : held_value x.writer.value ≡ Some q.value.value) (left : held_value w.value ≡ held_value x.writer.value) (on : IsWritingOn eq hash b name key (q ∷ r.made) begun log w (Made_number q.index)) where
     -- what the closure answered is the pair's value
     value_is : (v : V) (held : Option (Stored K V)) → held_value x.writer.value ≡ Some v → Member (held, operation.Insert v) heard → Member (held, operation.Insert q.value.value) heard
@@ -236,10 +247,20 @@ module _ {K V S T H : Type 0} (eq : K → K → Bool) (hash : S → K → ℕ) (
     replaces n = machine_replacing m n i r.task_is standing.call r.words (call_asks chain (MakePairOf i) asks).1
 
     -- it met the pair whose place the new one is to take
-    pub met : (n : ℕ) → MayRemove g c (exchanges_of begun) r.writing.calling.since (Some key) hands (record { place = (replaces n).write.place; word = (replaces n).write.old })
-    met n =
-        let at : Stage → Type 0 = RestsStage g c (exchanges_of begun) r.writing.calling.since (Some key) hands m.task in
-        ⊎_elim (λ e. (subst at e r.writing.calling.rests.call.stage).1) (λ e. (subst at e r.writing.calling.rests.call.stage).1) (replaces n).purpose
+    abbrev Meets : Write → Type 0
+    Meets write = MayRemove g c (exchanges_of begun) r.writing.calling.since (Some key) hands (record { place = write.place; word = write.old })
+
+    abbrev Stands : Stage → Type 0
+    Stands stage = RestsStage g c (exchanges_of begun) r.writing.calling.since (Some key) hands m.task stage
+
+    met_new : (write : Write) → m.state ≡ Pairing (Replace write) → Meets write
+    met_new write e = let there : Stands (Pairing (Replace write)) = subst Stands e r.writing.calling.rests.call.stage in there.1
+
+    met_again : (write : Write) → m.state ≡ Pairing (Again write) → Meets write
+    met_again write e = let there : Stands (Pairing (Again write)) = subst Stands e r.writing.calling.rests.call.stage in there.1
+
+    pub met : (n : ℕ) → Meets (replaces n).write
+    met n = ⊎_elim (λ e. met_new (replaces n).write e) (λ e. met_again (replaces n).write e) (replaces n).purpose
 
     -- the pair of which its closure answered what is logged: the one that it was shown last
     pub was_shown : (n : ℕ) → (p : Stored K V) × (x.shown ≡ Some p) × (p.index ≡ i) × ((v : V) × (held_value x.writer.value ≡ Some v) × Member (Some p, operation.Insert v) heard)
@@ -262,6 +283,10 @@ module _ {K V S T H : Type 0} (eq : K → K → Bool) (hash : S → K → ℕ) (
 
     -- a pair was made in its place
     module _ (w : Writer K V S H) (same : w.call.machine ≡ chain) (q : Stored K V) (had : held_value x.writer.value ≡ Some q.value.value) (left : held_value w.value ≡ held_value x.writer.value) (on : IsWritingOn eq hash b name key (q ∷ r.made) begun log w (Made_number q.index)) where
+      -- the compute with them
+      abbrev now_with : Stored K V → Computing K V S T H
+      now_with p = with_pairs w (Some p) x.fill (Some q)
+
       pub replaced : (p last : Stored K V) → x.shown ≡ Some p → x.writer.call.last ≡ Some last → p.value ≡ last.value → key_of q ≡ key_of last → On (with_pairs w (Some p) x.fill (Some q)) (Made_number q.index)
       replaced p last shown last_is one key_is = goes_on (MakePairOf i) asks tt (q ∷ r.made) w (Some p) x.fill (Some q) (Made_number q.index) same (λ cause e. absurd (cc e)) on (subst (λ (o : Option (Stored K V)). IsPlaced b (Some name) (pair_named o)) shown r.shown_placed) r.fill_placed stood newest of_slot
         where
@@ -284,19 +309,16 @@ module _ {K V S T H : Type 0} (eq : K → K → Bool) (hash : S → K → ℕ) (
           number : p.index ≡ i
           number = let s = was_shown q.index in let this : s.0 ≡ p = cc (s.1, shown) in ap (λ (z : Stored K V). z.index) (sym this) ∙ s.2
 
-          abbrev now : Computing K V S T H
-          now = with_pairs w (Some p) x.fill (Some q)
-
-          fill_still : (j : ℕ) → Holds key r.made heard x (Makes None j) → Holds key (q ∷ r.made) heard now (Makes None j)
+          fill_still : (j : ℕ) → Holds key r.made heard x (Makes None j) → Holds key (q ∷ r.made) heard (now_with p) (Makes None j)
           fill_still j h = (h.0, h.1, made_still key r.made heard q None j h.0 h.2)
 
-          stood : (stands : Said) → StandsOn (calls.after m (Made_number q.index)) stands → Holds key (q ∷ r.made) heard now stands
+          stood : (stands : Said) → StandsOn (calls.after m (Made_number q.index)) stands → Holds key (q ∷ r.made) heard (now_with p) stands
           stood stands h = ⊎_elim
-              (λ e. subst (λ (z : Said). Holds key (q ∷ r.made) heard now z) (sym e) (p, q, refl, number, refl, made_now))
-              (λ (a : KeepsFill m stands). subst (λ (z : Said). Holds key (q ∷ r.made) heard now z) (sym a.1) (fill_still a.0 (r.stood (Makes None a.0) (subst (λ (z : Said). StandsOn m z) a.1 a.2))))
+              (λ e. subst (λ (z : Said). Holds key (q ∷ r.made) heard (now_with p) z) (sym e) (p, q, refl, number, refl, made_now))
+              (λ (a : KeepsFill m stands). subst (λ (z : Said). Holds key (q ∷ r.made) heard (now_with p) z) (sym a.1) (fill_still a.0 (r.stood (Makes None a.0) (subst (λ (z : Said). StandsOn m z) a.1 a.2))))
               (by.then stands h)
 
-          newest : (j n : ℕ) → StandsOn (calls.after m (Made_number q.index)) (Makes (Some j) n) → IsAnswered (calls.after m (Made_number q.index)).state ⊎ IsNewest now
+          newest : (j n : ℕ) → StandsOn (calls.after m (Made_number q.index)) (Makes (Some j) n) → IsAnswered (calls.after m (Made_number q.index)).state ⊎ IsNewest (now_with p)
           newest j n h = inr (record { shown = shown; made = (q, refl, left ∙ had) })
 
           -- the key that is in the slot for which it was made
@@ -313,16 +335,17 @@ module _ {K V S T H : Type 0} (eq : K → K → Bool) (hash : S → K → ℕ) (
               let this : made_of by.write q.index ≡ new = cc both in
               (q, refl, subst (λ (z : Of). HasKeyAt log z.table z.index (key_of q)) this kept_there)
 
--- The pair that was shown last and the one that was loaded last have one number.
-pub one_number : {K V S T H : Type 0} (eq : K → K → Bool) (input : K → List (List ℕ)) (build : S → H) (write : H → List ℕ → H) (finish : H → ℕ) (classes : IsEquivalence eq) (respects : (x y : K) → eq x y ≡ true → input x ≡ input y) (b : Begun K V S) (name : Book) (key : K) (begun log : List (Event K V S)) (x : Computing K V S T H)
-    (heard : List (Option (Stored K V) × Operation V T)) (r : IsComputing eq (hash_of input build write finish) b name key begun log x heard) (standing : IsStanding x.writer.call.machine) (i : ℕ) → ask_of x.writer.call.machine ≡ Call (MakePairOf i) → (p last : Stored K V) → x.shown ≡ Some p → x.writer.call.last ≡ Some last → p.index ≡ last.index
-one_number eq input build write finish classes respects b name key begun log x heard r standing i asks p last shown last_is =
-    let hash = hash_of input build write finish in
-    let hashed = hashed_with eq input build write finish classes respects b (eq key) (input key) (own_query eq input build write finish classes respects b name key) log r.writing.calling.lawful in
-    let s = was_shown eq hash b name key begun log x heard r standing i asks 0 in
-    let by = replaces eq hash b name key begun log x heard r standing i asks 0 in
-    let there = met eq hash b name key begun log x heard r standing i asks 0 in
-    let this : s.0 ≡ p = cc (s.1, shown) in
-    let that : there.pair ≡ last = cc (there.last, last_is) in
-    let number : i ≡ there.pair.index = sym by.number ∙ (ap pair_of there.met.loaded ∙ code_pair _ _ hashed.coding there.met.was there.pair there.met.names) in
-    ap (λ (z : Stored K V). z.index) (sym this) ∙ (s.2 ∙ (number ∙ ap (λ (z : Stored K V). z.index) that))
+module _ {K V S T H : Type 0} (eq : K → K → Bool) (input : K → List (List ℕ)) (build : S → H) (write : H → List ℕ → H) (finish : H → ℕ) (classes : IsEquivalence eq) (respects : (x y : K) → eq x y ≡ true → input x ≡ input y)
+    (b : Begun K V S) (name : Book) (key : K) (begun log : List (Event K V S)) (x : Computing K V S T H) (heard : List (Option (Stored K V) × Operation V T)) (r : IsComputing eq (hash_of input build write finish) b name key begun log x heard) (standing : IsStanding x.writer.call.machine) where
+  -- the pair that was shown last and the one that was loaded last have one number
+  pub one_number : (i : ℕ) → ask_of x.writer.call.machine ≡ Call (MakePairOf i) → (p last : Stored K V) → x.shown ≡ Some p → x.writer.call.last ≡ Some last → p.index ≡ last.index
+  one_number i asks p last shown last_is =
+      let hash = hash_of input build write finish in
+      let hashed = hashed_with eq input build write finish classes respects b (eq key) (input key) (own_query eq input build write finish classes respects b name key) log r.writing.calling.lawful in
+      let s = was_shown eq hash b name key begun log x heard r standing i asks 0 in
+      let by = replaces eq hash b name key begun log x heard r standing i asks 0 in
+      let there = met eq hash b name key begun log x heard r standing i asks 0 in
+      let this : s.0 ≡ p = cc (s.1, shown) in
+      let that : there.pair ≡ last = cc (there.last, last_is) in
+      let number : i ≡ there.pair.index = sym by.number ∙ (ap pair_of there.met.loaded ∙ code_pair _ _ hashed.coding there.met.was there.pair there.met.names) in
+      ap (λ (z : Stored K V). z.index) (sym this) ∙ (s.2 ∙ (number ∙ ap (λ (z : Stored K V). z.index) that))

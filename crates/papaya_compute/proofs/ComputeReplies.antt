@@ -98,14 +98,14 @@ module _ {K V S T H : Type 0} (eq : K → K → Bool) (input : K → List (List 
     taken_number taken is = of_some (λ p. (old ≡ Some p.index) × (changed.class ≡ key_of p)) (old ≡ None) x.writer.call.taken taken is changed.taken_is
 
     abbrev IsPutIn : Stored K V → Type 0
-    IsPutIn q = (new ≡ Some q.index) × (eq changed.class (key_of q) ≡ true) × HasItsKey (Some key) x.writer.call.taken q
+    IsPutIn q = (new ≡ Some q.index) × (eq changed.class (key_of q) ≡ true) × HasItsKey eq (Some key) x.writer.call.taken q
 
     put_number : (put : Stored K V) → x.writer.call.put ≡ Some put → IsPutIn put
     put_number put is = of_some IsPutIn (new ≡ None) x.writer.call.put put is changed.put_is
 
     -- where it took the place of another it has the key that was stored
     kept : (p q : Stored K V) → x.writer.call.taken ≡ Some p → x.writer.call.put ≡ Some q → key_of q ≡ key_of p
-    kept p q took puts = subst (λ o. HasItsKey (Some key) o q) took (put_number q puts).2
+    kept p q took puts = subst (λ o. MatchOption o (Some (key_of q) ≡ Some key) (λ old. key_of q ≡ key_of old)) took (put_number q puts).2.is
 
     none_taken : old ≡ None → x.writer.call.taken ≡ None
     none_taken none = by_option x.writer.call.taken changed.taken_is

@@ -46,7 +46,7 @@ use Rattle.papaya_book.specs.declared.rule.entry.Event.{Event}
 use Rattle.papaya_change.specs.declared.writing.Writer.{Writer}
 use Rattle.papaya_change.specs.Changing.{IsCalling}
 use Rattle.papaya_book.specs.declared.book.pairs.ValuePart.{ValuePart}
-use Rattle.papaya_compute.specs.Computing.{Holds, IsComputing, IsMadeOf, IsNewest, IsSpared, aborted_after, chosen_after, keeping, kind_of, number_of, value_after}
+use Rattle.papaya_compute.specs.Computing.{Holds, IsComputing, IsMadeOf, IsSpared, aborted_after, chosen_after, keeping, kind_of, number_of, value_after}
 use Rattle.papaya_book.specs.Hashes.{hash_of}
 use Rattle.papaya_lookup.specs.History.{history_of, key_of}
 use Rattle.papaya_book.specs.Logs.{Member, Stored, exchanges_of, pair_named}
@@ -310,10 +310,7 @@ module _ {K V S H : Type 0} (eq : K → K → Bool) (input : K → List (List �
     chosen_in operation.Remove (Some q) p = p
     chosen_in (operation.Abort t) (Some q) p = r.chosen_placed
 
-    abbrev y : Computing K V S T H
-    y = shown_to key r.made heard x held done
-
-    -- the pair that it remembers is the one that was shown last, or a newer answer waits
+    -- where it remembers one in the place of a pair, this is a newer answer, or the call is over
     answered_now : IsAnswered m'.state → IsAnswered chain'.call.state
     answered_now waits = subst (λ (z : Call_machine). IsAnswered z.state) (sym steps) waits
 
@@ -329,8 +326,8 @@ module _ {K V S H : Type 0} (eq : K → K → Bool) (input : K → List (List �
     newest_by (Some p) e kinds.Remove is i n h = absurd (removed_none p e is i n h)
     newest_by (Some p) e (kinds.Abort with) is i n h = answered_pair m p.index (kind_of done) r.task_is (λ f. let g = sym is ∙ f in cc g) (own_asks.1 ∙ ap (λ (o : Option (Stored K V)). show (number_of o)) e)
 
-    newest_now : (i n : ℕ) → StandsOn chain'.call (Makes (Some i) n) → IsAnswered chain'.call.state ⊎ IsNewest y
-    newest_now i n h = inl (answered_now (newest_by held refl (kind_of done) refl i n (subst (λ (z : Call_machine). StandsOn z (Makes (Some i) n)) steps h)))
+    newest_now : (i n : ℕ) → StandsOn chain'.call (Makes (Some i) n) → IsAnswered chain'.call.state
+    newest_now i n h = answered_now (newest_by held refl (kind_of done) refl i n (subst (λ (z : Call_machine). StandsOn z (Makes (Some i) n)) steps h))
 
     slot_now : (old : ℕ) (new : Of) → chain'.call.remembered.choice ≡ Some (To_replace old new) → (q : Stored K V) × (x.made ≡ Some q) × HasKeyAt log new.table new.index (key_of q)
     slot_now old new e = ⊎_elim (λ same. r.of_slot old new same) (λ now. let f = now.1.1 in absurd (cc f)) (machine_choice m old new (Op (kind_of done)) (ap (λ (z : Call_machine). z.remembered.choice) (sym steps) ∙ e))
@@ -363,7 +360,7 @@ module _ {K V S H : Type 0} (eq : K → K → Bool) (input : K → List (List �
         none_once = (none_by held refl).1;
         none_shown = (none_by held refl).0;
         stood = stood_now;
-        newest = newest_now;
+        newest = λ i n h. inl (newest_now i n h);
         of_slot = slot_now;
         aborts = λ with e. let s = own_aborted chain own_asks.0 (Op (kind_of done)) with (not_done (number_of held) asks) e in let a = aborts_with done with (op_is done (kinds.Abort with) s.2) in (a.0, a.2 x.aborted, ap (λ (o : Operation V T). (held, o)) a.1, spared_by a.0 a.1);
         refuses = λ cause e. ⊎_elim
