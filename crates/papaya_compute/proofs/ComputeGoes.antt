@@ -1,5 +1,5 @@
 -- A compute goes on after an answer that neither shows its closure anything nor makes a pair.
-use Rattle.std.proofs.Common.{◌≡◌, ◌⊎◌, inl, inr, ⊎_elim, ℕ, Bool, true, Option, None, Some, List, [], append-nil, refl, sym, ap, ◌∙◌, subst}
+use Rattle.std.proofs.Common.{◌≡◌, ◌⊎◌, inl, inr, ⊎_elim, ℕ, ℤ, Bool, true, Option, None, Some, List, [], append-nil, refl, sym, ap, ◌∙◌, subst}
 use Rattle.std.specs.Cmp.{IsEquivalence}
 use mathlib.Core.List.{IsPrefix}
 use Rattle.logbook.specs.Pages.{Book}
@@ -17,6 +17,10 @@ use Rattle.papaya_call.specs.declared.compute.Choice.TheVariants.{Replace as To_
 use Rattle.papaya_call.specs.declared.machine.Machine.{Machine as Call_machine}
 use Rattle.papaya_call.specs.declared.made.Of.{Of}
 use Rattle.papaya_call.specs.Machine as calls
+use Rattle.papaya_ask.specs.declared.ask.StepKind.{StepKind}
+use Rattle.papaya_ask.specs.declared.call.Task.{Task}
+use Rattle.papaya_rests.specs.Followed.{MayAsk}
+use Rattle.papaya_rests.proofs.Followed.{asked_of_task}
 use Rattle.papaya_chain.specs.declared.ask.Answer.TheVariants as answers
 use Rattle.papaya_chain.specs.declared.ask.Ask.TheVariants.{Call}
 use Rattle.papaya_chain.specs.declared.machine.Machine.{Machine}
@@ -76,6 +80,43 @@ writers_silent (MakePairOf n) h = absurd h
 writers_silent (MakeTable slots limit chunks) h = tt
 writers_silent (AddToShard by) h = absurd h
 writers_silent (Done reply) h = absurd h
+
+-- what it asks that is none of these
+pub record IsOther (ask : Ask) : Type 0 where
+  pub hint : (t x hint : ℕ) → ask ≡ WriteHint t x hint → ⊥
+  pub none : ask ≡ ShowNone → ⊥
+  pub pair : (n : ℕ) → ask ≡ ShowPair n → ⊥
+  pub makes : ask ≡ MakePair → ⊥
+  pub makes_of : (n : ℕ) → ask ≡ MakePairOf n → ⊥
+  pub adds : (by : ℤ) → ask ≡ AddToShard by → ⊥
+  pub done : (reply : Reply) → ask ≡ Done reply → ⊥
+  pub slot : (t x old new : ℕ) → ask ≡ Exchange (Slot t x) old new → ⊥
+
+left_by_task : (task : Task) (kind : Option StepKind) (ask : Ask) → MayAsk task kind ask → IsOther ask → IsWriters ask
+left_by_task task kind (Load at) may other = tt
+left_by_task task kind (Exchange Root old new) may other = tt
+left_by_task task kind (Exchange Made_word old new) may other = tt
+left_by_task task kind (Exchange (Slot t x) old new) may other = absurd (other.slot t x old new refl)
+left_by_task task kind (Exchange (Next t) old new) may other = absurd may
+left_by_task task kind (Exchange (Aborted_word t) old new) may other = absurd may
+left_by_task task kind (Exchange (Done_word t chunk) old new) may other = absurd may
+left_by_task task kind (LoadHint t x) may other = tt
+left_by_task task kind (WriteHint t x hint) may other = absurd (other.hint t x hint refl)
+left_by_task task kind (SameKey n) may other = tt
+left_by_task task kind ShowNone may other = absurd (other.none refl)
+left_by_task task kind (ShowPair n) may other = absurd (other.pair n refl)
+left_by_task task kind (SizeOf t) may other = tt
+left_by_task task kind MakeKey may other = tt
+left_by_task task kind MakeValue may other = tt
+left_by_task task kind MakePair may other = absurd (other.makes refl)
+left_by_task task kind (MakePairOf n) may other = absurd (other.makes_of n refl)
+left_by_task task kind (MakeTable slots limit chunks) may other = tt
+left_by_task task kind (AddToShard by) may other = absurd (other.adds by refl)
+left_by_task task kind (Done reply) may other = absurd (other.done reply refl)
+
+-- is what any call asks that inserts
+pub left_to_write : (m : Machine) → IsStanding m → (ask : Ask) → ask_of m ≡ Call ask → IsOther ask → IsWriters ask
+left_to_write m standing ask asks other = left_by_task m.call.task (calls.kind_of_ask m.call) ask (subst (λ (a : Ask). MayAsk m.call.task (calls.kind_of_ask m.call) a) (call_asks m ask asks).1 (asked_of_task m.call standing.call)) other
 
 module _ {K V S H T : Type 0} (key : K) (made : List (Stored K V)) (said : List (Option (Stored K V) × Operation V T)) (x : Computing K V S T H) where
   -- what is at hand stays so, whatever else the writer does, while it keeps the value

@@ -55,6 +55,19 @@ IsNoCompute (Aborted t) = ⊥
 IsNoCompute Reply_done = Unit {0}
 IsNoCompute (Refused cause) = ⊥
 
+-- what is none of the replies of a compute is one of these
+pub other_reply : (reply : Reply) → ((n : ℕ) → reply ≡ Inserted n → ⊥) → ((old n : ℕ) → reply ≡ Replaced old n → ⊥) → ((n : ℕ) → reply ≡ Removed n → ⊥) → ((with : ℕ) → reply ≡ Aborted with → ⊥) → ((cause : Cause) → reply ≡ Refused cause → ⊥) → IsNoCompute reply
+other_reply Absent inserted replaced removed aborted refused = tt
+other_reply (Found n) inserted replaced removed aborted refused = tt
+other_reply (Inserted n) inserted replaced removed aborted refused = inserted n refl
+other_reply (Replaced old n) inserted replaced removed aborted refused = replaced old n refl
+other_reply (Occupied n) inserted replaced removed aborted refused = tt
+other_reply (Removed n) inserted replaced removed aborted refused = removed n refl
+other_reply (Kept n) inserted replaced removed aborted refused = tt
+other_reply (Aborted with) inserted replaced removed aborted refused = aborted with refl
+other_reply Reply_done inserted replaced removed aborted refused = tt
+other_reply (Refused cause) inserted replaced removed aborted refused = refused cause refl
+
 -- what is there is this
 of_some : {P : Type 0} (holds : P → Type 0) (none : Type 0) (o : Option P) (p : P) → o ≡ Some p → MatchOption o none holds → holds p
 of_some holds none o p is m = subst (λ z. MatchOption z none holds) is m

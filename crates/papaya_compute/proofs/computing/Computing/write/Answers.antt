@@ -1,5 +1,6 @@
-use Rattle.std.proofs.Common.{⊎_elim, [], append-nil, refl, ap, ◌∙◌, subst}
+use Rattle.std.proofs.Common.{rules, ◌≡◌, ⊎_elim, [], append-nil, refl, ap, ◌∙◌, subst}
 use Rattle.papaya_ask.specs.declared.ask.Ask.TheVariants.{Exchange}
+use Rattle.papaya_ask.specs.declared.ask.At.TheVariants.{Root}
 use Rattle.papaya_rests.specs.Rests.{IsNumberAsk}
 use Rattle.papaya_book.specs.Parts.{begun_of}
 use Rattle.papaya_compute.proofs.ComputeGoes.{goes_on, goes_untold, writers_silent}
@@ -38,7 +39,8 @@ returns-in-MakeTable-clause-computes g c = λ key begun heard r.
 pub returns-in-Exchange-Root-default-default-clause-computes : goal.returns-in-Exchange-Root-default-default-clause-computes
 returns-in-Exchange-Root-default-default-clause-computes g c = λ key begun heard r.
     let e = c.open.ensures in
-    goes_untold g.K.PartialEq.eq g.K.Hash.hash_input g.S.BuildHasher.build_hasher g.S.Hasher.Hasher.write g.S.Hasher.Hasher.finish g.met.K.Eq.laws g.met.K.Hash.respects_eq (begun_of c.args.window.now.book.now.parts) c.args.window.now.book.now.begun.book key begun c.args.window.now.sight.log c.args.self.now heard r c.requires.standing c.args.ask c.requires.asks.0 (writers_silent c.args.ask c.requires.asks.1) c.open.result (λ number. let at = c.in-Exchange-Root-default-default in subst IsNumberAsk (at.is ∙ ap (λ z. Exchange z at.field-1 at.field-2) at.field-0-is) number) c.open.new.window.sight.log e.sees.log c.open.new.self e.machine e.value e.unsaid (e.writes key r.made begun r.writing)
+    let root : c.args.ask ≡ Exchange Root c.in-Exchange-Root-default-default.field-1 c.in-Exchange-Root-default-default.field-2 = search rules in
+    goes_untold g.K.PartialEq.eq g.K.Hash.hash_input g.S.BuildHasher.build_hasher g.S.Hasher.Hasher.write g.S.Hasher.Hasher.finish g.met.K.Eq.laws g.met.K.Hash.respects_eq (begun_of c.args.window.now.book.now.parts) c.args.window.now.book.now.begun.book key begun c.args.window.now.sight.log c.args.self.now heard r c.requires.standing c.args.ask c.requires.asks.0 (writers_silent c.args.ask c.requires.asks.1) c.open.result (λ number. subst IsNumberAsk root number) c.open.new.window.sight.log e.sees.log c.open.new.self e.machine e.value e.unsaid (e.writes key r.made begun r.writing)
 
 pub returns-in-Exchange-Made-default-default-clause-computes : goal.returns-in-Exchange-Made-default-default-clause-computes
 returns-in-Exchange-Made-default-default-clause-computes g c = λ key begun heard r.
