@@ -1,5 +1,5 @@
 -- What a compute over a chain of tables remembers of the pair that it made in the place of another, and where it puts that.
-use Rattle.std.proofs.Common.{◌≡◌, ◌⊎◌, inl, inr, ⊎_elim, ℕ, Option, Some, sym, ap, ◌∙◌, subst}
+use Rattle.std.proofs.Common.{◌≡◌, ◌⊎◌, inl, inr, ⊎_elim, ℕ, Some, sym, ap, ◌∙◌, subst}
 use Rattle.papaya_ask.specs.declared.call.Task.TheVariants.{Compute}
 use Rattle.papaya_call.specs.declared.compute.Choice.TheVariants.{Replace as To_replace}
 use Rattle.papaya_call.specs.declared.made.Of.{Of}

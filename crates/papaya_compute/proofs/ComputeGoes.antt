@@ -36,7 +36,6 @@ use Rattle.papaya_rests.proofs.Silent.{IsSilent, not_done, not_show}
 use Rattle.papaya_compute.specs.declared.computing.Computing.{Computing}
 use Rattle.papaya_book.specs.declared.rule.entry.Begun.{Begun}
 use Rattle.papaya_book.specs.declared.rule.entry.Event.{Event}
-use Rattle.papaya_book.specs.declared.rule.own.Given.{Given}
 use Rattle.papaya_change.specs.declared.writing.Writer.{Writer}
 use Rattle.papaya_compute.specs.Computing.{Holds, IsComputing, IsComputingOn, IsNewest, IsWriters}
 use Rattle.papaya_compute.specs.Putting.{PutsChosen}
@@ -46,7 +45,7 @@ use Rattle.papaya_book.specs.Rule.{IsLawfulLog}
 use Rattle.papaya_lookup.specs.History.{history_of, key_of}
 use Rattle.papaya_book.specs.Logs.{Stored}
 use Rattle.papaya_change.specs.Showings.{HasNoNone, WasHeld}
-use Rattle.papaya_change.specs.Writing.{HasKeyAt, IsMemoryCapacityOrLimit, IsUnsaid, IsWritingOn, TellsTaken, answered as answered_writer, held_value}
+use Rattle.papaya_change.specs.Writing.{IsMemoryCapacityOrLimit, IsUnsaid, IsWritingOn, TellsTaken, answered as answered_writer, held_value}
 use Rattle.papaya_lookup.proofs.Histories.{history_since}
 use Rattle.papaya_lookup.proofs.KeptKeys.{key_at_stays}
 use Rattle.papaya_change.proofs.OwnSays.{own_stood}

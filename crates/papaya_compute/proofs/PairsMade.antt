@@ -1,10 +1,7 @@
 -- What a pair is that a compute makes: for an absent key, or in the place of a pair of which its closure has answered; and on what it stands then.
-use Rattle.std.proofs.Common.{◌≡◌, ◌⊎◌, inl, inr, ⊎_elim, ℕ, ◌<◌, ◌==◌, eqb-true, Bool, true, false, cond, Option, None, Some, refl, sym, ap, ◌∙◌, subst, arith}
-use Rattle.std.proofs.lemmas.Bool.{cond_both}
+use Rattle.std.proofs.Common.{◌≡◌, ◌⊎◌, inl, inr, ℕ, ◌<◌, ◌==◌, eqb-true, Bool, true, false, cond, Option, None, Some, refl, sym, ap, ◌∙◌, subst, arith}
 use Rattle.papaya_words.specs.Word.{pair_of}
-use Rattle.papaya_ask.specs.declared.ask.At.TheVariants.{Made as Made_word}
-use Rattle.papaya_ask.specs.declared.ask.Ask.{Ask}
-use Rattle.papaya_ask.specs.declared.ask.Ask.TheVariants.{MakeKey, MakeValue, MakePair, MakePairOf}
+use Rattle.papaya_ask.specs.declared.ask.Ask.TheVariants.{MakePair, MakePairOf}
 use Rattle.papaya_ask.specs.declared.ask.Answer.TheVariants.{Made as Made_number}
 use Rattle.papaya_ask.specs.declared.call.Task.{Task}
 use Rattle.papaya_ask.specs.declared.call.Task.TheVariants.{Compute}
@@ -15,10 +12,9 @@ use Rattle.papaya_call.specs.declared.compute.Gap.{Gap}
 use Rattle.papaya_call.specs.declared.compute.Gap.TheVariants.{NoRoot, At, After}
 use Rattle.papaya_call.specs.declared.compute.Purpose.{Purpose}
 use Rattle.papaya_call.specs.declared.compute.Purpose.TheVariants.{Fill, Replace, Again}
-use Rattle.papaya_call.specs.declared.compute.Remembered.{Remembered}
 use Rattle.papaya_call.specs.declared.machine.Machine.{Machine}
 use Rattle.papaya_call.specs.declared.machine.State.{State}
-use Rattle.papaya_call.specs.declared.machine.State.TheVariants.{AtRoot, Making, Opening, Searching, Writing, Offering, Showing, Pairing, Putting, Burying, Counting, Noting, Uncounting, Leaving, Growing, Ended}
+use Rattle.papaya_call.specs.declared.machine.State.TheVariants.{Searching, Writing, Pairing, Putting}
 use Rattle.papaya_call.specs.declared.made.Grown.{Grown}
 use Rattle.papaya_call.specs.declared.made.Grown.TheVariants.{On, Pair}
 use Rattle.papaya_call.specs.declared.made.Made.{Made}
@@ -29,7 +25,7 @@ use Rattle.papaya_call.specs.Compute.{fills, in_place_of}
 use Rattle.papaya_call.specs.Machine.{IsStanding, IsStandingState, after, ask_of, asks, made_to_pair, paired, paired_held}
 use Rattle.papaya_call.specs.Made.{grown, number_ask, of_ask, own_ask, pair_ask, paired as pair_done}
 use Rattle.papaya_call.specs.Write.{made_of}
-use Rattle.papaya_rests.specs.Says.{Inserts, IsAnswered, IsToPair, KeepsFill, Makes, MakesPair, Said, ShowsIn, ShowsPairs, StandsOn, said_in, said_to_choose, said_to_fill, shown_by}
+use Rattle.papaya_rests.specs.Says.{Inserts, IsAnswered, KeepsFill, Makes, MakesPair, Said, ShowsIn, ShowsPairs, StandsOn, said_in, said_to_choose, said_to_fill, shown_by}
 use Rattle.papaya_rests.proofs.Makings.{pair_made}
 use Rattle.papaya_rests.proofs.SaysSaid.{shown_pair}
 

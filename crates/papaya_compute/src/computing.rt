@@ -127,7 +127,13 @@ impl<'a, K: Hash + Eq + Drop, V: Drop, S: BuildHasher, T: Drop> Computing<'a, K,
         let hash = hash(&book.parts.hasher, &key);
         Computing {
             writer: Writer {
-                call: Driver::new(Task::Compute, hash, book.parts.mode, initial, book.parts.limit),
+                call: Driver::new(
+                    Task::Compute,
+                    hash,
+                    book.parts.mode,
+                    initial,
+                    book.parts.limit,
+                ),
                 key: Some(KeyPart::Own(key)),
                 value: None,
             },

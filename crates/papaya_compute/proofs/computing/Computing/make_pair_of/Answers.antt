@@ -18,8 +18,7 @@ unreachable-requires g c = elim c.in_default.branch [
 
 pub agrees-requires : goal.agrees-requires
 agrees-requires g c =
-    let at = c.in-Some-Some in let r = c.requires.can.3 in
-    (
+    let at = c.in-Some-Some in let r = c.requires.can.3 in (
       (subst (λ (o : _). IsPlaced (begun_of c.args.window.now.book.now.parts) (Some c.args.window.now.book.now.begun.book) (pair_named o)) at.is-0 r.shown_placed).0,
       (subst (λ (o : _). IsPlaced (begun_of c.args.window.now.book.now.parts) (Some c.args.window.now.book.now.begun.book) (pair_named o)) at.is-1 r.writing.calling.last_placed).0,
       one_number g.K.PartialEq.eq g.K.Hash.hash_input g.S.BuildHasher.build_hasher g.S.Hasher.Hasher.write g.S.Hasher.Hasher.finish g.met.K.Eq.laws g.met.K.Hash.respects_eq (begun_of c.args.window.now.book.now.parts) c.args.window.now.book.now.begun.book c.requires.can.0 c.requires.can.1 c.args.window.now.sight.log c.args.self.now c.requires.can.2 r c.requires.standing c.requires.asks.0 c.requires.asks.1 at.shown at.last at.is-0 at.is-1,

@@ -30,12 +30,14 @@ returns-in-WriteHint-clause-turns g c =
 
 pub write-requires-clause-asks : goal.write-requires-clause-asks
 write-requires-clause-asks g c =
-    let asks : ask_of c.args.self.now.writer.call.machine ≡ Call c.in-Call.ask = sym c.ask.ensures.value ∙ c.in-Call.is in
-    (asks, elim c.in_default-ask.branch [
-      | in_default-ask-via-in-Exchange+in_default w ↦
-          let n = w.in_default-ask in
-          left_to_write c.args.self.now.writer.call.machine c.requires.standing c.in-Call.ask asks (record { hint = n.not-WriteHint; none = n.not-ShowNone; pair = n.not-ShowPair; makes = n.not-MakePair; makes_of = n.not-MakePairOf; adds = n.not-AddToShard; done = n.not-Done; slot = λ t x old new e. search rules })
-      | in_default-ask-via-in_default w ↦
-          let n = w.in_default-ask in
-          left_to_write c.args.self.now.writer.call.machine c.requires.standing c.in-Call.ask asks (record { hint = n.not-WriteHint; none = n.not-ShowNone; pair = n.not-ShowPair; makes = n.not-MakePair; makes_of = n.not-MakePairOf; adds = n.not-AddToShard; done = n.not-Done; slot = λ t x old new e. search rules })
-    ])
+    let asks : ask_of c.args.self.now.writer.call.machine ≡ Call c.in-Call.ask = sym c.ask.ensures.value ∙ c.in-Call.is in (
+      asks,
+      elim c.in_default-ask.branch [
+        | in_default-ask-via-in-Exchange+in_default w ↦
+            let n = w.in_default-ask in
+            left_to_write c.args.self.now.writer.call.machine c.requires.standing c.in-Call.ask asks (record { hint = n.not-WriteHint; none = n.not-ShowNone; pair = n.not-ShowPair; makes = n.not-MakePair; makes_of = n.not-MakePairOf; adds = n.not-AddToShard; done = n.not-Done; slot = λ t x old new e. search rules })
+        | in_default-ask-via-in_default w ↦
+            let n = w.in_default-ask in
+            left_to_write c.args.self.now.writer.call.machine c.requires.standing c.in-Call.ask asks (record { hint = n.not-WriteHint; none = n.not-ShowNone; pair = n.not-ShowPair; makes = n.not-MakePair; makes_of = n.not-MakePairOf; adds = n.not-AddToShard; done = n.not-Done; slot = λ t x old new e. search rules })
+      ],
+    )

@@ -1,4 +1,4 @@
-use Rattle.std.proofs.Common.{rules, ◌≡◌, ⊎_elim, [], append-nil, refl, ap, ◌∙◌, subst}
+use Rattle.std.proofs.Common.{rules, ◌≡◌, ⊎_elim, [], append-nil, refl, subst}
 use Rattle.papaya_ask.specs.declared.ask.Ask.TheVariants.{Exchange}
 use Rattle.papaya_ask.specs.declared.ask.At.TheVariants.{Root}
 use Rattle.papaya_rests.specs.Rests.{IsNumberAsk}
