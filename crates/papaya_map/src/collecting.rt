@@ -85,7 +85,7 @@ impl<K: Hash + Eq + Drop, V: Drop, S: BuildHasher + Default + Drop> HashMap<K, V
         requires { IsFiniteIterable U.into_iter_gives U.IntoIter.can_next U.IntoIter.remaining
             iter }
         ensures made { IfOk result (IsFor (ResizeMode.Incremental DEFAULT_CHUNK) 0
-            DEFAULT_SHARDS) }
+            DEFAULT_SHARDS None) }
         ensures refused { IfErr result IsMemoryOrCapacity }
     {
         let map = HashMap::with_hasher(rt, alloc, S::default())?;
@@ -106,7 +106,7 @@ impl<K: Hash + Eq + Drop, V: Drop> HashMap<K, V, BuildHasherDefault<FoldHasher>>
         pairs: [(K, V); N],
     ) -> Result<HashMap<K, V, BuildHasherDefault<FoldHasher>>, Refused>
         ensures made { IfOk result (IsFor (ResizeMode.Incremental DEFAULT_CHUNK) 0
-            DEFAULT_SHARDS) }
+            DEFAULT_SHARDS None) }
         ensures refused { IfErr result IsMemoryOrCapacity }
     {
         match Vec::from_array(alloc, pairs) {
@@ -172,8 +172,8 @@ impl<K: Hash + Eq + Clone + Drop, V: Clone + Drop, S: BuildHasher> HashMap<K, V,
 impl<K: Hash + Eq + Clone + Drop, V: Clone + Drop, S: BuildHasher + Clone + Drop> HashMap<K, V, S> {
     /// A map of clones of this one's pairs: what the trait `Clone` makes in 0.2.5. As there, it has a
     /// clone of the hasher, room for as many pairs as were counted, and else what a map of
-    /// [`HashMap::with_capacity_and_hasher`] has: neither this one's mode nor its collector. A pair that
-    /// is stored, replaced or removed meanwhile may be copied or not.
+    /// [`HashMap::with_capacity_and_hasher`] has: neither this one's mode nor its collector, and no limit
+    /// on pairs. A pair that is stored, replaced or removed meanwhile may be copied or not.
     ///
     /// A key's clone has to be equal to it. Where it is not, the copy may have fewer pairs.
     ///
@@ -182,7 +182,7 @@ impl<K: Hash + Eq + Clone + Drop, V: Clone + Drop, S: BuildHasher + Clone + Drop
     /// its pairs then.
     pub fn try_clone<R: Wait>(&self, rt: &R, alloc: Global) -> Result<HashMap<K, V, S>, Refused>
         ensures made { IfOk result (λ map. (pairs : ℕ)
-            × IsFor (ResizeMode.Incremental DEFAULT_CHUNK) pairs DEFAULT_SHARDS map) }
+            × IsFor (ResizeMode.Incremental DEFAULT_CHUNK) pairs DEFAULT_SHARDS None map) }
         ensures hasher { IfOk result (λ map. S.is_clone self.now.begun.hasher map.begun.hasher) }
         ensures refused { IfErr result IsMemoryOrCapacity }
     {
