@@ -217,9 +217,7 @@ impl<K: Hash + Eq + Drop, V: Drop, S: BuildHasher + Drop> HashMapBuilder<K, V, S
             limit,
             pairs: _,
         } = self;
-        HashMap::with_collector(
-            rt, alloc, mode, capacity, shards, hasher, limit, collector,
-        )
+        HashMap::with_collector(rt, alloc, mode, capacity, shards, hasher, limit, collector)
     }
 
     /// A map of the same parts for one caller, which has no need of a collector; 0.2.5 has none such.

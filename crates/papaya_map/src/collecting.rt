@@ -2,11 +2,12 @@
 //!
 //! Each is made of the calls for one pair. Other threads may change the maps between these, so what the maps
 //! have then is no clause of theirs.
-ghost use Rattle.std.specs.Prelude.{◌≡◌, ℕ, IfOk, IfErr};
+ghost use Rattle.std.specs.Prelude.{◌≡◌, ℕ, IfOk, IfErr, None};
 ghost use Rattle.std.specs.Iterator.{IsFiniteIterable};
 ghost use Rattle.papaya_words.specs.declared.limits.TheConstants.{DEFAULT_CHUNK, DEFAULT_SHARDS};
 ghost use Rattle.papaya_change.specs.Writing.{IsMemoryOrCapacity};
 ghost use Rattle.papaya_map.specs.Fixed.{HasSettingsOf, IsFor};
+ghost use Rattle.papaya_map.specs.Limited.{IsPlainRefusal};
 
 use crate::map::HashMap;
 use papaya_words::probe::{Refused, ResizeMode};
@@ -30,7 +31,7 @@ impl<K: Hash + Eq + Drop, V: Drop, S: BuildHasher> HashMap<K, V, S> {
         U::IntoIter: Drop,
         requires { IsFiniteIterable U.into_iter_gives U.IntoIter.can_next U.IntoIter.remaining
             iter }
-        ensures { IfErr result IsMemoryOrCapacity }
+        ensures { IfErr result (IsPlainRefusal self.now.begun.limit) }
     {
         let mut pass = self.pass();
         for (key, value) in iter {
@@ -56,7 +57,7 @@ impl<K: Hash + Eq + Copy + Drop, V: Copy + Drop, S: BuildHasher> HashMap<K, V, S
         U::IntoIter: Drop,
         requires { IsFiniteIterable U.into_iter_gives U.IntoIter.can_next U.IntoIter.remaining
             iter }
-        ensures { IfErr result IsMemoryOrCapacity }
+        ensures { IfErr result (IsPlainRefusal self.now.begun.limit) }
     {
         let mut pass = self.pass();
         for (key, value) in iter {
@@ -151,7 +152,7 @@ impl<K: Hash + Eq + Clone + Drop, V: Clone + Drop, S: BuildHasher> HashMap<K, V,
     /// Stores clones of this map's pairs in another one. `Refused::Memory` also where a clone was not
     /// made.
     fn copy_into<R: Wait>(&self, rt: &R, copy: &HashMap<K, V, S>) -> Result<(), Refused>
-        ensures { IfErr result IsMemoryOrCapacity }
+        ensures { IfErr result (IsPlainRefusal copy.now.begun.limit) }
     {
         let mut pass = copy.pass();
         for (key, value) in self.pin().iter(rt)? {
@@ -196,8 +197,9 @@ impl<K: Hash + Eq + Clone + Drop, V: Clone + Drop, S: BuildHasher + Clone + Drop
 
     /// Makes the map anew of clones of its pairs, and gives back the memory of all keys and pairs that
     /// it had before: of those that were replaced or removed, too. 0.2.5 frees those while the map is
-    /// shared, and has no such call; here they stay until this one. Mode, initial capacity, collector
-    /// and shards stay, and the hasher is a clone of what it was.
+    /// shared, and has no such call; here they stay until this one. Mode, limit, initial capacity, collector
+    /// and shards stay, and the hasher is a clone of what it was. Just the pairs that are kept count
+    /// against the limit then, so it is not met here: that is tested, and no clause says it.
     ///
     /// The map takes `&mut self`, so no other thread, no pinned map and no reference to a key or a value
     /// outlasts the call. A [`Pass`](crate::map::Pass) of before is of no use after it, since it has
@@ -212,7 +214,7 @@ impl<K: Hash + Eq + Clone + Drop, V: Clone + Drop, S: BuildHasher + Clone + Drop
         ensures ok { IfOk result (λ _. HasSettingsOf self.old self.new) }
         ensures hasher { IfOk result (λ _. S.is_clone self.old.begun.hasher
             self.new.begun.hasher) }
-        ensures err { IfErr result (λ refused. IsMemoryOrCapacity refused
+        ensures err { IfErr result (λ refused. IsPlainRefusal self.old.begun.limit refused
             × (self.new ≡ self.old)) }
     {
         let fresh = self.anew(rt)?;

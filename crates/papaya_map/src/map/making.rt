@@ -173,7 +173,13 @@ impl<K: Hash + Eq + Drop, V: Drop, S: BuildHasher + Clone + Drop> HashMap<K, V, 
             return Err(Refused::Memory);
         };
         let count = self.count.anew(self.alloc)?;
-        let Ok(parts) = Parts::new(self.alloc, self.book.parts.mode, self.book.parts.limit, pairs, hasher) else {
+        let Ok(parts) = Parts::new(
+            self.alloc,
+            self.book.parts.mode,
+            self.book.parts.limit,
+            pairs,
+            hasher,
+        ) else {
             return Err(Refused::Memory);
         };
         let book = Book::opened(rt, parts);
