@@ -4,7 +4,7 @@ ghost use Rattle.std.specs.Arc.{arc_value};
 ghost use Rattle.papaya_words.specs.declared.limits.TheConstants.{DEFAULT_CHUNK, DEFAULT_SHARDS};
 ghost use Rattle.papaya_keys.specs.Sizes.{IsAllowed, IsSizeRefusal};
 ghost use Rattle.papaya_timeline.specs.Content.{content};
-ghost use Rattle.papaya_timeline.specs.New.{IsNew};
+ghost use Rattle.papaya_timeline.specs.New.{IsNewLimited};
 ghost use Rattle.papaya_seq.specs.Map.{core_of};
 ghost use Rattle.papaya_map.specs.Fixed.{IsFor};
 
@@ -224,7 +224,7 @@ impl<K: Hash + Eq + Drop, V: Drop, S: BuildHasher + Drop> HashMapBuilder<K, V, S
     /// Refused as [`seq::HashMap::with_parts`].
     pub fn build_seq(self, alloc: Global) -> Result<seq::HashMap<K, V, S>, Refused>
         ensures ok { IfOk result (λ map. IsAllowed self.mode self.capacity self.shards
-            × IsNew {A = Unit {0}} self.mode self.capacity self.shards self.hasher
+            × IsNewLimited {A = Unit {0}} self.mode self.capacity self.shards self.hasher self.limit
             (core_of map)) }
         ensures empty { IfOk result (λ map. content K.eq map.store ≡ []) }
         ensures err { IfErr result (IsSizeRefusal self.mode self.capacity self.shards) }
