@@ -125,7 +125,7 @@ module _ {K V S : Type 0} (eq : K → K → Bool) (hash : S → K → ℕ) (s : 
         key_lawful g (λ k. false) h own_coding (own_hashed store core) form (λ t. sized_slot (table_of store.words.tables t) (λ w e. core.sizes t w e))
 
     -- a removal that begins
-    pub seek_begin : (number : ℕ) → IsLawfulMap eq (hash s.store.hasher) s.store s.mode s.initial → IsSeeking s.store (started RemoveIf h s.mode s.initial number)
+    pub seek_begin : (number : ℕ) → IsLawfulMap eq (hash s.store.hasher) s.store s.mode s.initial → IsSeeking s.store (started RemoveIf h s.mode.resize s.initial number s.mode.limit)
     seek_begin number lawful =
         let (es, (tales, kept)) = lawful.lawful.law in
         let tale : Tale K V = record { begun = es; since = []; hands = no_hands; visit = visits.no_hands } in
@@ -152,5 +152,5 @@ module _ {K V S : Type 0} (eq : K → K → Bool) (hash : S → K → ℕ) (s : 
           seeks = tt;
           logs = refl;
           same = λ k. refl;
-          long = long_begun s lawful.long (started RemoveIf h s.mode s.initial number) refl refl;
+          long = long_begun s lawful.long (started RemoveIf h s.mode.resize s.initial number s.mode.limit) refl refl;
         }

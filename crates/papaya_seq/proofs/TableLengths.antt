@@ -10,7 +10,7 @@ use Rattle.papaya_ask.specs.declared.ask.Answer.{Answer as Call_answer}
 use Rattle.papaya_ask.specs.declared.ask.At.{At}
 use Rattle.papaya_ask.specs.declared.ask.At.TheVariants.{Root, Next, Aborted, Done, Slot}
 use Rattle.papaya_ask.specs.declared.ask.Ask.{Ask as Call_ask}
-use Rattle.papaya_ask.specs.declared.ask.Ask.TheVariants.{Load, Exchange, LoadHint, WriteHint, SameKey, ShowNone, ShowPair, SizeOf, MakeKey, MakePair, MakeTable, AddToShard, Done as Ask_done}
+use Rattle.papaya_ask.specs.declared.ask.Ask.TheVariants.{Load, Exchange, LoadHint, WriteHint, SameKey, ShowNone, ShowPair, SizeOf, MakeKey, MakeValue, MakePair, MakePairOf, MakeTable, AddToShard, Done as Ask_done}
 use Rattle.papaya_ask.specs.declared.ask.Answer.TheVariants.{Ok as Ok_done}
 use Rattle.papaya_ask.specs.declared.copy_ask.CopyAsk.{CopyAsk}
 use Rattle.papaya_ask.specs.declared.copy_ask.CopyAsk.TheVariants as copies

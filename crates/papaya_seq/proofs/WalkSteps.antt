@@ -93,10 +93,10 @@ module _ {K V S : Type 0} (eq : K → K → Bool) (hash : K → ℕ) (s : MapSta
 
   module _ (at : Stand) (stand : IsStand s at) where
     -- where a table was passed, the mode is not blocking
-    going : 0 < at.passed → is_blocking s.mode ≡ false
-    going some = of_mode s.mode refl
+    going : 0 < at.passed → is_blocking s.mode.resize ≡ false
+    going some = of_mode s.mode.resize refl
       where
-        of_mode : (mode : ResizeMode) → s.mode ≡ mode → is_blocking s.mode ≡ false
+        of_mode : (mode : ResizeMode) → s.mode.resize ≡ mode → is_blocking s.mode.resize ≡ false
         of_mode (Incremental chunk) e = ap is_blocking e
         of_mode Blocking e = let none = stand.alone e in absurd (omega (arith, some, none))
 
@@ -230,14 +230,14 @@ module _ {K V S : Type 0} (eq : K → K → Bool) (hash : K → ℕ) (s : MapSta
       over_last last = past_table ∙ left_none eq s.store zero (suc at.passed) (length s.store.words.tables) s.store.words.root (ap (table_of s.store.words.tables) (next_after ∙ last))
 
       -- so it is behind the root with blocking
-      pub over_blocking : s.mode ≡ Blocking → left_to eq s.store at ≡ []
+      pub over_blocking : s.mode.resize ≡ Blocking → left_to eq s.store at ≡ []
       over_blocking blocks =
           let none : at.passed ≡ 0 = stand.alone blocks in
           let root : s.store.words.root ≡ at.table = ap (λ n. table_after s.store n s.store.words.root) (sym none) ∙ stand.on in
           ap (λ n. left_from eq s.store n at.slot (length s.store.words.tables) s.store.words.root) none
           ∙ blocking_end eq hash [] s.mode s.store lawful keys blocks at.slot (subst (λ t. slots_in (table_of s.store.words.tables t) ≤ at.slot) (sym root) past)
 
-      module _ (some : word_at s.store.words (Next at.table) ≡ 0 → ⊥) (going_on : s.mode ≡ Blocking → ⊥) where
+      module _ (some : word_at s.store.words (Next at.table) ≡ 0 → ⊥) (going_on : s.mode.resize ≡ Blocking → ⊥) where
         -- the stand before the next table's first slot
         abbrev pub next_stand : Stand
         next_stand = record { table = word_at s.store.words (Next at.table); slot = 0; passed = at.passed + 1 }
