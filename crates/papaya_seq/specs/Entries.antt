@@ -7,6 +7,7 @@ use Rattle.papaya_words.specs.declared.probe.Refused.{Refused}
 use Rattle.papaya_words.specs.declared.probe.ResizeMode.TheVariants.{Incremental}
 use Rattle.papaya_store.specs.Store.{StoreState}
 use Rattle.papaya_timeline.specs.Content.{map_in}
+use Rattle.papaya_timeline.specs.Core.{unlimited}
 use Rattle.papaya_timeline.specs.New.{IsNew}
 use Rattle.papaya_seq.specs.Map.{Inserts, IsWriteCauseAt, Keeps, KeepsAndGrows, MapState, Unchanged, core_of, entry_of, slots_of}
 
@@ -68,7 +69,7 @@ module _ {K V S A : Type 0} (eq : K → K → Bool) (shows : A → K × V) where
   pub record HasJust (items : List A) (s : MapState K V S) : Type 0 where
     pub entries : (k : K) → entries_in eq s.store k ≡ put_all eq shows nothing items k
     pub no_table : items ≡ [] → slots_of s.store ≡ 0
-    pub mode : s.mode ≡ Incremental DEFAULT_CHUNK
+    pub mode : s.mode ≡ unlimited (Incremental DEFAULT_CHUNK)
     pub initial : IsEntriesFor 0 s.initial
 
 module _ {K V A : Type 0} (S : Type 0) (eq : K → K → Bool) (shows : A → K × V) where
