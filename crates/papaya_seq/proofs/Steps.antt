@@ -1,7 +1,7 @@
 -- The call of a map for one caller as the steps of a core with one seat.
 use Rattle.std.proofs.Common.{◌≡◌, ◌⊎◌, ℕ, suc, ◌^◌, ◌<◌, Bool, false, Option, None, Some, List, [], ◌∷◌, ◌++◌, inl, refl, sym, ◌∙◌, ap, subst, arith}
 use Rattle.papaya_words.specs.declared.probe.Refused.{Refused}
-use Rattle.papaya_words.specs.declared.probe.ResizeMode.{ResizeMode}
+use Rattle.papaya_store.specs.declared.mode.Mode.{Mode}
 use Rattle.papaya_ask.specs.declared.call.Reply.{Reply}
 use Rattle.papaya_ask.specs.declared.call.Reply.TheVariants.{Refused as Reply_refused}
 use Rattle.papaya_rests.specs.Rests.{change_in}
@@ -47,7 +47,7 @@ use Rattle.papaya_seq.proofs.RootStays.{root_stays}
 use Rattle.papaya_seq.proofs.Turns.{IsOver, begins_so, last_entry, made_over, seated_work, start, turns_made}
 
 -- a core whose one seat has this call on a key
-abbrev pub seated : {K V S A : Type 0} → StoreState K V S → Option (Running K V A) → ResizeMode → ℕ → CoreState K V S A
+abbrev pub seated : {K V S A : Type 0} → StoreState K V S → Option (Running K V A) → Mode → ℕ → CoreState K V S A
 seated store call mode initial = seated_work store (as_work call) mode initial
 
 -- a call is under way until it has replied
@@ -73,7 +73,7 @@ module _ {K V S : Type 0} (eq : K → K → Bool) (hash : S → K → ℕ) (s : 
     pub own : own_key store r ≡ Some call.key
     pub task : r.machine.call.task ≡ call.task
     pub hash_is : r.machine.call.hash ≡ hash s.store.hasher call.key
-    pub shows : ShowsPairs r.machine.call.state
+    pub shows : ShowsPairs r.machine.call
     pub hasher : store.hasher ≡ s.store.hasher
     -- no table is shorter than the initial capacity, and each that it makes follows another
     pub long : IsLong s store r.machine

@@ -1,7 +1,7 @@
 -- The whole of one call of a map for one caller, as turns of a core with one seat.
 use Rattle.std.proofs.Common.{◌≡◌, ℕ, ◌^◌, ◌<◌, Bool, Option, None, Some, [], ◌∷◌, inl, refl, subst}
 use Rattle.std.specs.Int.{IsPowerOfTwo}
-use Rattle.papaya_words.specs.declared.probe.ResizeMode.{ResizeMode}
+use Rattle.papaya_store.specs.declared.mode.Mode.{Mode}
 use Rattle.papaya_ask.specs.declared.call.Call.{Call}
 use Rattle.papaya_ask.specs.declared.call.Reply.{Reply}
 use Rattle.papaya_store.specs.Store.{StoreState}
@@ -19,7 +19,7 @@ use Rattle.papaya_seq.specs.Lengths.{IsLongEnough}
 use Rattle.papaya_seq.specs.Map.{MapState, core_of}
 
 -- a core whose one seat has this
-abbrev pub seated_work : {K V S A : Type 0} → StoreState K V S → Option (Work K V A) → ResizeMode → ℕ → CoreState K V S A
+abbrev pub seated_work : {K V S A : Type 0} → StoreState K V S → Option (Work K V A) → Mode → ℕ → CoreState K V S A
 seated_work store work mode initial = record { store = store; callers = record { caller = 0; work = work } ∷ []; mode = mode; initial = initial }
 
 -- the last of a step's entries is its reply
