@@ -31,12 +31,12 @@ IsPut {V = V} eq k v s (Ok absent) s' = (went : Option V) × (absent ≡ is_none
 IsPut eq k v s (Err refused) s' = IsWriteCauseAt s (map_in eq s.store k) refused s'
     × Unchanged eq s.store s'.store × KeepsAndGrows s s'
 
-module _ {K V : Type 0} (eq : K → K → Bool) where
-  -- an entry of this value, of the key that is there, or else of this one
-  abbrev pub kept : Option (K × V) → K × V → K × V
-  kept None p = p
-  kept (Some there) p = (there.0, p.1)
+-- an entry of this value, of the key that is there, or else of this one
+abbrev pub kept : {K V : Type 0} → Option (K × V) → K × V → K × V
+kept None p = p
+kept (Some there) p = (there.0, p.1)
 
+module _ {K V : Type 0} (eq : K → K → Bool) where
   -- the class of the pair's key has its value, by the key that it had, or else by this one, and each
   -- other class has what it had
   abbrev pub put : Entries K V → K × V → Entries K V
