@@ -11,7 +11,7 @@ use Rattle.papaya_words.specs.declared.probe.Refused.{Refused}
 use Rattle.papaya_ask.specs.declared.ask.Answer.{Answer}
 use Rattle.papaya_ask.specs.declared.ask.Answer.TheVariants.{Exchanged, Found as Found_instead, Yes, Made as Made_number, Ok as Ok_done, Refused as Was_refused}
 use Rattle.papaya_ask.specs.declared.ask.Ask.{Ask}
-use Rattle.papaya_ask.specs.declared.ask.Ask.TheVariants.{Load, Exchange, LoadHint, WriteHint, SameKey, ShowNone, ShowPair, SizeOf, MakeKey, MakePair, MakeTable, AddToShard, Done as Ask_done}
+use Rattle.papaya_ask.specs.declared.ask.Ask.TheVariants.{Load, Exchange, LoadHint, WriteHint, SameKey, ShowNone, ShowPair, SizeOf, MakeKey, MakeValue, MakePair, MakePairOf, MakeTable, AddToShard, Done as Ask_done}
 use Rattle.papaya_ask.specs.declared.ask.At.{At}
 use Rattle.papaya_ask.specs.declared.ask.At.TheVariants.{Slot}
 use Rattle.papaya_ask.specs.declared.search.Place.{Place}
@@ -23,7 +23,7 @@ use Rattle.papaya_call.specs.declared.machine.Machine.{Machine}
 use Rattle.papaya_call.specs.declared.machine.State.{State}
 use Rattle.papaya_call.specs.declared.machine.State.TheVariants.{AtRoot, Writing, Counting, Noting, Ended}
 use Rattle.papaya_call.specs.declared.write.Claimed.{Claimed}
-use Rattle.papaya_call.specs.declared.write.Made.{Made}
+use Rattle.papaya_call.specs.declared.made.Made.{Made}
 use Rattle.papaya_call.specs.declared.write.Made.TheVariants.{Nothing, Key, Pair}
 use Rattle.papaya_call.specs.declared.write.Write.{Write}
 use Rattle.papaya_call.specs.Machine.{after, ask_of, found, goes, occupies, replaces, started, written}
@@ -32,7 +32,7 @@ use Rattle.papaya_chain.specs.declared.ask.Answer.{Answer as Chain_answer}
 use Rattle.papaya_chain.specs.declared.ask.Answer.TheVariants as answers
 use Rattle.papaya_chain.specs.declared.ask.Ask.TheVariants as asks
 use Rattle.papaya_chain.specs.Machine as chain
-use Rattle.papaya_store.specs.declared.pairs.KeyOf.TheVariants.{Own, Logged}
+use Rattle.papaya_store.specs.declared.pairs.Part.TheVariants.{Own, Logged}
 use Rattle.papaya_store.specs.declared.pairs.Running.{Running}
 use Rattle.papaya_store.specs.Performs.{Exchanges, Performs, Refuses, same_stored}
 use Rattle.papaya_store.specs.Store.{StoreState, Stored, pair_of}
@@ -78,6 +78,8 @@ module _ {K V S : Type 0} (eq : K → K → Bool) (hash : S → K → ℕ) where
     searched_step m answer (ShowPair n) is asked told = absurd asked
     searched_step m answer MakeKey is asked told = absurd asked
     searched_step m answer MakePair is asked told = absurd asked
+    searched_step m answer MakeValue is asked told = absurd asked
+    searched_step m answer (MakePairOf i) is asked told = absurd asked
     searched_step m answer (MakeTable slots limit chunks) is asked told = absurd asked
     searched_step m answer (AddToShard by) is asked told = absurd asked
     searched_step m answer (Ask_done reply) is asked told = absurd asked
@@ -308,27 +310,27 @@ module _ {K V S : Type 0} (eq : K → K → Bool) (hash : S → K → ℕ) where
   module _ (s : StoreState K V S) (key : K) (value : V) (hashed : ℕ) (place : Place) (mode : ResizeMode) (initial : ℕ) where
     -- the insertion in this state
     abbrev inserts : Bool → State → Running K V (Unit {0})
-    inserts replace state = at_hand (record (started (Insert replace) hashed mode initial) { state = state }) key value
+    inserts replace state = at_hand (record (started (Insert replace) hashed mode initial None) { state = state }) key value
 
     -- it came there
-    root_led : (replace : Bool) (turn : Turn) (state : State) → IsRootTurn (eq key) s hashed turn → goes (started (Insert replace) hashed mode initial) (seen_by turn) ≡ state → (reply : Reply) (left : Option V) (s' : StoreState K V S) → IsReplied eq hash s (inserts replace state) reply left s' → IsReplied eq hash s (inserts replace AtRoot) reply left s'
+    root_led : (replace : Bool) (turn : Turn) (state : State) → IsRootTurn (eq key) s hashed turn → goes (started (Insert replace) hashed mode initial None) (seen_by turn) ≡ state → (reply : Reply) (left : Option V) (s' : StoreState K V S) → IsReplied eq hash s (inserts replace state) reply left s' → IsReplied eq hash s (inserts replace AtRoot) reply left s'
     root_led replace turn state root is reply left s' done =
-        let begun : Machine = started (Insert replace) hashed mode initial in
+        let begun : Machine = started (Insert replace) hashed mode initial None in
         let came = root.sees begun in
         let led : Comes (eq key) s begun came.0 (record begun { state = state }) = subst (λ (st : State). Comes (eq key) s begun came.0 (record begun { state = st })) is came.1 in
         replied_on (call_answers came.0) s (inserts replace AtRoot) (inserts replace state) reply left s' (comes_drives s key value came.0 begun (record begun { state = state }) led) done
 
     pub claimed : (replace : Bool) → IsRootTurn (eq key) s hashed (turns.Empty place) → (done : Reply × Option V) (s' : StoreState K V S) → IsWritten eq hash hashed (record { place = place; old = 0 }) key value s done s' → IsReplied eq hash s (inserts replace AtRoot) done.0 done.1 s'
-    claimed replace root done s' writes = root_led replace (turns.Empty place) (Writing (record { place = place; old = 0 })) root refl done.0 done.1 s' (writes (started (Insert replace) hashed mode initial))
+    claimed replace root done s' writes = root_led replace (turns.Empty place) (Writing (record { place = place; old = 0 })) root refl done.0 done.1 s' (writes (started (Insert replace) hashed mode initial None))
 
     module _ (word : ℕ) (live : kind_of word ≡ Live) (root : IsRootTurn (eq key) s hashed (turns.Here place word)) where
       pub replaces_it : (replace : Bool) → replace ≡ true → (done : Reply × Option V) (s' : StoreState K V S) → IsWritten eq hash hashed (record { place = place; old = word }) key value s done s' → IsReplied eq hash s (inserts replace AtRoot) done.0 done.1 s'
       replaces_it replace may done s' writes =
-          let leads : found (Insert replace) (started (Insert replace) hashed mode initial).remembered place word ≡ Writing (record { place = place; old = word }) = ap (λ b. found (Insert b) (started (Insert replace) hashed mode initial).remembered place word) may ∙ ap (λ kind. replaces kind place word) live in
-          root_led replace (turns.Here place word) (Writing (record { place = place; old = word })) root leads done.0 done.1 s' (writes (started (Insert replace) hashed mode initial))
+          let leads : found (Insert replace) (started (Insert replace) hashed mode initial None).remembered place word ≡ Writing (record { place = place; old = word }) = ap (λ b. found (Insert b) (started (Insert replace) hashed mode initial None).remembered place word) may ∙ ap (λ kind. replaces kind place word) live in
+          root_led replace (turns.Here place word) (Writing (record { place = place; old = word })) root leads done.0 done.1 s' (writes (started (Insert replace) hashed mode initial None))
 
       pub occupied : (replace : Bool) → replace ≡ false → (n : ℕ) → n ≡ number_of word → IsReplied eq hash s (inserts replace AtRoot) (Occupied n) (Some value) s
       occupied replace never n n_is =
-          let leads : found (Insert replace) (started (Insert replace) hashed mode initial).remembered place word ≡ Ended (Occupied (number_of word)) = ap (λ b. found (Insert b) (started (Insert replace) hashed mode initial).remembered place word) never ∙ ap (λ kind. occupies kind place word) live in
+          let leads : found (Insert replace) (started (Insert replace) hashed mode initial None).remembered place word ≡ Ended (Occupied (number_of word)) = ap (λ b. found (Insert b) (started (Insert replace) hashed mode initial None).remembered place word) never ∙ ap (λ kind. occupies kind place word) live in
           subst (λ z. IsReplied eq hash s (inserts replace AtRoot) (Occupied z) (Some value) s) (sym n_is)
           (root_led replace (turns.Here place word) (Ended (Occupied (number_of word))) root leads (Occupied (number_of word)) (Some value) s (record { answers = []; end = inserts replace (Ended (Occupied (number_of word))); drives = (refl, refl); replied = refl; value = refl }))

@@ -20,7 +20,7 @@ use Rattle.papaya_call.specs.declared.compute.Purpose.TheVariants.{Fill, Replace
 use Rattle.papaya_call.specs.declared.machine.State.{State}
 use Rattle.papaya_call.specs.declared.machine.State.TheVariants.{Offering, Showing, Pairing}
 use Rattle.papaya_call.specs.declared.remove.Removal.{Removal}
-use Rattle.papaya_call.specs.declared.write.Made.{Made}
+use Rattle.papaya_call.specs.declared.made.Made.{Made}
 use Rattle.papaya_call.specs.declared.write.Made.TheVariants.{Nothing, Key, Pair}
 use Rattle.papaya_call.specs.Machine.{pairing_ask}
 use Rattle.papaya_chain.specs.declared.ask.Ask.{Ask}

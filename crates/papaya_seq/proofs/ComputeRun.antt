@@ -15,7 +15,7 @@ use Rattle.papaya_ask.specs.declared.call.Task.TheVariants.{Compute}
 use Rattle.papaya_ask.specs.declared.search.Search.TheVariants.{Sizing, Looking, Reading, Comparing}
 use Rattle.papaya_call.specs.declared.machine.State.{State}
 use Rattle.papaya_call.specs.declared.machine.State.TheVariants.{Searching, Writing, Pairing, Ended}
-use Rattle.papaya_call.specs.declared.write.Made.{Made}
+use Rattle.papaya_call.specs.declared.made.Made.{Made}
 use Rattle.papaya_call.specs.declared.write.Made.TheVariants.{Nothing, Key, Pair}
 use Rattle.papaya_call.specs.Machine.{asks}
 use Rattle.papaya_chain.specs.declared.ask.Answer.{Answer as Chain_answer}
@@ -24,7 +24,7 @@ use Rattle.papaya_chain.specs.declared.machine.Phase.TheVariants.{Calling}
 use Rattle.papaya_chain.specs.Machine.{IsFit, IsStanding, after, ask_of, started}
 use Rattle.papaya_chain_rests.proofs.Names.{call_asks}
 use Rattle.papaya_rests.specs.Says.{HasShownNone, Inserts, Makes, Said, StandsOn}
-use Rattle.papaya_store.specs.declared.pairs.KeyOf.TheVariants.{Own}
+use Rattle.papaya_store.specs.declared.pairs.Part.TheVariants.{Own}
 use Rattle.papaya_store.specs.declared.pairs.Running.{Running}
 use Rattle.papaya_store.specs.Performs.{value_answered}
 use Rattle.papaya_store.specs.Store.{StoreState, Stored, pair_of}
@@ -137,10 +137,10 @@ module _ {K V S A : Type 0} where
   IsAsked s held (ops.Abort t) store r = reply_in (ask_of r.machine) ≡ Some (Aborted 0)
 
 -- a machine that begins stands on nothing
-begins_silent : (mode : ResizeMode) (initial number hashed : ℕ) (said : Said) → StandsOn (started Compute hashed mode initial number).call said → ⊥
-begins_silent mode initial number hashed said (inl e) = cc e
-begins_silent mode initial number hashed said (inr (inl e)) = cc e
-begins_silent mode initial number hashed said (inr (inr e)) = cc e
+begins_silent : (mode : ResizeMode) (initial number hashed : ℕ) (limit : Option ℕ) (said : Said) → StandsOn (started Compute hashed mode initial number limit).call said → ⊥
+begins_silent mode initial number hashed limit said (inl e) = cc e
+begins_silent mode initial number hashed limit said (inr (inl e)) = cc e
+begins_silent mode initial number hashed limit said (inr (inr e)) = cc e
 
 module _ {K V S A F T : Type 0} (eq : K → K → Bool) (hash : S → K → ℕ) (s : MapState K V S) (k : K) (post : F → Option (Bor K × Bor V) → Operation V T → Type 0) (f : F) where
   -- its closure was not called; while no pairs are being moved the call is in the root, and nothing was changed
@@ -168,15 +168,15 @@ module _ {K V S A F T : Type 0} (eq : K → K → Bool) (hash : S → K → ℕ)
     pub phase : IsWaiting store r closure shown ⊎ IsDoing store r shown aborted
 
   -- it begins
-  pub computing_begin : (m : Machine) (hashed number : ℕ) (aborted : Option T) → m ≡ started Compute hashed s.mode s.initial number → hashed ≡ hash s.store.hasher k → IsStanding m → IsComputing s.store (record { machine = m; key = Own k; value = None; answers = None }) (Some f) None aborted
+  pub computing_begin : (m : Machine) (hashed number : ℕ) (aborted : Option T) → m ≡ started Compute hashed s.mode.resize s.initial number s.mode.limit → hashed ≡ hash s.store.hasher k → IsStanding m → IsComputing s.store (record { machine = m; key = Own k; value = None; answers = None }) (Some f) None aborted
   computing_begin m hashed number aborted is hash_same standing =
-      let begun : m ≡ started Compute (hash s.store.hasher k) s.mode s.initial number = is ∙ ap (λ n. started Compute n s.mode s.initial number) hash_same in
+      let begun : m ≡ started Compute (hash s.store.hasher k) s.mode.resize s.initial number s.mode.limit = is ∙ ap (λ n. started Compute n s.mode s.initial number) hash_same in
       subst (λ (x : Machine). IsComputing s.store (record { machine = x; key = Own k; value = None; answers = None }) (Some f) None aborted) (sym begun) (record {
         steps = made_none eq hash s (keyed_compute k) number;
         silence = refl;
         standing = subst IsStanding begun standing;
         unlogged = unlogged_none eq hash s (keyed_compute k) number;
-        phase = inl (record { closure_is = refl; unshown = refl; silent = begins_silent s.mode s.initial number (hash s.store.hasher k); ends = λ reply e. absurd cc; rooted = λ zero. (refl, refl, tt) });
+        phase = inl (record { closure_is = refl; unshown = refl; silent = begins_silent s.mode.resize s.initial number (hash s.store.hasher k) s.mode.limit; ends = λ reply e. absurd cc; rooted = λ zero. (refl, refl, tt) });
       })
 
   -- an answer that fits left the call under way, and nearer its end

@@ -22,7 +22,7 @@ use Rattle.papaya_call.specs.declared.machine.State.{State}
 use Rattle.papaya_call.specs.declared.machine.State.TheVariants.{Searching, Writing, Offering, Showing, Pairing}
 use Rattle.papaya_call.specs.declared.remove.Removal.{Removal}
 use Rattle.papaya_ask.specs.declared.search.Search.TheVariants.{Sizing, Looking, Reading, Comparing}
-use Rattle.papaya_call.specs.declared.write.Made.{Made}
+use Rattle.papaya_call.specs.declared.made.Made.{Made}
 use Rattle.papaya_call.specs.declared.write.Made.TheVariants.{Nothing, Key, Pair}
 use Rattle.papaya_call.specs.Machine.{asks}
 use Rattle.papaya_call.specs.Remove.{grave_word}
@@ -44,7 +44,7 @@ use Rattle.papaya_store.specs.Performs.{Exchanges}
 use Rattle.papaya_store.specs.Store.{StoreState, Stored, pair_of}
 use Rattle.papaya_keys.specs.Hashes.{hash_of}
 use Rattle.papaya_store.specs.Tables.{put, word_at}
-use Rattle.papaya_store.specs.declared.pairs.KeyOf.{KeyOf}
+use Rattle.papaya_store.specs.declared.pairs.Part.{Part}
 use Rattle.papaya_store.specs.declared.pairs.Running.{Running}
 use Rattle.papaya_seq.specs.Map.{IsLawfulMap, MapState}
 use Rattle.papaya_seq.proofs.Alone.{map_answered}

@@ -25,7 +25,7 @@ use Rattle.papaya_call.specs.declared.machine.Machine.{Machine as Call_machine}
 use Rattle.papaya_call.specs.declared.machine.State.{State}
 use Rattle.papaya_call.specs.declared.machine.State.TheVariants.{AtRoot, Searching, Offering, Showing, Pairing, Putting, Burying, Counting, Uncounting, Leaving, Growing, Ended}
 use Rattle.papaya_call.specs.Write.{claimed_by}
-use Rattle.papaya_call.specs.declared.write.Made.{Made}
+use Rattle.papaya_call.specs.declared.made.Made.{Made}
 use Rattle.papaya_call.specs.declared.write.Made.TheVariants.{Nothing, Key, Pair}
 use Rattle.papaya_call.specs.Answers.{Says}
 use Rattle.papaya_call.specs.Compute.{lacks, nothing}

@@ -58,9 +58,9 @@ module _ {K V S H : Type 0} (eq : K → K → Bool) (input : K → List (List �
   hash = hash_of input build write finish
 
   -- an insertion that has replied at once leaves what its machine does
-  pub insertion_done : (reply : replies.Reply) (left : Option V) (store : StoreState K V S) → IsStanding (at_hand {A = Unit {0}} (started (Insert replace) (hash s.store.hasher k) s.mode s.initial) k value).machine → IsReplied eq hash s.store (at_hand (started (Insert replace) (hash s.store.hasher k) s.mode s.initial) k value) reply left store → InsertionDone eq hash s replace k value reply left (record s { store = store })
+  pub insertion_done : (reply : replies.Reply) (left : Option V) (store : StoreState K V S) → IsStanding (at_hand {A = Unit {0}} (started (Insert replace) (hash s.store.hasher k) s.mode.resize s.initial s.mode.limit) k value).machine → IsReplied eq hash s.store (at_hand (started (Insert replace) (hash s.store.hasher k) s.mode.resize s.initial s.mode.limit) k value) reply left store → InsertionDone eq hash s replace k value reply left (record s { store = store })
   insertion_done reply left store standing done =
-      let begun = at_hand {A = Unit {0}} (started (Insert replace) (hash s.store.hasher k) s.mode s.initial) k value in
+      let begun = at_hand {A = Unit {0}} (started (Insert replace) (hash s.store.hasher k) s.mode.resize s.initial s.mode.limit) k value in
       let first : IsInserting eq hash s replace k value s.store begun = inserting_begin eq hash s replace k value begun.machine (hash s.store.hasher k) 0 refl refl standing in
       let ended = inserting_drives eq hash s replace k value keys lawful fits done.answers s.store begun store done.end done.drives first in
       let over : IsOver eq hash s (insertion replace k value) store reply = inserting_alone eq hash s replace k value keys lawful fits store done.end reply done.replied ended in

@@ -3,7 +3,7 @@ use Rattle.std.proofs.Common.{◌≡◌, ◌⊎◌, inl, inr, ℕ, ◌^◌, ◌<
 use Rattle.std.proofs.lemmas.Bool.{cases_eq}
 use Rattle.papaya_words.specs.declared.probe.Refused.{Refused}
 use Rattle.papaya_ask.specs.declared.ask.Answer.TheVariants.{Op, Ok as Ok_done}
-use Rattle.papaya_ask.specs.declared.ask.Ask.TheVariants.{Load, Exchange, LoadHint, WriteHint, SameKey, ShowNone, ShowPair, SizeOf, MakeKey, MakePair, MakeTable, AddToShard, Done as Ask_done}
+use Rattle.papaya_ask.specs.declared.ask.Ask.TheVariants.{Load, Exchange, LoadHint, WriteHint, SameKey, ShowNone, ShowPair, SizeOf, MakeKey, MakeValue, MakePair, MakePairOf, MakeTable, AddToShard, Done as Ask_done}
 use Rattle.papaya_ask.specs.declared.ask.OpKind.TheVariants.{Remove}
 use Rattle.papaya_ask.specs.declared.call.Reply.{Reply}
 use Rattle.papaya_ask.specs.declared.call.Reply.TheVariants.{Occupied, Refused as Reply_refused}
@@ -12,7 +12,7 @@ use Rattle.papaya_call.specs.Answers.{Says}
 use Rattle.papaya_call.specs.declared.compute.Remembered.{Remembered}
 use Rattle.papaya_call.specs.declared.machine.State.{State}
 use Rattle.papaya_call.specs.declared.machine.State.TheVariants.{Making, Writing, Ended}
-use Rattle.papaya_call.specs.declared.write.Made.{Made}
+use Rattle.papaya_call.specs.declared.made.Made.{Made}
 use Rattle.papaya_call.specs.declared.write.Made.TheVariants.{Nothing, Key, Pair}
 use Rattle.papaya_call.specs.declared.write.Write.{Write}
 use Rattle.papaya_copy.specs.Link.{link_ask}
@@ -28,7 +28,7 @@ use Rattle.papaya_chain.specs.Machine.{IsFit, IsFitAsk, IsStanding, after, ask_o
 use Rattle.papaya_rests.proofs.RestsHeld.{ended_in}
 use Rattle.papaya_store.specs.Asks.{PerformsAsk}
 use Rattle.papaya_store.specs.Store.{StoreState}
-use Rattle.papaya_store.specs.declared.pairs.KeyOf.TheVariants.{Own}
+use Rattle.papaya_store.specs.declared.pairs.Part.TheVariants.{Own}
 use Rattle.papaya_store.specs.declared.pairs.Running.{Running}
 use Rattle.papaya_timeline.specs.Advances.{reply_in}
 use Rattle.papaya_timeline.specs.Content.{map_in}
@@ -83,15 +83,17 @@ unreplied (asks.Call (ShowPair n)) open_still = refl
 unreplied (asks.Call (SizeOf t)) open_still = refl
 unreplied (asks.Call MakeKey) open_still = refl
 unreplied (asks.Call MakePair) open_still = refl
+unreplied (asks.Call MakeValue) open_still = refl
+unreplied (asks.Call (MakePairOf i)) open_still = refl
 unreplied (asks.Call (MakeTable slots limit chunks)) open_still = refl
 unreplied (asks.Call (AddToShard by)) open_still = refl
 unreplied (asks.Copy ask) open_still = refl
 
 module _ {K V S A : Type 0} (eq : K → K → Bool) (hash : S → K → ℕ) (s : MapState K V S) (replace : Bool) (k : K) (value : V) where
   -- it begins
-  pub inserting_begin : (m : Machine) (hashed number : ℕ) → m ≡ started (Insert replace) hashed s.mode s.initial number → hashed ≡ hash s.store.hasher k → IsStanding m → IsInserting {A = A} eq hash s replace k value s.store (record { machine = m; key = Own k; value = Some value; answers = None })
+  pub inserting_begin : (m : Machine) (hashed number : ℕ) → m ≡ started (Insert replace) hashed s.mode.resize s.initial number s.mode.limit → hashed ≡ hash s.store.hasher k → IsStanding m → IsInserting {A = A} eq hash s replace k value s.store (record { machine = m; key = Own k; value = Some value; answers = None })
   inserting_begin m hashed number is hash_same standing =
-      let machine : m ≡ started (Insert replace) (hash s.store.hasher k) s.mode s.initial number = is ∙ ap (λ n. started (Insert replace) n s.mode s.initial number) hash_same in
+      let machine : m ≡ started (Insert replace) (hash s.store.hasher k) s.mode.resize s.initial number s.mode.limit = is ∙ ap (λ n. started (Insert replace) n s.mode s.initial number) hash_same in
       subst (λ (x : Machine). IsInserting {A = A} eq hash s replace k value s.store (record { machine = x; key = Own k; value = Some value; answers = None })) (sym machine) (record {
         steps = made_none eq hash s (keyed_insertion replace k value) number;
         silence = refl;

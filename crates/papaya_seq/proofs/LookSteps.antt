@@ -4,6 +4,7 @@ use Rattle.std.proofs.lemmas.Bool.{cond_both}
 use Rattle.papaya_words.specs.Table.{TableWords}
 use Rattle.papaya_words.specs.Word.{kind_of, may_hold, pair_of as number_of}
 use Rattle.papaya_words.specs.declared.probe.ResizeMode.{ResizeMode}
+use Rattle.papaya_store.specs.declared.mode.Mode.{Mode}
 use Rattle.papaya_words.specs.declared.probe.ResizeMode.TheVariants.{Incremental, Blocking}
 use Rattle.papaya_words.specs.declared.word.Kind.{Kind}
 use Rattle.papaya_words.specs.declared.word.Kind.TheVariants as word_kinds
@@ -24,7 +25,7 @@ use Rattle.papaya_ask.specs.declared.search.Place.{Place}
 use Rattle.papaya_ask.specs.declared.search.Search.TheVariants.{Sizing, Looking, Reading, Comparing}
 use Rattle.papaya_ask.specs.declared.search.Seen.{Seen}
 use Rattle.papaya_ask.specs.declared.search.Seen.TheVariants as seen
-use Rattle.papaya_call.specs.declared.write.Made.{Made}
+use Rattle.papaya_call.specs.declared.made.Made.{Made}
 use Rattle.papaya_rests.specs.Alone.{HasMetNone, IsCurrent, IsPrompt, IsRead, IsSeeker, IsUnmatched, left_in}
 use Rattle.papaya_call.specs.Machine.{started, after, ask_of, asks, at_root, passes, goes_as}
 use Rattle.papaya_rests.proofs.AloneCurrent.{machine_stays}
@@ -373,7 +374,7 @@ pub record IsLookUp {K V S : Type 0} (matches : K → Bool) (store : StoreState 
   -- what it replies from here on, it replies from its begin
   pub told : (answers : List Answer) (reply : Reply) → Replies matches store m answers reply → (all : List Answer) × Replies matches store begun all reply
 
-module _ {K V S : Type 0} (eq : K → K → Bool) (hash : K → ℕ) (mode : ResizeMode) (store : StoreState K V S) (lawful : IsLawfulCore {A = Unit {0}} eq hash store [] mode) (keys : IsLawfulKeys eq hash) (matches : K → Bool)
+module _ {K V S : Type 0} (eq : K → K → Bool) (hash : K → ℕ) (mode : Mode) (store : StoreState K V S) (lawful : IsLawfulCore {A = Unit {0}} eq hash store [] mode) (keys : IsLawfulKeys eq hash) (matches : K → Bool)
     (m : Machine) (getting : m.task ≡ Get) (looking : IsLooking store m.state) (answer : Answer) (told : IsToldBy matches store (ask_of m) answer) where
   -- a lookup that is told what stands in the tables goes on, or has replied
   pub lookup_looks : IsLooking store (after m answer).state
@@ -408,6 +409,6 @@ module _ {K V S : Type 0} (eq : K → K → Bool) (hash : K → ℕ) (mode : Res
       }
 
 -- and it is kept of one that begins
-pub look_up_begins : {K V S : Type 0} (eq : K → K → Bool) (hash : K → ℕ) (mode : ResizeMode) (store : StoreState K V S) → IsLawfulCore {A = Unit {0}} eq hash store [] mode → (matches : K → Bool) (hashed initial : ℕ) → IsLookUp matches store (started Get hashed mode initial) (started Get hashed mode initial)
+pub look_up_begins : {K V S : Type 0} (eq : K → K → Bool) (hash : K → ℕ) (mode : Mode) (store : StoreState K V S) → IsLawfulCore {A = Unit {0}} eq hash store [] mode → (matches : K → Bool) (hashed initial : ℕ) → IsLookUp matches store (started Get hashed mode.resize initial mode.limit) (started Get hashed mode.resize initial mode.limit)
 look_up_begins eq hash mode store lawful matches hashed initial =
     record { task = refl; looking = tt; current = record { bare = core_bare eq hash [] mode store lawful; read = tt }; told = λ answers reply replies. (answers, replies) }

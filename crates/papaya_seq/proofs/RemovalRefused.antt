@@ -7,7 +7,7 @@ use Rattle.papaya_words.specs.Table.{TableWords, length_after}
 use Rattle.papaya_words.specs.declared.probe.Refused.{Refused}
 use Rattle.papaya_words.specs.declared.probe.Refused.TheVariants.{RemoveNothing}
 use Rattle.papaya_ask.specs.declared.ask.Ask.{Ask as Call_ask}
-use Rattle.papaya_ask.specs.declared.ask.Ask.TheVariants.{Load, Exchange, LoadHint, SameKey, ShowPair, SizeOf, AddToShard, MakeKey, MakePair, MakeTable as Make_own, ShowNone}
+use Rattle.papaya_ask.specs.declared.ask.Ask.TheVariants.{Load, Exchange, LoadHint, SameKey, ShowPair, SizeOf, AddToShard, MakeKey, MakeValue, MakePair, MakePairOf, MakeTable as Make_own, ShowNone}
 use Rattle.papaya_ask.specs.declared.ask.Answer.{Answer as Call_answer}
 use Rattle.papaya_ask.specs.declared.ask.Answer.TheVariants.{Op, Size, Refused as Was_refused}
 use Rattle.papaya_ask.specs.declared.ask.At.{At}
@@ -113,7 +113,7 @@ module _ {K V S F : Type 0} (eq : K → K → Bool) (hash : S → K → ℕ) (g 
       pub initial : m.call.initial ≡ map.initial
 
     -- as it begins
-    pub counting_begun : (hashed number : ℕ) → IsCounting map.store (started RemoveIf hashed map.mode map.initial number)
+    pub counting_begun : (hashed number : ℕ) → IsCounting map.store (started RemoveIf hashed map.mode.resize map.initial number map.mode.limit)
     counting_begun hashed number = record { sized = tt; initial = refl }
 
     module _ (s : StoreState K V S) (f : F) (m : Machine) (answer : Answer) (s' : StoreState K V S) (f' : F) (answered : IsAnswered eq hash g matches (ask_of m) s f answer s' f') (now : IsCounting s m) where
@@ -149,6 +149,8 @@ module _ {K V S F : Type 0} (eq : K → K → Bool) (hash : S → K → ℕ) (g 
         makes_nothing : (ask : Call_ask) → IsToMake ask → (told : Call_answer) → IsRemovalAnswer g matches ask s f told s' f' → ⊥
         makes_nothing MakeKey makes told removes = removes
         makes_nothing MakePair makes told removes = removes
+        makes_nothing MakeValue makes told removes = removes
+        makes_nothing (MakePairOf i) makes told removes = removes
         makes_nothing (Make_own slots limit chunks) makes told removes = removes
         makes_nothing ask makes told removes = absurd makes
 

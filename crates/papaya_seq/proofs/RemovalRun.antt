@@ -62,12 +62,12 @@ module _ {K V S F : Type 0} (g : Mut F (Bor K × (Bor V × Unit {0})) Bool) (eq 
     pub rooted : next_of map.store ≡ 0 → IsInRoot map.store s m
 
   -- as it begins
-  pub matched_begun : (number : ℕ) (k : K) → IsKey k → IsMatchedRun k map.store agrees (started RemoveIf hashed map.mode map.initial number)
+  pub matched_begun : (number : ℕ) (k : K) → IsKey k → IsMatchedRun k map.store agrees (started RemoveIf hashed map.mode.resize map.initial number map.mode.limit)
   matched_begun number k key = record {
-    came = subst (λ h. HasCome eq hash map (keyed_removal k) map.store (removing (started RemoveIf h map.mode map.initial number) k)) key.hashes
+    came = subst (λ h. HasCome eq hash map (keyed_removal k) map.store (removing (started RemoveIf h map.mode.resize map.initial number map.mode.limit) k)) key.hashes
         (made_none eq hash map (keyed_removal k) number key.keys key.lawful (subst (λ h. h < 2 ^ 64) (sym key.hashes) key.fits));
     judged = refl;
-    rooted = λ single. in_root_begun map.store hashed map.mode map.initial number;
+    rooted = λ single. in_root_begun map.store hashed map.mode.resize map.initial number map.mode.limit;
   }
 
   module _ (k : K) (key : IsKey k) (s : StoreState K V S) (f : F) (m : Machine) (now : IsMatchedRun k s f m) (log : IsLogOf map.store s) (answer : Answer) (s' : StoreState K V S) (f' : F) (told : IsAnswered eq hash g matches (ask_of m) s f answer s' f') where

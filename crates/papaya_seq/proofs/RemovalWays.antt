@@ -82,12 +82,12 @@ module _ {K V S F : Type 0} (g : Mut F (Bor K × (Bor V × Unit {0})) Bool) (eq 
     pub refusal : IsQuery → (refused : Refused) → reply_in (ask_of m) ≡ Some (Reply_refused refused) → IsNoTableRefusal (record map { store = s }) refused
 
   -- as it begins
-  pub under_way : (number : ℕ) → IsUnderWay map.store agrees (started RemoveIf hashed map.mode map.initial number)
+  pub under_way : (number : ℕ) → IsUnderWay map.store agrees (started RemoveIf hashed map.mode.resize map.initial number map.mode.limit)
   under_way number = record {
     log = same_log map.store map.store refl;
     way = λ query. ⊎_elim
         (λ (one : IsMatched map.store matches). inl (record { one = one; run = matched_begun g eq hash matches hashed map agrees number one.pair.key (key_of query one) }))
-        (λ (none : MatchesNone map.store matches). inr (record { none = none; seeking = seek_begin eq hash map hashed query.keys query.fits number query.lawful; rooted = λ single. in_root_begun map.store hashed map.mode map.initial number }))
+        (λ (none : MatchesNone map.store matches). inr (record { none = none; seeking = seek_begin eq hash map hashed query.keys query.fits number query.lawful; rooted = λ single. in_root_begun map.store hashed map.mode.resize map.initial number map.mode.limit }))
         (decided map.store matches);
     counting = counting_begun eq hash g matches map hashed number;
     refusal = λ query refused e. absurd cc;

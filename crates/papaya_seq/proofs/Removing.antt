@@ -10,7 +10,7 @@ use Rattle.papaya_call.specs.declared.made.Made.{Made}
 use Rattle.papaya_ask.specs.declared.ask.Answer.{Answer as Call_answer}
 use Rattle.papaya_ask.specs.declared.ask.Answer.TheVariants.{Yes}
 use Rattle.papaya_ask.specs.declared.ask.Ask.{Ask as Call_ask}
-use Rattle.papaya_ask.specs.declared.ask.Ask.TheVariants.{Load, Exchange, LoadHint, WriteHint, SameKey, ShowNone, ShowPair, SizeOf, MakeKey, MakePair, MakeTable, AddToShard, Done as Ask_done}
+use Rattle.papaya_ask.specs.declared.ask.Ask.TheVariants.{Load, Exchange, LoadHint, WriteHint, SameKey, ShowNone, ShowPair, SizeOf, MakeKey, MakeValue, MakePair, MakePairOf, MakeTable, AddToShard, Done as Ask_done}
 use Rattle.papaya_ask.specs.declared.call.Call.{Call}
 use Rattle.papaya_ask.specs.declared.call.Call.TheVariants.{RemoveIf as RemoveIf_call}
 use Rattle.papaya_ask.specs.declared.call.Reply.{Reply}
@@ -29,7 +29,7 @@ use Rattle.papaya_store.specs.Copies.{PerformsCopy}
 use Rattle.papaya_store.specs.Performs.{Exchanges, Judges, Performs, ShowsPair, same}
 use Rattle.papaya_store.specs.Store.{StoreState, Stored, pair_of, stored_in}
 use Rattle.papaya_store.specs.Tables.{Tables}
-use Rattle.papaya_store.specs.declared.pairs.KeyOf.TheVariants.{Own}
+use Rattle.papaya_store.specs.declared.pairs.Part.TheVariants.{Own}
 use Rattle.papaya_store.specs.declared.pairs.Running.{Running}
 use Rattle.papaya_timeline.specs.Advances.{reply_in}
 use Rattle.papaya_timeline.specs.Solo.{whatever}
@@ -126,6 +126,8 @@ module _ {K V S F : Type 0} (g : Mut F (Bor K × (Bor V × Unit {0})) Bool) (eq 
   going_call MakeKey s f answer s' f' told = absurd told
   going_call ShowNone s f answer s' f' told = absurd told
   going_call MakePair s f answer s' f' told = absurd told
+  going_call MakeValue s f answer s' f' told = absurd told
+  going_call (MakePairOf i) s f answer s' f' told = absurd told
   going_call (MakeTable slots limit chunks) s f answer s' f' told = absurd told
   going_call (Ask_done reply) s f answer s' f' told = absurd told
 
@@ -156,6 +158,8 @@ module _ {K V S F : Type 0} (g : Mut F (Bor K × (Bor V × Unit {0})) Bool) (eq 
   log_call MakeKey s f answer s' f' told = absurd told
   log_call ShowNone s f answer s' f' told = absurd told
   log_call MakePair s f answer s' f' told = absurd told
+  log_call MakeValue s f answer s' f' told = absurd told
+  log_call (MakePairOf i) s f answer s' f' told = absurd told
   log_call (MakeTable slots limit chunks) s f answer s' f' told = absurd told
   log_call (Ask_done reply) s f answer s' f' told = absurd told
 
@@ -200,6 +204,8 @@ module _ {K V S F : Type 0} (g : Mut F (Bor K × (Bor V × Unit {0})) Bool) (eq 
   performed_call k alike m is_removal MakeKey s f answer s' f' told = absurd told
   performed_call k alike m is_removal ShowNone s f answer s' f' told = absurd told
   performed_call k alike m is_removal MakePair s f answer s' f' told = absurd told
+  performed_call k alike m is_removal MakeValue s f answer s' f' told = absurd told
+  performed_call k alike m is_removal (MakePairOf i) s f answer s' f' told = absurd told
   performed_call k alike m is_removal (MakeTable slots limit chunks) s f answer s' f' told = absurd told
   performed_call k alike m is_removal (Ask_done reply) s f answer s' f' told = absurd told
 
