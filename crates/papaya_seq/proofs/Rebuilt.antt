@@ -26,6 +26,7 @@ use Rattle.papaya_law.specs.Content.{AreApart, lookup}
 use Rattle.papaya_timeline.specs.Content.{content, map_in}
 use Rattle.papaya_timeline.specs.New.{IsNew}
 use Rattle.papaya_store.specs.Store.{StoreState, Stored, pair_of}
+use Rattle.papaya_store.proofs.Logs.{pair_below}
 use Rattle.papaya_seq.specs.Clones.{AreEqual, HasParts, IsCloneRefusal, IsCloned, IsCopied, IsCopyCut, IsRebuildRefusal, IsRebuilt}
 use Rattle.papaya_seq.specs.Map.{Keeps, MapState, Unchanged, core_of, entry_of}
 use Rattle.papaya_seq.specs.Resizes.{IsReserveCause}
@@ -33,7 +34,6 @@ use Rattle.papaya_seq.proofs.Answered.{logged_there}
 use Rattle.papaya_seq.proofs.Cloned.{all_copied}
 use Rattle.papaya_seq.proofs.Equal.{covered, each_found, found_key}
 use Rattle.papaya_seq.proofs.Filled.{new_with_own}
-use Rattle.papaya_seq.proofs.Lawful.{number_within}
 
 -- a power of two is the next one to itself
 pub same_power : (n m : ℕ) → IsPowerOfTwo n → IsNextPowerOfTwo n m → m ≡ n
@@ -142,7 +142,7 @@ module _ {K V S : Type 0} (eq : K → K → Bool) (law : IsEquivalence eq) (s : 
       found p is =
           let own : ClonedAt CK CV p.key (Some p) = subst (ClonedAt CK CV p.key) is (cloned p.key) in
           let there : pair_of s own.0.number ≡ Some own.0 = logged_there eq law s p.key own.0.number own.0 own.1 refl in
-          found_below p.key own.0 own.0.number there (found_key eq law (λ (r : Stored K V). r.key) (content eq s) p.key own.0 own.1) (length s.pairs) (number_within s own.0.number own.0 there)
+          found_below p.key own.0 own.0.number there (found_key eq law (λ (r : Stored K V). r.key) (content eq s) p.key own.0 own.1) (length s.pairs) (pair_below s own.0.number own.0 there)
 
 module _ {K V S : Type 0} (eq : K → K → Bool) (law : IsEquivalence eq) (CK : K → K → Type 0) (CV : V → V → Type 0) where
   -- a map without pairs and without a log, once clones were put into it

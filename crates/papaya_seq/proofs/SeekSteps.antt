@@ -164,7 +164,7 @@ module _ {K V S : Type 0} (eq : K → K → Bool) (hash : S → K → ℕ) (s : 
   seek_fit = fits_all.fit
 
   pub core' : IsCore {A = Unit {0}} store' [] s.mode
-  core' = record { chunked = seeking.core.chunked; sizes = numbered store'.words.tables fits_all.sized; standing = λ d q e. absurd cc; going = λ d q e. absurd cc; resizers = λ d z e. absurd cc; visitors = λ d v e. absurd cc }
+  core' = record { chunked = seeking.core.chunked; limit = seeking.core.limit; sizes = numbered store'.words.tables fits_all.sized; standing = λ d q e. absurd cc; going = λ d q e. absurd cc; resizers = λ d z e. absurd cc; visitors = λ d v e. absurd cc }
 
   pub standing' : IsStanding (after m answer)
   standing' = chain_stands m seeking.standing answer seek_fit
@@ -317,7 +317,7 @@ module _ {K V S : Type 0} (eq : K → K → Bool) (hash : S → K → ℕ) (s : 
 
   -- a slot's chunk has no greater number than the slot
   cut_low : (x : ℕ) → gq.chunk_of x ≤ x
-  cut_low x = div-le_self x (chunk_len s.mode)
+  cut_low x = div-le_self x (chunk_len s.mode.resize)
 
   -- an exchange of its copy was made
   copy_exchanges : (at : At) (old new : ℕ) → ask_of m ≡ asks.Copy (copies.Exchange at old new) → (word_at store.words at == old) ≡ true → ((budget_in (put store.words at new)).tables ≡ (budget_of store).tables) × ((budget_in (put store.words at new)).exchanges < (budget_of store).exchanges)

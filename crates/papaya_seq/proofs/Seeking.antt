@@ -7,7 +7,7 @@ use Rattle.papaya_words.specs.declared.probe.ResizeMode.TheVariants.{Incremental
 use Rattle.papaya_words.specs.declared.probe.Refused.{Refused}
 use Rattle.papaya_ask.specs.Search.{IsSize}
 use Rattle.papaya_ask.specs.declared.ask.At.{At}
-use Rattle.papaya_ask.specs.declared.ask.At.TheVariants.{Root, Next, Aborted, Done, Slot}
+use Rattle.papaya_ask.specs.declared.ask.At.TheVariants.{Root, Next, Aborted, Done, Slot, Made}
 use Rattle.papaya_ask.specs.declared.call.Reply.TheVariants.{Absent, Refused as Reply_refused}
 use Rattle.papaya_ask.specs.declared.call.Task.TheVariants.{RemoveIf}
 use Rattle.papaya_call.specs.declared.machine.State.{State}
@@ -25,7 +25,10 @@ use Rattle.papaya_law.specs.Exchange.{Setting, State as Words, Word, Empty, Clos
 use Rattle.papaya_law.specs.Hints.{IsHintOf}
 use Rattle.papaya_law.specs.Further.{IsLawfulKey, coding_with, with_key}
 use Rattle.papaya_law.proofs.Further.{key_code, key_lawful}
+use Rattle.papaya_call.specs.Made.{wanted}
+use Rattle.papaya_rests.specs.Alone.{IsNumberRead}
 use Rattle.papaya_rests.specs.Rests.{IsModeOf}
+use Rattle.papaya_rests.proofs.RestsLearnPairs.{wanted_rests}
 use Rattle.papaya_rests.specs.Told.{IsOneOf, word_of}
 use Rattle.papaya_store.specs.Store.{StoreState, Stored}
 use Rattle.papaya_store.specs.Tables.{table_of, word_at}
@@ -48,6 +51,11 @@ Seeks _ = ⊥
 mode_of : (mode : ResizeMode) → IsModeOf mode (is_blocking mode)
 mode_of (Incremental chunk) = refl
 mode_of Blocking = refl
+
+-- a call that begins has read nothing of the numbers for pairs
+begun_number : (limit : Option ℕ) (words : At → ℕ) → IsNumberRead words (wanted limit)
+begun_number None words = tt
+begun_number (Some most) words = tt
 
 -- a table has a slot at least
 sized_slot : (o : Option TableWords) → ((t : TableWords) → o ≡ Some t → IsSize (length t.slots) t.limit) → 0 < slots_in o
@@ -90,6 +98,7 @@ module _ {K V S : Type 0} (eq : K → K → Bool) (hash : S → K → ℕ) (s : 
   -- a word has the number that it had
   pub sought_word : (tables : List TableWords) (z : Words (Stored K V)) (at : At) → word_of (sought_setting tables) sought_coding z at ≡ word_of (own_setting tables) own_coding z at
   sought_word tables z Root = refl
+  sought_word tables z Made = refl
   sought_word tables z (Next t) = refl
   sought_word tables z (Aborted t) = refl
   sought_word tables z (Done t chunk) = refl
@@ -138,15 +147,15 @@ module _ {K V S : Type 0} (eq : K → K → Bool) (hash : S → K → ℕ) (s : 
               (record { allowed = kept.allowed; coded = kept.coded; hints = kept.hints; made = kept.made; logged = kept.logged; few = kept.few; tables_few = kept.tables_few; calls = λ d r e. absurd cc; resizers = λ d z e. absurd cc; visitors = λ d v e. absurd cc; apart = λ d e r q x. absurd cc });
           rests = record {
             cut = λ x. refl;
-            call = record { hash = refl; mode = mode_of s.mode; made = record { keys = λ q l. absurd l; made_is = tt; fill_is = tt; choice_is = tt }; stage = tt };
+            call = record { hash = refl; mode = mode_of s.mode.resize; made = record { keys = λ q l. absurd l; limit = refl; number_is = wanted_rests (sought_setting s.store.words.tables) sought_coding es [] None s.mode.limit; own_is = tt; of_is = tt; fill_is = tt; choice_is = tt }; stage = tt };
             phase = tt;
           };
           last = λ p l. absurd cc;
           carried = λ p l. absurd cc;
           made = λ p l. absurd l;
           links = λ behind t chunks l. absurd cc;
-          standing = started_stands RemoveIf h s.mode s.initial number core.chunked lawful.power;
-          current = (tt, tt);
+          standing = started_stands RemoveIf h s.mode.resize s.initial number s.mode.limit core.chunked core.limit lawful.power;
+          current = record { number = begun_number s.mode.limit (λ at. word_at s.store.words at); read = (tt, tt) };
           task = refl;
           hash_is = refl;
           seeks = tt;

@@ -73,7 +73,7 @@ module _ {K V S : Type 0} (eq : K → K → Bool) (hash : S → K → ℕ) (s : 
     pub own : own_key store r ≡ Some call.key
     pub task : r.machine.call.task ≡ call.task
     pub hash_is : r.machine.call.hash ≡ hash s.store.hasher call.key
-    pub shows : ShowsPairs r.machine.call.state
+    pub shows : ShowsPairs r.machine.call
     pub hasher : store.hasher ≡ s.store.hasher
     -- no table is shorter than the initial capacity, and each that it makes follows another
     pub long : IsLong s store r.machine

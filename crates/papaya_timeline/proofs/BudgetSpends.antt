@@ -3,7 +3,7 @@ use Rattle.std.proofs.Common.{◌≡◌, ◌⊎◌, inl, inr, ℕ, ◌+◌, ◌-
 use Rattle.std.proofs.Math.Nat.{div-le_self}
 use Rattle.papaya_words.specs.Chunks.{chunk_len}
 use Rattle.papaya_words.specs.Table.{TableWords, new_table}
-use Rattle.papaya_words.specs.declared.limits.TheConstants.{MAX_TABLES, MAX_LOG_LEN}
+use Rattle.papaya_words.specs.declared.limits.TheConstants.{MAX_TABLES}
 use Rattle.papaya_call.specs.Answers.{Says}
 use Rattle.papaya_ask.specs.declared.ask.At.{At}
 use Rattle.papaya_ask.specs.declared.ask.At.TheVariants.{Root}
@@ -199,7 +199,7 @@ module _ {K V S A : Type 0} (eq : K → K → Bool) (hash : K → ℕ) (law : Is
         let stood : word_at store.words at ≡ old = eqb-true (word_at store.words at) old hit in
         let stands : word_of g c now at ≡ old = kept.coded at ∙ stood in
         let x = asked_call g c store r es tale (Some call.key) hashed call.key call.split may call.rests kept.coded kept.made call.opens call.links call.own (λ t. refl) (λ t. refl) at old new e stands in
-        let placed = placed_call g c store r es tale (Some call.key) hashed call.key call.split may call.rests kept.coded kept.made call.opens call.links call.own (λ t. refl) (λ t. refl) at old new e (changes now tale.hands.call new c (kind_of_ask r.machine) at x.0 x.1).place in
+        let placed = placed_call g c store r es tale (Some call.key) hashed call.key call.split may call.rests kept.coded kept.made call.opens call.links call.own (λ t. refl) (λ t. refl) at old new e (changes now tale.hands.call new g c call.key (kind_of_ask r.machine) at x.0 x.1).place in
         let opened : at ≡ Root → new ≤ length store.words.tables = λ root.
         let none : now.root ≡ 0 = root_empty g c call.key now tale.hands.call new (kind_of_ask r.machine) x.0 (subst (λ y. IsAsked g c call.key (kind_of_ask r.machine) y new now tale.hands.call x.0) root x.1) x.2 in
         let zero : old ≡ 0 = sym stands ∙ ap (word_of g c now) root ∙ none in
@@ -227,9 +227,9 @@ module _ {K V S A : Type 0} (eq : K → K → Bool) (hash : K → ℕ) (law : Is
           (λ miss lost. subst (λ y. SpendsCall (kind_of_ask r.machine) (Ask_exchange at old new) y (budget_of store) (budget_of store')) (sym lost.0) (same_words store' lost.1))
 
       -- a key, a value or a pair takes none
-      made_spends : (told : Call_answer) → LogsOrNot store r told store' later → budget_of store' ≡ budget_of store
-      made_spends told (inl (unlogged, stays)) = same_words store' stays.0
-      made_spends told (inr (key, left, (value, has, is, few, grown, moved))) = ap (λ (y : StoreState K V S). budget_of y) grown
+      logged_spends : (told : Call_answer) → LogsOrNot store r told store' later → budget_of store' ≡ budget_of store
+      logged_spends told (inl (unlogged, stays)) = same_words store' stays.0
+      logged_spends told (inr (key, left, (value, has, is, few, grown, moved))) = ap (λ (y : StoreState K V S). budget_of y) grown
 
       -- what a call asks
       spends_call : (ask : Call_ask) → ask_of r.machine ≡ asks.Call ask → (told : Call_answer) → Performs eq says refuse ask store r told store' later → SpendsCall (kind_of_ask r.machine) ask told (budget_of store) (budget_of store')
@@ -241,10 +241,10 @@ module _ {K V S A : Type 0} (eq : K → K → Bool) (hash : K → ℕ) (law : Is
       spends_call (LoadHint t x) e told (is, stays) = same_words store' stays.0
       spends_call (WriteHint t x hint) e told (is, same, as_was) = noted_words store' t x hint same
       spends_call (SizeOf n) e told (is, stays) = same_words store' stays.0
-      spends_call MakeKey e told h = made_spends told (part_logs store r told store' later refuse h)
-      spends_call MakeValue e told h = made_spends told (part_logs store r told store' later refuse h)
-      spends_call MakePair e told h = made_spends told (own_logs store r told store' later refuse h)
-      spends_call (MakePairOf n) e told h = made_spends told (of_logs store r told store' later refuse n h)
+      spends_call MakeKey e told h = logged_spends told (part_logs store r told store' later refuse h)
+      spends_call MakeValue e told h = logged_spends told (part_logs store r told store' later refuse h)
+      spends_call MakePair e told h = logged_spends told (own_logs store r told store' later refuse h)
+      spends_call (MakePairOf n) e told h = logged_spends told (of_logs store r told store' later refuse n h)
       spends_call (MakeTable slots limit chunks) e told h =
           matched (SpendsCall (kind_of_ask r.machine) (MakeTable slots limit chunks) told (budget_of store) (budget_of store')) refuse _ _ h
           (λ _ none. subst (λ y. SpendsCall (kind_of_ask r.machine) (MakeTable slots limit chunks) y (budget_of store) (budget_of store')) (sym none.0) (same_words store' none.1.0))

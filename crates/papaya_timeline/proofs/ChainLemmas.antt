@@ -5,14 +5,14 @@ use Rattle.papaya_ask.specs.declared.ask.Ask.{Ask as Call_ask}
 use Rattle.papaya_ask.specs.declared.ask.At.TheVariants.{Next}
 use Rattle.papaya_ask.specs.declared.ask.Ask.TheVariants.{Load, Exchange as Ask_exchange, Done as Ask_done}
 use Rattle.papaya_ask.specs.declared.ask.Answer.{Answer as Call_answer}
-use Rattle.papaya_ask.specs.declared.ask.Answer.TheVariants.{Word as Word_read, Op, Made as Made_number}
+use Rattle.papaya_ask.specs.declared.ask.Answer.TheVariants.{Word as Word_read, Op}
 use Rattle.papaya_ask.specs.declared.ask.StepKind.{StepKind}
 use Rattle.papaya_ask.specs.declared.ask.OpKind.TheVariants as op_kinds
 use Rattle.papaya_ask.specs.declared.call.Reply.{Reply}
 use Rattle.papaya_ask.specs.declared.call.Reply.TheVariants.{Aborted, Refused as Reply_refused}
 use Rattle.papaya_ask.specs.declared.search.Search.TheVariants.{Sizing}
 use Rattle.papaya_call.specs.declared.machine.Machine.{Machine as Call_machine}
-use Rattle.papaya_call.specs.declared.machine.State.TheVariants.{AtRoot, Making, Searching, Ended}
+use Rattle.papaya_call.specs.declared.machine.State.TheVariants.{AtRoot, Searching, Ended}
 use Rattle.papaya_call.specs.Machine.{IsChanger, MayInsert}
 use Rattle.papaya_call.specs.Machine as calls
 use Rattle.papaya_chain.specs.declared.ask.Ask.TheVariants as asks
@@ -20,7 +20,7 @@ use Rattle.papaya_chain.specs.declared.ask.Answer.{Answer}
 use Rattle.papaya_chain.specs.declared.ask.Answer.TheVariants as answers
 use Rattle.papaya_chain.specs.declared.machine.Machine.{Machine}
 use Rattle.papaya_chain.specs.declared.machine.Phase.TheVariants.{Calling}
-use Rattle.papaya_chain.specs.Machine.{IsStanding, after, after_in, ask_of, asks_in, kind_in, kind_of_ask}
+use Rattle.papaya_chain.specs.Machine.{IsStanding, after, ask_of, asks_in, kind_in, kind_of_ask}
 use Rattle.papaya_rests.specs.Rests.{change_in}
 use Rattle.papaya_rests.specs.Says.{IsSaidChange, show}
 use Rattle.papaya_rests.proofs.SaysChanges.{machine_aborted, machine_changed}

@@ -27,7 +27,7 @@ use Rattle.papaya_rests.specs.Told.{Hands, IsAsked, IsTold, word_of}
 use Rattle.papaya_store.specs.declared.pairs.Running.{Running}
 use Rattle.papaya_store.specs.Asks.{PerformsAsk}
 use Rattle.papaya_store.specs.Copies.{PerformsCopy}
-use Rattle.papaya_store.specs.Performs.{Performs, Stays, MakesTable}
+use Rattle.papaya_store.specs.Performs.{Performs, MakesTable}
 use Rattle.papaya_store.specs.Store.{StoreState}
 use Rattle.papaya_store.specs.Tables.{word_at}
 use Rattle.papaya_timeline.proofs.ShowLemmas.{none_shown, pair_shown}
@@ -147,9 +147,9 @@ module _ {K P : Type 0} (g : Setting K P) (c : Coding K P) (k : K) (s : State P)
   call_grows hands MakeKey a es hands' h = inl (h.1.0, refl)
   call_grows hands MakeValue a es hands' h = inl (h.1.0, refl)
   call_grows hands MakePair a es hands' (inl h) = inl (h.1.0, refl)
-  call_grows hands MakePair a es hands' (inr (q, key, is, none, made)) = inl (none, refl)
+  call_grows hands MakePair a es hands' (inr (q, key, (is, none, made))) = inl (none, refl)
   call_grows hands (MakePairOf n) a es hands' (inl h) = inl (h.1.0, refl)
-  call_grows hands (MakePairOf n) a es hands' (inr (q, key, is, none, made)) = inl (none, refl)
+  call_grows hands (MakePairOf n) a es hands' (inr (q, key, (is, none, made))) = inl (none, refl)
   call_grows hands (MakeTable slots limit chunks) a es hands' h = inl (h.1.0, refl)
   call_grows hands (AddToShard by) a es hands' h = inl (h.1.0, refl)
   call_grows hands (Ask_done reply) a es hands' h = inl (h.1.0, refl)

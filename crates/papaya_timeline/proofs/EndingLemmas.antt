@@ -1,8 +1,7 @@
 -- What ends a call of which the closure has the last word: an abort, and a removal where it was shown that there is none.
-use Rattle.std.proofs.Common.{◌≡◌, ◌⊎◌, inl, inr, ⊎_elim, ℕ, ◌==◌, Bool, Option, None, Some, List, ◌∷◌, length, sym, ◌∙◌, ap}
+use Rattle.std.proofs.Common.{◌≡◌, inl, inr, ⊎_elim, ℕ, ◌==◌, Bool, Option, None, Some, List, ◌∷◌, sym, ◌∙◌, ap}
 use Rattle.papaya_words.specs.Table.{TableWords}
-use Rattle.papaya_words.specs.declared.limits.TheConstants.{MAX_LOG_LEN}
-use Rattle.papaya_words.specs.declared.probe.Refused.TheVariants.{Capacity, RemoveNothing}
+use Rattle.papaya_words.specs.declared.probe.Refused.TheVariants.{Capacity, Limit, RemoveNothing}
 use Rattle.papaya_call.specs.Answers.{Says}
 use Rattle.papaya_ask.specs.declared.ask.Ask.{Ask as Call_ask}
 use Rattle.papaya_ask.specs.declared.ask.Ask.TheVariants.{Load, Exchange as Ask_exchange, SameKey, ShowNone, ShowPair, SizeOf, MakeKey, MakeValue, MakePair, MakePairOf, MakeTable, AddToShard, Done as Ask_done, LoadHint, WriteHint}
@@ -25,6 +24,7 @@ use Rattle.papaya_chain.specs.declared.ask.Answer.TheVariants as answers
 use Rattle.papaya_chain.specs.declared.machine.Machine.{Machine}
 use Rattle.papaya_chain.specs.Machine.{ask_of, kind_of_ask, after}
 use Rattle.papaya_chain_rests.specs.Goes.{Goes, IsCause, IsToMake, WasNotMade, WouldBeTooLong}
+use Rattle.papaya_rests.specs.Rests.{IsAtLimit}
 use Rattle.papaya_rests.specs.Says.{show}
 use Rattle.papaya_store.specs.declared.pairs.Running.{Running}
 use Rattle.papaya_timeline.specs.declared.trace.Event.{Event}
@@ -135,7 +135,10 @@ pub removes_nothing : (m : Machine) (a : Answer) → (a ≡ answers.Call (Was_re
 removes_nothing m a never (inl by) =
     ⊎_elim
     (λ (refuses : IsToMake (calls.ask_of m.call) × (by.own.told ≡ Was_refused RemoveNothing)). absurd (never (by.own.is ∙ ap answers.Call refuses.1)))
+    (λ others. ⊎_elim
+    (λ (full : (RemoveNothing ≡ Limit) × IsAtLimit m.call by.own.told). let f : RemoveNothing ≡ Limit = full.0 in absurd cc)
     (λ (shown : (RemoveNothing ≡ RemoveNothing) × (ask_of m ≡ asks.Call ShowNone) × (by.own.told ≡ Op op_kinds.Remove)). (shown.1, by.own.is ∙ ap answers.Call shown.2))
+    others)
     by.why
 removes_nothing m a never (inr by) =
     ⊎_elim

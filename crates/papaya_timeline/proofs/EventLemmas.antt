@@ -80,8 +80,8 @@ module _ {K P : Type 0} (g : Setting K P) (c : Coding K P) (k : K) (s : State P)
   told_cases (SizeOf t) answer es hands' h = inl (h.1.0, refl)
   told_cases MakeKey answer es hands' h = inl (h.1.0, refl)
   told_cases MakeValue answer es hands' h = inl (h.1.0, refl)
-  told_cases MakePair answer es hands' h = ⊎_elim (λ quiet. inl (quiet.1.0, refl)) (λ made. inl (made.3, refl)) h
-  told_cases (MakePairOf pair) answer es hands' h = ⊎_elim (λ quiet. inl (quiet.1.0, refl)) (λ made. inl (made.3, refl)) h
+  told_cases MakePair answer es hands' h = ⊎_elim (λ quiet. inl (quiet.1.0, refl)) (λ made. inl (made.2.1, refl)) h
+  told_cases (MakePairOf pair) answer es hands' h = ⊎_elim (λ quiet. inl (quiet.1.0, refl)) (λ made. inl (made.2.1, refl)) h
   told_cases (MakeTable slots limit chunks) answer es hands' h = inl (h.1.0, refl)
   told_cases (AddToShard by) answer es hands' h = inl (h.1.0, refl)
   told_cases (Ask_done reply) answer es hands' h = inl (h.1.0, refl)

@@ -1,21 +1,19 @@
 -- Begins and steps keep a good history.
-use Rattle.std.proofs.Common.{rules, arith, ◌≡◌, ◌≢◌, ◌⊎◌, inl, inr, ⊎_elim, ℕ, ◌<◌, Bool, true, false, cond, Option, None, Some, List, [], ◌∷◌, ◌++◌, length, slice_get, refl, sym, ◌∙◌, ap, subst, eq-eqb, append_assoc}
+use Rattle.std.proofs.Common.{arith, ◌≡◌, ◌≢◌, ◌⊎◌, inl, inr, ⊎_elim, ℕ, ◌<◌, Bool, true, false, cond, Option, None, Some, List, [], ◌∷◌, ◌++◌, length, slice_get, refl, sym, ◌∙◌, ap, subst, eq-eqb, append_assoc}
 use Rattle.std.proofs.lemmas.Bool.{cases_Bool}
 use Rattle.papaya_words.specs.declared.probe.Refused.TheVariants.{RemoveNothing}
-use Rattle.papaya_ask.specs.declared.ask.Ask.TheVariants.{ShowNone, MakePair, Done as Ask_done}
+use Rattle.papaya_ask.specs.declared.ask.Ask.TheVariants.{ShowNone, Done as Ask_done}
 use Rattle.papaya_ask.specs.declared.ask.Answer.TheVariants.{Op, Made as Made_number}
 use Rattle.papaya_ask.specs.declared.ask.OpKind.{OpKind}
 use Rattle.papaya_ask.specs.declared.ask.StepKind.{StepKind}
 use Rattle.papaya_ask.specs.declared.call.Call.{Call}
 use Rattle.papaya_ask.specs.declared.call.Call.TheVariants.{Get, Insert, TryInsert, RemoveIf, Compute, Reserve, CopyAll, Clear, Retain, Walk}
 use Rattle.papaya_ask.specs.declared.call.Reply.{Reply}
-use Rattle.papaya_ask.specs.declared.call.Task.{Task}
 use Rattle.papaya_ask.specs.declared.call.Task.TheVariants as tasks
 use Rattle.papaya_call.specs.Answers.{Says}
 use Rattle.papaya_law.specs.Exchange.{Exchange, Replace, run, start as first_state}
 use Rattle.papaya_law.specs.Invariant.{named}
 use Rattle.papaya_call.specs.Machine.{HasClosure}
-use Rattle.papaya_call.specs.Machine as calls
 use Rattle.papaya_chain.specs.declared.ask.Ask.TheVariants as asks
 use Rattle.papaya_chain.specs.declared.ask.Answer.TheVariants as told_to
 use Rattle.papaya_chain.specs.Machine.{ask_of, follows_of, kind_of_ask, after}
@@ -29,7 +27,7 @@ use Rattle.papaya_chain_rests.proofs.Goes.{machine_goes}
 use Rattle.papaya_chain_rests.proofs.Once.{chain_offered, chain_once as shows_once}
 use Rattle.papaya_chain_rests.proofs.Replies.{chain_said, chain_shows, chain_task}
 use Rattle.papaya_rests.specs.Rests.{change_in, change_of_reply}
-use Rattle.papaya_rests.specs.Says.{HasShownNone, IsSaidChange, Said, StandsOn, show}
+use Rattle.papaya_rests.specs.Says.{HasShownNone, IsSaidChange, show}
 use Rattle.papaya_rests.specs.Told.{IsOneOf}
 use Rattle.papaya_law.specs.Code.{IsHashed}
 use Rattle.papaya_store.specs.declared.pairs.Running.{Running}
@@ -39,7 +37,8 @@ use Rattle.papaya_timeline.specs.declared.trace.Turn.TheVariants.{Begin}
 use Rattle.papaya_timeline.specs.declared.trace.Event.{Event}
 use Rattle.papaya_timeline.specs.declared.trace.Event.TheVariants.{Begun, Changed, Moved, Asked, Shown, Gave, Other, Replied}
 use Rattle.papaya_timeline.specs.Advances.{Advances, goes_on}
-use Rattle.papaya_timeline.specs.Begins.{Begins, answers_of_call, begun, begun_work, value_of_call, visitor_begun}
+use Rattle.papaya_timeline.specs.Begins.{Begins, answers_of_call, begun, begun_work, handed, value_of_call, visitor_begun}
+use Rattle.papaya_store.specs.Pairs.{value_at}
 use Rattle.papaya_timeline.proofs.Begun.{IsBegun, begun_stands, call_begun, task_is_own, the_task}
 use Rattle.papaya_timeline.specs.declared.seat.Work.{Work}
 use Rattle.papaya_timeline.specs.declared.seat.Work.TheVariants as works
@@ -51,7 +50,6 @@ use Rattle.papaya_timeline.specs.Given.{AreGiven, GivesIn, HasLeft, begun_answer
 use Rattle.papaya_timeline.specs.Headline.{AreLogged, AreNew, ComesNew, HasTimeline}
 use Rattle.papaya_timeline.specs.Kept.{IsKept, Tale, setting_of, coding_of, low, told_tales, begun_tales, visit_tale}
 use Rattle.papaya_timeline.specs.Maps.{Map, Does, at_key, key_of}
-use Rattle.papaya_store.specs.Asks.{PerformsAsk}
 use Rattle.papaya_timeline.specs.Runs.{History, with_step}
 use Rattle.papaya_store.specs.Store.{KeepsPairs, StoreState, Stored, pair_of}
 use Rattle.papaya_timeline.specs.Timeline.{Answered, Timeline, IsLegal, MayChange, FitsOpen, FitsShown, IsAgreed, IsUnused, change_of, change_by, none_by, number_in, open_call, open_after, begun_by, begins, is_begin, was_shown_none, AtSomeMoment}
@@ -71,7 +69,7 @@ use Rattle.papaya_timeline.proofs.MachineLemmas.{machine_offers, machine_shows, 
 use Rattle.papaya_timeline.proofs.ReplayLemmas.{map_replayed, held_in_slot}
 use Rattle.papaya_timeline.proofs.SaidLemmas.{change_agreed, said_after}
 use Rattle.papaya_timeline.proofs.StepEvents.{copy_kind, one_exchange, event_begins, event_none, event_open, event_change, unchanged_before}
-use Rattle.papaya_timeline.proofs.StepTells.{Tells, answering as answered_by, event_tells, made_number, told_made}
+use Rattle.papaya_timeline.proofs.StepTells.{Tells, answering as answered_by, event_tells}
 use Rattle.papaya_timeline.proofs.TellLemmas.{IsAnswering}
 use Rattle.papaya_timeline.proofs.TiedLemmas.{IsEnding, HasMoreLogs, grown, tied_other, tied_entry, tied_fits, at_showing, at_showing_none, moments_more}
 use Rattle.papaya_timeline.proofs.TimelineLemmas.{entry, open_call-own, open_call-other, change_of-other, change_of-own, not_begin-own, logged_more, logged_unused, was_shown_none-own}
@@ -701,17 +699,25 @@ module _ {K V S A : Type 0} (eq : K → K → Bool) (hash : K → ℕ) (law : Is
             moments = λ so_far rest none. inl (ap (λ l. at_key (replayed eq (replay eq good.es) l) (key_of call)) (sym (nothing_before so_far rest none)));
           }
             where
-              begun_value : (call : Call K V A) (v : V) → value_of_call call ≡ Some v → IsValueOf call v
-              begun_value (Get k) v had = let f : None ≡ Some v = had in absurd cc
-              begun_value (Insert k w) v had = same_item w v had
-              begun_value (TryInsert k w) v had = same_item w v had
-              begun_value (RemoveIf k a) v had = let f : None ≡ Some v = had in absurd cc
-              begun_value (Compute k a) v had = tt
-              begun_value (Reserve more) v had = let f : None ≡ Some v = had in absurd cc
-              begun_value CopyAll v had = let f : None ≡ Some v = had in absurd cc
-              begun_value Clear v had = let f : None ≡ Some v = had in absurd cc
-              begun_value (Retain a) v had = let f : None ≡ Some v = had in absurd cc
-              begun_value Walk v had = let f : None ≡ Some v = had in absurd cc
+              -- the value at hand is the one that was handed in
+              handed_value : (o : Option V) (v : V) → value_at s'.store.pairs (handed o) ≡ Some v → o ≡ Some v
+              handed_value None v had = had
+              handed_value (Some w) v had = had
+
+              value_is : (call : Call K V A) (v : V) → value_of_call call ≡ Some v → IsValueOf call v
+              value_is (Get k) v had = let f : None ≡ Some v = had in absurd cc
+              value_is (Insert k w) v had = same_item w v had
+              value_is (TryInsert k w) v had = same_item w v had
+              value_is (RemoveIf k a) v had = let f : None ≡ Some v = had in absurd cc
+              value_is (Compute k a) v had = tt
+              value_is (Reserve more) v had = let f : None ≡ Some v = had in absurd cc
+              value_is CopyAll v had = let f : None ≡ Some v = had in absurd cc
+              value_is Clear v had = let f : None ≡ Some v = had in absurd cc
+              value_is (Retain a) v had = let f : None ≡ Some v = had in absurd cc
+              value_is Walk v had = let f : None ≡ Some v = had in absurd cc
+
+              begun_value : (call : Call K V A) (v : V) → value_at s'.store.pairs (handed (value_of_call call)) ≡ Some v → IsValueOf call v
+              begun_value call v had = value_is call v (handed_value (value_of_call call) v had)
 
   -- a run begins with no entry and the core's map
   pub good_start : (says : Says K V A) (schedule : List (Turn K V A)) (s : CoreState K V S A) (es : List (Exchange (Stored K V))) (tales : ℕ → Tale K V) → IsCore s.store s.callers s.mode → IsKept eq hash s.mode s.store s.callers es tales → IsGood eq says hash schedule s.store (map_of eq s) s []

@@ -168,7 +168,7 @@ module _ {K V S A : Type 0} (eq : K → K → Bool) (hash : K → ℕ) (law : Is
     pairs_stay : KeepsPairs s.store s'.store
     pairs_stay n p there = left_logged (setting_of eq (low hash) s.mode s.store.words.tables) (coding_of (low hash)) s.store good.es (good.tales c).hands (resized.left eq hash law refuse s c s' event reply x as_hashed good.es good.tales good.core good.kept) n p there
 
-    parts_stay : KeepsParts {A = A} s.store s'.store
+    parts_stay : KeepsParts s.store s'.store
     parts_stay = same_parts s.store s'.store (resized.left eq hash law refuse s c s' event reply x as_hashed good.es good.tales good.core good.kept).pairs_are
 
     -- a call on one key is another caller's

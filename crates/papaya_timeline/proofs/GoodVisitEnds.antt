@@ -5,7 +5,7 @@ use Rattle.papaya_words.specs.Table.{TableWords}
 use Rattle.papaya_ask.specs.declared.call.Call.{Call}
 use Rattle.papaya_ask.specs.declared.call.Call.TheVariants.{Get, Insert, TryInsert, RemoveIf, Compute, Reserve, CopyAll, Clear, Retain, Walk}
 use Rattle.papaya_call.specs.Answers.{Says}
-use Rattle.papaya_law.specs.Exchange.{Setting, State as Words, Exchange, Open, Claim, Replace, Bury, Link, Mark, Close, Place, Finish, Advance, Promote, Abort}
+use Rattle.papaya_law.specs.Exchange.{Setting, State as Words, Exchange, Open, Claim, Replace, Bury, Link, Mark, Close, Place, Finish, Advance, Promote, Abort, Take}
 use Rattle.papaya_law.specs.Meaning.{IsAtMoment, IsLawful, map_left, map_of}
 use Rattle.papaya_rests.specs.Told.{IsOneOf}
 use Rattle.papaya_store.specs.Store.{StoreState, Stored, pair_of}
@@ -128,6 +128,7 @@ module _ {K V : Type 0} (eq : K → K → Bool) (hash : K → ℕ) (mode : Mode)
   takes_same (Advance n c) k = refl
   takes_same (Promote t n) k = refl
   takes_same (Abort n) k = refl
+  takes_same (Take n) k = refl
 
   out_same : (fs : List (Exchange (Stored K V))) (k : K) → IsTakenOut g fs k → IsTakenOut (replaying eq) fs k
   out_same fs k out = record { so_far = out.so_far; by = out.by; rest = out.rest; is = out.is; out = sym (takes_same out.by k) ∙ out.out }

@@ -1,5 +1,5 @@
 -- What a visitor's ask leaves, and what its call may give, show, take out and reply.
-use Rattle.std.proofs.Common.{rules, ◌≡◌, ◌⊎◌, ◌==◌, inl, inr, ⊎_elim, ℕ, Bool, false, Option, None, Some, List, [], refl, sym, ◌∙◌, ap}
+use Rattle.std.proofs.Common.{rules, ◌≡◌, ◌⊎◌, inl, inr, ℕ, Bool, false, Option, None, Some, List, [], refl, sym, ◌∙◌, ap}
 use Rattle.papaya_words.specs.declared.probe.Refused.{Refused as Refusal}
 use Rattle.papaya_words.specs.declared.probe.Refused.TheVariants.{RemoveNothing, Memory}
 use Rattle.papaya_ask.specs.declared.ask.Answer.TheVariants.{Ok, Refused as Was_refused}
@@ -7,18 +7,14 @@ use Rattle.papaya_ask.specs.declared.call.Call.{Call}
 use Rattle.papaya_ask.specs.declared.call.Call.TheVariants.{Get, Insert, TryInsert, RemoveIf, Compute, Reserve, CopyAll, Clear, Retain, Walk}
 use Rattle.papaya_ask.specs.declared.call.Reply.{Reply}
 use Rattle.papaya_ask.specs.declared.call.Reply.TheVariants.{Done, Refused}
-use Rattle.papaya_ask.specs.declared.copy_ask.CopyAsk.{CopyAsk}
-use Rattle.papaya_ask.specs.declared.copy_ask.CopyAsk.TheVariants as copies
 use Rattle.papaya_call.specs.Answers.{Says}
 use Rattle.papaya_chain.specs.declared.ask.Answer.{Answer}
 use Rattle.papaya_chain.specs.declared.ask.Answer.TheVariants as answers
 use Rattle.papaya_law.specs.Code.{Coding}
 use Rattle.papaya_law.specs.Exchange.{Exchange, Setting, State as Words}
 use Rattle.papaya_rests.specs.Rests.{Change}
-use Rattle.papaya_store.specs.Copies.{PerformsCopy}
 use Rattle.papaya_store.specs.declared.pairs.Running.{Running}
 use Rattle.papaya_store.specs.Store.{StoreState, Stored}
-use Rattle.papaya_store.specs.Tables.{word_at}
 use Rattle.papaya_timeline.specs.Kept.{Tale}
 use Rattle.papaya_timeline.specs.Maps.{Map}
 use Rattle.papaya_timeline.specs.Runs.{History}

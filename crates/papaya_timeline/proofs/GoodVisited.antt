@@ -104,7 +104,7 @@ module _ {K V S A : Type 0} (eq : K → K → Bool) (hash : K → ℕ) (law : Is
     given_pair : (n : ℕ) → x.ask ≡ Give n → HadPair g coding (run tale.begun first_state) (map_left g tale.begun) tale.since tale.hands n
     given_pair n is = state_named g coding hashed (run tale.begun first_state) (map_left g tale.begun) keeps_first tale.since may_since x.before.visitor.visit tale.hands x.before.visitor.state before_visiting.rests.state (Give n) (x.asked ∙ ap (λ y. Some y) is)
 
-    parts_stay : KeepsParts {A = A} s.store s'.store
+    parts_stay : KeepsParts s.store s'.store
     parts_stay = same_parts s.store s'.store (visit_pairs eq hashes refuse says x.ask s.store x.before x.answer s'.store x.later x.performs)
 
     abbrev work : Option (Work K V A)

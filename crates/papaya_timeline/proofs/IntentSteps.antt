@@ -1,7 +1,7 @@
 -- A step gives what is under way no other intent than what a closure answers in it.
-use Rattle.std.proofs.Common.{◌≡◌, ◌⊎◌, inl, inr, ⊎_elim, ℕ, Bool, true, Option, None, Some, List, length, refl, sym, ◌∙◌, ap, subst, arith}
+use Rattle.std.proofs.Common.{◌≡◌, ◌⊎◌, inl, inr, ⊎_elim, ℕ, Bool, true, Option, None, Some, List, refl, sym, ◌∙◌, ap, subst}
 use Rattle.std.specs.Cmp.{IsEquivalence}
-use Rattle.papaya_ask.specs.declared.ask.Ask.TheVariants.{MakePair, ShowNone}
+use Rattle.papaya_ask.specs.declared.ask.Ask.TheVariants.{ShowNone}
 use Rattle.papaya_ask.specs.declared.ask.Answer.TheVariants.{Made as Made_number}
 use Rattle.papaya_ask.specs.declared.call.Reply.{Reply}
 use Rattle.papaya_ask.specs.declared.call.Task.TheVariants.{Compute}
@@ -10,19 +10,18 @@ use Rattle.papaya_call.specs.declared.answers.Operation.{Operation}
 use Rattle.papaya_call.specs.declared.answers.Operation.TheVariants as ops
 use Rattle.papaya_chain.specs.declared.ask.Ask.TheVariants as asks
 use Rattle.papaya_chain.specs.declared.ask.Answer.TheVariants as told_to
-use Rattle.papaya_chain.specs.Machine.{after, ask_of, follows_of, kind_of_ask}
+use Rattle.papaya_chain.specs.Machine.{after, ask_of, kind_of_ask}
 use Rattle.papaya_chain.specs.Resizer as resizer
 use Rattle.papaya_chain.specs.Visitor as visitor
 use Rattle.papaya_chain.specs.declared.machine.Machine.{Machine}
 use Rattle.papaya_chain_rests.specs.Goes.{IsInOrder}
 use Rattle.papaya_chain_rests.proofs.Goes.{machine_goes}
 use Rattle.papaya_chain_rests.proofs.Replies.{chain_said, chain_task}
-use Rattle.papaya_law.specs.Exchange.{Exchange, run, start as first_state}
+use Rattle.papaya_law.specs.Exchange.{Exchange}
 use Rattle.papaya_rests.specs.Rests.{RestsFill, RestsOf}
 use Rattle.papaya_rests.specs.Told.{IsOneOf}
 use Rattle.papaya_store.specs.declared.pairs.Running.{Running}
 use Rattle.papaya_store.specs.declared.visits.Visiting.{Visiting}
-use Rattle.papaya_store.specs.Asks.{PerformsAsk}
 use Rattle.papaya_store.specs.Store.{KeepsPairs, StoreState, Stored, pair_of}
 use Rattle.papaya_timeline.specs.declared.seat.Seat.{Seat}
 use Rattle.papaya_timeline.specs.declared.seat.Work.{Work}
@@ -46,9 +45,8 @@ use Rattle.papaya_timeline.proofs.KeptCore.{keys_lawful}
 use Rattle.papaya_timeline.proofs.KeptLemmas.{IsLawfulKeys, IsStep, kept_step}
 use Rattle.papaya_timeline.proofs.LawfulVisits.{visit_keeps}
 use Rattle.papaya_keys.specs.Hashes.{hash_of}
-use Rattle.papaya_store.proofs.Logs.{pair_below}
 use Rattle.papaya_timeline.proofs.MachineLemmas.{machine_offers}
-use Rattle.papaya_timeline.proofs.StepTells.{answering as answered_by, made_number, told_made}
+use Rattle.papaya_timeline.proofs.StepTells.{answering as answered_by}
 use Rattle.papaya_timeline.proofs.TellLemmas.{IsAnswering}
 use Rattle.papaya_timeline.proofs.TiedLemmas.{HasMoreLogs, KeepsParts, grown, same_parts}
 use Rattle.papaya_store.specs.Performs.{own_value}
@@ -76,7 +74,7 @@ module _ {K V S A : Type 0} (eq : K → K → Bool) (hash : K → ℕ) (s : Core
       }
 
   -- a longer log gives what is under way no intent
-  work_still : (store' : StoreState K V S) → KeepsPairs s.store store' → KeepsParts {A = A} s.store store' → (d : ℕ) (work : Work K V A) → working s.callers d ≡ Some work → (shown : Option ℕ) (op : Operation V ℕ) → Intends store' work shown op → Intends s.store work shown op
+  work_still : (store' : StoreState K V S) → KeepsPairs s.store store' → KeepsParts s.store store' → (d : ℕ) (work : Work K V A) → working s.callers d ≡ Some work → (shown : Option ℕ) (op : Operation V ℕ) → Intends store' work shown op → Intends s.store work shown op
   work_still store' stay parts d (works.Call r) was shown op h = still_intends s.store store' stay parts.values r (call_logged d r (ap call_in was)) shown op h
   work_still store' stay parts d (works.Resize z) was shown op h = absurd h
   work_still store' stay parts d (works.Visit v) was (Some n) op h = by_operation op h
@@ -88,7 +86,7 @@ module _ {K V S A : Type 0} (eq : K → K → Bool) (hash : K → ℕ) (s : Core
   work_still store' stay parts d (works.Visit v) was None op h = absurd h
 
   -- so it is enough to look at the caller that makes the step
-  keeps : {says : Says K V A} (caller : ℕ) (s' : CoreState K V S A) (event : Event) (work : Work K V A) (rest : Option (Work K V A)) → working s.callers caller ≡ Some work → s'.callers ≡ with_work s.callers caller rest → KeepsPairs s.store s'.store → KeepsParts {A = A} s.store s'.store
+  keeps : {says : Says K V A} (caller : ℕ) (s' : CoreState K V S A) (event : Event) (work : Work K V A) (rest : Option (Work K V A)) → working s.callers caller ≡ Some work → s'.callers ≡ with_work s.callers caller rest → KeepsPairs s.store s'.store → KeepsParts s.store s'.store
       → ((later : Work K V A) → rest ≡ Some later → (shown : Option ℕ) (op : Operation V ℕ) → Intends s'.store later shown op → Intends s.store work shown op ⊎ AnswersNow says s'.store event work shown op) → KeepsIntents says s caller s' event
   keeps caller s' event work rest was callers stay parts own d later now = elim (cases_same d caller) [
     | inl same ↦

@@ -56,6 +56,7 @@ use Rattle.papaya_timeline.proofs.TellLemmas.{IsAnswering}
 use Rattle.papaya_store.specs.declared.mode.Mode.{Mode}
 use Rattle.papaya_timeline.proofs.Begun.{begun_stands}
 use Rattle.papaya_store.specs.declared.pairs.Part.{Part}
+use Rattle.papaya_timeline.proofs.MadeBefore.{after_made}
 use Rattle.papaya_timeline.proofs.MadePairs.{MakesOver}
 use Rattle.papaya_timeline.proofs.TiedLemmas.{value_back}
 
@@ -63,10 +64,6 @@ use Rattle.papaya_timeline.proofs.TiedLemmas.{value_back}
 module _ {K P : Type 0} (g : Setting K P) (c : Coding K P) (begun since : List (Exchange P)) (k : K) where
   pub stands_own : (m : Call_machine) (hands : Hands P) → Rests g c begun since k m hands → (shown : Option ℕ) (n : ℕ) → StandsOn m (Makes shown n) → IsMadePair g c begun since k hands n
   stands_own m hands rests shown n stands = search rules
-
--- what was made is the answer to an ask for it
-after_made : (m : Call_machine) (a : Call_answer) (n : ℕ) → HasMade (calls.after m a).made n → HasMade m.made n ⊎ (MakesPair (calls.ask_of m) × (a ≡ Made_number n))
-after_made m a n made = search rules
 
 -- an insertion writes the pair that it made
 writes_made : (made : Made) (hash : ℕ) (stage : Stage) (replace : Bool) → IsStandingState (tasks.Insert replace) stage → (at : At) (from to : ℕ) → calls.asks made hash stage ≡ Ask_exchange at from to → (old : Option ℕ) (n : ℕ) → change_in (calls.at_exchanged made stage) ≡ Some (old, Some n) → HasMade made n
@@ -105,18 +102,18 @@ handed w made op v is (inl same) none = (v, is, same)
 handed w made op v is (inr so) none = absurd (none so)
 
 -- one that begins has made no pair
-made_none : {limit : Option ℕ} {n : ℕ} → HasMade (nothing_made limit) n → ⊥
-made_none (inl own) = cc
-made_none (inr (of, is, number)) = cc
+made_none : (limit : Option ℕ) (n : ℕ) → HasMade (nothing_made limit) n → ⊥
+made_none limit n (inl own) = cc
+made_none limit n (inr (of, is, number)) = cc
 
 -- A call that begins intends to store what it was handed.
 module _ {K V S A : Type 0} (store : StoreState K V S) (hash : K → ℕ) (mode : Mode) (initial number : ℕ) where
   pub begun_intends : (call : Call K V A) → IntendsHanded store call (begun_work hash mode initial number call)
   begun_intends (Get k) shown op h = absurd h
-  begun_intends (Insert k w) shown (ops.Insert v) h = handed w _ (ops.Insert v) v refl h (λ is. absurd (made_none is.1))
+  begun_intends (Insert k w) shown (ops.Insert v) h = handed w _ (ops.Insert v) v refl h (λ is. absurd (made_none mode.limit is.0 is.1))
   begun_intends (Insert k w) shown ops.Remove h = absurd h
   begun_intends (Insert k w) shown (ops.Abort t) h = absurd h
-  begun_intends (TryInsert k w) shown (ops.Insert v) h = handed w _ (ops.Insert v) v refl h (λ is. absurd (made_none is.1))
+  begun_intends (TryInsert k w) shown (ops.Insert v) h = handed w _ (ops.Insert v) v refl h (λ is. absurd (made_none mode.limit is.0 is.1))
   begun_intends (TryInsert k w) shown ops.Remove h = absurd h
   begun_intends (TryInsert k w) shown (ops.Abort t) h = absurd h
   begun_intends (RemoveIf k a) (Some n) ops.Remove h = absurd (begun_stands tasks.RemoveIf (hash k) mode.resize initial mode.limit (Agrees n true) h)

@@ -25,10 +25,7 @@ use Rattle.papaya_timeline.specs.Begins.{Begins}
 use Rattle.papaya_timeline.specs.Callers.{running, with_call}
 use Rattle.papaya_timeline.specs.Core.{CoreState, IsCore}
 use Rattle.papaya_timeline.specs.Kept.{IsKept, IsLawfulCore, Tale, coding_of, low, setting_of}
-use Rattle.papaya_ask.specs.declared.copy_ask.CopyAsk.{CopyAsk}
-use Rattle.papaya_ask.specs.declared.copy_ask.CopyAsk.TheVariants as copies
 use Rattle.papaya_store.specs.Asks.{PerformsAsk}
-use Rattle.papaya_store.specs.Copies.{PerformsCopy}
 use Rattle.papaya_store.specs.New.{HasCapacity}
 use Rattle.papaya_store.specs.Performs.{Performs, Stays}
 use Rattle.papaya_store.specs.Store.{StoreState}

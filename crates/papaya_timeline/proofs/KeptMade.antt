@@ -1,5 +1,5 @@
 -- A key, a value, a pair or a table that was to be made.
-use Rattle.std.proofs.Common.{◌≡◌, ℕ, ◌+◌, ◌<◌, ◌≤◌, List, [], ◌∷◌, ◌++◌, length, Option, Some, None, ◌⊎◌, inl, inr, refl, sym, ◌∙◌, ap, subst, arith, length-append}
+use Rattle.std.proofs.Common.{◌≡◌, ℕ, ◌+◌, ◌<◌, ◌≤◌, List, [], ◌∷◌, ◌++◌, length, Option, Some, ◌⊎◌, inl, inr, refl, sym, ◌∙◌, ap, subst, arith, length-append}
 use Rattle.papaya_words.specs.Table.{new_table}
 use Rattle.papaya_words.specs.declared.limits.TheConstants.{MAX_TABLES, MAX_LOG_LEN}
 use Rattle.papaya_words.specs.declared.probe.Refused.{Refused}
@@ -90,8 +90,8 @@ module _ {Q K V S A : Type 0} (g : Setting Q (Stored K V)) (c : Coding Q (Stored
   logged_pair ask e part left a store' later logs k key_is own_is tells numbered valued still never =
       let (value, has, is, few, grown, moved) = logs in
       let more : List (Pair K V) = pair_with part value ∷ [] in
-      let (v, there) = valued value has in
-      let value_is : own_value store r ≡ Some v = ap (value_at store.pairs) has ∙ there in
+      let (v, is_value) = valued value has in
+      let value_is : own_value store r ≡ Some v = ap (value_at store.pairs) has ∙ is_value in
       let l = pair_logged store r store' later part left a k v key_is value_is logs in
       let stored : Stored K V = record { number = length store.pairs; key = k; value = v } in
       let hands : Call_hands (Stored K V) = record tale.hands.call { made = stored ∷ tale.hands.call.made } in
@@ -125,10 +125,10 @@ module _ {Q K V S A : Type 0} (g : Setting Q (Stored K V)) (c : Coding Q (Stored
   pair_made k is_key keyed numbered valued e a store' later (inr (inl (has, stays))) = own_nothing MakePair e a store' later stays.0 stays.1 (inl (inr has.0, (refl, refl))) refl (λ t is slots limit chunks f. absurd cc)
   pair_made k is_key keyed numbered valued e a store' later (inr (inr logs)) =
       let (value, has, is, few, grown, moved) = logs in
-      let (v, there) = valued value has in
-      let known = own_logged store r store' later a k v (owns ∙ is_key) (ap (value_at store.pairs) has ∙ there) logs in
+      let (v, is_value) = valued value has in
+      let known = own_logged store r store' later a k v (owns ∙ is_key) (ap (value_at store.pairs) has ∙ is_value) logs in
       logged_pair MakePair e r.key (Logged (brought_by (length store.pairs) r.key)) a store' later logs k (owns ∙ is_key) (known.1 ∙ sym is_key)
-      (λ q same number made. inr (q, keyed q same, made ∙ ap Made_number (sym number), refl, refl)) numbered valued refl (λ slots limit chunks f. absurd cc)
+      (λ q same number made. inr (q, keyed q same, (made ∙ ap Made_number (sym number), refl, refl))) numbered valued refl (λ slots limit chunks f. absurd cc)
 
   -- of the key of the pair last loaded
   pub pair_of_made : (k : K) → own ≡ Some k → (n : ℕ) (p : Stored K V) → tale.hands.call.last ≡ Some p → pair_of store n ≡ Some p → ((q : Stored K V) → q.key ≡ p.key → g.key q ≡ g.key p) → ((q : Stored K V) → c.number q ≡ q.number)
@@ -138,10 +138,10 @@ module _ {Q K V S A : Type 0} (g : Setting Q (Stored K V)) (c : Coding Q (Stored
   pair_of_made k is_key n p last loaded keyed numbered valued e a store' later (inr (inl (has, stays))) = own_nothing (MakePairOf n) e a store' later stays.0 stays.1 (inl (inr has.0, (refl, refl))) refl (λ t is slots limit chunks f. absurd cc)
   pair_of_made k is_key n p last loaded keyed numbered valued e a store' later (inr (inr (first, from, logs))) =
       let (value, has, is, few, grown, moved) = logs in
-      let (v, there) = valued value has in
-      let known = of_logged store r store' later a n p v loaded (ap (value_at store.pairs) has ∙ there) (first, from, logs) in
+      let (v, is_value) = valued value has in
+      let known = of_logged store r store' later a n p v loaded (ap (value_at store.pairs) has ∙ is_value) (first, from, logs) in
       logged_pair (MakePairOf n) e (Logged first) r.key a store' later logs p.key (key_from-same store n p loaded first from) (known.1 k (owns ∙ is_key) ∙ sym is_key)
-      (λ q same number made. inr (q, (λ p' told number'. let f : p ≡ p' = same_item p p' (sym last ∙ told) in keyed q same ∙ ap g.key f), made ∙ ap Made_number (sym number), refl, refl)) numbered valued refl (λ slots limit chunks f. absurd cc)
+      (λ q same number made. inr (q, (λ p' told number'. let f : p ≡ p' = same_item p p' (sym last ∙ told) in keyed q same ∙ ap g.key f), (made ∙ ap Made_number (sym number), refl, refl))) numbered valued refl (λ slots limit chunks f. absurd cc)
 
   -- a table, asked for by a call or by its copy
   pub table_made : (ask : Ask) → ask_of r.machine ≡ ask → (slots limit chunks : ℕ) (a : Call_answer) → Hears ask (answers.Call a) tale.hands → change_by (kind_of_ask r.machine) ask (answers.Call a) (change_in r.machine.call.state) ≡ change_in r.machine.call.state

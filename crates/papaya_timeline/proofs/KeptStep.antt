@@ -22,7 +22,8 @@ use Rattle.papaya_chain_rests.specs.Told.{Hands, IsTold}
 use Rattle.papaya_law.specs.Code.{IsHashed}
 use Rattle.papaya_chain_rests.proofs.Learns.{all_learns}
 use Rattle.papaya_chain_rests.proofs.Order.{in_order}
-use Rattle.papaya_chain_rests.proofs.Replies.{chain_said, chain_shows, chain_task, machine_goes}
+use Rattle.papaya_chain_rests.proofs.Goes.{machine_goes}
+use Rattle.papaya_chain_rests.proofs.Replies.{chain_said, chain_shows, chain_task}
 use Rattle.papaya_store.specs.declared.pairs.Running.{Running}
 use Rattle.papaya_timeline.specs.Callers.{as_work, running, with_call}
 use Rattle.papaya_timeline.specs.Core.{CoreState, IsCore}
@@ -232,7 +233,7 @@ module _ {K V S A : Type 0} (eq : K → K → Bool) (hash : K → ℕ) (law : Is
         | inr said ↦ inl (chain_answered before.machine a (machine_goes before.machine a order) said.told said.shown)
       ]
     ]
-    | inr (own, said, makes, told) ↦ (let m = made_now n (subst MakesOver (sym (ap (λ p. asks_in before.machine.call p) own.phase)) makes) (own.is ∙ ap answers.Call told) in inr (m.pair, m.there, m.after))
+    | inr (own, (said, makes, told)) ↦ (let m = made_now n (subst MakesOver (sym (ap (λ p. asks_in before.machine.call p) own.phase)) makes) (own.is ∙ ap answers.Call told) in inr (m.pair, m.there, m.after))
   ]
 
   -- so it rests on what is told of it after the step

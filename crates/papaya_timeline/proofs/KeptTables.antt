@@ -74,6 +74,7 @@ written-size (Next n) t word = (refl, refl, refl)
 written-size (Aborted n) t word = (refl, refl, refl)
 written-size (Done n chunk) t word = elim (nat_lt chunk (length t.done)) as (λ b. (length (cond b (record t { done = slice_set t.done chunk word }) t).slots ≡ length t.slots) × ((cond b (record t { done = slice_set t.done chunk word }) t).limit ≡ t.limit) × (length (cond b (record t { done = slice_set t.done chunk word }) t).done ≡ length t.done)) [ true ↦ (refl, refl, length-set t.done chunk word) | false ↦ (refl, refl, refl) ]
 written-size (Slot n i) t word = elim (nat_lt i (length t.slots)) as (λ b. (length (cond b (record t { slots = slice_set t.slots i word }) t).slots ≡ length t.slots) × ((cond b (record t { slots = slice_set t.slots i word }) t).limit ≡ t.limit) × (length (cond b (record t { slots = slice_set t.slots i word }) t).done ≡ length t.done)) [ true ↦ (length-set t.slots i word, refl, refl) | false ↦ (refl, refl, refl) ]
+written-size Made t word = (refl, refl, refl)
 
 -- a table that is there gives way to another
 module _ (w : Tables) (n : ℕ) (t t' : TableWords) (there : table_of w.tables n ≡ Some t) where

@@ -50,6 +50,7 @@ pub mod KeptWritten
 pub mod LegalLemmas
 pub mod LinkWords
 pub mod MachineLemmas
+pub mod PairsBefore
 pub mod MakerLemmas
 pub mod MakerSteps
 pub mod MadeTables
@@ -102,3 +103,5 @@ pub mod EntersOnce
 pub mod VisitOver
 pub mod MadePairs
 pub mod Waits
+pub mod MadeBefore
+pub mod MadeStands

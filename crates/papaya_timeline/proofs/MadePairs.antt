@@ -1,7 +1,6 @@
 -- A pair that was made has the value that its call had, and has still.
-use Rattle.std.proofs.Common.{◌≡◌, ℕ, ◌+◌, length, slice_get, Bool, Some, None, ◌⊎◌, inl, inr, sym, ◌∙◌, ap, subst, refl}
+use Rattle.std.proofs.Common.{◌≡◌, ℕ, length, Bool, Some, ◌⊎◌, inl, inr, sym, ◌∙◌, ap, refl}
 use Rattle.papaya_words.specs.declared.limits.TheConstants.{MAX_LOG_LEN}
-use Rattle.papaya_ask.specs.declared.ask.Ask.{Ask as Call_ask}
 use Rattle.papaya_ask.specs.declared.ask.Ask.TheVariants.{MakePair, MakePairOf}
 use Rattle.papaya_ask.specs.declared.ask.Answer.{Answer as Call_answer}
 use Rattle.papaya_ask.specs.declared.ask.Answer.TheVariants.{Made as Made_number}
@@ -26,7 +25,7 @@ abbrev pub MakesOver : Ask → Type 0
 MakesOver (asks.Call ask) = MakesPair ask
 MakesOver (asks.Copy ask) = ⊥
 
-module _ {K V S A : Type 0} (eq : K → K → Bool) (says : Says K V A) (refuse : Bool) (s : StoreState K V S) (r : Running K V A) (s' : StoreState K V S) (r' : Running K V A) where
+module _ {K V S A : Type 0} (s : StoreState K V S) (r : Running K V A) (s' : StoreState K V S) (r' : Running K V A) where
   -- What is known of it.
   pub record IsMadeNow (n : ℕ) : Type 0 where
     pub pair : Stored K V
@@ -35,9 +34,10 @@ module _ {K V S A : Type 0} (eq : K → K → Bool) (says : Says K V A) (refuse 
     pub before : own_value s r ≡ Some pair.value
     pub after : own_value s' r' ≡ Some pair.value
 
+module _ {K V S A : Type 0} (eq : K → K → Bool) (says : Says K V A) (refuse : Bool) (s : StoreState K V S) (r : Running K V A) (s' : StoreState K V S) (r' : Running K V A) where
   module _ (valued : (part : Part V) → r.value ≡ Some part → (v : V) × (value_in s.pairs part ≡ Some v)) (told : Call_answer) (n : ℕ) (is : told ≡ Made_number n) where
     -- it was logged
-    logged_now : (key left : Part K) (k : K) → key_in s.pairs key ≡ Some k → LogsPair key left told s r s' r' → IsMadeNow n
+    logged_now : (key left : Part K) (k : K) → key_in s.pairs key ≡ Some k → LogsPair key left told s r s' r' → IsMadeNow s r s' r' n
     logged_now key left k key_is logs =
         let (value, has, e, few, grown, moved) = logs in
         let (v, there) = valued value has in
@@ -46,19 +46,19 @@ module _ {K V S A : Type 0} (eq : K → K → Bool) (says : Says K V A) (refuse 
         let l = pair_logged s r s' r' key left told k v key_is value_is logs in
         record { pair = record { number = length s.pairs; key = k; value = v }; there = ap (pair_of s') number ∙ l.pair; number = number; before = value_is; after = l.value }
 
-    own_now : (k : K) → own_key s r ≡ Some k → Performs eq says refuse MakePair s r told s' r' → IsMadeNow n
-    own_now k own h = matched (IsMadeNow n) refuse _ _ h (λ _ none. let f = sym is ∙ none.0 in absurd cc) (λ _ makes. by_cases makes)
+    own_now : (k : K) → own_key s r ≡ Some k → Performs eq says refuse MakePair s r told s' r' → IsMadeNow s r s' r' n
+    own_now k own h = matched (IsMadeNow s r s' r' n) refuse _ _ h (λ _ none. let f = sym is ∙ none.0 in absurd cc) (λ _ makes. by_cases makes)
       where
-        by_cases : (Refuses MAX_LOG_LEN (length s.pairs) told × Stays s r s' r') ⊎ (HasNoPair told r × Stays s r s' r') ⊎ LogsOwn told s r s' r' → IsMadeNow n
+        by_cases : (Refuses MAX_LOG_LEN (length s.pairs) told × Stays s r s' r') ⊎ (HasNoPair told r × Stays s r s' r') ⊎ LogsOwn told s r s' r' → IsMadeNow s r s' r' n
         by_cases (inl (inl e, stays)) = let f = sym is ∙ e in absurd cc
         by_cases (inl (inr (e, full), stays)) = let f = sym is ∙ e in absurd cc
         by_cases (inr (inl (has, stays))) = let f = sym is ∙ has.0 in absurd cc
         by_cases (inr (inr logs)) = logged_now r.key (Logged (brought_by (length s.pairs) r.key)) k own logs
 
-    of_now : (m : ℕ) (p : Stored K V) → pair_of s m ≡ Some p → Performs eq says refuse (MakePairOf m) s r told s' r' → IsMadeNow n
-    of_now m p loaded h = matched (IsMadeNow n) refuse _ _ h (λ _ none. let f = sym is ∙ none.0 in absurd cc) (λ _ makes. by_cases makes)
+    of_now : (m : ℕ) (p : Stored K V) → pair_of s m ≡ Some p → Performs eq says refuse (MakePairOf m) s r told s' r' → IsMadeNow s r s' r' n
+    of_now m p loaded h = matched (IsMadeNow s r s' r' n) refuse _ _ h (λ _ none. let f = sym is ∙ none.0 in absurd cc) (λ _ makes. by_cases makes)
       where
-        by_cases : (Refuses MAX_LOG_LEN (length s.pairs) told × Stays s r s' r') ⊎ (HasNoPairOf m told s r × Stays s r s' r') ⊎ LogsOf m told s r s' r' → IsMadeNow n
+        by_cases : (Refuses MAX_LOG_LEN (length s.pairs) told × Stays s r s' r') ⊎ (HasNoPairOf m told s r × Stays s r s' r') ⊎ LogsOf m told s r s' r' → IsMadeNow s r s' r' n
         by_cases (inl (inl e, stays)) = let f = sym is ∙ e in absurd cc
         by_cases (inl (inr (e, full), stays)) = let f = sym is ∙ e in absurd cc
         by_cases (inr (inl (has, stays))) = let f = sym is ∙ has.0 in absurd cc
@@ -66,7 +66,7 @@ module _ {K V S A : Type 0} (eq : K → K → Bool) (says : Says K V A) (refuse 
 
   -- of a step
   pub pair_made_now : (hash : S → K → ℕ) (ask : Ask) (a : Answer) → PerformsAsk eq says hash refuse ask s r a s' r' → MakesOver ask → (n : ℕ) → a ≡ answers.Call (Made_number n) → (k : K) → own_key s r ≡ Some k → ((part : Part V) → r.value ≡ Some part → (v : V) × (value_in s.pairs part ≡ Some v))
-      → ((m : ℕ) → ask ≡ asks.Call (MakePairOf m) → (p : Stored K V) × (pair_of s m ≡ Some p)) → IsMadeNow n
+      → ((m : ℕ) → ask ≡ asks.Call (MakePairOf m) → (p : Stored K V) × (pair_of s m ≡ Some p)) → IsMadeNow s r s' r' n
   pair_made_now hash (asks.Call MakePair) a (told, is, h) makes n e k own valued loaded = own_now valued told n (let f : answers.Call told ≡ answers.Call (Made_number n) = sym is ∙ e in cc) k own h
   pair_made_now hash (asks.Call (MakePairOf m)) a (told, is, h) makes n e k own valued loaded = let (p, there) = loaded m refl in of_now valued told n (let f : answers.Call told ≡ answers.Call (Made_number n) = sym is ∙ e in cc) m p there h
   pair_made_now hash (asks.Call ask) a h makes n e k own valued loaded = absurd makes

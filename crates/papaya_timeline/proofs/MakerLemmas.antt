@@ -1,5 +1,5 @@
 -- A call has the value that it is to make pairs of.
-use Rattle.std.proofs.Common.{rules, ◌≡◌, ◌⊎◌, inl, inr, ℕ, ◌==◌, Bool, Option, None, Some, refl, sym, ◌∙◌, ap, subst}
+use Rattle.std.proofs.Common.{rules, ◌≡◌, ◌⊎◌, inl, inr, ℕ, Bool, Option, None, Some, refl, sym, ◌∙◌, ap, subst}
 use Rattle.papaya_ask.specs.declared.ask.Ask.{Ask as Call_ask}
 use Rattle.papaya_ask.specs.declared.ask.Ask.TheVariants.{Load, Exchange, LoadHint, WriteHint, SameKey, ShowNone, ShowPair, SizeOf, MakeKey, MakeValue, MakePair, MakePairOf, MakeTable, AddToShard, Done as Ask_done}
 use Rattle.papaya_ask.specs.declared.ask.Answer.{Answer as Call_answer}
@@ -15,17 +15,12 @@ use Rattle.papaya_call.specs.Machine.{HasClosure, IsStandingState, IsWriter}
 use Rattle.papaya_call.specs.Machine as calls
 use Rattle.papaya_rests.specs.Says.{MakesPair}
 use Rattle.papaya_store.specs.declared.pairs.Part.{Part}
-use Rattle.papaya_store.specs.declared.pairs.Part.TheVariants.{Own, Logged}
+use Rattle.papaya_store.specs.declared.pairs.Part.TheVariants.{Own}
 use Rattle.papaya_store.specs.declared.pairs.Running.{Running}
 use Rattle.papaya_store.specs.Performs.{Decides, Performs, ShowsPair, value_answered}
 use Rattle.papaya_store.specs.Store.{StoreState}
-use Rattle.papaya_store.specs.Tables.{put, word_at}
 use Rattle.papaya_timeline.specs.Ends.{IsThere, IsToPair}
 use Rattle.papaya_timeline.proofs.StoreLemmas.{LogsOrNot, matched, of_logs, own_logs, part_logs}
-
--- a call that is to make a pair was before, or its closure answers a value now
-pub pairs_before : (m : Call_machine) (told : Call_answer) → IsToPair (calls.after m told) → IsToPair m ⊎ ((told ≡ Op op_kinds.Insert) × ((calls.ask_of m ≡ ShowNone) ⊎ ((n : ℕ) × (calls.ask_of m ≡ ShowPair n) × (m.task ≡ tasks.Compute))))
-pairs_before m told pairs = search rules
 
 -- one that makes a pair is an insertion, or is to make it
 pub makes_for : (m : Call_machine) → IsStandingState m.task m.state → MakesPair (calls.ask_of m) → IsWriter m.task ⊎ IsToPair m

@@ -1,7 +1,6 @@
 -- A step of a call over a chain leaves it what it is to make; and what it asks to be made is made or refused.
 use Rattle.std.proofs.Common.{◌≡◌, ◌⊎◌, inl, inr, ℕ, ◌+◌, Bool, None, Some, length, refl, sym, ◌∙◌, ap, subst}
-use Rattle.papaya_words.specs.Word.{pair_of as pair_in}
-use Rattle.papaya_words.specs.declared.limits.TheConstants.{FIRST_TABLE_LEN, FIRST_TABLE_LIMIT, MAX_LOG_LEN, MAX_TABLES}
+use Rattle.papaya_words.specs.declared.limits.TheConstants.{MAX_LOG_LEN, MAX_TABLES}
 use Rattle.papaya_words.specs.declared.probe.Refused.TheVariants.{Memory}
 use Rattle.papaya_ask.specs.declared.ask.Ask.{Ask as Call_ask}
 use Rattle.papaya_ask.specs.declared.ask.Ask.TheVariants.{Load, Exchange, LoadHint, WriteHint, SameKey, ShowNone, ShowPair, SizeOf, MakeKey, MakeValue, MakePair, MakePairOf, MakeTable, AddToShard, Done as Ask_done}
@@ -12,11 +11,11 @@ use Rattle.papaya_ask.specs.declared.call.Reply.{Reply}
 use Rattle.papaya_ask.specs.declared.call.Reply.TheVariants.{Refused as Reply_refused}
 use Rattle.papaya_ask.specs.declared.call.Task.{Task}
 use Rattle.papaya_ask.specs.declared.call.Task.TheVariants as tasks
-use Rattle.papaya_ask.specs.declared.search.Search.TheVariants.{Sizing, Looking, Reading, Comparing}
+use Rattle.papaya_ask.specs.declared.search.Search.TheVariants.{Sizing}
 use Rattle.papaya_call.specs.Answers.{Says, op_kind}
 use Rattle.papaya_call.specs.declared.machine.Machine.{Machine as Call_machine}
 use Rattle.papaya_call.specs.declared.machine.State.{State as Stage}
-use Rattle.papaya_call.specs.declared.machine.State.TheVariants.{AtRoot, Making, Opening, Searching, Writing, Offering, Showing, Pairing, Putting, Burying, Counting, Noting, Uncounting, Leaving, Growing, Ended}
+use Rattle.papaya_call.specs.declared.machine.State.TheVariants.{AtRoot, Searching, Pairing, Ended}
 use Rattle.papaya_call.specs.declared.compute.Purpose.{Purpose}
 use Rattle.papaya_call.specs.Machine.{HasClosure, IsStandingState, IsWriter}
 use Rattle.papaya_call.specs.Machine as call_machine
@@ -41,7 +40,8 @@ use Rattle.papaya_rests.specs.Says.{MakesPair}
 use Rattle.papaya_store.specs.Store.{StoreState, Stored, pair_of}
 use Rattle.papaya_timeline.specs.Ends.{HasValue, IsMaker, IsThere, IsToPair}
 use Rattle.papaya_timeline.proofs.KeptMade.{refusal}
-use Rattle.papaya_timeline.proofs.MakerLemmas.{answered_there, makes_for, pairs_before, shows_closure, shows_none, value_there}
+use Rattle.papaya_timeline.proofs.MakerLemmas.{answered_there, makes_for, shows_closure, shows_none, value_there}
+use Rattle.papaya_timeline.proofs.PairsBefore.{pairs_before}
 use Rattle.papaya_timeline.proofs.StoreLemmas.{matched}
 
 module _ {K V S A : Type 0} (eq : K → K → Bool) (says : Says K V A) (hash : S → K → ℕ) (refuse : Bool) (s : StoreState K V S) (r : Running K V A) (answer : Answer) (s' : StoreState K V S) (r' : Running K V A) (performs : PerformsAsk eq says hash refuse (ask_of r.machine) s r answer s' r')

@@ -6,7 +6,7 @@ use Rattle.papaya_words.specs.declared.probe.ResizeMode.TheVariants.{Blocking}
 use Rattle.papaya_law.specs.Allows.{AllAllowed}
 use Rattle.papaya_law.specs.Class.{IsOn, IsTied}
 use Rattle.papaya_law.specs.Content.{lookup, content}
-use Rattle.papaya_law.specs.Exchange.{Setting, State, Word, Exchange, Open, Claim, Replace, Bury, Link, Mark, Close, Place, Finish, Advance, Promote, Abort, run, start}
+use Rattle.papaya_law.specs.Exchange.{Setting, State, Word, Exchange, Open, Claim, Replace, Bury, Link, Mark, Close, Place, Finish, Advance, Promote, Abort, Take, run, start}
 use Rattle.papaya_law.specs.Invariant.{IsBlockingState, IsIncrementalState, IsKeeping, named}
 use Rattle.papaya_law.specs.Meaning.{map_of, map_after, map_left, IsLegal, AllLegal, IsLawful}
 use Rattle.papaya_law.specs.View.{Here, Leaving, look}
@@ -58,6 +58,7 @@ module _ {K V : Type 0} (eq : K → K → Bool) where
   map_replayed hash mode tables (Advance n c ∷ es) m = map_replayed hash mode tables es m
   map_replayed hash mode tables (Promote t n ∷ es) m = map_replayed hash mode tables es m
   map_replayed hash mode tables (Abort n ∷ es) m = map_replayed hash mode tables es m
+  map_replayed hash mode tables (Take n ∷ es) m = map_replayed hash mode tables es m
 
   -- two lists after each other
   pub replay-append : (es fs : List (Exchange (Stored K V))) → replay eq (es ++ fs) ≡ replayed eq (replay eq es) fs
@@ -101,6 +102,7 @@ module _ {K V : Type 0} (eq : K → K → Bool) where
     respects (Advance n c ∷ es) m alike = respects es m alike
     respects (Promote t n ∷ es) m alike = respects es m alike
     respects (Abort n ∷ es) m alike = respects es m alike
+    respects (Take n ∷ es) m alike = respects es m alike
 
     -- equal keys have one pair
     pub replay-alike : (es : List (Exchange (Stored K V))) (j k : K) → eq j k ≡ true → replay eq es j ≡ replay eq es k

@@ -34,12 +34,9 @@ use Rattle.papaya_timeline.proofs.TellLemmas.{IsAnswering}
 use Rattle.papaya_timeline.proofs.TimelineLemmas.{entry}
 use Rattle.papaya_store.specs.Pairs.{value_at}
 use Rattle.papaya_timeline.proofs.MadePairs.{MakesOver}
+use Rattle.papaya_timeline.proofs.MadeStands.{made_stands}
 
 -- What a call that made a pair stands on of it was answered just now to be stored, or before: then the pair has the value that was logged last.
-made_stands : (m : Call_machine) (shown : Option ℕ) (n : ℕ) → MakesPair (calls.ask_of m) → ShowsPairs m → StandsOn (calls.after m (Made_number n)) (Makes shown n)
-    → StandsOn m (Inserts shown) ⊎ StandsOn m (Makes shown n) ⊎ ((i : ℕ) × (before : ℕ) × (shown ≡ Some i) × StandsOn m (Makes (Some i) before) × (IsAnswered m.state → ⊥))
-made_stands m shown n makes shows stands = search rules
-
 pub made_said : (m : Machine) (answer : Answer) (own : IsOwnStep m answer) (shown : Option ℕ) (n : ℕ) → MakesPair (calls.ask_of m.call) → own.told ≡ Made_number n → ShowsPairs m.call → StandsOn (after m answer).call (Makes shown n)
     → StandsOn m.call (Inserts shown) ⊎ StandsOn m.call (Makes shown n) ⊎ ((i : ℕ) × (before : ℕ) × (shown ≡ Some i) × StandsOn m.call (Makes (Some i) before) × (IsAnswered m.call.state → ⊥))
 made_said m answer own shown n makes told shows stands =

@@ -1,5 +1,5 @@
 -- A call that is made alone comes to its end: each of its steps lowers a measure.
-use Rattle.std.proofs.Common.{◌≡◌, ℕ, ◌^◌, ◌<◌, Bool, true, None, Some, List, [], ◌++◌, refl, sym, ◌∙◌, ap, subst}
+use Rattle.std.proofs.Common.{◌≡◌, inl, inr, ℕ, ◌^◌, ◌<◌, Bool, true, Option, None, Some, List, [], ◌++◌, refl, sym, ◌∙◌, ap, subst}
 use Rattle.std.specs.Cmp.{IsEquivalence}
 use mathlib.Core.Path.{fun_ext}
 use Rattle.papaya_call.specs.Answers.{Says}
@@ -84,9 +84,9 @@ module _ {K V A : Type 0} where
   begun_value call task is = begins_with call task (task_is_own call task is)
 
 -- and is to make no pair of what its closure answered, for it answered nothing
-begun_unpaired : {hash initial number : ℕ} {mode : ResizeMode} {limit : Option ℕ} (task : Task) → IsToPair (started task hash mode initial number limit).call → ⊥
-begun_unpaired task (inl (purpose, e)) = cc
-begun_unpaired task (inr (old, new, e)) = cc
+begun_unpaired : (task : Task) (hash : ℕ) (mode : ResizeMode) (initial number : ℕ) (limit : Option ℕ) → IsToPair (started task hash mode initial number limit).call → ⊥
+begun_unpaired task hash mode initial number limit (inl (purpose, e)) = cc
+begun_unpaired task hash mode initial number limit (inr (old, new, e)) = cc
 
 -- it has read no count of numbers
 begun_number : (limit : Option ℕ) (words : At → ℕ) → IsNumberRead words (wanted limit)
@@ -117,7 +117,7 @@ module _ {K V S A : Type 0} (eq : K → K → Bool) (hash : S → K → ℕ) (s 
           record {
             callers = alone (works.Call r) e;
             lawful = in_order';
-            maker = subst (λ (y : Running K V A). IsMaker y) (sym is.is) (record { value = begun_value call is.task is.task_is; answered = λ pairs. absurd (begun_unpaired is.task pairs) });
+            maker = subst (λ (y : Running K V A). IsMaker y) (sym is.is) (record { value = begun_value call is.task is.task_is; answered = λ pairs. absurd (begun_unpaired is.task (hash s.store.hasher is.key) s.mode.resize s.initial x.number s.mode.limit pairs) });
             current = subst (λ (y : Running K V A). IsCurrent (word_at s'.store.words) y.machine) (sym is.is) (record { number = begun_number s.mode.limit (word_at s'.store.words); read = (tt, tt) });
           }
       by_work (works.Resize z) e =

@@ -284,7 +284,7 @@ module _ {K V S : Type 0} where
 
 module _ {K V S : Type 0} (eq : K → K → Bool) (hash : S → K → ℕ) (refuse : Bool) where
   -- a copy leaves the log
-  pub copy_pairs : (ask : CopyAsk) (s : StoreState K V S) (a : Answer) (s' : StoreState K V S) → PerformsCopy eq hash refuse ask s a s' → s'.pairs ≡ s.pairs
+  pub copy_pairs : (ask : CopyAsk) (s : StoreState K V S) (a : Chain_answer) (s' : StoreState K V S) → PerformsCopy eq hash refuse ask s a s' → s'.pairs ≡ s.pairs
   copy_pairs (copies.Load at) s a s' (e, same) = ap (λ (y : StoreState K V S). y.pairs) same
   copy_pairs (copies.Exchange at old new) s a s' (told, e, ex) =
       matched (s'.pairs ≡ s.pairs) (word_at s.words at == old) _ _ ex (λ _ done. ap (λ (y : StoreState K V S). y.pairs) done.1) (λ _ lost. ap (λ (y : StoreState K V S). y.pairs) lost.1)
@@ -301,7 +301,7 @@ module _ {K V S : Type 0} (eq : K → K → Bool) (hash : S → K → ℕ) (refu
 
 module _ {K V S : Type 0} (eq : K → K → Bool) (hash : S → K → ℕ) (refuse : Bool) where
   -- it leaves the hasher
-  pub copy_hasher : (ask : CopyAsk) (s : StoreState K V S) (a : Answer) (s' : StoreState K V S) → PerformsCopy eq hash refuse ask s a s' → s'.hasher ≡ s.hasher
+  pub copy_hasher : (ask : CopyAsk) (s : StoreState K V S) (a : Chain_answer) (s' : StoreState K V S) → PerformsCopy eq hash refuse ask s a s' → s'.hasher ≡ s.hasher
   copy_hasher (copies.Load at) s a s' (is, same) = ap (λ (y : StoreState K V S). y.hasher) same
   copy_hasher (copies.Exchange at old new) s a s' (told, is, h) =
       matched (s'.hasher ≡ s.hasher) (word_at s.words at == old) _ _ h

@@ -1,6 +1,5 @@
 -- What the event of an ask of a call tells of the ask and the answer, what a closure answered to it, and which value is at hand after it.
-use Rattle.std.proofs.Common.{◌≡◌, ◌⊎◌, inl, inr, ⊎_elim, ℕ, Bool, true, false, Option, None, Some, List, ◌∷◌, length, refl, sym, ◌∙◌, ap, subst}
-use Rattle.papaya_words.specs.declared.limits.TheConstants.{MAX_LOG_LEN}
+use Rattle.std.proofs.Common.{◌≡◌, ◌⊎◌, inl, inr, ⊎_elim, ℕ, ◌==◌, Bool, true, false, Option, None, Some, List, ◌∷◌, refl, sym, ◌∙◌, ap, subst}
 use Rattle.papaya_call.specs.Answers.{Says, op_kind}
 use Rattle.papaya_call.specs.declared.answers.Operation.{Operation}
 use Rattle.papaya_ask.specs.declared.ask.At.{At}
@@ -326,8 +325,8 @@ module _ {K P : Type 0} (g : Setting K P) (c : Coding K P) (k : K) (s : State P)
   pub told_made : (ask : Ask) (a : Answer) (es : List (Exchange P)) (hands' : Hands P) (n : ℕ) → MakesPair ask → a ≡ Made_number n → IsTold g c k s kind hands ask a es hands' → (q : P) × (c.number q ≡ n) × (hands'.made ≡ q ∷ hands.made)
   told_made MakePair a es hands' n makes is (inl (inl (why, e), quiet)) = let f = sym is ∙ e in absurd cc
   told_made MakePair a es hands' n makes is (inl (inr e, quiet)) = let f = sym is ∙ e in absurd cc
-  told_made MakePair a es hands' n makes is (inr (q, own, e, none, same)) = (q, number_made q n (sym e ∙ is), ap (λ (y : Hands P). y.made) same)
+  told_made MakePair a es hands' n makes is (inr (q, own, (e, none, same))) = (q, number_made q n (sym e ∙ is), ap (λ (y : Hands P). y.made) same)
   told_made (MakePairOf m) a es hands' n makes is (inl (inl (why, e), quiet)) = let f = sym is ∙ e in absurd cc
   told_made (MakePairOf m) a es hands' n makes is (inl (inr e, quiet)) = let f = sym is ∙ e in absurd cc
-  told_made (MakePairOf m) a es hands' n makes is (inr (q, of, e, none, same)) = (q, number_made q n (sym e ∙ is), ap (λ (y : Hands P). y.made) same)
+  told_made (MakePairOf m) a es hands' n makes is (inr (q, of, (e, none, same))) = (q, number_made q n (sym e ∙ is), ap (λ (y : Hands P). y.made) same)
   told_made ask a es hands' n makes is told = absurd makes

@@ -1,5 +1,5 @@
 -- How calls under way stand to a history that grows by an entry.
-use Rattle.std.proofs.Common.{◌≡◌, ◌≢◌, ◌⊎◌, inl, inr, ⊎_elim, ℕ, ◌==◌, Bool, true, false, cond, Option, None, Some, List, [], ◌∷◌, ◌++◌, length, slice_get, refl, sym, ◌∙◌, ap, subst, zero, suc}
+use Rattle.std.proofs.Common.{◌≡◌, ◌≢◌, ◌⊎◌, inl, inr, ⊎_elim, ℕ, ◌==◌, Bool, true, false, cond, Option, None, Some, List, [], ◌∷◌, ◌++◌, slice_get, refl, sym, ◌∙◌, ap, subst}
 use Rattle.papaya_ask.specs.declared.ask.Ask.{Ask as Call_ask}
 use Rattle.papaya_ask.specs.declared.ask.Ask.TheVariants.{Load, Exchange as Ask_exchange, SameKey, ShowNone, ShowPair, SizeOf, MakeKey, MakeValue, MakePair, MakePairOf, MakeTable, AddToShard, Done as Ask_done, LoadHint, WriteHint}
 use Rattle.papaya_ask.specs.declared.ask.Answer.{Answer as Call_answer}
@@ -16,7 +16,6 @@ use Rattle.papaya_ask.specs.declared.ask.OpKind.TheVariants as op_kinds
 use Rattle.papaya_call.specs.Answers.{Says}
 use Rattle.papaya_law.specs.Exchange.{Exchange}
 use Rattle.papaya_ask.specs.declared.copy_ask.CopyAsk.{CopyAsk}
-use Rattle.papaya_ask.specs.declared.copy_ask.CopyAsk.TheVariants as copies
 use Rattle.papaya_chain.specs.declared.ask.Ask.{Ask}
 use Rattle.papaya_chain.specs.declared.ask.Ask.TheVariants as asks
 use Rattle.papaya_chain.specs.declared.ask.Answer.{Answer}
@@ -27,7 +26,6 @@ use Rattle.papaya_rests.specs.Rests.{IsReply, change_of_reply, WasAtMoment}
 use Rattle.papaya_rests.specs.Says.{Said, Agrees, Inserts, Makes, Removes, said_in_reply}
 use Rattle.papaya_rests.specs.Told.{IsOneOf}
 use Rattle.papaya_words.specs.Table.{TableWords}
-use Rattle.papaya_words.specs.declared.limits.TheConstants.{MAX_LOG_LEN}
 use Rattle.papaya_words.specs.declared.probe.Refused.{Refused as Refusal}
 use Rattle.papaya_words.specs.declared.probe.Refused.TheVariants.{RemoveNothing}
 use Rattle.papaya_store.specs.declared.pairs.Pair.{Pair}
@@ -65,7 +63,7 @@ pub value_back : {K V : Type 0} (log log' : List (Pair K V)) → ((at : Part V) 
 value_back log log' stay None valued v e = let f : None ≡ Some v = e in cc
 value_back log log' stay (Some part) valued v e = let (w, there) = valued part refl in there ∙ sym (stay part w there) ∙ e
 
-module _ {K V S A : Type 0} where
+module _ {K V S : Type 0} where
   -- No key and no value is gone from the log.
   pub record KeepsParts (s s' : StoreState K V S) : Type 0 where
     pub keys : (at : Part K) (k : K) → key_in s.pairs at ≡ Some k → key_in s'.pairs at ≡ Some k
@@ -75,6 +73,7 @@ module _ {K V S A : Type 0} where
   pub same_parts : (s s' : StoreState K V S) → s'.pairs ≡ s.pairs → KeepsParts s s'
   same_parts s s' same = record { keys = λ at k e. ap (λ l. key_in l at) same ∙ e; values = λ at v e. ap (λ l. value_in l at) same ∙ e }
 
+module _ {K V S A : Type 0} where
   -- what a call has to store is there
   abbrev pub IsValued : StoreState K V S → Running K V A → Type 0
   IsValued s r = (part : Part V) → r.value ≡ Some part → (v : V) × (value_in s.pairs part ≡ Some v)
@@ -188,7 +187,7 @@ module _ {K V S A : Type 0} where
   SaidForReply s r task reply caller h answers = (said : Said) → said_in_reply task reply ≡ Some said → WasSaid s r caller h answers said
 
   -- what a closure said stays said, whatever another caller does
-  pub said-other : (s s' : StoreState K V S) (r : Running K V A) (c d turn : ℕ) (event : Event) (h : History) (o : Option (Operation V ℕ)) (answers : Answered V) → KeepsParts {A = A} s s' → KeepsPairs s s' → c ≢ d → (said : Said) → WasSaid s r d h answers said → WasSaid s' r d (entry turn c event ∷ h) (o ∷ answers) said
+  pub said-other : (s s' : StoreState K V S) (r : Running K V A) (c d turn : ℕ) (event : Event) (h : History) (o : Option (Operation V ℕ)) (answers : Answered V) → KeepsParts s s' → KeepsPairs s s' → c ≢ d → (said : Said) → WasSaid s r d h answers said → WasSaid s' r d (entry turn c event ∷ h) (o ∷ answers) said
   said-other s s' r c d turn event h o answers parts stay differ (Agrees n agrees) was = asked-other c d turn n agrees event h differ was
   said-other s s' r c d turn event h o answers parts stay differ (Inserts shown) (v, has, was) = (v, value_forth s.pairs s'.pairs parts.values r.value v has, answered-other c d turn shown (ops.Insert v) event h o answers differ was)
   said-other s s' r c d turn event h o answers parts stay differ (Makes shown n) (q, there, was) = (q, stay n q there, answered-other c d turn shown (ops.Insert q.value) event h o answers differ was)
@@ -250,7 +249,7 @@ module _ {K V A : Type 0} (eq : K → K → Bool) where
   module _ {S : Type 0} where
     -- another caller's step leaves how a call stands to its history
     pub tied_other : (s s' : StoreState K V S) (r : Running K V A) (call : Call K V A) (c d turn : ℕ) (event : Event) (tales : ℕ → Tale K V) (made : List (Exchange (Stored K V))) (hands : Hands (Stored K V)) (h : History) (es : List (Exchange (Stored K V))) (maps : List (Map K V)) (o : Option (Operation V ℕ)) (answers : Answered V)
-        → KeepsParts {A = A} s s' → IsValued s r → KeepsPairs s s' → (made ≡ []) ⊎ ((x : Exchange (Stored K V)) × (made ≡ x ∷ [])) → c ≢ d → (tales d).begun ++ (tales d).since ≡ es
+        → KeepsParts s s' → IsValued s r → KeepsPairs s s' → (made ≡ []) ⊎ ((x : Exchange (Stored K V)) × (made ≡ x ∷ [])) → c ≢ d → (tales d).begun ++ (tales d).since ≡ es
         → IsTied eq s r call d (tales d) h maps answers → IsTied eq s' r call d (told_tales tales c made hands d) (entry turn c event ∷ h) (replay eq (es ++ made) ∷ maps) (o ∷ answers)
     tied_other s s' r call c d turn event tales made hands h es maps o answers parts valued pairs one differ split tied = record {
       own = tied.own;
