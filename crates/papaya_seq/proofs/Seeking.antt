@@ -92,6 +92,8 @@ module _ {K V S : Type 0} (eq : K → K → Bool) (hash : S → K → ℕ) (s : 
     pub hash_is : m.call.hash ≡ h
     pub seeks : Seeks m.call.state
     pub logs : store ≡ record s.store { words = store.words }
+    -- no number was taken for a pair
+    pub taken : store.words.made ≡ s.store.words.made
     pub same : Unchanged eq s.store store
     pub long : IsLong s store m
 
@@ -160,6 +162,7 @@ module _ {K V S : Type 0} (eq : K → K → Bool) (hash : S → K → ℕ) (s : 
           hash_is = refl;
           seeks = tt;
           logs = refl;
+          taken = refl;
           same = λ k. refl;
           long = long_begun s lawful.long (started RemoveIf h s.mode.resize s.initial number s.mode.limit) refl refl;
         }
