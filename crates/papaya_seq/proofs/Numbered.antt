@@ -34,6 +34,11 @@ use Rattle.papaya_timeline.proofs.KeptHints.{by-table}
 use Rattle.papaya_timeline.proofs.ShowLemmas.{none_shown, pair_shown}
 use Rattle.papaya_timeline.proofs.StoreLemmas.{LogsOrNot, matched, of_logs, own_logs}
 
+-- a call that begins has read nothing of the numbers
+pub begun_number : (limit : Option ℕ) (words : At → ℕ) → IsNumberRead words (wanted limit)
+begun_number None words = tt
+begun_number (Some most) words = tt
+
 -- how many numbers were taken stays where another word is written
 put_at_made : (at : At) (n : ℕ) (w : Tables) (word : ℕ) → (put_at at n w word).made ≡ w.made
 put_at_made at n w word = go (n == 0)
@@ -77,10 +82,11 @@ module _ {K V S : Type 0} (s s' : StoreState K V S) where
     pub pairs : (length s'.pairs ≡ length s.pairs) ⊎ (IsPairLogged ask answer × (length s'.pairs ≡ length s.pairs + 1))
     pub up : s.words.made ≤ s'.words.made
     pub took : IsNumberTaken ask answer → (s.words.made < s'.words.made) × (length s'.pairs ≡ length s.pairs)
+    pub still : (IsNumberTaken ask answer → ⊥) → s'.words.made ≡ s.words.made
 
   -- one that takes no number
   quiet : (ask : Ask) (answer : Answer) → (IsNumberTaken ask answer → ⊥) → (length s'.pairs ≡ length s.pairs) ⊎ (IsPairLogged ask answer × (length s'.pairs ≡ length s.pairs + 1)) → s'.words.made ≡ s.words.made → IsLogStep ask answer
-  quiet ask answer none pairs same = record { pairs = pairs; up = omega (arith, same); took = λ took. absurd (none took) }
+  quiet ask answer none pairs same = record { pairs = pairs; up = omega (arith, same); took = λ took. absurd (none took); still = λ _. same }
 
 not_taken : (ask : Call_ask) → (IsTakeAsk ask → ⊥) → (told : Call_answer) → IsNumberTaken (asks.Call ask) (answers.Call told) → ⊥
 not_taken ask none Exchanged h = none h
@@ -89,40 +95,40 @@ not_taken ask none told h = absurd h
 module _ {K V S A : Type 0} (eq : K → K → Bool) (says : Says K V A) (hash : S → K → ℕ) (refuse : Bool) (m : Machine) (s s' : StoreState K V S) (r r' : Running K V A) (current : IsNumberRead (word_at s.words) m.call.made.number)
     (none : (old new : ℕ) → ask_of m ≡ asks.Copy (copies.Exchange Made old new) → ⊥) where
   stays : (ask : Call_ask) → (IsTakeAsk ask → ⊥) → (told : Call_answer) → s' ≡ s → IsLogStep s s' (asks.Call ask) (answers.Call told)
-  stays ask no told same =
-      quiet s s' (asks.Call ask) (answers.Call told) (not_taken ask no told) (inl (ap (λ (y : StoreState K V S). length y.pairs) same)) (ap (λ (y : StoreState K V S). y.words.made) same)
+  stays ask plain told same =
+      quiet s s' (asks.Call ask) (answers.Call told) (not_taken ask plain told) (inl (ap (λ (y : StoreState K V S). length y.pairs) same)) (ap (λ (y : StoreState K V S). y.words.made) same)
 
   -- an exchange that was made
   other_exchanged : (at : At) (old new : ℕ) → (at ≡ Made → ⊥) → (IsTakeAsk (Exchange at old new) → ⊥) → (told : Call_answer) → s' ≡ record s { words = put s.words at new } → IsLogStep s s' (asks.Call (Exchange at old new)) (answers.Call told)
-  other_exchanged at old new other no told done =
-      quiet s s' (asks.Call (Exchange at old new)) (answers.Call told) (not_taken (Exchange at old new) no told) (inl (ap (λ (y : StoreState K V S). length y.pairs) done))
+  other_exchanged at old new other plain told done =
+      quiet s s' (asks.Call (Exchange at old new)) (answers.Call told) (not_taken (Exchange at old new) plain told) (inl (ap (λ (y : StoreState K V S). length y.pairs) done))
       (ap (λ (y : StoreState K V S). y.words.made) done ∙ put_made s.words at new other)
 
-  exchanged : (at : At) (old new : ℕ) → ask_of m ≡ asks.Call (Exchange at old new) → (told : Call_answer) → s' ≡ record s { words = put s.words at new } → IsLogStep s s' (asks.Call (Exchange at old new)) (answers.Call told)
-  exchanged Made old new e told done =
+  exchanged : (at : At) (old new : ℕ) → ask_of m ≡ asks.Call (Exchange at old new) → (told : Call_answer) → told ≡ Exchanged → s' ≡ record s { words = put s.words at new } → IsLogStep s s' (asks.Call (Exchange at old new)) (answers.Call told)
+  exchanged Made old new e told won done =
       let (was, next, kind) = limit_takes m old new e (word_at s.words) current in
       let is : s'.words.made ≡ new = ap (λ (y : StoreState K V S). y.words.made) done in
       let pairs : length s'.pairs ≡ length s.pairs = ap (λ (y : StoreState K V S). length y.pairs) done in
-      record { pairs = inl pairs; up = omega (arith, was, next, is); took = λ took. (omega (arith, was, next, is), pairs) }
-  exchanged Root old new e told done = other_exchanged Root old new (λ f. absurd cc) (λ h. h) told done
-  exchanged (Next t) old new e told done = other_exchanged (Next t) old new (λ f. absurd cc) (λ h. h) told done
-  exchanged (Aborted t) old new e told done = other_exchanged (Aborted t) old new (λ f. absurd cc) (λ h. h) told done
-  exchanged (Done t chunk) old new e told done = other_exchanged (Done t chunk) old new (λ f. absurd cc) (λ h. h) told done
-  exchanged (Slot t x) old new e told done = other_exchanged (Slot t x) old new (λ f. absurd cc) (λ h. h) told done
+      record { pairs = inl pairs; up = omega (arith, was, next, is); took = λ took. (omega (arith, was, next, is), pairs); still = λ none. absurd (none (subst (λ a. IsNumberTaken (asks.Call (Exchange Made old new)) (answers.Call a)) (sym won) tt)) }
+  exchanged Root old new e told won done = other_exchanged Root old new (λ f. absurd cc) (λ h. h) told done
+  exchanged (Next t) old new e told won done = other_exchanged (Next t) old new (λ f. absurd cc) (λ h. h) told done
+  exchanged (Aborted t) old new e told won done = other_exchanged (Aborted t) old new (λ f. absurd cc) (λ h. h) told done
+  exchanged (Done t chunk) old new e told won done = other_exchanged (Done t chunk) old new (λ f. absurd cc) (λ h. h) told done
+  exchanged (Slot t x) old new e told won done = other_exchanged (Slot t x) old new (λ f. absurd cc) (λ h. h) told done
 
   lost : (at : At) (old new : ℕ) (told : Call_answer) → (told ≡ Exchanged → ⊥) → s' ≡ s → IsLogStep s s' (asks.Call (Exchange at old new)) (answers.Call told)
-  lost at old new told no same =
-      quiet s s' (asks.Call (Exchange at old new)) (answers.Call told) (taken told no) (inl (ap (λ (y : StoreState K V S). length y.pairs) same)) (ap (λ (y : StoreState K V S). y.words.made) same)
+  lost at old new told plain same =
+      quiet s s' (asks.Call (Exchange at old new)) (answers.Call told) (taken told plain) (inl (ap (λ (y : StoreState K V S). length y.pairs) same)) (ap (λ (y : StoreState K V S). y.words.made) same)
     where
       taken : (told : Call_answer) → (told ≡ Exchanged → ⊥) → IsNumberTaken (asks.Call (Exchange at old new)) (answers.Call told) → ⊥
-      taken Exchanged no h = no refl
-      taken told no h = absurd h
+      taken Exchanged plain h = plain refl
+      taken told plain h = absurd h
 
   -- a pair that was logged, or not
   logs : (ask : Call_ask) → (IsTakeAsk ask → ⊥) → (told : Call_answer) → ((n : ℕ) → IsPairLogged (asks.Call ask) (answers.Call (Made_number n))) → LogsOrNot s r told s' r' → IsLogStep s s' (asks.Call ask) (answers.Call told)
-  logs ask no told pairs (inl (unlogged, same)) = stays ask no told same.0
-  logs ask no told pairs (inr (key, left, (value, has, is, few, grown, moved))) =
-      quiet s s' (asks.Call ask) (answers.Call told) (not_taken ask no told)
+  logs ask plain told pairs (inl (unlogged, same)) = stays ask plain told same.0
+  logs ask plain told pairs (inr (key, left, (value, has, is, few, grown, moved))) =
+      quiet s s' (asks.Call ask) (answers.Call told) (not_taken ask plain told)
       (inr (subst (λ a. IsPairLogged (asks.Call ask) (answers.Call a)) (sym is) (pairs (length s.pairs)), ap (λ (y : StoreState K V S). length y.pairs) grown ∙ length-append s.pairs (pair_with key value ∷ [])))
       (ap (λ (y : StoreState K V S). y.words.made) grown)
 
@@ -130,7 +136,7 @@ module _ {K V S A : Type 0} (eq : K → K → Bool) (says : Says K V A) (hash : 
   call_step (Load at) e told (is, same) = stays (Load at) (λ h. h) told same.0
   call_step (Exchange at old new) e told (h, moved) =
       matched (IsLogStep s s' (asks.Call (Exchange at old new)) (answers.Call told)) (word_at s.words at == old) _ _ h
-      (λ _ done. exchanged at old new e told done.1) (λ _ found. lost at old new told (λ f. absurd (cc (found.0, f))) found.1)
+      (λ _ done. exchanged at old new e told done.0 done.1) (λ _ found. lost at old new told (λ f. absurd (cc (found.0, f))) found.1)
   call_step (LoadHint t x) e told (is, same) = stays (LoadHint t x) (λ h. h) told same.0
   call_step (WriteHint t x hint) e told (is, same, moved) =
       quiet s s' (asks.Call (WriteHint t x hint)) (answers.Call told) (not_taken (WriteHint t x hint) (λ h. h) told) (inl (ap (λ (y : StoreState K V S). length y.pairs) same))
@@ -172,7 +178,7 @@ module _ {K V S A : Type 0} (eq : K → K → Bool) (says : Says K V A) (hash : 
           matched (length s'.pairs ≡ length s.pairs) refuse _ _ h (λ _ refused. ap (λ (y : StoreState K V S). length y.pairs) refused.1)
           (λ _ makes. elim makes [ inl refused ↦ ap (λ (y : StoreState K V S). length y.pairs) refused.1 | inr made ↦ ap (λ (y : StoreState K V S). length y.pairs) made.2 ])
 
-  log_step : (answer : Answer) → PerformsAsk eq says hash refuse (ask_of m) s r answer s' r' → IsLogStep s s' (ask_of m) answer
+  pub log_step : (answer : Answer) → PerformsAsk eq says hash refuse (ask_of m) s r answer s' r' → IsLogStep s s' (ask_of m) answer
   log_step answer performs = by_ask (ask_of m) refl performs
     where
       by_ask : (ask : Ask) → ask_of m ≡ ask → PerformsAsk eq says hash refuse ask s r answer s' r' → IsLogStep s s' ask answer
