@@ -71,9 +71,9 @@ IsLogStage stage = ⊥
 abbrev pub IsLogAsk : Machine → Type 0
 IsLogAsk m = (m.phase ≡ Calling) × IsLogStage m.call.state
 
--- a log is full, or memory was short
+-- the log is full, memory was short, or no number was left
 abbrev pub IsLogRefusal : {K V S : Type 0} → MapState K V S → Refused → Type 0
-IsLogRefusal s refused = (refused ≡ Memory) ⊎ ((refused ≡ Capacity) × IsLogFull s.store)
+IsLogRefusal s refused = (refused ≡ Memory) ⊎ ((refused ≡ Capacity) × IsLogFull s.store) ⊎ ((refused ≡ Limit) × IsSpent s)
 
 -- there is no further table, or memory was short
 abbrev pub IsNoTableRefusal : {K V S : Type 0} → MapState K V S → Refused → Type 0
@@ -86,9 +86,10 @@ IsRemoveNothing m answer refused = (refused ≡ RemoveNothing) × (ask_of m ≡ 
 -- either is a cause of a call that stores
 pub write_cause : {K V S : Type 0} (s : MapState K V S) (refused : Refused) (m : Machine) (s' : MapState K V S) → IsLogRefusal s refused ⊎ (IsTableAsk m × IsNoTableRefusal s' refused) → IsWriteCause s refused s'
 write_cause s refused m s' (inl (inl memory)) = inl memory
-write_cause s refused m s' (inl (inr (capacity, full))) = inr (capacity, inl full)
+write_cause s refused m s' (inl (inr (inl (capacity, full)))) = inr (inl (capacity, inl full))
+write_cause s refused m s' (inl (inr (inr spent))) = inr (inr spent)
 write_cause s refused m s' (inr (table, inl memory)) = inl memory
-write_cause s refused m s' (inr (table, inr (capacity, none))) = inr (capacity, inr none)
+write_cause s refused m s' (inr (table, inr (capacity, none))) = inr (inl (capacity, inr none))
 
 -- a table is there, of so many slots
 abbrev pub HasSlots : {K V S : Type 0} → StoreState K V S → ℕ → ℕ → Type 0

@@ -244,10 +244,12 @@ module _ {K V S A : Type 0} (eq : K → K → Bool) (hash : S → K → ℕ) (s 
         where
           at : (((map_in eq s.store k ≡ None) ⊎ IsResizing s) ⊎ ((replace ≡ true) × IsLogRefusal s refused)) → IsWriteCause s refused (left_in s store) → IsWriteCauseAt s (map_in eq s.store k) refused (left_in s store)
           at (inr (only, inl memory)) cause = inl memory
-          at (inr (only, inr (capacity, full))) cause = inr (capacity, inl full)
+          at (inr (only, inr (inl (capacity, full)))) cause = inr (inl (capacity, inl full))
+          at (inr (only, inr (inr spent))) cause = inr (inr spent)
           at (inl away) (inl memory) = inl memory
-          at (inl away) (inr (capacity, inl full)) = inr (capacity, inl full)
-          at (inl away) (inr (capacity, inr none)) = inr (capacity, inr (away, none))
+          at (inl away) (inr (inl (capacity, inl full))) = inr (inl (capacity, inl full))
+          at (inl away) (inr (inl (capacity, inr none))) = inr (inl (capacity, inr (away, none)))
+          at (inl away) (inr (inr spent)) = inr (inr spent)
 
       -- and one that replaces nothing is refused only where the key is absent, or pairs are being moved
       pub inserting_absent : replace ≡ false → (refused : Refused) → reply ≡ Reply_refused refused → IsTryCause s (map_in eq s.store k) refused (left_in s store)

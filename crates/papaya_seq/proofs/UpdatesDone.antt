@@ -11,7 +11,7 @@ use Rattle.papaya_seq.specs.Computes.{ComputesBy, IsComputeRefusal, IsTriedWith,
 use Rattle.papaya_seq.specs.Map.{IsMakeRefusal, IsOccupied, KeepsAndGrows, MapState, Unchanged}
 use Rattle.papaya_keys.specs.declared.compute.Computed.{Computed}
 use Rattle.papaya_keys.specs.declared.compute.Computed.TheVariants.{Inserted, Updated, Removed, Aborted}
-use Rattle.papaya_seq.proofs.Answered.{logged_there, make_refusal, write_cause}
+use Rattle.papaya_seq.proofs.Answered.{logged_there, store_refusal, write_cause}
 use Rattle.papaya_seq.proofs.ComputesDone.{IsFirst, IsRefused, Leaves, Refuses, facts_of, said_none, said_some, value_stored}
 
 module _ {K V T : Type 0} (post : Option (Bor K × Bor V) → Operation V T → Type 0) where
@@ -131,11 +131,11 @@ module _ {K V S T : Type 0} {post : Option (Bor K × Bor V) → Operation V T �
   update_refused computes t refused is c computing aborting =
       ⊎_elim
       (λ (f : IsRefused post eq law k s s' refused). go f.held f.operation f.leaves f.refuses)
-      (λ (f : IsFirst post eq law k s s' refused). ((inr f.0, f.1), make_refusal s s' refused f.1.0))
+      (λ (f : IsFirst post eq law k s s' refused). ((inr f.0, f.1), store_refusal s s' refused f.1.0))
       (facts_of post eq law k s s' result (Err refused) is c)
     where
       go : (held : Option (Stored K V)) (o : Operation V T) → Leaves post eq law k s s' held o → Refuses post eq law k s s' held o refused → IsUpdated eq k computes s (Err refused) s' × IsMakeRefusal refused
-      go (Some p) (Insert v) l r = let cause = write_cause s s' (Some p) refused r in ((inl (p, l.before), (cause, l.same, l.keeps)), make_refusal s s' refused cause)
+      go (Some p) (Insert v) l r = let cause = write_cause s s' (Some p) refused r in ((inl (p, l.before), (cause, l.same, l.keeps)), store_refusal s s' refused cause)
       go (Some p) Remove l r = absurd (computing_no_remove post computes p l.says computing)
       go None (Insert v) l r = absurd (none_no_insert post t v l.says aborting)
       go None Remove l r = absurd (none_no_remove post t l.says aborting)
@@ -164,11 +164,11 @@ module _ {K V S T : Type 0} {post : Option (Bor K × Bor V) → Operation V T �
   upsert_refused computes makes refused is c computing making =
       ⊎_elim
       (λ (f : IsRefused post eq law k s s' refused). go f.held f.operation f.leaves f.refuses)
-      (λ (f : IsFirst post eq law k s s' refused). (f.1, make_refusal s s' refused f.1.0))
+      (λ (f : IsFirst post eq law k s s' refused). (f.1, store_refusal s s' refused f.1.0))
       (facts_of post eq law k s s' result (Err refused) is c)
     where
       go : (held : Option (Stored K V)) (o : Operation V T) → Leaves post eq law k s s' held o → Refuses post eq law k s s' held o refused → IsComputeRefusal eq s refused s' × IsMakeRefusal refused
-      go held (Insert v) l r = let cause = write_cause s s' held refused r in ((cause, l.same, l.keeps), make_refusal s s' refused cause)
+      go held (Insert v) l r = let cause = write_cause s s' held refused r in ((cause, l.same, l.keeps), store_refusal s s' refused cause)
       go (Some p) Remove l r = absurd (computing_no_remove post computes p l.says computing)
       go None Remove l r = absurd (making_no_remove post makes l.says making)
       go held (Abort u) l r = absurd r
@@ -202,11 +202,11 @@ module _ {K V S T : Type 0} {post : Option (Bor K × Bor V) → Operation V T �
   tried_refused makes t refused is c aborting making =
       ⊎_elim
       (λ (f : IsRefused post eq law k s s' refused). go f.held f.operation f.leaves f.refuses)
-      (λ (f : IsFirst post eq law k s s' refused). ((inr f.0, f.1), make_refusal s s' refused f.1.0))
+      (λ (f : IsFirst post eq law k s s' refused). ((inr f.0, f.1), store_refusal s s' refused f.1.0))
       (facts_of post eq law k s s' result (Err refused) is c)
     where
       go : (held : Option (Stored K V)) (o : Operation V T) → Leaves post eq law k s s' held o → Refuses post eq law k s s' held o refused → IsTriedWith eq k makes s (Err refused) s' × IsMakeRefusal refused
-      go None (Insert v) l r = let cause = write_cause s s' None refused r in ((inl l.before, (cause, l.same, l.keeps)), make_refusal s s' refused cause)
+      go None (Insert v) l r = let cause = write_cause s s' None refused r in ((inl l.before, (cause, l.same, l.keeps)), store_refusal s s' refused cause)
       go (Some p) (Insert v) l r = absurd (some_no_insert post t p v l.says aborting)
       go (Some p) Remove l r = absurd (some_no_remove post t p l.says aborting)
       go None Remove l r = absurd (making_no_remove post makes l.says making)
