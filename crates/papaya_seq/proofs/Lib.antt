@@ -35,6 +35,7 @@ pub mod LookRun
 pub mod LookSteps
 pub mod LookTurns
 pub mod NoPlace
+pub mod Numbered
 pub mod OwnSteps
 pub mod RemovalDone
 pub mod RemovalRefused

@@ -11,7 +11,7 @@ use Rattle.papaya_ask.specs.declared.ask.Ask.TheVariants.{Load, Exchange, LoadHi
 use Rattle.papaya_ask.specs.declared.ask.Answer.{Answer as Call_answer}
 use Rattle.papaya_ask.specs.declared.ask.Answer.TheVariants.{Op, Size, Refused as Was_refused}
 use Rattle.papaya_ask.specs.declared.ask.At.{At}
-use Rattle.papaya_ask.specs.declared.ask.At.TheVariants.{Root, Next, Aborted, Done, Slot}
+use Rattle.papaya_ask.specs.declared.ask.At.TheVariants.{Root, Next, Aborted, Done, Slot, Made}
 use Rattle.papaya_ask.specs.declared.ask.OpKind.TheVariants.{Remove}
 use Rattle.papaya_ask.specs.declared.call.Task.TheVariants.{RemoveIf}
 use Rattle.papaya_ask.specs.declared.copy_ask.CopyAsk.{CopyAsk}
@@ -26,6 +26,7 @@ use Rattle.papaya_chain.specs.declared.machine.Machine.{Machine}
 use Rattle.papaya_chain.specs.Machine.{after, ask_of, asks_in, started}
 use Rattle.papaya_chain_rests.specs.Goes.{IsCause, IsToMake, WasNotMade, WouldBeTooLong, link_in}
 use Rattle.papaya_chain_rests.proofs.LinkStates.{In}
+use Rattle.papaya_rests.specs.Rests.{IsNumberAsk}
 use Rattle.papaya_store.specs.Copies.{PerformsCopy}
 use Rattle.papaya_store.specs.Performs.{Exchanges, size_of}
 use Rattle.papaya_store.specs.Store.{StoreState}
@@ -60,6 +61,7 @@ put_at_grown w at n word = by_table (table_of w.tables n) refl
 
 pub put_grown : (w : Tables) (at : At) (word : ℕ) → HasMoreTables w.tables (put w at word).tables
 put_grown w Root word = grown-same w.tables
+put_grown w Made word = grown-same w.tables
 put_grown w (Next n) word = put_at_grown w (Next n) n word
 put_grown w (Aborted n) word = put_at_grown w (Aborted n) n word
 put_grown w (Done n chunk) word = put_at_grown w (Done n chunk) n word
@@ -172,13 +174,13 @@ module _ {K V S F : Type 0} (eq : K → K → Bool) (hash : S → K → ℕ) (g 
             let at_initial : 2 ^ 32 < length_after because.slots (count_of s.count.sum) map.initial because.unfit = subst (λ n. 2 ^ 32 < length_after because.slots (count_of s.count.sum) n because.unfit) now.initial at_count in
             table_long map s s' refused because.capacity because.behind because.slots because.unfit (is_sized (HasSlots s) (link_in m.phase) now.sized because.behind because.slots because.copied because.unfit because.link) at_initial stays
 
-        -- so a refusal is one of a next table
-        pub cause_table : IsCause m answer refused → IsNoTableRefusal then refused
-        cause_table (inl by) =
+        -- so a refusal is one of a next table, where it asks nothing of the numbers for pairs
+        pub cause_table : (IsNumberAsk (calls.ask_of m.call) → ⊥) → IsCause m answer refused → IsNoTableRefusal then refused
+        cause_table unnumbered (inl by) =
             let (told, is, removes) = answered_at (asks.Call (calls.ask_of m.call)) (ap (asks_in m.call) by.own.phase) in
-            ⊎_elim
-            (λ (makes : IsToMake (calls.ask_of m.call) × (by.own.told ≡ Was_refused refused)). absurd (makes_nothing (calls.ask_of m.call) makes.0 told removes))
-            (λ (shows : (refused ≡ RemoveNothing) × (ask_of m ≡ asks.Call ShowNone) × (by.own.told ≡ Op Remove)).
-            let (shown, e, none) = answered_at (asks.Call ShowNone) shows.1 in absurd none)
-            by.why
-        cause_table (inr by) = ⊎_elim next_refused next_long by.why
+            elim by.why [
+              | inl makes ↦ absurd (makes_nothing (calls.ask_of m.call) makes.0 told removes)
+              | inr (inl (full, (most, count, limit, over, numbers, found))) ↦ absurd (unnumbered numbers)
+              | inr (inr (nothing, shows, said)) ↦ let (shown, e, none) = answered_at (asks.Call ShowNone) shows in absurd none
+            ]
+        cause_table unnumbered (inr by) = ⊎_elim next_refused next_long by.why

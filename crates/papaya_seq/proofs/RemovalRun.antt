@@ -9,6 +9,7 @@ use Rattle.papaya_words.specs.declared.probe.Refused.{Refused}
 use Rattle.papaya_chain_rests.specs.Goes.{IsCause}
 use Rattle.papaya_ask.specs.declared.call.Task.TheVariants.{RemoveIf}
 use Rattle.papaya_alone.specs.Ahead.{IsPhaseRead}
+use Rattle.papaya_call.specs.Machine.{IsStandingState}
 use Rattle.papaya_call.specs.declared.machine.State.TheVariants.{Ended}
 use Rattle.papaya_chain.specs.declared.ask.Answer.{Answer}
 use Rattle.papaya_chain.specs.declared.ask.Ask.TheVariants as asks
@@ -82,8 +83,11 @@ module _ {K V S F : Type 0} (g : Mut F (Bor K × (Bor V × Unit {0})) Bool) (eq 
     stands : IsStanding m
     stands = (now.came.lone going).lawful.core.standing 0 (removing m k) refl
 
+    pub matched_stands : IsStandingState RemoveIf m.call.state
+    matched_stands = subst (λ t. IsStandingState t m.call.state) now.came.task stands.call.state
+
     read : m.phase ≡ Calling → IsRead (word_at s.words) m.call.state
-    read is = (subst (IsPhaseRead m.call.mode (word_at s.words) m.call.state) is (now.came.lone going).current).0
+    read is = (subst (IsPhaseRead m.call.mode (word_at s.words) m.call.state) is (now.came.lone going).current.read).0
 
     -- the answer is within the limits
     pub matched_fit : IsFitAsk (ask_of m) → IsFit answer

@@ -295,4 +295,5 @@ module _ {K V S : Type 0} (eq : K → K → Bool) (hash : K → ℕ) (s : MapSta
         tables = subst (All (λ len. s.initial ≤ len)) (sym (put_lengths s.store.words (Slot root i) grave)) lawful.long.tables;
         first = λ none. lawful.long.first (sym root_same ∙ none);
       };
+      numbered = λ most limit. subst (λ n. length s.store.pairs ≤ n) (sym (placed-other s.store.words (Slot root i) grave placed Made (λ e. absurd cc))) (lawful.numbered most limit);
     }

@@ -294,6 +294,7 @@ module _ {K V S : Type 0} (eq : K → K → Bool) (hash : S → K → ℕ) (s : 
     hash_is = (chain_task m answer ordered).1 ∙ seeking.hash_is;
     seeks = seeks';
     logs = turn_words eq hash store (ask_of m) answer store' turn ∙ ap (λ (y : StoreState K V S). record y { words = store'.words }) seeking.logs;
+    taken = turns.turn_taken eq hash s h keys fits store m answer store' seeking going turn ∙ seeking.taken;
     same = λ k. turns.map_stays eq hash s h keys fits store m answer store' seeking going turn core' k ∙ seeking.same k;
     long = long_more s eq hash store store' m answer going stepped seeking.long;
   }

@@ -25,8 +25,6 @@ use Rattle.papaya_law.specs.Exchange.{Setting, State as Words, Word, Empty, Clos
 use Rattle.papaya_law.specs.Hints.{IsHintOf}
 use Rattle.papaya_law.specs.Further.{IsLawfulKey, coding_with, with_key}
 use Rattle.papaya_law.proofs.Further.{key_code, key_lawful}
-use Rattle.papaya_call.specs.Made.{wanted}
-use Rattle.papaya_rests.specs.Alone.{IsNumberRead}
 use Rattle.papaya_rests.specs.Rests.{IsModeOf}
 use Rattle.papaya_rests.proofs.RestsLearnPairs.{wanted_rests}
 use Rattle.papaya_rests.specs.Told.{IsOneOf, word_of}
@@ -37,6 +35,7 @@ use Rattle.papaya_chain_rests.specs.VisitTold as visits
 use Rattle.papaya_timeline.specs.Kept.{IsKept, IsLogged, IsMadeFor, Tale, coding_of, is_blocking, low, setting_of, slots_in}
 use Rattle.papaya_timeline.proofs.KeptSettings.{IsLawfulKeys, tables_hashed}
 use Rattle.papaya_seq.proofs.CallLengths.{IsLong, long_begun}
+use Rattle.papaya_seq.proofs.Numbered.{begun_number}
 use Rattle.papaya_seq.specs.Map.{IsLawfulMap, MapState, Unchanged}
 
 -- the call looks for its key and has met no pair with it, or ended so, or was refused a table
@@ -51,11 +50,6 @@ Seeks _ = ⊥
 mode_of : (mode : ResizeMode) → IsModeOf mode (is_blocking mode)
 mode_of (Incremental chunk) = refl
 mode_of Blocking = refl
-
--- a call that begins has read nothing of the numbers for pairs
-begun_number : (limit : Option ℕ) (words : At → ℕ) → IsNumberRead words (wanted limit)
-begun_number None words = tt
-begun_number (Some most) words = tt
 
 -- a table has a slot at least
 sized_slot : (o : Option TableWords) → ((t : TableWords) → o ≡ Some t → IsSize (length t.slots) t.limit) → 0 < slots_in o
@@ -92,6 +86,8 @@ module _ {K V S : Type 0} (eq : K → K → Bool) (hash : S → K → ℕ) (s : 
     pub hash_is : m.call.hash ≡ h
     pub seeks : Seeks m.call.state
     pub logs : store ≡ record s.store { words = store.words }
+    -- no number was taken for a pair
+    pub taken : store.words.made ≡ s.store.words.made
     pub same : Unchanged eq s.store store
     pub long : IsLong s store m
 
@@ -160,6 +156,7 @@ module _ {K V S : Type 0} (eq : K → K → Bool) (hash : S → K → ℕ) (s : 
           hash_is = refl;
           seeks = tt;
           logs = refl;
+          taken = refl;
           same = λ k. refl;
           long = long_begun s lawful.long (started RemoveIf h s.mode.resize s.initial number s.mode.limit) refl refl;
         }
