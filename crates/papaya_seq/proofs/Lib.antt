@@ -26,7 +26,9 @@ pub mod InsertingSteps
 pub mod KeyCalls
 pub mod Lawful
 pub mod Listed
+pub mod Limits
 pub mod Logs
+pub mod MadeAfter
 pub mod LookFinds
 pub mod LookResults
 pub mod LookRun
