@@ -49,7 +49,7 @@ use Rattle.papaya_seq.specs.Map.{Grows, IsLawfulMap, MapState, Unchanged, core_o
 use Rattle.papaya_seq.proofs.CallLengths.{IsLong, long_begun, long_left, long_more, performed_so}
 use Rattle.papaya_seq.proofs.Ending.{left_of, left_to}
 use Rattle.papaya_seq.proofs.KeyCalls.{KeyCall, first_of, key_fits}
-use Rattle.papaya_seq.proofs.Numbered.{IsNumbered, numbered_begun, numbered_more}
+use Rattle.papaya_seq.proofs.Numbered.{IsLogStep, IsNumbered, log_step, numbered_begun, numbered_more}
 use Rattle.papaya_seq.proofs.RootStays.{root_stays}
 use Rattle.papaya_seq.proofs.Turns.{IsOver, begins_so, last_entry, made_over, seated_work, start, turns_made}
 
@@ -193,6 +193,10 @@ module _ {K V S : Type 0} (eq : K → K → Bool) (hash : S → K → ℕ) (s : 
         let g = setting_of eq (low (hash s.store.hasher)) s.mode store.words.tables in
         copies_there g (coding_of (low (hash s.store.hasher))) (tables_hashed eq (hash s.store.hasher) keys s.mode store.words.tables now_lawful.core.sizes)
         (tales 0).begun (tales 0).since (subst (AllAllowed g first_state) (sym call_kept.split) kept.allowed) call_kept.key r.machine (tales 0).hands call_kept.rests (Exchange Made old new) e
+
+    -- what it does to the log of pairs, and to how many numbers were taken
+    pub made_logs : IsLogStep store store' (ask_of r.machine) answer
+    made_logs = log_step eq whatever hash false r.machine store store' r later (came.lone going).current.number takes_none answer performs
 
     -- what it stands on it stood on, or its closure says so with this answer
     pub made_says : (said : Said) → StandsOn (after r.machine answer).call said → StandsOn r.machine.call said ⊎ ((own : IsOwnStep r.machine answer) × IsSaidBy r.machine.call own.told said)

@@ -107,7 +107,7 @@ next : (g : Over) (c : After-word-table-in-Incremental g) → Orderly g c.args.s
 next g c orderly =
     let s = c.args.self.now in
     let before = passed g (goal.at.After-word-table-in-Incremental g c).In-Over orderly in
-    let all = next_loaded g.K.PartialEq.eq (key_hash g s.store.hasher) s.mode s.store orderly.lawful (same_keys g s) (g.Q.Equivalent.matches c.args.key.now) c.hash-hash.result s.initial c.in-Over.passed c.in-Incremental.field-0 (ap (λ (y : Map g). y.mode) (sym c.self.view_is) ∙ c.in-Incremental.is) before.0 in
+    let all = next_loaded g.K.PartialEq.eq (key_hash g s.store.hasher) s.mode s.store orderly.lawful (same_keys g s) (g.Q.Equivalent.matches c.args.key.now) c.hash-hash.result s.initial c.in-Over.passed c.in-Incremental.field-0 (ap (λ (y : Map g). y.mode.resize) (sym c.self.view_is) ∙ c.in-Incremental.is) before.0 in
     let less : left g s c.args.key.now c.hash-hash.result (passes Get s.mode.resize None c.in-Over.passed) < left g s c.args.key.now c.hash-hash.result (numbered c.loop-len.table) = before.1 in
     let fewer : left g s c.args.key.now c.hash-hash.result (numbered (word_at s.store.words (Next c.in-Over.passed))) < left g s c.args.key.now c.hash-hash.result (passes Get s.mode.resize None c.in-Over.passed) = all.1 in
     subst (λ n. Comes g s c.args.key.now c.hash-hash.result (numbered n) × (left g s c.args.key.now c.hash-hash.result (numbered n) < left g s c.args.key.now c.hash-hash.result (numbered c.loop-len.table))) (sym (c.word-table-in-Incremental.ensures ∙ ap (λ (y : Map g). word_at y.store.words (Next c.in-Over.passed)) c.self.view_is))
@@ -125,7 +125,7 @@ returns-in-Blocking g c =
     let s = c.args.self.now in
     let orderly = in_order g at.After-hash-hash in
     found_so g s c.args.key.now c.hash-hash.result orderly (hash_made g at.After-hash-hash) c.hash-hash.ensures.fits Absent None refl
-    (passed_last g.K.PartialEq.eq (key_hash g s.store.hasher) s.mode s.store orderly.lawful (same_keys g s) (g.Q.Equivalent.matches c.args.key.now) c.hash-hash.result s.initial c.in-Over.passed (ap (λ (y : Map g). y.mode) (sym c.self.view_is) ∙ c.in-Blocking.is) (passed g at.In-Over orderly).0)
+    (passed_last g.K.PartialEq.eq (key_hash g s.store.hasher) s.mode s.store orderly.lawful (same_keys g s) (g.Q.Equivalent.matches c.args.key.now) c.hash-hash.result s.initial c.in-Over.passed (ap (λ (y : Map g). y.mode.resize) (sym c.self.view_is) ∙ c.in-Blocking.is) (passed g at.In-Over orderly).0)
 
 pub returns-in_default-search : goal.returns-in_default-search
 returns-in_default-search g c =
