@@ -48,7 +48,7 @@ module _ {K V S A : Type 0} (eq : K → K → Bool) (says : Says K V A) (o : Opt
   answering_call false MakePair store r answer store' later unshown (inr (inr (value, has, e, few, same, goes))) = (inr (inr (value, has, e, few, same, ap (answering o) goes)), ap (λ q. q.answers) goes)
   answering_call false (MakePairOf n) store r answer store' later unshown (inl (refused, (same, stays))) = (inl (refused, (same, ap (answering o) stays)), ap (λ q. q.answers) stays)
   answering_call false (MakePairOf n) store r answer store' later unshown (inr (inl (has, (same, stays)))) = (inr (inl (has, (same, ap (answering o) stays))), ap (λ q. q.answers) stays)
-  answering_call false (MakePairOf n) store r answer store' later unshown (inr (inr (first, from, value, has, e, few, same, goes))) = (inr (inr (first, from, value, has, e, few, same, ap (answering o) goes)), ap (λ q. q.answers) goes)
+  answering_call false (MakePairOf n) store r answer store' later unshown (inr (inr (first, from, (value, has, e, few, same, goes)))) = (inr (inr (first, from, (value, has, e, few, same, ap (answering o) goes))), ap (λ q. q.answers) goes)
   answering_call false (MakeTable slots limit chunks) store r answer store' later unshown (made, stays) = ((made, ap (answering o) stays), ap (λ q. q.answers) stays)
   answering_call refuse (AddToShard by) store r answer store' later unshown (e, same, stays) = ((e, same, ap (answering o) stays), ap (λ q. q.answers) stays)
   answering_call refuse (Ask_done reply) store r answer store' later unshown (e, (same, stays)) = ((e, (same, ap (answering o) stays)), ap (λ q. q.answers) stays)

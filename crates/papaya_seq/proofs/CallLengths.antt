@@ -132,7 +132,7 @@ module _ {K V S : Type 0} (eq : K → K → Bool) (hash : S → K → ℕ) (stor
     counted = λ calling. let (told_so, told_is, h) = calling_performs calling in (told_so, told_is, own_counts eq whatever false (call_machine.ask_of m.call) store r told_so store' later h);
     copy = λ ask e. (subst (λ a. PerformsAsk eq whatever hash false a store r answer store' later) e performs).0;
     first = λ calling making.
-        let phase : IsPhaseRead m.call.mode (word_at store.words) m.call.state Calling = subst (IsPhaseRead m.call.mode (word_at store.words) m.call.state) calling read in
+        let phase : IsPhaseRead m.call.mode (word_at store.words) m.call.state Calling = subst (IsPhaseRead m.call.mode (word_at store.words) m.call.state) calling read.read in
         subst (IsRead (word_at store.words)) making phase.0;
     stays = stays;
   }

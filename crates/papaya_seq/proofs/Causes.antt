@@ -389,7 +389,7 @@ module _ {K V S : Type 0} (eq : K → K → Bool) (hash : S → K → ℕ) (s : 
         pair_of = λ n told is makes h. elim h [
           | inl none ↦ pair_refused unpaired told is none.0
           | inr (inl has) ↦ absurd (cc (has.0.0, is))
-          | inr (inr (first_pair, from, value, there, made, few, more, moved)) ↦ absurd (cc (made, is))
+          | inr (inr (first_pair, from, (value, there, made, few, more, moved))) ↦ absurd (cc (made, is))
         ];
       }
 

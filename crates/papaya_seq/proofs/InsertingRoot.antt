@@ -19,6 +19,7 @@ use Rattle.papaya_call.specs.Write.{serves}
 use Rattle.papaya_call.specs.Machine as calls
 use Rattle.papaya_call.specs.Machine.{at_root, needed}
 use Rattle.papaya_chain.specs.declared.ask.Answer.{Answer}
+use Rattle.papaya_chain.specs.declared.ask.Answer.TheVariants as answers
 use Rattle.papaya_chain.specs.declared.ask.Ask.TheVariants as asks
 use Rattle.papaya_chain.specs.declared.machine.Machine.{Machine}
 use Rattle.papaya_chain.specs.declared.machine.Phase.TheVariants.{Calling}
@@ -153,7 +154,7 @@ module _ {K V S : Type 0} (eq : K → K → Bool) (hash : S → K → ℕ) (s : 
 
       -- what a write looks for stands there
       has_read : (write : Write) → r.machine.phase ≡ Calling → r.machine.call.state ≡ Writing write → word_at store.words (Slot write.place.table write.place.probe.i) ≡ write.old
-      has_read write calling state = subst (IsRead (word_at store.words)) state (subst (IsPhaseRead r.machine.call.mode (word_at store.words) r.machine.call.state) calling (came.lone going).current).0
+      has_read write calling state = subst (IsRead (word_at store.words)) state (subst (IsPhaseRead r.machine.call.mode (word_at store.words) r.machine.call.state) calling (came.lone going).current.read).0
 
       writes : (write : Write) → r.machine.call.task ≡ Insert false → r.machine.phase ≡ Calling → r.machine.call.state ≡ Writing write → write.place.table ≡ store.words.root → map_in eq s.store k ≡ None
       writes write task calling state here =
@@ -233,11 +234,10 @@ module _ {K V S : Type 0} (eq : K → K → Bool) (hash : S → K → ℕ) (s : 
         wrote state e only written refuses = inr (record { calling = own.goes_on; stage = subst (IsRootStage store') (sym e) (written_stage store' state only written refuses) })
 
       -- no other word stands where it writes
-      pub unbeaten : (write : Write) (calling : r.machine.phase ≡ Calling) (e : r.machine.call.state ≡ Writing write) (n word : ℕ) → serves r.machine.call.made write ≡ Some n → (own calling (ap left_by e)).told ≡ Found_instead word → ⊥
-      unbeaten write calling e n word serves_so found =
-          let unleft : left_by r.machine.call.state ≡ None = ap left_by e in
-          write_unbeaten eq whatever store r (own calling unleft).told store' later r.machine.call.made write (has_read store r came going write calling e) n serves_so
-          (subst (λ x. Performs eq whatever false (calls.asks r.machine.call.made r.machine.call.hash x) store r (own calling unleft).told store' later) e (told_performs calling unleft)) word found
+      pub unbeaten : (write : Write) → r.machine.phase ≡ Calling → r.machine.call.state ≡ Writing write → (told : Call_answer) → answer ≡ answers.Call told → (n word : ℕ) → serves r.machine.call.made write ≡ Some n → told ≡ Found_instead word → ⊥
+      unbeaten write calling e told is n word serves_so found =
+          write_unbeaten eq whatever store r told store' later r.machine.call.made write (has_read store r came going write calling e) n serves_so
+          (subst (λ x. Performs eq whatever false (calls.asks r.machine.call.made r.machine.call.hash x) store r told store' later) e (own_performs eq whatever hash store r answer store' later told calling is performs)) word found
 
       -- a write goes on, is made or refused
       pub written_more : (state : State) → r.machine.phase ≡ Calling → r.machine.call.state ≡ state → HasWritten state → (next.machine.phase ≡ Calling) × HasWritten next.machine.call.state
@@ -246,7 +246,7 @@ module _ {K V S : Type 0} (eq : K → K → Bool) (hash : S → K → ℕ) (s : 
           let told = (own calling unleft).told in (
             (own calling unleft).goes_on,
             subst HasWritten (sym (led calling unleft (Writing write) e))
-                (writes_on r.machine.call r.machine.call.made write told (unbeaten write calling e)),
+                (writes_on r.machine.call r.machine.call.made write told (unbeaten write calling e told (own calling unleft).is)),
           )
       written_more (Counting n) calling e written =
           let unleft : left_by r.machine.call.state ≡ None = ap left_by e in

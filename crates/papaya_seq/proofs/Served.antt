@@ -17,6 +17,7 @@ use Rattle.papaya_call.specs.Compute.{in_place_of}
 use Rattle.papaya_call.specs.Made.{answered, grown, taken, told}
 use Rattle.papaya_call.specs.Machine.{after, made_in, made_to_pair, number_told, write_made, write_taken}
 use Rattle.papaya_call.specs.Write.{claimed_by, made_to_write, serves, with_pair_at, write_grown}
+use Rattle.papaya_chain_rests.specs.Rests.{left_by}
 use Rattle.papaya_rests.proofs.Makings.{write_then, write_then_is}
 use Rattle.papaya_seq.proofs.Causes.{IsPairStage, PairsFirst}
 use Rattle.papaya_seq.proofs.Logs.{IsFirst, IsUnmade, answered_like, grown_like, like_unmade, placed_serves, taken_like, told_like}
@@ -47,6 +48,25 @@ unmade_served made (Burying removal) h = h
 unmade_served made (Uncounting n) h = h
 unmade_served made (Leaving t) h = h
 unmade_served made (Growing need) h = h
+
+-- one that is set aside has made none
+pub left_unmade : (made : Made) (state : State) (t : ℕ) → left_by state ≡ Some t → IsServed made state → IsUnmade made
+left_unmade made (Leaving i) t left h = h
+left_unmade made (Growing need) t left h = h
+left_unmade made (Writing write) t left h = absurd cc
+left_unmade made (Counting claimed) t left h = absurd cc
+left_unmade made (Noting claimed) t left h = absurd cc
+left_unmade made (Ended reply) t left h = absurd cc
+left_unmade made AtRoot t left h = h
+left_unmade made Making t left h = h
+left_unmade made (Opening i) t left h = h
+left_unmade made (Searching search) t left h = h
+left_unmade made (Offering gap) t left h = h
+left_unmade made (Showing removal) t left h = h
+left_unmade made (Pairing purpose) t left h = h
+left_unmade made (Putting put) t left h = h
+left_unmade made (Burying removal) t left h = h
+left_unmade made (Uncounting n) t left h = h
 
 -- so one that is to make a pair has made none
 served_stage : (made : Made) (state : State) → IsServed made state → IsPairStage made state → IsUnmade made
