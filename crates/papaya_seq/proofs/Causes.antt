@@ -44,7 +44,7 @@ use Rattle.papaya_chain_rests.proofs.LinkStates.{In}
 use Rattle.papaya_chain_rests.proofs.Replies.{aside_asks}
 use Rattle.papaya_alone.specs.Limits.{IsNumberTaken, IsPairLogged}
 use Rattle.papaya_rests.specs.Rests.{IsAtLimit, IsNumberAsk}
-use Rattle.papaya_rests.proofs.Makings.{HoldsOfPairAsks, IsMakeAsk, make_asks, pair_holds}
+use Rattle.papaya_rests.proofs.Makings.{HoldsOfPairAsks, IsMakeAsk, IsPairAsk, make_asks, pair_holds}
 use Rattle.papaya_rests.proofs.Tasks.{same_task}
 use Rattle.papaya_call.specs.Answers.{Says}
 use Rattle.papaya_store.specs.Asks.{PerformsAsk}
@@ -136,30 +136,41 @@ numberless_ask Wanted made old asks_number e = absurd cc
 numberless_ask (Free n) made old asks_number e = absurd cc
 numberless_ask Taken made old asks_number e = number_unless (make_ask made old) (make_asks made old) asks_number
 
-number_stage : (made : Made) (hash : ℕ) (stage : Stage) → IsNumberAsk (call_asks made hash stage) → IsPairStage made stage × IsNumberless made
-number_stage made hash (Writing write) asks_number = by_served (serves made write) asks_number
+-- what is asked for a pair alone
+pub pair_stage_of : (made : Made) (hash : ℕ) (stage : Stage) → IsPairAsk (call_asks made hash stage) → IsPairStage made stage
+pair_stage_of made hash (Writing write) asks_pair = by_served (serves made write) asks_pair
   where
-    by_served : (served : Option ℕ) → IsNumberAsk (served_ask served write made) → (served ≡ None) × IsNumberless made
-    by_served None asks_number = (refl, numberless_ask made.number made write.old asks_number)
-    by_served (Some i) asks_number = absurd asks_number
-number_stage made hash (Pairing purpose) asks_number = (tt, numberless_ask made.number made (in_place_of purpose) asks_number)
-number_stage made hash (Searching (Sizing_table t)) asks_number = absurd asks_number
-number_stage made hash (Searching (Looking at)) asks_number = absurd asks_number
-number_stage made hash (Searching (Reading at)) asks_number = absurd asks_number
-number_stage made hash (Searching (Comparing at word)) asks_number = absurd asks_number
-number_stage made hash AtRoot asks_number = absurd asks_number
-number_stage made hash Making asks_number = absurd asks_number
-number_stage made hash (Opening t) asks_number = absurd asks_number
-number_stage made hash (Offering gap) asks_number = absurd asks_number
-number_stage made hash (Showing removal) asks_number = absurd asks_number
-number_stage made hash (Putting put) asks_number = absurd asks_number
-number_stage made hash (Burying removal) asks_number = absurd asks_number
-number_stage made hash (Counting_pair claimed) asks_number = absurd asks_number
-number_stage made hash (Noting claimed) asks_number = absurd asks_number
-number_stage made hash (Uncounting n) asks_number = absurd asks_number
-number_stage made hash (Leaving t) asks_number = absurd asks_number
-number_stage made hash (Growing need) asks_number = absurd asks_number
-number_stage made hash (Ended reply) asks_number = absurd asks_number
+    by_served : (served : Option ℕ) → IsPairAsk (served_ask served write made) → served ≡ None
+    by_served None asks_pair = refl
+    by_served (Some i) asks_pair = absurd asks_pair
+pair_stage_of made hash (Pairing purpose) asks_pair = tt
+pair_stage_of made hash (Searching (Sizing_table t)) asks_pair = absurd asks_pair
+pair_stage_of made hash (Searching (Looking at)) asks_pair = absurd asks_pair
+pair_stage_of made hash (Searching (Reading at)) asks_pair = absurd asks_pair
+pair_stage_of made hash (Searching (Comparing at word)) asks_pair = absurd asks_pair
+pair_stage_of made hash AtRoot asks_pair = absurd asks_pair
+pair_stage_of made hash Making asks_pair = absurd asks_pair
+pair_stage_of made hash (Opening t) asks_pair = absurd asks_pair
+pair_stage_of made hash (Offering gap) asks_pair = absurd asks_pair
+pair_stage_of made hash (Showing removal) asks_pair = absurd asks_pair
+pair_stage_of made hash (Putting put) asks_pair = absurd asks_pair
+pair_stage_of made hash (Burying removal) asks_pair = absurd asks_pair
+pair_stage_of made hash (Counting_pair claimed) asks_pair = absurd asks_pair
+pair_stage_of made hash (Noting claimed) asks_pair = absurd asks_pair
+pair_stage_of made hash (Uncounting n) asks_pair = absurd asks_pair
+pair_stage_of made hash (Leaving t) asks_pair = absurd asks_pair
+pair_stage_of made hash (Growing need) asks_pair = absurd asks_pair
+pair_stage_of made hash (Ended reply) asks_pair = absurd asks_pair
+
+number_pair : (ask : Call_ask) → IsNumberAsk ask → IsPairAsk ask
+number_pair (Load Made_word) asks_number = tt
+number_pair (Exchange Made_word old new) asks_number = tt
+number_pair ask asks_number = absurd asks_number
+
+number_stage : (made : Made) (hash : ℕ) (stage : Stage) → IsPairStage made stage → IsNumberAsk (call_asks made hash stage) → IsNumberless made
+number_stage made hash (Writing write) none asks_number = numberless_ask made.number made write.old (subst (λ served. IsNumberAsk (served_ask served write made)) none asks_number)
+number_stage made hash (Pairing purpose) pairing asks_number = numberless_ask made.number made (in_place_of purpose) asks_number
+number_stage made hash stage pairing asks_number = absurd pairing
 
 -- what it is told then is how many were taken
 told_count : {K V S A : Type 0} (eq : K → K → Bool) (says : Says K V A) (ask : Call_ask) (store store' : StoreState K V S) (r r' : Running K V A) (told : Call_answer) (count : ℕ) → IsNumberAsk ask → Performs eq says false ask store r told store' r' → (told ≡ Word_read count) ⊎ (told ≡ Found_instead count) → count ≡ store.words.made
@@ -418,7 +429,8 @@ module _ {K V S : Type 0} (eq : K → K → Bool) (hash : S → K → ℕ) (s : 
       -- no number was left
       number_refused : (own_step : IsOwnStep r.machine answer) → refused ≡ Limit → IsAtLimit own own_step.told → Why
       number_refused own_step is (most, count, limit, full, asks_number, told) =
-          let (pairing, numberless) = number_stage own.made own.hash own.state asks_number in
+          let pairing : IsPairStage own.made own.state = pair_stage_of own.made own.hash own.state (number_pair (call_machine.ask_of own) asks_number) in
+          let numberless : IsNumberless own.made = number_stage own.made own.hash own.state pairing asks_number in
           let counted : count ≡ store.words.made = told_count eq whatever (call_machine.ask_of own) store store' r later own_step.told count asks_number (told_performs own_step.told own_step.phase own_step.is) told in
           let own_limit : s.mode.limit ≡ Some most = sym un.limit ∙ limit in
           let few : store.words.made ≤ most = made_most eq (hash s.store.hasher) now.callers s.mode store now_lawful most own_limit in

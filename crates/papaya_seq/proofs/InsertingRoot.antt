@@ -14,11 +14,12 @@ use Rattle.papaya_call.specs.declared.machine.State.TheVariants.{AtRoot, Making,
 use Rattle.papaya_call.specs.declared.need.Need.{Need}
 use Rattle.papaya_call.specs.declared.write.Claimed.{Claimed}
 use Rattle.papaya_call.specs.declared.made.Made.{Made}
-use Rattle.papaya_call.specs.declared.write.Made.TheVariants.{Nothing, Key, Pair}
 use Rattle.papaya_call.specs.declared.write.Write.{Write}
+use Rattle.papaya_call.specs.Write.{serves}
 use Rattle.papaya_call.specs.Machine as calls
 use Rattle.papaya_call.specs.Machine.{at_root, needed}
 use Rattle.papaya_chain.specs.declared.ask.Answer.{Answer}
+use Rattle.papaya_chain.specs.declared.ask.Ask.TheVariants as asks
 use Rattle.papaya_chain.specs.declared.machine.Machine.{Machine}
 use Rattle.papaya_chain.specs.declared.machine.Phase.TheVariants.{Calling}
 use Rattle.papaya_chain.specs.Machine.{after, ask_of, asks_in}
@@ -26,6 +27,7 @@ use Rattle.papaya_chain_rests.specs.Goes.{IsOwnStep}
 use Rattle.papaya_chain_rests.specs.Rests.{left_by}
 use Rattle.papaya_rests.specs.Alone.{IsRead}
 use Rattle.papaya_rests.specs.Rests.{change_in}
+use Rattle.papaya_rests.proofs.Makings.{write_holds}
 use Rattle.papaya_alone.specs.Ahead.{IsPhaseRead}
 use Rattle.papaya_alone.specs.Rank.{table_of}
 use Rattle.papaya_store.specs.Asks.{PerformsAsk}
@@ -53,9 +55,7 @@ asking : (m : Machine) (state : State) → m.phase ≡ Calling → m.call.state 
 asking m state calling e = ap (λ p. reply_in (asks_in m.call p)) calling ∙ ap (λ x. reply_in (asks_in (record m.call { state = x }) Calling)) e
 
 writing_goes : (made : Made) (call : Call_machine) (write : Write) → reply_in (asks_in (record call { made = made; state = Writing write }) Calling) ≡ None
-writing_goes Nothing call write = refl
-writing_goes Key call write = refl
-writing_goes (Pair n) call write = refl
+writing_goes made call write = write_holds (λ ask. reply_in (asks.Call ask) ≡ None) (record { loads = refl; takes = λ count. refl; key = refl; value = refl; pair = refl; pair_of = λ n. refl }) write (λ n. refl) made
 
 module _ {K V S : Type 0} (eq : K → K → Bool) (hash : S → K → ℕ) (s : MapState K V S) (replace : Bool) (k : K) (value : V) where
   abbrev call : KeyCall K V
@@ -232,6 +232,13 @@ module _ {K V S : Type 0} (eq : K → K → Bool) (hash : S → K → ℕ) (s : 
         wrote : (state : State) → next.machine.call.state ≡ state → replace ≡ true → HasWritten state → ((refused : Refused) → state ≡ Ended (Reply_refused refused) → IsLogRefusal s refused) → IsResting store' next.machine
         wrote state e only written refuses = inr (record { calling = own.goes_on; stage = subst (IsRootStage store') (sym e) (written_stage store' state only written refuses) })
 
+      -- no other word stands where it writes
+      pub unbeaten : (write : Write) (calling : r.machine.phase ≡ Calling) (e : r.machine.call.state ≡ Writing write) (n word : ℕ) → serves r.machine.call.made write ≡ Some n → (own calling (ap left_by e)).told ≡ Found_instead word → ⊥
+      unbeaten write calling e n word serves_so found =
+          let unleft : left_by r.machine.call.state ≡ None = ap left_by e in
+          write_unbeaten eq whatever store r (own calling unleft).told store' later r.machine.call.made write (has_read store r came going write calling e) n serves_so
+          (subst (λ x. Performs eq whatever false (calls.asks r.machine.call.made r.machine.call.hash x) store r (own calling unleft).told store' later) e (told_performs calling unleft)) word found
+
       -- a write goes on, is made or refused
       pub written_more : (state : State) → r.machine.phase ≡ Calling → r.machine.call.state ≡ state → HasWritten state → (next.machine.phase ≡ Calling) × HasWritten next.machine.call.state
       written_more (Writing write) calling e written =
@@ -239,9 +246,7 @@ module _ {K V S : Type 0} (eq : K → K → Bool) (hash : S → K → ℕ) (s : 
           let told = (own calling unleft).told in (
             (own calling unleft).goes_on,
             subst HasWritten (sym (led calling unleft (Writing write) e))
-                (writes_on r.machine.call r.machine.call.made write told
-                (write_unbeaten eq whatever store r told store' later r.machine.call.made write (has_read store r came going write calling e)
-                (subst (λ x. Performs eq whatever false (calls.asks r.machine.call.made r.machine.call.hash x) store r told store' later) e (told_performs calling unleft)))),
+                (writes_on r.machine.call r.machine.call.made write told (unbeaten write calling e)),
           )
       written_more (Counting n) calling e written =
           let unleft : left_by r.machine.call.state ≡ None = ap left_by e in

@@ -28,6 +28,7 @@ pub mod Lawful
 pub mod Listed
 pub mod Limits
 pub mod Logs
+pub mod Served
 pub mod MadeAfter
 pub mod LookFinds
 pub mod LookResults

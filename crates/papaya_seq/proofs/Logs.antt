@@ -1,5 +1,5 @@
 -- When a call alone logs a pair, and takes a number for it: it logs one for what it writes.
-use Rattle.std.proofs.Common.{rules, ◌≡◌, ◌⊎◌, inl, inr, ℕ, ◌==◌, nat_lt, Bool, true, false, cond, Option, None, Some, refl, sym, ◌∙◌, ap, subst}
+use Rattle.std.proofs.Common.{rules, ◌≡◌, ◌⊎◌, inl, inr, ℕ, ◌==◌, ◌&&◌, nat_lt, Bool, true, false, cond, Option, None, Some, refl, sym, ◌∙◌, ap, subst, eq-eqb}
 use Rattle.std.proofs.lemmas.Bool.{cond_both}
 use Rattle.papaya_words.specs.Word.{pair_of}
 use Rattle.papaya_ask.specs.declared.ask.Ask.{Ask as Call_ask}
@@ -26,9 +26,9 @@ use Rattle.papaya_call.specs.declared.made.Number.TheVariants.{Wanted, Free, Tak
 use Rattle.papaya_call.specs.declared.remove.Removal.{Removal}
 use Rattle.papaya_call.specs.declared.write.Write.{Write}
 use Rattle.papaya_call.specs.Compute.{in_place_of, nothing, with_pair}
-use Rattle.papaya_call.specs.Made.{answered, grown, grown_as, make_ask, number_ask, of_grown, own_grown, pair_ask, paired as pair_done, taken, taken_as, told, told_as, told_limit}
+use Rattle.papaya_call.specs.Made.{answered, grown, grown_as, make_ask, number_ask, of_grown, own_grown, pair_ask, serves_at, paired as pair_done, taken, taken_as, told, told_as, told_limit}
 use Rattle.papaya_call.specs.Machine.{IsComputer, IsStandingState, IsWriter, after, ask_of, asks, decided_held, held_at_op, held_in, made_at_exchanged, made_in, made_to_pair, number_told, paired_held, write_taken}
-use Rattle.papaya_call.specs.Write.{made_of, made_to_write, served_ask, serves, with_pair_at, write_grown}
+use Rattle.papaya_call.specs.Write.{made_of, made_to_write, served_ask, served_of, serves, with_pair_at, write_grown}
 use Rattle.papaya_chain.specs.declared.ask.Answer.TheVariants as answers
 use Rattle.papaya_chain.specs.declared.ask.Ask.TheVariants as chain_asks
 use Rattle.papaya_alone.specs.Limits.{IsNumberTaken, IsTakeAsk}
@@ -53,46 +53,63 @@ IsNumberless made = made.number ≡ Taken → ⊥
 abbrev pub IsAfter : Made → Made → Type 0
 IsAfter made made' = (made'.limit ≡ made.limit) × (IsUnmade made' → IsUnmade made)
 
-same_after : (made made' : Made) → made'.limit ≡ made.limit → made'.own ≡ made.own → made'.of ≡ made.of → IsAfter made made'
-same_after made made' limit own of = (limit, λ unmade. (sym own ∙ unmade.0, sym of ∙ unmade.1))
+-- it is that but for its number and for what was logged of its next pair
+abbrev pub IsLike : Made → Made → Type 0
+IsLike made made' = (made'.limit ≡ made.limit) × (made'.own ≡ made.own) × (made'.of ≡ made.of)
+
+like_after : (made made' : Made) → IsLike made made' → IsAfter made made'
+like_after made made' (limit, own, of) = (limit, λ unmade. (sym own ∙ unmade.0, sym of ∙ unmade.1))
+
+pub like_unmade : (made made' : Made) → IsLike made made' → IsUnmade made → IsUnmade made'
+like_unmade made made' (limit, own, of) unmade = (own ∙ unmade.0, of ∙ unmade.1)
 
 module _ (made : Made) where
-  limit_after : (limit : Option ℕ) (count : ℕ) → IsAfter made (number_told (told_limit made limit count) made)
-  limit_after None count = (refl, λ h. h)
-  limit_after (Some most) count = cond_both (nat_lt count most) (Some (record made { number = Free count })) None (λ o. IsAfter made (number_told o made)) (λ _. (refl, λ h. h)) (λ _. (refl, λ h. h))
+  limit_like : (limit : Option ℕ) (count : ℕ) → IsLike made (number_told (told_limit made limit count) made)
+  limit_like None count = (refl, refl, refl)
+  limit_like (Some most) count = cond_both (nat_lt count most) (Some (record made { number = Free count })) None (λ o. IsLike made (number_told o made)) (λ _. (refl, refl, refl)) (λ _. (refl, refl, refl))
 
-  told_after : (number : Number) (count : ℕ) → IsAfter made (number_told (told_as made number count) made)
-  told_after Wanted count = limit_after made.limit count
-  told_after (Free n) count = limit_after made.limit count
-  told_after Taken count = (refl, λ h. h)
+  pub told_like : (number : Number) (count : ℕ) → IsLike made (number_told (told_as made number count) made)
+  told_like Wanted count = limit_like made.limit count
+  told_like (Free n) count = limit_like made.limit count
+  told_like Taken count = (refl, refl, refl)
 
-  taken_after : (number : Number) → IsAfter made (taken_as made number)
-  taken_after Wanted = (refl, λ h. h)
-  taken_after (Free n) = (refl, λ h. h)
-  taken_after Taken = (refl, λ h. h)
+  pub taken_like : (number : Number) → IsLike made (taken_as made number)
+  taken_like Wanted = (refl, refl, refl)
+  taken_like (Free n) = (refl, refl, refl)
+  taken_like Taken = (refl, refl, refl)
 
-  answered_after : (kind : OpKind) → IsAfter made (answered kind made)
-  answered_after kinds.Insert = (refl, λ h. h)
-  answered_after kinds.Remove = (refl, λ h. h)
-  answered_after (kinds.Abort t) = (refl, λ h. h)
+  pub answered_like : (kind : OpKind) → IsLike made (answered kind made)
+  answered_like kinds.Insert = (refl, refl, refl)
+  answered_like kinds.Remove = (refl, refl, refl)
+  answered_like (kinds.Abort t) = (refl, refl, refl)
 
-  own_after : (keyed valued : Bool) → IsAfter made (made_to_pair (own_grown keyed valued made))
-  own_after false valued = (refl, λ h. h)
-  own_after true false = (refl, λ h. h)
-  own_after true true = (refl, λ h. h)
+  own_like : (keyed valued : Bool) → IsLike made (made_to_pair (own_grown keyed valued made))
+  own_like false valued = (refl, refl, refl)
+  own_like true false = (refl, refl, refl)
+  own_like true true = (refl, refl, refl)
 
-  of_after : (valued : Bool) → IsAfter made (made_to_pair (of_grown valued made))
-  of_after false = (refl, λ h. h)
-  of_after true = (refl, λ h. h)
+  of_like : (valued : Bool) → IsLike made (made_to_pair (of_grown valued made))
+  of_like false = (refl, refl, refl)
+  of_like true = (refl, refl, refl)
 
-  grown_after : (number : Number) (old : ℕ) → IsAfter made (made_to_pair (grown_as number made old))
-  grown_after Wanted old = (refl, λ h. h)
-  grown_after (Free n) old = (refl, λ h. h)
-  grown_after Taken old = cond_both (old == 0) (own_grown made.keyed made.valued made) (of_grown made.valued made) (λ G. IsAfter made (made_to_pair G)) (λ _. own_after made.keyed made.valued) (λ _. of_after made.valued)
+  pub grown_like : (number : Number) (old : ℕ) → IsLike made (made_to_pair (grown_as number made old))
+  grown_like Wanted old = (refl, refl, refl)
+  grown_like (Free n) old = (refl, refl, refl)
+  grown_like Taken old = cond_both (old == 0) (own_grown made.keyed made.valued made) (of_grown made.valued made) (λ G. IsLike made (made_to_pair G)) (λ _. own_like made.keyed made.valued) (λ _. of_like made.valued)
 
--- a pair that was made for a place is one
+-- a pair that was made for a place is one, and serves there
 pub placed_made : (made : Made) (write : Write) (n : ℕ) → IsUnmade (with_pair_at made write n) → ⊥
 placed_made made write n = cond_both (write.old == 0) (record made { own = Some n }) (record made { of = Some (made_of write n) }) (λ (y : Made). IsUnmade y → ⊥) (λ _ unmade. let f : Some n ≡ None = unmade.0 in absurd cc) (λ _ unmade. let f : Some (made_of write n) ≡ None = unmade.1 in absurd cc)
+
+pub placed_serves : (made : Made) (write : Write) (n : ℕ) → serves (with_pair_at made write n) write ≡ Some n
+placed_serves made write n = by_old (write.old == 0)
+  where
+    here : serves_at (made_of write n) write.place.table write.place.probe.i ≡ true
+    here = ap (λ b. b && (write.place.probe.i == write.place.probe.i)) (eq-eqb write.place.table write.place.table refl) ∙ eq-eqb write.place.probe.i write.place.probe.i refl
+
+    by_old : (b : Bool) → cond b (cond b (record made { own = Some n }) (record made { of = Some (made_of write n) })).own (served_of (cond b (record made { own = Some n }) (record made { of = Some (made_of write n) })).of write.place) ≡ Some n
+    by_old true = refl
+    by_old false = ap (λ b. cond b (Some n) None) here
 
 placed_limit : (made : Made) (write : Write) (n : ℕ) → (with_pair_at made write n).limit ≡ made.limit
 placed_limit made write n = cond_both (write.old == 0) (record made { own = Some n }) (record made { of = Some (made_of write n) }) (λ (y : Made). y.limit ≡ made.limit) (λ _. refl) (λ _. refl)
@@ -102,12 +119,12 @@ written_after made write n (On made') h = h
 written_after made write n (Pair made') h = (placed_limit made' write n ∙ h.0, λ unmade. absurd (placed_made made' write n unmade))
 
 grew_after : (made : Made) (write : Write) (n : ℕ) (served : Option ℕ) → IsAfter made (write_grown served made write n)
-grew_after made write n None = written_after made write n (grown made write.old) (grown_after made made.number write.old)
+grew_after made write n None = written_after made write n (grown made write.old) (like_after made (made_to_pair (grown made write.old)) (grown_like made made.number write.old))
 grew_after made write n (Some i) = (refl, λ h. h)
 
 logged_after : (made : Made) (n : ℕ) (s : Stage) → IsAfter made (made_in made n s)
 logged_after made n (Writing write) = grew_after made write n (serves made write)
-logged_after made n (Pairing purpose) = grown_after made made.number (in_place_of purpose)
+logged_after made n (Pairing purpose) = like_after made (made_to_pair (grown made (in_place_of purpose))) (grown_like made made.number (in_place_of purpose))
 logged_after made n AtRoot = (refl, λ h. h)
 logged_after made n Making = (refl, λ h. h)
 logged_after made n (Opening t) = (refl, λ h. h)
@@ -127,9 +144,9 @@ logged_after made n (Ended reply) = (refl, λ h. h)
 pub after_made : (m : Call_machine) (a : Call_answer) → IsAfter m.made (after m a).made
 after_made m a = made_after m (λ _ made'. IsAfter m.made made') (record {
   same = λ _. (refl, λ h. h);
-  told = λ _ count. told_after m.made m.made.number count;
-  taken = λ _. taken_after m.made m.made.number;
-  answered = λ _ kind. answered_after m.made kind;
+  told = λ _ count. like_after m.made (number_told (told m.made count) m.made) (told_like m.made m.made.number count);
+  taken = λ _. like_after m.made (taken m.made) (taken_like m.made m.made.number);
+  answered = λ _ kind. like_after m.made (answered kind m.made) (answered_like m.made kind);
 }) (λ n. logged_after m.made n m.state) a
 
 -- a compute that remembers a pair remembers something
