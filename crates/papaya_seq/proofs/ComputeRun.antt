@@ -90,6 +90,10 @@ module _ {K V S : Type 0} where
   IsInsertEnd s held v store _ = Unit {0}
 
 module _ {K V : Type 0} where
+  -- its closure was shown this
+  abbrev pub IsShown : Option (Stored K V) → Option ℕ → Type 0
+  IsShown held shown = shown ≡ option_map (λ p. p.number) held
+
   -- its closure is shown no more: it was shown that there is none, or the call is at the place of the pair
   abbrev pub IsOnWay : Option (Stored K V) → Machine → Type 0
   IsOnWay None m = HasShownNone m.call.remembered.fill m.call.state
@@ -101,10 +105,6 @@ module _ {K V : Type 0} where
   IsToRemove (Some p) m = (m.phase ≡ Calling) × IsRemoving m.call.state
 
 module _ {K V S A : Type 0} where
-  -- its closure was shown this
-  abbrev pub IsShown : Option (Stored K V) → Option ℕ → Type 0
-  IsShown held shown = shown ≡ option_map (λ p. p.number) held
-
   -- what the machine stands on then: nothing else until a pair is made of the value, and then that the pair has it
   abbrev pub IsInsertSaid : Option (Stored K V) → V → StoreState K V S → Running K V A → Said → Type 0
   IsInsertSaid held v store r (Inserts shown) = IsShown held shown × ((other : Said) → StandsOn r.machine.call other → other ≡ Inserts shown)

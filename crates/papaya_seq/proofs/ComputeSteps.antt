@@ -1,5 +1,5 @@
 -- A compute of a map for one caller, over one answer that is not its closure's.
-use Rattle.std.proofs.Common.{◌≡◌, ◌⊎◌, inl, inr, ⊎_elim, ℕ, ◌^◌, ◌<◌, Bool, false, Option, None, Some, List, option_map, refl, sym, ◌∙◌, ap, subst, arith}
+use Rattle.std.proofs.Common.{◌≡◌, ◌⊎◌, inl, inr, ⊎_elim, ℕ, ◌^◌, ◌<◌, Bool, false, Option, None, Some, List, [], option_map, refl, sym, ◌∙◌, ap, subst, arith}
 use denote.Ref.{Bor}
 use Rattle.papaya_words.specs.Word.{kind_of, pair_of as number_of}
 use Rattle.papaya_words.specs.declared.probe.Refused.{Refused}
@@ -270,7 +270,7 @@ module _ {K V S A : Type 0} (eq : K → K → Bool) (hash : S → K → ℕ) (s 
 
       no_again : (held' : Option (Stored K V)) → held ≡ held' → (write : Write) → r.machine.call.state ≡ Pairing (Again write) → IsOnWay held' r.machine → ⊥
       no_again None is write at way =
-          let (some, new, choice) = subst (ShowsIn r.machine.call.remembered.choice) at came.shows in
+          let (some, (new, choice)) = subst (ShowsIn r.machine.call.remembered.choice) at came.shows in
           let shown : Some (number_of write.old) ≡ None = (now.said (Makes (Some (number_of write.old)) new.pair) (inr (inr (ap said_to_choose choice)))).0 ∙ ap (option_map (λ (p : Stored K V). p.number)) is in
           cc shown
       no_again (Some p) is write at way = subst IsReplacing at way.1
