@@ -1,5 +1,5 @@
 -- A removal that is made at once is one that its machine made.
-use Rattle.std.proofs.Common.{◌≡◌, ℕ, ◌==◌, Bool, true, false, MatchBool, List, [], ◌∷◌, ◌++◌, refl, sym, ap, subst, eq-eqb}
+use Rattle.std.proofs.Common.{◌≡◌, ℕ, ◌==◌, Bool, true, false, MatchBool, Option, List, [], ◌∷◌, ◌++◌, refl, sym, ap, subst, eq-eqb}
 use Rattle.std.specs.Prelude.{negsuc}
 use denote.Ref.{Bor}
 use Rattle.std.specs.Fn.{Mut}

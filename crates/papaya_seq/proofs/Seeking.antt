@@ -150,7 +150,7 @@ module _ {K V S : Type 0} (eq : K → K → Bool) (hash : S → K → ℕ) (s : 
           carried = λ p l. absurd cc;
           made = λ p l. absurd l;
           links = λ behind t chunks l. absurd cc;
-          standing = started_stands RemoveIf h s.mode.resize s.initial number s.mode.limit core.chunked core.limit lawful.power;
+          standing = started_stands RemoveIf h s.mode.resize s.initial number s.mode.limit core.limit core.chunked lawful.power;
           current = record { number = begun_number s.mode.limit (λ at. word_at s.store.words at); read = (tt, tt) };
           task = refl;
           hash_is = refl;
