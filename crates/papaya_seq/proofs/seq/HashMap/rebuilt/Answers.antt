@@ -1,6 +1,6 @@
 use Rattle.std.proofs.Common.{◌≡◌, [], sym, ap, ◌∙◌, subst}
 use Rattle.papaya_timeline.specs.Content.{content}
-use Rattle.papaya_seq.specs.Clones.{HasParts}
+use Rattle.papaya_seq.specs.Clones.{HasFreeParts}
 use Rattle.papaya_timeline.specs.New.{IsNew}
 use Rattle.papaya_seq.specs.Map.{MapState, core_of}
 use Rattle.papaya_seq.proofs.Rebuilt.{empty_still, fresh_parts, parts_on, rebuild_cut, rebuilt_of, room_refused, roomy_parts}
@@ -12,8 +12,8 @@ use Rattle.papaya_seq.proofs.seq.HashMap.rebuilt.Given.{Over}
 abbrev opened : (g : Over) → After-reserve g → MapState g.row.K.Denot g.row.V.Denot g.row.S.Denot
 opened g c = record { store = c.fresh.inside.store; mode = c.fresh.inside.mode; initial = c.fresh.inside.initial }
 
-new : (g : Over) (c : After-reserve g) → IsNew {A = Unit {0}} c.self.inside.mode c.pairs_for-capacity.result c.shards-shards.result c.in-Ok.hasher (core_of (opened g c))
-new g c = subst (λ (m : MapState g.row.K.Denot g.row.V.Denot g.row.S.Denot). IsNew {A = Unit {0}} c.self.inside.mode c.pairs_for-capacity.result c.shards-shards.result c.in-Ok.hasher (core_of m)) (sym c.fresh.view_is) c.in_ok-fresh.ensures.ok.1
+new : (g : Over) (c : After-reserve g) → IsNew {A = Unit {0}} c.self.inside.mode.resize c.pairs_for-capacity.result c.shards-shards.result c.in-Ok.hasher (core_of (opened g c))
+new g c = subst (λ (m : MapState g.row.K.Denot g.row.V.Denot g.row.S.Denot). IsNew {A = Unit {0}} c.self.inside.mode.resize c.pairs_for-capacity.result c.shards-shards.result c.in-Ok.hasher (core_of m)) (sym c.fresh.view_is) c.in_ok-fresh.ensures.ok.1
 
 none : (g : Over) (c : After-reserve g) → content g.K.PartialEq.eq c.fresh.inside.store ≡ []
 none g c = subst (λ (m : MapState g.row.K.Denot g.row.V.Denot g.row.S.Denot). content g.K.PartialEq.eq m.store ≡ []) (sym c.fresh.view_is) c.in_ok-fresh.ensures.empty
@@ -23,11 +23,11 @@ abbrev fresh : (g : Over) → After-reserve g → MapState g.row.K.Denot g.row.V
 fresh g c = record { store = c.fresh.inside.store; mode = c.fresh.inside.mode; initial = c.self.inside.initial }
 
 -- its parts
-parts : (g : Over) (c : After-reserve g) → HasParts c.args.self.now (fresh g c)
-parts g c = fresh_parts g.K.PartialEq.eq g.met.K.Eq.laws g.K.Clone.is_clone g.V.Clone.is_clone c.args.self.now (opened g c) c.self.inside.mode c.pairs_for-capacity.result c.shards-shards.result c.in-Ok.hasher
-    (ap (λ (m : MapState _ _ _). m.mode) c.self.view_is) (c.shards-shards.ensures.count ∙ ap (λ (m : MapState _ _ _). m.store.count.shards) c.self.view_is) c.shards-shards.ensures.power (new g c) c.self.inside.initial (ap (λ (m : MapState _ _ _). m.initial) c.self.view_is)
+parts : (g : Over) (c : After-reserve g) → HasFreeParts c.args.self.now (fresh g c)
+parts g c = fresh_parts g.K.PartialEq.eq g.met.K.Eq.laws g.K.Clone.is_clone g.V.Clone.is_clone c.args.self.now (opened g c) c.self.inside.mode.resize c.pairs_for-capacity.result c.shards-shards.result c.in-Ok.hasher
+    (ap (λ (m : MapState _ _ _). m.mode.resize) c.self.view_is) (c.shards-shards.ensures.count ∙ ap (λ (m : MapState _ _ _). m.store.count.shards) c.self.view_is) c.shards-shards.ensures.power (new g c) c.self.inside.initial (ap (λ (m : MapState _ _ _). m.initial) c.self.view_is)
 
-roomy : (g : Over) (c : After-reserve g) → HasParts c.args.self.now c.reserve.new.self
+roomy : (g : Over) (c : After-reserve g) → HasFreeParts c.args.self.now c.reserve.new.self
 roomy g c = roomy_parts g.K.PartialEq.eq g.met.K.Eq.laws g.K.Clone.is_clone g.V.Clone.is_clone c.args.self.now (fresh g c) c.reserve.new.self (parts g c) c.reserve.ensures.keeps c.reserve.ensures.words
 
 empty : (g : Over) (c : After-reserve g) → content g.K.PartialEq.eq c.reserve.new.self.store ≡ []
