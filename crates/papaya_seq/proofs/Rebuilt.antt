@@ -21,7 +21,7 @@ use Rattle.papaya_seq.specs.Lengths.{IsAskedFor, IsLongEnough, lengths_of}
 use Rattle.papaya_seq.proofs.TableLengths.{new_long}
 use Rattle.papaya_words.specs.declared.limits.TheConstants.{DEFAULT_CHUNK, MAX_SHARDS}
 use Rattle.papaya_words.specs.declared.probe.Refused.{Refused}
-use Rattle.papaya_words.specs.declared.probe.Refused.TheVariants.{Memory}
+use Rattle.papaya_words.specs.declared.probe.Refused.TheVariants.{Memory, Capacity, Limit}
 use Rattle.papaya_words.specs.declared.probe.ResizeMode.{ResizeMode}
 use Rattle.papaya_words.specs.declared.probe.ResizeMode.TheVariants.{Blocking, Incremental}
 use Rattle.papaya_law.specs.Content.{AreApart, lookup}
@@ -37,6 +37,7 @@ use Rattle.papaya_seq.proofs.Answered.{logged_there}
 use Rattle.papaya_seq.proofs.Cloned.{all_copied}
 use Rattle.papaya_seq.proofs.Equal.{covered, each_found, found_key}
 use Rattle.papaya_seq.proofs.Filled.{new_with_own}
+use Rattle.papaya_seq.proofs.Numbering.{numbered_content, numbered_store}
 
 -- a power of two is the next one to itself
 pub same_power : (n m : ℕ) → IsPowerOfTwo n → IsNextPowerOfTwo n m → m ≡ n
@@ -211,6 +212,33 @@ module _ {K V S : Type 0} (eq : K → K → Bool) (law : IsEquivalence eq) (CK :
     initial = initial ∙ parts.initial;
     shards = ap (λ (n : Count). n.shards) count ∙ parts.shards;
   }
+
+  -- so it is where the numbers are set
+  pub limited_rebuilt : (CS : S → S → Type 0) (s free : MapState K V S) (made : MapState K V S) (n : ℕ) → made.store ≡ numbered_store free.store n → IsRebuilt eq CK CV CS s free → IsRebuilt eq CK CV CS s made
+  limited_rebuilt CS s free made n is rebuilt = record {
+    cloned = λ k.
+        subst (λ (o : Option (Stored K V)). MatchOption (map_in eq s.store k) (o ≡ None) (λ p. (q : Stored K V) × (o ≡ Some q) × (CK p.key q.key × CV p.value q.value)))
+        (sym (ap (λ (y : StoreState K V S). map_in eq y k) is ∙ ap (λ (ps : List (Stored K V)). lookup eq (λ q. q.key) ps k) (numbered_content free.store n eq))) (rebuilt.cloned k);
+    logged = ap (λ (y : StoreState K V S). length y.pairs) is ∙ rebuilt.logged;
+    hasher = subst (CS s.store.hasher) (sym (ap (λ (y : StoreState K V S). y.hasher) is)) rebuilt.hasher;
+  }
+
+  -- a limit is no cause where there is none
+  pub cut_below : (from : StoreState K V S) (to left : MapState K V S) → to.mode.limit ≡ None → (e : Refused) → (e ≡ Memory) ⊎ IsCopyCut eq CK CV from to e left → e ≡ Limit → ⊥
+  cut_below from to left free e (inl memory) is = let f : Memory ≡ Limit = sym memory ∙ is in cc f
+  cut_below from to left free e (inr cut) is = elim cut.cut.cause [
+    | inl memory ↦ let f : Memory ≡ Limit = sym memory ∙ is in cc f
+    | inr (inl (capacity, why)) ↦ let f : Capacity ≡ Limit = sym capacity ∙ is in cc f
+    | inr (inr (limit, spent)) ↦ let f : None ≡ Some cut.cut.at.store.words.made = sym free ∙ ap (λ (m : Mode). m.limit) (sym cut.cut.fills.keeps.mode) ∙ spent in cc f
+  ]
+
+  -- a map has no more pairs than it has logged
+  pub pairs_logged : (s : StoreState K V S) → AreApart eq (λ p. p.key) (content eq s) → length (content eq s) ≤ length s.pairs
+  pairs_logged s apart = logged_least eq law s (λ k l. Unit {0}) (λ v w. Unit {0}) s apart (λ k. own (map_in eq s k))
+    where
+      own : (o : Option (Stored K V)) → MatchOption o (o ≡ None) (λ p. (q : Stored K V) × (o ≡ Some q) × (Unit {0} × Unit {0}))
+      own None = refl
+      own (Some p) = (p, refl, (tt, tt))
 
   -- a new map that was refused
   pub fresh_refused : (s : MapState K V S) (mode : ResizeMode) (capacity shards : ℕ) (initial : ℕ) → IsChunked mode → initial ≤ 2 ^ 32 → IsAskedFor initial capacity → shards ≡ s.store.count.shards → (e : Refused) → IsSizeRefusal mode capacity shards e → IsRebuildRefusal eq CK CV s e
