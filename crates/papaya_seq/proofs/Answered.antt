@@ -13,7 +13,7 @@ use Rattle.papaya_timeline.specs.Maps.{Does, IsMadeOf, IsUpdate, IsUpdateBy, Sam
 use Rattle.papaya_timeline.specs.Solo.{CallDoes, IsAnswered, IsNewIn}
 use Rattle.papaya_store.specs.Store.{StoreState, Stored, pair_of}
 use Rattle.papaya_seq.proofs.LeftBy.{left_same, same_left}
-use Rattle.papaya_seq.specs.Map.{Inserts, IsStoreRefusal, IsOccupied, IsTried, IsTryRefusal, IsWriteCause, IsWriteCauseAt, KeepsAndGrows, MapState, insertion, value_of}
+use Rattle.papaya_seq.specs.Map.{Inserts, IsStoreRefusal, IsOccupied, IsTried, IsTryRefusal, IsWriteCause, IsWriteCauseAt, KeepsAndGrows, MapState, insertion, kept_key, value_of}
 use Rattle.papaya_seq.proofs.Lawful.{logged_content, lookup_some}
 
 -- equal keys have one pair in a list
