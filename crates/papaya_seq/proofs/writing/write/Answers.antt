@@ -7,9 +7,9 @@ use Rattle.papaya_keys.specs.Hashes.{hash_of}
 use Rattle.papaya_store.specs.declared.pairs.Part.TheVariants.{Own}
 use Rattle.papaya_store.specs.declared.pairs.Running.{Running}
 use Rattle.papaya_store.specs.Performs.{Performs}
-use Rattle.papaya_seq.proofs.AtOnce.{PairLogged, pair_was_logged, pair_was_refused, wants, was_inserted, was_replaced}
+use Rattle.papaya_seq.proofs.AtOnce.{pair_was_logged, pair_was_refused, wants, was_inserted, was_replaced}
 use Rattle.papaya_seq.proofs.writing.write.Goals as goal
-use Rattle.papaya_seq.proofs.writing.write.Goals.{After-perform, In-Made}
+use Rattle.papaya_seq.proofs.writing.write.Goals.{After-perform}
 use Rattle.papaya_seq.proofs.writing.write.Given.{Over}
 
 -- the hash of a key
@@ -36,18 +36,16 @@ returns-in-Refused g c m =
     let at = (goal.at.returns-in-Refused g c).After-perform in
     pair_was_refused g.K.PartialEq.eq (hashes g) (said g) c.args.store.now c.args.key c.args.value _ refl refl c.perform.result c.perform.new.self c.perform.new.running c.args.hash c.args.write.place m c.args.write.old (performs g at) c.in-Refused.refused c.in-Refused.is c.value_left.result c.value_left.ensures
 
--- the pair was logged
-logged : (g : Over) (c : In-Made g) → PairLogged g.K.PartialEq.eq (hashes g) (said g) c.args.store.now c.args.key c.args.value (handed g c.After-perform) refl refl c.perform.result c.perform.new.self c.perform.new.running c.args.hash c.args.write.place c.args.write.old c.in-Made.pair
-logged g c = pair_was_logged g.K.PartialEq.eq (hashes g) (said g) c.args.store.now c.args.key c.args.value (handed g c.After-perform) refl refl c.perform.result c.perform.new.self c.perform.new.running c.args.hash c.args.write.place c.args.write.old c.in-Made.pair (performs g c.After-perform) c.in-Made.is
-
 pub returns-then-write-eq0-2 : goal.returns-then-write-eq0-2
 returns-then-write-eq0-2 g c m =
-    let at = (goal.at.returns-then-write-eq0-2 g c).In-Made in
-    was_inserted g.K.PartialEq.eq (hashes g) (said g) c.args.store.now c.args.key c.args.value (handed g at.After-perform) refl refl c.perform.result c.perform.new.self c.perform.new.running c.args.hash c.args.write.place m c.args.write.old c.in-Made.pair (logged g at) c.requires.stands
+    let at = (goal.at.returns-then-write-eq0-2 g c).After-perform in
+    let logged = pair_was_logged g.K.PartialEq.eq (hashes g) (said g) c.args.store.now c.args.key c.args.value (handed g at) refl refl c.perform.result c.perform.new.self c.perform.new.running c.args.hash c.args.write.place m c.args.write.old c.in-Made.pair (performs g at) c.in-Made.is in
+    was_inserted g.K.PartialEq.eq (hashes g) (said g) c.args.store.now c.args.key c.args.value (handed g at) refl refl c.perform.result c.perform.new.self c.perform.new.running c.args.hash c.args.write.place m c.args.write.old c.in-Made.pair logged c.requires.stands
     c.live.result.0 c.live.ensures c.exchange.result c.exchange.new.self c.exchange.ensures (search rules) c.add_to_shard.new.self c.note.new.self c.add_to_shard.ensures c.hint.result c.hint.ensures c.note.ensures
 
 pub returns : goal.returns
 returns g c m =
-    let at = (goal.at.returns g c).In-Made in
-    was_replaced g.K.PartialEq.eq (hashes g) (said g) c.args.store.now c.args.key c.args.value (handed g at.After-perform) refl refl c.perform.result c.perform.new.self c.perform.new.running c.args.hash c.args.write.place m c.args.write.old c.in-Made.pair (logged g at) c.requires.stands
+    let at = (goal.at.returns g c).After-perform in
+    let logged = pair_was_logged g.K.PartialEq.eq (hashes g) (said g) c.args.store.now c.args.key c.args.value (handed g at) refl refl c.perform.result c.perform.new.self c.perform.new.running c.args.hash c.args.write.place m c.args.write.old c.in-Made.pair (performs g at) c.in-Made.is in
+    was_replaced g.K.PartialEq.eq (hashes g) (said g) c.args.store.now c.args.key c.args.value (handed g at) refl refl c.perform.result c.perform.new.self c.perform.new.running c.args.hash c.args.write.place m c.args.write.old c.in-Made.pair logged c.requires.stands
     c.live.result.0 c.live.ensures c.exchange.result c.exchange.new.self c.exchange.ensures (λ e. search rules) c.pair-old.result c.pair-old.ensures
