@@ -19,7 +19,7 @@ use Rattle.papaya_timeline.specs.Advances.{reply_in}
 use Rattle.papaya_timeline.specs.Content.{map_in}
 use Rattle.papaya_timeline.specs.Solo.{IsAnswered, IsNewIn, whatever}
 use Rattle.papaya_timeline.proofs.KeptSettings.{IsLawfulKeys}
-use Rattle.papaya_seq.specs.Drives.{Drives, IsReplied, at_hand}
+use Rattle.papaya_seq.specs.Drives.{Drives, IsReplied, at_hand, value_left}
 use Rattle.papaya_seq.specs.MadeAlone.{IsMadeAlone}
 use Rattle.papaya_seq.specs.Map.{IsLawfulMap, IsTryCause, IsWriteCauseAt, KeepsAndGrows, LogsOne, MapState, insertion}
 use Rattle.papaya_seq.proofs.Alone.{map_answered, map_hasher, map_lawful, map_logged}
@@ -69,7 +69,7 @@ module _ {K V S H : Type 0} (eq : K → K → Bool) (input : K → List (List �
         fresh = (map_logged eq input build write finish classes respects s (insertion replace k value) reply store lawful over).0;
         cause = inserting_cause eq hash s replace k value keys lawful fits store done.end reply done.replied ended;
         absent = inserting_absent eq hash s replace k value keys lawful fits store done.end reply done.replied ended;
-        left_is = λ n e. sym done.value ∙ inserting_left eq hash s replace k value keys lawful fits store done.end reply done.replied ended n e;
+        left_is = λ n e. sym done.value ∙ ap value_left (inserting_left eq hash s replace k value keys lawful fits store done.end reply done.replied ended n e);
         alone = record { runs = over.ran };
         keeps = (
           record {
