@@ -1,5 +1,5 @@
 -- An insertion that is made at once: what it logs and writes are answers of its machine.
-use Rattle.std.proofs.Common.{◌≡◌, ℕ, zero, suc, ◌<◌, ◌==◌, if◌then◌else◌, slice_get, Bool, true, false, MatchBool, cond, List, [], ◌∷◌, ◌++◌, Option, None, Some, length, inl, inr, refl, sym, ◌∙◌, ap, subst, eq-eqb}
+use Rattle.std.proofs.Common.{◌≡◌, ℕ, ◌<◌, ◌==◌, if◌then◌else◌, slice_get, Bool, true, false, MatchBool, cond, List, [], ◌∷◌, ◌++◌, Option, None, Some, length, inl, inr, refl, sym, ◌∙◌, ap, subst, eq-eqb}
 use Rattle.std.proofs.lemmas.Bool.{eqb-true, ne_eqb}
 use Rattle.std.specs.Prelude.{pos}
 use Rattle.papaya_words.specs.Counter.{added}
@@ -275,7 +275,7 @@ module _ {K V S : Type 0} (eq : K → K → Bool) (hash : S → K → ℕ) where
             logging (pairs.Keyed first value),
             having (Own key) (Logged (length s.pairs)) of_valued (Writing (at_place old)),
             driven of_valued (Writing (at_place old)) (Own key) (Own value) (MakePairOf (number_of old)) wants_pair (Made_number (length s.pairs)) refl tt s (logging (pairs.Keyed first value)) (having (Own key) (Logged (length s.pairs)) of_valued (Writing (at_place old)))
-            (inr (inr (first, from, (Own value, refl, refl, few, refl, refl)))) refl,
+                (inr (inr (first, from, (Own value, refl, refl, few, refl, refl)))) refl,
             subst (λ made. Drives eq hash (answers.Call Exchanged ∷ []) (logging (pairs.Keyed first value)) (having (Own key) (Logged (length s.pairs)) made (Writing (at_place old))) exchanged (of_logged (Ended (Replaced (number_of old) (length s.pairs))))) (sym grows_pair) (
               exchanged,
               of_logged (Writing (at_place old)),

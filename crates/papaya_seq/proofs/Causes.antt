@@ -12,11 +12,7 @@ use Rattle.papaya_ask.specs.declared.ask.Ask.TheVariants.{Load, Exchange, ShowNo
 use Rattle.papaya_ask.specs.declared.ask.At.TheVariants.{Next, Made as Made_word}
 use Rattle.papaya_ask.specs.declared.ask.OpKind.TheVariants.{Remove}
 use Rattle.papaya_ask.specs.declared.call.Reply.TheVariants.{Refused as Reply_refused}
-use Rattle.papaya_ask.specs.declared.call.Task.{Task}
-use Rattle.papaya_ask.specs.declared.call.Task.TheVariants as tasks
 use Rattle.papaya_ask.specs.declared.search.Search.TheVariants.{Sizing as Sizing_table, Looking, Reading, Comparing}
-use Rattle.papaya_call.specs.declared.compute.Purpose.{Purpose}
-use Rattle.papaya_call.specs.declared.compute.Remembered.{Remembered}
 use Rattle.papaya_call.specs.declared.machine.Machine.{Machine as Call_machine}
 use Rattle.papaya_call.specs.declared.machine.State.{State as Stage}
 use Rattle.papaya_call.specs.declared.machine.State.TheVariants.{AtRoot, Making, Opening, Searching, Writing, Offering, Showing, Pairing, Putting, Burying, Counting as Counting_pair, Noting, Uncounting, Leaving, Growing, Ended}
@@ -29,7 +25,6 @@ use Rattle.papaya_call.specs.Write.{served_ask, serves}
 use Rattle.papaya_call.specs.Machine.{IsComputer, IsStandingState, IsWriter, asks as call_asks}
 use Rattle.papaya_call.specs.Machine as call_machine
 use Rattle.papaya_copy.specs.declared.link.Link.TheVariants as links
-use Rattle.papaya_copy.specs.Link.{link_ask}
 use Rattle.papaya_chain.specs.declared.ask.Ask.TheVariants as asks
 use Rattle.papaya_chain.specs.declared.ask.Answer.{Answer}
 use Rattle.papaya_chain.specs.declared.ask.Answer.TheVariants as answers

@@ -1,5 +1,5 @@
 -- A compute of a map for one caller, over one answer that is not its closure's.
-use Rattle.std.proofs.Common.{◌≡◌, ◌⊎◌, inl, inr, ⊎_elim, ℕ, ◌^◌, ◌<◌, Bool, false, Option, None, Some, List, [], option_map, refl, sym, ◌∙◌, ap, subst, arith}
+use Rattle.std.proofs.Common.{◌≡◌, ◌⊎◌, inl, inr, ⊎_elim, ℕ, ◌^◌, ◌<◌, Bool, false, Option, None, Some, [], option_map, refl, sym, ◌∙◌, ap, subst}
 use denote.Ref.{Bor}
 use Rattle.papaya_words.specs.Word.{kind_of, pair_of as number_of}
 use Rattle.papaya_words.specs.declared.probe.Refused.{Refused}
@@ -7,7 +7,6 @@ use Rattle.papaya_words.specs.declared.word.Kind.TheVariants.{Marked}
 use Rattle.papaya_call.specs.Answers.{Says as Answers_say}
 use Rattle.papaya_call.specs.declared.answers.Operation.{Operation}
 use Rattle.papaya_call.specs.declared.answers.Operation.TheVariants as ops
-use Rattle.papaya_ask.specs.declared.ask.Answer.{Answer as Call_answer}
 use Rattle.papaya_ask.specs.declared.ask.Answer.TheVariants.{Made as Made_number}
 use Rattle.papaya_ask.specs.declared.ask.Ask.{Ask as Call_ask}
 use Rattle.papaya_ask.specs.declared.ask.Ask.TheVariants.{ShowNone, ShowPair, Done as Ask_done}
@@ -256,11 +255,13 @@ module _ {K V S A : Type 0} (eq : K → K → Bool) (hash : S → K → ℕ) (s 
       ]
       insert_said (Inserts shown) stands = elim (said_goes (Inserts shown) stands) [
         | inl before ↦
-            let (same_shown, only) = now.said (Inserts shown) before in
-            (same_shown, λ other there. elim (said_goes other there) [
-              | inl was ↦ only other was
-              | inr (own, shown', n', is, by) ↦ absurd (unpaired own shown' n' by shown stands)
-            ])
+            let (same_shown, only) = now.said (Inserts shown) before in (
+              same_shown,
+              λ other there. elim (said_goes other there) [
+                | inl was ↦ only other was
+                | inr (own, shown', n', is, by) ↦ absurd (unpaired own shown' n' by shown stands)
+              ],
+            )
         | inr (own, shown', m, is, by) ↦ absurd (cc is)
       ]
 

@@ -1,5 +1,5 @@
 -- What an answered ask leaves of the log of pairs and of the shards of the count: an insertion logs one pair at most.
-use Rattle.std.proofs.Common.{◌≡◌, ◌⊎◌, inl, inr, ℕ, ◌+◌, ◌≤◌, ◌==◌, length, ◌∙◌, ap, arith, Bool}
+use Rattle.std.proofs.Common.{◌≡◌, inl, inr, ℕ, ◌+◌, ◌≤◌, ◌==◌, length, ◌∙◌, ap, arith, Bool}
 use Rattle.std.proofs.lemmas.List.{length_push}
 use Rattle.papaya_ask.specs.declared.ask.Answer.{Answer as Call_answer}
 use Rattle.papaya_ask.specs.declared.ask.Ask.{Ask as Call_ask}

@@ -9,12 +9,10 @@ use Rattle.papaya_ask.specs.declared.call.Reply.{Reply}
 use Rattle.papaya_ask.specs.declared.call.Reply.TheVariants.{Occupied, Refused as Reply_refused}
 use Rattle.papaya_ask.specs.declared.call.Task.TheVariants.{Insert}
 use Rattle.papaya_call.specs.Answers.{Says}
-use Rattle.papaya_call.specs.declared.compute.Remembered.{Remembered}
 use Rattle.papaya_call.specs.declared.machine.State.{State}
 use Rattle.papaya_call.specs.declared.machine.State.TheVariants.{Making, Searching, Writing, Ended}
 use Rattle.papaya_ask.specs.declared.search.Search.TheVariants.{Sizing}
 use Rattle.papaya_ask.specs.declared.ask.Ask.{Ask as Call_ask}
-use Rattle.papaya_call.specs.declared.made.Made.{Made}
 use Rattle.papaya_call.specs.declared.write.Write.{Write}
 use Rattle.papaya_copy.specs.Link.{link_ask}
 use Rattle.papaya_call.specs.declared.machine.Machine.{Machine as Call_machine}

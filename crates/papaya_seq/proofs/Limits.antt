@@ -1,5 +1,5 @@
 -- A map with a limit: how many numbers were taken for pairs.
-use Rattle.std.proofs.Common.{◌≡◌, ℕ, ◌+◌, ◌<◌, ◌≤◌, Bool, List, [], ◌∷◌, Some, MatchOption, subst, arith}
+use Rattle.std.proofs.Common.{◌≡◌, ℕ, ◌<◌, ◌≤◌, Bool, List, [], ◌∷◌, Some, MatchOption, subst, arith}
 use Rattle.papaya_ask.specs.declared.ask.At.TheVariants.{Made as Made_word}
 use Rattle.papaya_law.specs.Allows.{AllAllowed, Allows}
 use Rattle.papaya_law.specs.Exchange.{Exchange, Open, Claim, Replace, Bury, Link, Mark, Close, Place, Finish, Advance, Promote, Abort, Take, Setting, State, after, run, start}

@@ -1,5 +1,5 @@
 -- When a call alone logs a pair, and takes a number for it: it logs one for what it writes.
-use Rattle.std.proofs.Common.{rules, ◌≡◌, ◌⊎◌, inl, inr, ℕ, ◌==◌, ◌&&◌, nat_lt, Bool, true, false, cond, Option, None, Some, refl, sym, ◌∙◌, ap, subst, eq-eqb}
+use Rattle.std.proofs.Common.{◌≡◌, ◌⊎◌, inl, inr, ℕ, ◌==◌, ◌&&◌, nat_lt, Bool, true, false, cond, Option, None, Some, refl, sym, ◌∙◌, ap, subst, eq-eqb}
 use Rattle.std.proofs.lemmas.Bool.{cond_both}
 use Rattle.papaya_words.specs.Word.{pair_of}
 use Rattle.papaya_ask.specs.declared.ask.Ask.{Ask as Call_ask}
@@ -34,7 +34,7 @@ use Rattle.papaya_chain.specs.declared.ask.Ask.TheVariants as chain_asks
 use Rattle.papaya_alone.specs.Limits.{IsNumberTaken, IsTakeAsk}
 use Rattle.papaya_rests.specs.Says.{MakesPair}
 use Rattle.papaya_rests.proofs.Makings.{IsMakeAsk, make_asks, makes_pair, pair_made}
-use Rattle.papaya_seq.proofs.MadeAfter.{HoldsOfMade, made_after}
+use Rattle.papaya_seq.proofs.MadeAfter.{made_after}
 
 -- an insertion has made no pair yet
 abbrev pub IsUnmade : Made → Type 0

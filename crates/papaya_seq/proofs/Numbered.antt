@@ -1,5 +1,5 @@
 -- Where a map has a limit, a number was taken for each pair of its log: a call takes one before it logs a pair.
-use Rattle.std.proofs.Common.{◌≡◌, ◌⊎◌, inl, inr, ℕ, ◌+◌, ◌<◌, ◌≤◌, ◌==◌, Bool, true, false, cond, [], ◌∷◌, ◌++◌, length, Option, Some, None, slice_get, refl, sym, ◌∙◌, ap, subst, arith, length-append}
+use Rattle.std.proofs.Common.{◌≡◌, ◌⊎◌, inl, inr, ℕ, ◌+◌, ◌<◌, ◌≤◌, ◌==◌, Bool, true, false, cond, [], ◌∷◌, length, Option, Some, None, slice_get, refl, sym, ◌∙◌, ap, subst, arith, length-append}
 use Rattle.std.specs.Prelude.{◌-◌}
 use Rattle.papaya_words.specs.declared.probe.ResizeMode.{ResizeMode}
 use Rattle.papaya_ask.specs.declared.ask.At.{At}
@@ -27,7 +27,7 @@ use Rattle.papaya_store.specs.declared.pairs.Running.{Running}
 use Rattle.papaya_store.specs.Asks.{PerformsAsk}
 use Rattle.papaya_store.specs.Copies.{PerformsCopy}
 use Rattle.papaya_store.specs.Pairs.{pair_with}
-use Rattle.papaya_store.specs.Performs.{Exchanges, Performs}
+use Rattle.papaya_store.specs.Performs.{Performs}
 use Rattle.papaya_store.specs.Store.{StoreState}
 use Rattle.papaya_store.specs.Tables.{Tables, note, put, put_at, put_in, word_at}
 use Rattle.papaya_timeline.proofs.KeptHints.{by-table}
@@ -209,8 +209,7 @@ module _ {K V S : Type 0} where
       let step = log_step eq says hash refuse m s s' r r' current none answer performs in
       let before = numbered most e in
       let up = step.up in
-      let all = before.0 in
-      (
+      let all = before.0 in (
         elim step.pairs [
           | inl same ↦ omega (arith, all, up, same)
           | inr (logged, more) ↦ let less = before.1 (limit_logs m (pair_logs (ask_of m) answer logged)) in omega (arith, less, up, more)

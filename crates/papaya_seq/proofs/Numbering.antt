@@ -19,7 +19,7 @@ use Rattle.papaya_store.specs.Store.{StoreState, Stored}
 use Rattle.papaya_store.specs.Tables.{hint_at, table_of, word_at}
 use Rattle.papaya_law.specs.ChainContent.{joined}
 use Rattle.papaya_timeline.specs.Content.{content, pairs_from, pairs_of_slots}
-use Rattle.papaya_timeline.specs.Kept.{IsKept, IsLawfulCore, Tale, coding_of, low, setting_of}
+use Rattle.papaya_timeline.specs.Kept.{IsKept, coding_of, low, setting_of}
 use Rattle.papaya_seq.specs.Map.{IsLawfulMap}
 use Rattle.papaya_seq.proofs.RetainLists.{slots_same}
 

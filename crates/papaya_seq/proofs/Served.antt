@@ -16,7 +16,7 @@ use Rattle.papaya_call.specs.declared.write.Write.{Write}
 use Rattle.papaya_call.specs.Compute.{in_place_of}
 use Rattle.papaya_call.specs.Made.{answered, grown, taken, told}
 use Rattle.papaya_call.specs.Machine.{after, made_in, made_to_pair, number_told, write_made, write_taken}
-use Rattle.papaya_call.specs.Write.{claimed_by, made_to_write, serves, with_pair_at, write_grown}
+use Rattle.papaya_call.specs.Write.{claimed_by, made_to_write, serves, write_grown}
 use Rattle.papaya_chain_rests.specs.Rests.{left_by}
 use Rattle.papaya_rests.proofs.Makings.{write_then, write_then_is}
 use Rattle.papaya_seq.proofs.Causes.{IsPairStage, PairsFirst}

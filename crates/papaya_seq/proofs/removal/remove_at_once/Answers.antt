@@ -1,4 +1,4 @@
-use Rattle.std.proofs.Common.{rules, ◌≡◌, true, refl, subst}
+use Rattle.std.proofs.Common.{rules, ◌≡◌, subst}
 use Rattle.papaya_words.specs.Word.{kind_of, pair_of as number_of}
 use Rattle.papaya_words.specs.declared.word.Kind.TheVariants.{Live}
 use Rattle.papaya_store.specs.Store.{pair_of}
