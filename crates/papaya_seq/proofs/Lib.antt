@@ -37,6 +37,7 @@ pub mod LookSteps
 pub mod LookTurns
 pub mod NoPlace
 pub mod Numbered
+pub mod Numbering
 pub mod OwnSteps
 pub mod RemovalDone
 pub mod RemovalRefused
