@@ -64,7 +64,8 @@ impl<K: Hash + Eq + Clone + Drop, V: Clone + Drop, S: BuildHasher + Clone + Drop
         requires { (k l : K) → K.is_clone k l → K.eq k l ≡ true }
         ensures clones { IfOk result (λ made. IsRebuilt K.eq K.is_clone V.is_clone S.is_clone
             self.now made) }
-        ensures parts { IfOk result (λ made. (made.mode ≡ unlimited (ResizeMode.Incremental DEFAULT_CHUNK))
+        ensures parts { IfOk result (λ made.
+            (made.mode ≡ unlimited (ResizeMode.Incremental DEFAULT_CHUNK))
             × IsEntriesFor (length (content K.eq self.now.store)) made.initial
             × (made.store.count.shards ≡ 1)) }
         ensures err { IfErr result (λ e. IsCloneRefusal K.eq K.is_clone V.is_clone self.now.store
@@ -138,9 +139,9 @@ impl<K: Hash + Eq + Clone + Drop, V: Clone + Drop, S: BuildHasher + Clone + Drop
     }
 
     /// Builds the map anew from clones of its pairs, and gives back the memory of those that were
-    /// replaced or removed. Pairs are numbered anew. Mode, limit, initial capacity and number of shards
-    /// stay, and there is room for the pairs. So many numbers are taken then as there are pairs, and no
-    /// limit refuses it. 0.2.5 frees pairs while the map is used, and has no such call.
+    /// replaced or removed. Pairs are numbered anew. Mode, limit, initial capacity and number of
+    /// shards stay, and there is room for the pairs. So many numbers are taken then as there are
+    /// pairs, and no limit refuses it. 0.2.5 frees pairs while the map is used, and has no such call.
     ///
     /// A clone of a key has to be equal to it. While the new map is filled both need memory. It is
     /// refused as [`HashMap::try_clone`] is, and then the map is as it was.

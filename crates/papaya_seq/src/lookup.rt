@@ -37,7 +37,8 @@ impl<K: Hash + Eq, V, S: BuildHasher> HashMap<K, V, S> {
     pub(crate) fn look_up<Q: Equivalent<K>>(&self, key: &Q) -> Option<u64>
         ensures { (found : _) × LooksUp K.eq (Q.matches key.now) self.now.store
             (started Get (hash_of Q.hash_input S.build_hasher S.Hasher.write S.Hasher.finish
-            self.now.store.hasher key.now) self.now.mode.resize self.now.initial self.now.mode.limit) found
+            self.now.store.hasher key.now) self.now.mode.resize self.now.initial
+            self.now.mode.limit) found
             × (result ≡ option_map (λ p. p.number) found) }
     {
         let hash = self.store.hash(key);

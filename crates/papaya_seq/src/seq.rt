@@ -260,7 +260,8 @@ impl<K: Hash + Eq, V, S: BuildHasher> HashMap<K, V, S> {
             (λ v. (p : _) × Holds K.eq (Q.matches key.now) self.now.store p × (p.value ≡ v.now)) }
         ensures machine { (found : _) × LooksUp K.eq (Q.matches key.now) self.now.store
             (started Get (hash_of Q.hash_input S.build_hasher S.Hasher.write S.Hasher.finish
-            self.now.store.hasher key.now) self.now.mode.resize self.now.initial self.now.mode.limit) found
+            self.now.store.hasher key.now) self.now.mode.resize self.now.initial
+            self.now.mode.limit) found
             × (option_map (λ v. v.now) result ≡ value_of found) }
     {
         match self.get_key_value(key) {
@@ -279,7 +280,8 @@ impl<K: Hash + Eq, V, S: BuildHasher> HashMap<K, V, S> {
             × (p.key ≡ found.0.now) × (p.value ≡ found.1.now)) }
         ensures machine { (found : _) × LooksUp K.eq (Q.matches key.now) self.now.store
             (started Get (hash_of Q.hash_input S.build_hasher S.Hasher.write S.Hasher.finish
-            self.now.store.hasher key.now) self.now.mode.resize self.now.initial self.now.mode.limit) found
+            self.now.store.hasher key.now) self.now.mode.resize self.now.initial
+            self.now.mode.limit) found
             × (option_map deref_pair result ≡ option_map entry_of found) }
     {
         match self.look_up(key) {
@@ -298,7 +300,8 @@ impl<K: Hash + Eq, V, S: BuildHasher> HashMap<K, V, S> {
             (HasNone K.eq (Q.matches key.now) self.now.store) }
         ensures machine { (found : _) × LooksUp K.eq (Q.matches key.now) self.now.store
             (started Get (hash_of Q.hash_input S.build_hasher S.Hasher.write S.Hasher.finish
-            self.now.store.hasher key.now) self.now.mode.resize self.now.initial self.now.mode.limit) found
+            self.now.store.hasher key.now) self.now.mode.resize self.now.initial
+            self.now.mode.limit) found
             × (result ≡ is_some found) }
     {
         // By this read the map is known to be in order.
