@@ -1,5 +1,5 @@
 //! The map for one caller.
-ghost use Rattle.std.specs.Prelude.{◌≡◌, ◌≢◌, ◌⊎◌, ◌<◌, ◌≤◌, true, false, Some, None};
+ghost use Rattle.std.specs.Prelude.{◌≡◌, ◌≢◌, ◌⊎◌, ℕ, ◌<◌, ◌≤◌, true, false, Some, None};
 ghost use Rattle.std.specs.Prelude.{[], ◌∷◌, ◌++◌};
 ghost use Rattle.std.specs.Prelude.{IfOk, IfErr, IsOk, IsSome, MatchOption, MatchResult, MatchBool, is_some};
 ghost use Rattle.std.specs.Prelude.{length, option_map, vec_len, vec_capacity};
@@ -203,9 +203,14 @@ impl<K: Hash + Eq + Drop, V: Drop> HashMap<K, V, BuildHasherDefault<FoldHasher>>
 
 impl<K: Hash + Eq, V, S: BuildHasher> HashMap<K, V, S> {
     /// How many pairs the map has.
+    ///
+    /// The contract also says of any map that it has logged no more pairs than its limit says, where
+    /// it has one.
     pub fn len(&self) -> usize
         ensures count { result ≡ length (content K.eq self.now.store) }
         ensures apart { AreApart K.eq (λ p. p.key) (content K.eq self.now.store) }
+        ensures limit { (n : ℕ) → self.now.mode.limit ≡ Some n
+            → length self.now.store.pairs ≤ n }
     {
         self.store.count()
     }
