@@ -42,8 +42,8 @@ module _ {K V : Type 0} (eq : K → K → Bool) where
   abbrev pub put : Entries K V → K × V → Entries K V
   put m p k = cond (eq k p.0) (Some (kept (m p.0) p)) (m k)
 
-  -- The pairs that the items show are put in one after the other, a later one in the place of an
-  -- earlier one of its class.
+  -- The pairs that the items show are put in one after the other. A later one of a class keeps the
+  -- key of the first.
   abbrev pub put_all : {A : Type 0} → (A → K × V) → Entries K V → List A → Entries K V
   put_all shows m items = fold (λ n item. put n (shows item)) m items
 
