@@ -1,5 +1,5 @@
 -- A removal that is made at once is one that its machine made.
-use Rattle.std.proofs.Common.{◌≡◌, ℕ, ◌==◌, Bool, true, false, MatchBool, List, [], ◌∷◌, ◌++◌, refl, sym, ap, subst, eq-eqb}
+use Rattle.std.proofs.Common.{◌≡◌, ℕ, ◌==◌, Bool, true, false, MatchBool, Option, List, [], ◌∷◌, ◌++◌, refl, sym, ap, subst, eq-eqb}
 use Rattle.std.specs.Prelude.{negsuc}
 use denote.Ref.{Bor}
 use Rattle.std.specs.Fn.{Mut}
@@ -10,7 +10,7 @@ use Rattle.papaya_words.specs.declared.word.Kind.TheVariants.{Live}
 use Rattle.papaya_ask.specs.declared.ask.Answer.{Answer}
 use Rattle.papaya_ask.specs.declared.ask.Answer.TheVariants.{Exchanged, Found as Found_instead, Yes, Ok as Ok_done}
 use Rattle.papaya_ask.specs.declared.ask.Ask.{Ask}
-use Rattle.papaya_ask.specs.declared.ask.Ask.TheVariants.{Load, Exchange, LoadHint, WriteHint, SameKey, ShowNone, ShowPair, SizeOf, MakeKey, MakePair, MakeTable, AddToShard, Done as Ask_done}
+use Rattle.papaya_ask.specs.declared.ask.Ask.TheVariants.{Load, Exchange, LoadHint, WriteHint, SameKey, ShowNone, ShowPair, SizeOf, MakeKey, MakeValue, MakePair, MakePairOf, MakeTable, AddToShard, Done as Ask_done}
 use Rattle.papaya_ask.specs.declared.ask.At.{At}
 use Rattle.papaya_ask.specs.declared.ask.At.TheVariants.{Slot}
 use Rattle.papaya_ask.specs.declared.call.Reply.{Reply}
@@ -72,6 +72,8 @@ module _ {K V S F : Type 0} (g : Mut F (Bor K × (Bor V × Unit {0})) Bool) (mat
     searched_answer (ShowPair n) answer asked told = absurd asked
     searched_answer MakeKey answer asked told = absurd asked
     searched_answer MakePair answer asked told = absurd asked
+    searched_answer MakeValue answer asked told = absurd asked
+    searched_answer (MakePairOf i) answer asked told = absurd asked
     searched_answer (MakeTable slots limit chunks) answer asked told = absurd asked
     searched_answer (AddToShard by) answer asked told = absurd asked
     searched_answer (Ask_done reply) answer asked told = absurd asked
@@ -123,13 +125,13 @@ module _ {K V S F : Type 0} (g : Mut F (Bor K × (Bor V × Unit {0})) Bool) (mat
       }
 
     -- A removal whose search of the root saw this: it replies so.
-    module _ (hashed : ℕ) (mode : ResizeMode) (initial : ℕ) where
+    module _ (hashed : ℕ) (mode : ResizeMode) (initial : ℕ) (limit : Option ℕ) where
       abbrev removing : State → Machine
-      removing state = itself (record (started RemoveIf hashed mode initial) { state = state })
+      removing state = itself (record (started RemoveIf hashed mode initial limit) { state = state })
 
-      root_led : (turn : Turn) (state : State) → IsRootTurn matches s hashed turn → goes (started RemoveIf hashed mode initial) (seen_by turn) ≡ state → (reply : Reply) (s' : StoreState K V S) (f' : F) → IsRemovedFrom g matches s f (removing state) reply s' f' → IsRemovedFrom g matches s f (removing AtRoot) reply s' f'
+      root_led : (turn : Turn) (state : State) → IsRootTurn matches s hashed turn → goes (started RemoveIf hashed mode initial limit) (seen_by turn) ≡ state → (reply : Reply) (s' : StoreState K V S) (f' : F) → IsRemovedFrom g matches s f (removing state) reply s' f' → IsRemovedFrom g matches s f (removing AtRoot) reply s' f'
       root_led turn state root is reply s' f' done =
-          let begun : Call_machine = started RemoveIf hashed mode initial in
+          let begun : Call_machine = started RemoveIf hashed mode initial limit in
           let came = root.sees begun in
           let led : Comes matches s begun came.0 (record begun { state = state }) = subst (λ (st : State). Comes matches s begun came.0 (record begun { state = st })) is came.1 in
           record {
@@ -143,7 +145,7 @@ module _ {K V S F : Type 0} (g : Mut F (Bor K × (Bor V × Unit {0})) Bool) (mat
       found_none at root = root_led (turns.Empty at) (Ended Absent) root refl Absent s f (record { answers = []; end = removing (Ended Absent); leads = (refl, refl, refl); replied = refl })
 
       pub found_it : (at : Place) (word : ℕ) → kind_of word ≡ Live → IsRootTurn matches s hashed (turns.Here at word) → (reply : Reply) (s' : StoreState K V S) (f' : F) → IsBuried g matches (record { place = at; word = word }) s f reply s' f' → IsRemovedFrom g matches s f (removing AtRoot) reply s' f'
-      found_it at word live root reply s' f' buried = root_led (turns.Here at word) (Showing (record { place = at; word = word })) root (ap (λ kind. removes kind at word) live) reply s' f' (buried (started RemoveIf hashed mode initial))
+      found_it at word live root reply s' f' buried = root_led (turns.Here at word) (Showing (record { place = at; word = word })) root (ap (λ kind. removes kind at word) live) reply s' f' (buried (started RemoveIf hashed mode initial limit))
 
 -- each answer leads a removal on
 pub leads_under_way : {K V S F : Type 0} (g : Mut F (Bor K × (Bor V × Unit {0})) Bool) (eq : K → K → Bool) (hash : S → K → ℕ) (matches : K → Bool) (hashed : ℕ) (map : MapState K V S) (agrees : F) (told : List Answer) (s : StoreState K V S) (f : F) (m : Machine) (s' : StoreState K V S) (f' : F) (m' : Machine) → Leads g matches told s f m s' f' m' → IsUnderWay g eq hash matches hashed map agrees s f m → IsUnderWay g eq hash matches hashed map agrees s' f' m'

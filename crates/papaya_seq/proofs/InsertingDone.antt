@@ -19,7 +19,7 @@ use Rattle.papaya_timeline.specs.Advances.{reply_in}
 use Rattle.papaya_timeline.specs.Content.{map_in}
 use Rattle.papaya_timeline.specs.Solo.{IsAnswered, IsNewIn, whatever}
 use Rattle.papaya_timeline.proofs.KeptSettings.{IsLawfulKeys}
-use Rattle.papaya_seq.specs.Drives.{Drives, IsReplied, at_hand}
+use Rattle.papaya_seq.specs.Drives.{Drives, IsReplied, at_hand, value_left}
 use Rattle.papaya_seq.specs.MadeAlone.{IsMadeAlone}
 use Rattle.papaya_seq.specs.Map.{IsLawfulMap, IsTryCause, IsWriteCauseAt, KeepsAndGrows, LogsOne, MapState, insertion}
 use Rattle.papaya_seq.proofs.Alone.{map_answered, map_hasher, map_lawful, map_logged}
@@ -58,9 +58,9 @@ module _ {K V S H : Type 0} (eq : K → K → Bool) (input : K → List (List �
   hash = hash_of input build write finish
 
   -- an insertion that has replied at once leaves what its machine does
-  pub insertion_done : (reply : replies.Reply) (left : Option V) (store : StoreState K V S) → IsStanding (at_hand {A = Unit {0}} (started (Insert replace) (hash s.store.hasher k) s.mode s.initial) k value).machine → IsReplied eq hash s.store (at_hand (started (Insert replace) (hash s.store.hasher k) s.mode s.initial) k value) reply left store → InsertionDone eq hash s replace k value reply left (record s { store = store })
+  pub insertion_done : (reply : replies.Reply) (left : Option V) (store : StoreState K V S) → IsStanding (at_hand {A = Unit {0}} (started (Insert replace) (hash s.store.hasher k) s.mode.resize s.initial s.mode.limit) k value).machine → IsReplied eq hash s.store (at_hand (started (Insert replace) (hash s.store.hasher k) s.mode.resize s.initial s.mode.limit) k value) reply left store → InsertionDone eq hash s replace k value reply left (record s { store = store })
   insertion_done reply left store standing done =
-      let begun = at_hand {A = Unit {0}} (started (Insert replace) (hash s.store.hasher k) s.mode s.initial) k value in
+      let begun = at_hand {A = Unit {0}} (started (Insert replace) (hash s.store.hasher k) s.mode.resize s.initial s.mode.limit) k value in
       let first : IsInserting eq hash s replace k value s.store begun = inserting_begin eq hash s replace k value begun.machine (hash s.store.hasher k) 0 refl refl standing in
       let ended = inserting_drives eq hash s replace k value keys lawful fits done.answers s.store begun store done.end done.drives first in
       let over : IsOver eq hash s (insertion replace k value) store reply = inserting_alone eq hash s replace k value keys lawful fits store done.end reply done.replied ended in
@@ -69,7 +69,7 @@ module _ {K V S H : Type 0} (eq : K → K → Bool) (input : K → List (List �
         fresh = (map_logged eq input build write finish classes respects s (insertion replace k value) reply store lawful over).0;
         cause = inserting_cause eq hash s replace k value keys lawful fits store done.end reply done.replied ended;
         absent = inserting_absent eq hash s replace k value keys lawful fits store done.end reply done.replied ended;
-        left_is = λ n e. sym done.value ∙ inserting_left eq hash s replace k value keys lawful fits store done.end reply done.replied ended n e;
+        left_is = λ n e. sym done.value ∙ ap value_left (inserting_left eq hash s replace k value keys lawful fits store done.end reply done.replied ended n e);
         alone = record { runs = over.ran };
         keeps = (
           record {

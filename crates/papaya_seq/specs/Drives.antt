@@ -66,12 +66,13 @@ module _ {K V S : Type 0} (eq : K → K → Bool) (hash : S → K → ℕ) where
   abbrev pub IsWritten : (hashed : ℕ) → Write → K → V → StoreState K V S → Reply × Option V
       → StoreState K V S → Type 0
   IsWritten hashed write key value s done s' = (m : Call_machine)
-      → IsReplied s (at_hand (record m { hash = hashed; made = nothing_made None; state = Writing write })
-      key value) done.0 done.1 s'
+      → IsReplied s
+      (at_hand (record m { hash = hashed; made = nothing_made None; state = Writing write }) key value)
+      done.0 done.1 s'
 
   -- an insertion has replied, whatever the map's settings are
   abbrev pub IsInsertedAtOnce : (hashed : ℕ) → Bool → K → V → StoreState K V S
       → Reply × Option V → StoreState K V S → Type 0
   IsInsertedAtOnce hashed replace key value s done s' = (mode : ResizeMode) (initial : ℕ)
-      → IsReplied s (at_hand (started (Insert replace) hashed mode initial None) key value) done.0 done.1
-      s'
+      → IsReplied s (at_hand (started (Insert replace) hashed mode initial None) key value)
+      done.0 done.1 s'

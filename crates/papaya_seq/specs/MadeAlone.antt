@@ -6,7 +6,7 @@ use Rattle.papaya_ask.specs.declared.call.Call.TheVariants.{Compute}
 use Rattle.papaya_ask.specs.declared.call.Reply.{Reply}
 use Rattle.papaya_ask.specs.declared.call.Reply.TheVariants.{Refused}
 use Rattle.papaya_keys.specs.declared.compute.Computed.{Computed}
-use Rattle.papaya_timeline.specs.Core.{CoreState, unlimited}
+use Rattle.papaya_timeline.specs.Core.{CoreState}
 use Rattle.papaya_timeline.specs.Solo.{RunsAlone}
 use Rattle.papaya_seq.specs.Map.{MapState, core_of}
 
@@ -15,7 +15,7 @@ abbrev pub core_after : {K V S A : Type 0} → MapState K V S → CoreState K V 
 core_after s = record {
   store = s.store;
   callers = record { caller = 0; work = None } ∷ [];
-  mode = unlimited s.mode;
+  mode = s.mode;
   initial = s.initial;
 }
 

@@ -91,10 +91,10 @@ impl<K: Hash + Eq + Drop, V: Drop, S: BuildHasher> HashMap<K, V, S> {
             machine: Machine::new(
                 Task::Compute,
                 hash,
-                self.mode,
+                self.mode.resize,
                 self.initial,
                 number,
-                None,
+                self.mode.limit,
             ),
             key: Part::Own(key),
             value: None,

@@ -24,7 +24,8 @@ use std::hash::{BuildHasher, Hash};
 pub(crate) fn value_left<K: Drop, V, A: Drop>(running: Running<K, V, A>) -> Option<V>
     ensures { result ≡ value_left running.value }
 {
-    match running.value {
+    let Running { value, .. } = running;
+    match value {
         Some(Part::Own(value)) => Some(value),
         _ => None,
     }
@@ -49,6 +50,10 @@ impl<K: Hash + Eq + Drop, V: Drop, S: BuildHasher> HashMap<K, V, S> {
         ensures keeps { KeepsAndGrows self.old self.new }
         ensures logs { LogsOne self.old.store self.new.store }
     {
+        // A call that takes a number for its pair goes by the machine.
+        if self.mode.limit.is_some() {
+            return self.insert_stepwise(key, value, replace);
+        }
         let hash = self.store.hash(&key);
         match insert_at_once(&mut self.store, self.alloc, key, value, hash, replace) {
             Ok(done) => done,
@@ -79,10 +84,10 @@ impl<K: Hash + Eq + Drop, V: Drop, S: BuildHasher> HashMap<K, V, S> {
             machine: Machine::new(
                 Task::Insert { replace },
                 hash,
-                self.mode,
+                self.mode.resize,
                 self.initial,
                 number,
-                None,
+                self.mode.limit,
             ),
             key: Part::Own(key),
             value: Some(Part::Own(value)),

@@ -72,7 +72,9 @@ fn answer_removal<K: Hash + Eq, V, S: BuildHasher, Q: Equivalent<K>, F: FnMut(&K
         CallAsk::WriteHint(..)
         | CallAsk::ShowNone
         | CallAsk::MakeKey
+        | CallAsk::MakeValue
         | CallAsk::MakePair
+        | CallAsk::MakePairOf(_)
         | CallAsk::MakeTable { .. }
         | CallAsk::Done(_) => unreachable!(),
     }
@@ -173,10 +175,10 @@ impl<K: Hash + Eq + Drop, V: Drop, S: BuildHasher> HashMap<K, V, S> {
         let mut machine = Machine::new(
             Task::RemoveIf,
             hash,
-            self.mode,
+            self.mode.resize,
             self.initial,
             number,
-            None,
+            self.mode.limit,
         );
         loop {
             let answer = match machine.ask() {

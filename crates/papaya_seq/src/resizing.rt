@@ -26,7 +26,7 @@ impl<K: Hash + Eq + Drop, V: Drop, S: BuildHasher> HashMap<K, V, S> {
         // By this read the count is known to have 64 bits.
         let _count = self.store.count();
         let number = copies_from(&self.store);
-        let mut resizer = Resizer::new(resize, self.mode, self.initial, number);
+        let mut resizer = Resizer::new(resize, self.mode.resize, self.initial, number);
         while let Some(ask) = resizer.ask() {
             let answer = self.store.perform_copy(self.alloc, ask, false);
             resizer.answer(answer);

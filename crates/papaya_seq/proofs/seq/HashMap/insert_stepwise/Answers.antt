@@ -7,12 +7,13 @@ use Rattle.papaya_call.specs.declared.answers.Listed.{Listed}
 use Rattle.papaya_chain.specs.declared.ask.Ask.TheVariants as asks
 use Rattle.papaya_chain.specs.declared.machine.Machine.{Machine}
 use Rattle.papaya_chain.specs.Machine.{IsStanding, after, ask_of}
-use Rattle.papaya_store.specs.declared.pairs.KeyOf.TheVariants.{Own}
+use Rattle.papaya_store.specs.declared.pairs.Part.TheVariants.{Own}
 use Rattle.papaya_keys.specs.Hashes.{hash_of}
 use Rattle.papaya_timeline.specs.Content.{map_in}
 use Rattle.papaya_timeline.proofs.KeptCore.{keys_lawful}
 use Rattle.papaya_timeline.proofs.KeptSettings.{IsLawfulKeys}
 use Rattle.papaya_seq.specs.MadeAlone.{IsMadeAlone}
+use Rattle.papaya_seq.specs.Drives.{value_left}
 use Rattle.papaya_seq.specs.Map.{IsLawfulMap, IsTryCause, IsWriteCauseAt, MapState, insertion}
 use Rattle.papaya_seq.proofs.Alone.{map_answered, map_hasher, map_lawful, map_logged}
 use Rattle.papaya_seq.proofs.Ending.{left_of}
@@ -58,7 +59,7 @@ replied g c =
 pub loop-reply-init : goal.loop-reply-init
 loop-reply-init g c =
     let view : MapState _ _ _ = record { store = c.self.inside.store; mode = c.self.inside.mode; initial = c.self.inside.initial } in
-    subst (λ (m : MapState _ _ _). IsInserting g.K.PartialEq.eq (hash g) m c.args.replace c.args.key c.args.value c.self.inside.store (record { machine = c.new.result; key = Own c.args.key; value = Some c.args.value; answers = None }) × (c.self.inside.mode ≡ m.mode) × (c.self.inside.initial ≡ m.initial)) c.self.view_is
+    subst (λ (m : MapState _ _ _). IsInserting g.K.PartialEq.eq (hash g) m c.args.replace c.args.key c.args.value c.self.inside.store (record { machine = c.new.result; key = Own c.args.key; value = Some (Own c.args.value); answers = None }) × (c.self.inside.mode ≡ m.mode) × (c.self.inside.initial ≡ m.initial)) c.self.view_is
     (inserting_begin g.K.PartialEq.eq (hash g) view c.args.replace c.args.key c.args.value c.new.result c.hash-hash.result c.copies_from-number.result c.new.ensures.value c.hash-hash.ensures.value c.new.ensures.standing, refl, refl)
 
 -- the machine after the answer
@@ -115,7 +116,7 @@ returns-in-Call-Done-clause-absent g c = λ only refused e.
     (inserting_absent g.K.PartialEq.eq (hash g) c.args.self.now c.args.replace c.args.key c.args.value (keys g c.args.self.now.store.hasher) (lawful g (goal.at.returns-in-Call-Done-clause-absent g c).After-new) (fits g (goal.at.returns-in-Call-Done-clause-absent g c).After-new) c.loop-reply.self-inside.store c.loop-reply.running c.in-Call-Done.reply (replied g (goal.at.returns-in-Call-Done-clause-absent g c).After-value_left) c.loop-reply.invariant.0 only refused e)
 
 pub returns-in-Call-Done-clause-left : goal.returns-in-Call-Done-clause-left
-returns-in-Call-Done-clause-left g c = λ n e. c.value_left.ensures ∙ inserting_left g.K.PartialEq.eq (hash g) c.args.self.now c.args.replace c.args.key c.args.value (keys g c.args.self.now.store.hasher) (lawful g (goal.at.returns-in-Call-Done-clause-left g c).After-new) (fits g (goal.at.returns-in-Call-Done-clause-left g c).After-new) c.loop-reply.self-inside.store c.loop-reply.running c.in-Call-Done.reply (replied g (goal.at.returns-in-Call-Done-clause-left g c).After-value_left) c.loop-reply.invariant.0 n e
+returns-in-Call-Done-clause-left g c = λ n e. c.value_left.ensures ∙ ap value_left (inserting_left g.K.PartialEq.eq (hash g) c.args.self.now c.args.replace c.args.key c.args.value (keys g c.args.self.now.store.hasher) (lawful g (goal.at.returns-in-Call-Done-clause-left g c).After-new) (fits g (goal.at.returns-in-Call-Done-clause-left g c).After-new) c.loop-reply.self-inside.store c.loop-reply.running c.in-Call-Done.reply (replied g (goal.at.returns-in-Call-Done-clause-left g c).After-value_left) c.loop-reply.invariant.0 n e)
 
 pub returns-in-Call-Done-clause-alone : goal.returns-in-Call-Done-clause-alone
 returns-in-Call-Done-clause-alone g c =
