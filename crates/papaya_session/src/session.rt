@@ -11,7 +11,7 @@ ghost use Rattle.papaya_change.specs.Showings.{Judges, Operates};
 ghost use Rattle.papaya_change.specs.Writing.{IsMemoryOrCapacity};
 ghost use Rattle.papaya_compute.specs.ComputeAnswers.{IsComputeBy, changes};
 ghost use Rattle.papaya_lookup.specs.Answers.{IsAnsweredBetween, IsPairAnsweredBetween};
-ghost use Rattle.papaya_lookup.specs.History.{Makes};
+ghost use Rattle.papaya_lookup.specs.History.{IsLegalHistory, Makes, key_of};
 ghost use Rattle.papaya_map.specs.Limited.{IsWriteRefusal};
 ghost use Rattle.papaya_map.specs.Storing.{IsThereBy, IsTried, IsTriedWith, IsUpdated, IsUpserted, stored};
 ghost use Rattle.papaya_sweep.specs.Leaving.{HasDropped, HasKept, IsCleared};
@@ -21,6 +21,7 @@ use papaya_keys::compute::Compute;
 use papaya_keys::guard::Equivalent;
 use papaya_keys::occupied::OccupiedError;
 use papaya_map::map::{HashMap, HashMapRef, Pass};
+use papaya_map::told::Told;
 use papaya_sweep::walk::Iter;
 use papaya_words::probe::Refused;
 use std::hash::{BuildHasher, BuildHasherDefault, FoldHasher, Hash};
@@ -74,6 +75,17 @@ impl<'a, K: Hash + Eq, V, S: BuildHasher> Session<'a, K, V, S> {
             map: map.pin(),
             pass: map.pass(),
         }
+    }
+
+    /// Does nothing. Its contract says that the history which was seen is legal: each change takes out what
+    /// the map has there, and puts in a pair of its class, with the key of the pair that it replaces.
+    pub fn legal(&self)
+        ensures { IsLegalHistory K.eq key_of self.now.history }
+    {
+        let Told {
+            answer: _,
+            marker: _,
+        } = self.pass.tell(());
     }
 
     /// Tells each of two sessions what the other has seen. Afterwards both have seen one history, which
