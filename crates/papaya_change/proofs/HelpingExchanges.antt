@@ -210,7 +210,7 @@ module _ {K V S H : Type 0} (eq : K → K → Bool) (input : K → List (List �
   hash = hash_of input build write finish
 
   abbrev plain : List (Event K V S) → Setting K (Stored K V)
-  plain log = setting_of eq (hash b.hasher) b.mode log
+  plain log = setting_of eq (hash b.hasher) b.mode b.limit log
 
   abbrev p : Coding K (Stored K V)
   p = coding_of (hash b.hasher)

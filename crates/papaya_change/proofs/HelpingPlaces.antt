@@ -68,7 +68,7 @@ module _ {K V S H : Type 0} (eq : K → K → Bool) (input : K → List (List �
       let wide_hint = copies_may_hint g c (hashed_in eq input build write finish classes respects b matches fed form k (exchanges_of begun) log r.lawful) (exchanges_of begun) r.since
       (resting_may eq input build write finish classes respects b matches fed form k (exchanges_of begun) log r.lawful m (hands_with last kept made) resting) k m (hands_with last kept made) r.rests t x n e in
       let here : IsHint g c (state_of log) t x n = subst (λ (z : List (Exchange (Stored K V))). IsHint g c (run z start) t x n) r.is wide_hint in
-      record { lawful = r.lawful; is = hint_without (setting_of eq hash b.mode log) (coding_of hash) matches fed ((state_of log).slot t x) n here }
+      record { lawful = r.lawful; is = hint_without (setting_of eq hash b.mode b.limit log) (coding_of hash) matches fed ((state_of log).slot t x) n here }
 
   -- where a word is named, its table has come
   abbrev pub HasComeFor : At → Type 0

@@ -91,7 +91,7 @@ module _ {K V S H : Type 0} (eq : K → K → Bool) (input : K → List (List �
   hash = hash_of input build write finish
 
   abbrev pub G : List (Event K V S) → Setting K (Stored K V)
-  G log = setting_of eq (hash b.hasher) b.mode log
+  G log = setting_of eq (hash b.hasher) b.mode b.limit log
 
   abbrev pub C : Coding K (Stored K V)
   C = coding_of (hash b.hasher)
@@ -294,7 +294,7 @@ module _ {K V S H : Type 0} (eq : K → K → Bool) (input : K → List (List �
 
             -- the setting where this table is the next to come
             abbrev G' : Setting K (Stored K V)
-            G' = setting_with eq (hash b.hasher) b.mode (names.Table w) log
+            G' = setting_with eq (hash b.hasher) b.mode b.limit (names.Table w) log
 
             hashed' : IsHashed G' C
             hashed' = with_hashed eq input build write finish classes respects b log l w
