@@ -5,8 +5,10 @@ pub mod Changing
 pub mod Doing
 pub mod Exchanging
 pub mod Opens
-pub mod OnePair
-pub mod OwnKeys
+pub mod Taking
+pub mod MadeStays
+pub mod Spent
+pub mod OwnParts
 pub mod Written
 pub mod WritingSteps
 pub mod Refusals

@@ -1,12 +1,15 @@
 -- Why a call is refused by an answer of its own: by what its driver's answer says, since no number was left for a pair, or since its closure would remove a pair where there is none.
-use Rattle.std.proofs.Common.{◌≡◌, ◌⊎◌, inl, inr, ⊎_elim, ℕ, List, refl, sym, ap, ◌∙◌, subst}
+use Rattle.std.proofs.Common.{◌≡◌, ◌⊎◌, inl, inr, ⊎_elim, ℕ, Option, List, refl, sym, ap, ◌∙◌, subst}
 use Rattle.papaya_words.specs.declared.probe.Refused.{Refused as Cause}
 use Rattle.papaya_words.specs.declared.probe.Refused.TheVariants.{Capacity, Limit, RemoveNothing}
 use Rattle.papaya_ask.specs.declared.ask.Answer.{Answer}
 use Rattle.papaya_ask.specs.declared.ask.Answer.TheVariants.{Word as Word_read, Exchanged, Found as Found_instead, Yes, Op, Size, Made as Made_number, Ok as Ok_done, Refused as Was_refused}
 use Rattle.papaya_ask.specs.declared.ask.Ask.{Ask}
-use Rattle.papaya_ask.specs.declared.ask.Ask.TheVariants.{Done, ShowNone}
+use Rattle.papaya_ask.specs.declared.ask.Ask.TheVariants.{Load, Exchange, Done, ShowNone}
+use Rattle.papaya_ask.specs.declared.ask.At.TheVariants.{Made as Made_word}
 use Rattle.papaya_ask.specs.declared.ask.OpKind.TheVariants.{Remove}
+use Rattle.papaya_ask.specs.declared.ask.StepKind.{StepKind}
+use Rattle.papaya_ask.specs.declared.call.Task.{Task}
 use Rattle.papaya_ask.specs.declared.call.Reply.{Reply}
 use Rattle.papaya_ask.specs.declared.call.Reply.TheVariants.{Refused}
 use Rattle.papaya_call.specs.declared.machine.Machine.{Machine as Call_machine}
@@ -14,7 +17,7 @@ use Rattle.papaya_call.specs.declared.machine.State.TheVariants.{Growing}
 use Rattle.papaya_call.specs.declared.need.Need.{Need}
 use Rattle.papaya_call.specs.declared.made.Made.{Made}
 use Rattle.papaya_call.specs.Machine as calls
-use Rattle.papaya_call.specs.Machine.{IsComputer}
+use Rattle.papaya_call.specs.Machine.{IsComputer, MayInsert}
 use Rattle.papaya_chain.specs.declared.ask.Answer.TheVariants as answers
 use Rattle.papaya_chain.specs.declared.ask.Ask.TheVariants.{Call}
 use Rattle.papaya_chain.specs.declared.machine.Machine.{Machine}
@@ -33,6 +36,15 @@ use Rattle.papaya_change.proofs.OwnSteps.{aside_asks_none, calling_asks, grown_l
 -- only a compute shows that there is none
 pub shows_none : (m : Machine) → IsStanding m → ask_of m ≡ Call ShowNone → IsComputer m.call.task
 shows_none m standing e = subst (λ (a : Ask). MayAsk m.call.task (calls.kind_of_ask m.call) a) (call_asks m ShowNone e).1 (asked_of_task m.call standing.call)
+
+-- only one that may insert asks how many numbers for pairs were taken
+number_inserts : (task : Task) (kind : Option StepKind) (ask : Ask) → IsNumberAsk ask → MayAsk task kind ask → MayInsert task
+number_inserts task kind (Load Made_word) number may = may
+number_inserts task kind (Exchange Made_word old new) number may = may.0
+number_inserts task kind _ number may = absurd number
+
+pub limit_inserts : (m : Machine) → IsStanding m → (answer : Answer) → IsAtLimit m.call answer → MayInsert m.call.task
+limit_inserts m standing answer over = number_inserts m.call.task (calls.kind_of_ask m.call) (calls.ask_of m.call) over.4 (asked_of_task m.call standing.call)
 
 -- a call that needs a further table is not ended by another answer than the number of one
 grown_stays : (m : Call_machine) (made : Made) (need : Need) (answer : Answer) (reply : Reply) → calls.ask_of (calls.after (record m { made = made; state = Growing need }) answer) ≡ Done reply → (word : ℕ) × (answer ≡ Word_read word)

@@ -86,11 +86,16 @@ abbrev pub HasAskedWords : Option Link → Option (Where Sheet × Pen) → Type 
 HasAskedWords link fresh = (behind n chunks : ℕ) → link ≡ Some (Linking behind n chunks)
     → HasChunks fresh chunks
 
--- a pair that takes the place of none has the call's own key, and any other has that of the pair whose
--- place it takes
-abbrev pub HasItsKey : {K V : Type 0} → Option K → (taken : Option (Stored K V)) → Stored K V → Type 0
-HasItsKey k None q = Some (key_of q) ≡ k
-HasItsKey k (Some p) q = key_of q ≡ key_of p
+-- a key is of the class of the call's own, where it has one
+abbrev pub IsOfCall : {K : Type 0} → (K → K → Bool) → Option K → K → Type 0
+IsOfCall eq k other = MatchOption k (Unit {0}) (λ key. eq key other ≡ true)
+
+-- A pair that takes the place of none has the call's own key, and any other has that of the pair whose
+-- place it takes.
+pub record HasItsKey {K V : Type 0} (eq : K → K → Bool) (k : Option K) (taken : Option (Stored K V))
+    (q : Stored K V) : Type 0 where
+  pub is : MatchOption taken (Some (key_of q) ≡ k) (λ p. key_of q ≡ key_of p)
+  pub same : IsOfCall eq k (key_of q)
 
 -- The log ends with the call's change, which came after all that was there when it began. What it
 -- takes out and puts in has the numbers that the machine tells.
@@ -106,7 +111,8 @@ pub record HasChanged {K V S : Type 0} (eq : K → K → Bool) (k : Option K)
   pub taken_is : MatchOption taken (change.0 ≡ None)
       (λ p. (change.0 ≡ Some p.index) × (class ≡ key_of p))
   pub put_is : MatchOption put (change.1 ≡ None)
-      (λ q. (change.1 ≡ Some q.index) × (eq class (key_of q) ≡ true) × HasItsKey k taken q)
+      (λ q. (change.1 ≡ Some q.index) × (eq class (key_of q) ≡ true)
+      × HasItsKey eq k taken q)
 
 -- A call by the key k, or by the further one, rests on the log since it began, with the copy that it
 -- is set aside for. It holds the table and the pair of which it was told last, the pair that its copy
