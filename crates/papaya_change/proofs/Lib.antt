@@ -19,6 +19,8 @@ pub mod InsertingReplies
 pub mod InsertingHelped
 -- insertions at once
 pub mod Seeking
+pub mod Claiming
+pub mod Replacing
 pub mod Logged
 -- what closures are shown
 pub mod Showings

@@ -5,6 +5,8 @@ ghost use Rattle.std.specs.Int.{IsPowerOfTwo};
 ghost use Rattle.papaya_ask.specs.Search.{IsWithin};
 ghost use Rattle.papaya_ask.specs.declared.search.Search.TheVariants.{Looking, Reading};
 ghost use Rattle.papaya_call.specs.declared.machine.State.TheVariants.{Searching};
+ghost use Rattle.papaya_words.specs.Word.{kind_of};
+ghost use Rattle.papaya_words.specs.declared.word.Kind.TheVariants.{Live};
 ghost use Rattle.papaya_book.specs.Limits.{HasNoRoom, IsSpent, tables_of};
 ghost use Rattle.papaya_book.specs.Windows.{IsLawful, Sees};
 ghost use Rattle.papaya_lookup.specs.Drivers.{own, past};
@@ -75,6 +77,7 @@ fn read_at<K: Hash + Eq, V, S: BuildHasher>(
     ensures own { window.new.own ≡ window.old.own }
     ensures turns { Turns window.old window.new key.now table.now (Searching (Reading at)) result }
     ensures next { (next : _) → result ≡ Next next → IsWithin next }
+    ensures live { (met : _) → result ≡ MetPair met → kind_of met.word ≡ Live }
     ensures fewer { left_to result < left_at at }
 {
     let (word, trade) = window.slot_word(table, at.table, at.probe.i);
@@ -116,6 +119,7 @@ fn look_at<K: Hash + Eq, V, S: BuildHasher>(
     ensures own { window.new.own ≡ window.old.own }
     ensures turns { Turns window.old window.new key.now table.now (Searching (Looking at)) result }
     ensures next { (next : _) → result ≡ Next next → IsWithin next }
+    ensures live { (met : _) → result ≡ MetPair met → kind_of met.word ≡ Live }
     ensures fewer { left_to result < left_at at }
 {
     let hint = window.hint(table, at.table, at.probe.i);
@@ -142,6 +146,7 @@ fn seek<K: Hash + Eq, V, S: BuildHasher>(
     ensures sees { Sees window.old window.new }
     ensures own { window.new.own ≡ window.old.own }
     ensures turns { Turns window.old window.new key.now table.now (Searching (Looking at)) result }
+    ensures live { (met : _) → result ≡ MetPair met → kind_of met.word ≡ Live }
 {
     let mut place = at;
     loop {
@@ -172,6 +177,8 @@ fn find_place<'a, K: Hash + Eq, V, S: BuildHasher>(
     ensures own { window.new.own ≡ window.old.own }
     ensures found { (spot : _) → result ≡ Some spot → IsFoundFor window.old window.new key.now
         spot.table.now spot.turn }
+    ensures live { (spot : _) → result ≡ Some spot → (met : _) → spot.turn ≡ MetPair met
+        → kind_of met.word ≡ Live }
 {
     let (number, root) = window.root();
     let Some(table) = root else {
@@ -248,6 +255,7 @@ fn replace_at<'a, R: Wait, K: Hash + Eq + Drop, V: Drop, S: BuildHasher>(
     requires hashed { hash ≡ ⟦<S as Hashed<K>>⟧.hash window.old.book.now.parts.hasher key }
     requires limit { window.old.book.now.parts.limit ≡ None }
     requires stands { StandsBy window.old key table.now (MetPair met) }
+    requires live { kind_of met.word ≡ Live }
     ensures sees { Sees window.old window.new }
     ensures lawful { IsLawful window.new }
     ensures put { IfOk result (λ answer. HasWritten window.old window.new key value
