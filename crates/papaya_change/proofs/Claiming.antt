@@ -106,7 +106,7 @@ module _ {K V S H : Type 0} (eq : K → K → Bool) (input : K → List (List �
     paired =
         quiet eq input build write finish classes respects b (eq key) (input key) query (Some key) name begun log log ([], append-nil log) valued.lawful (writes has_value) (Some lent) r.2 None [] None None None valued MakePair refl (Made_number q.index) r.2 (q ∷ []) (Some lent) None
         (record {
-          told = inr (q, ap (λ z. Some z) key_is, refl, refl, refl);
+          told = inr (q, ap (λ z. Some z) key_is, (refl, refl, refl));
           same = refl;
           busy = λ z. z;
           brings = barren eq input build write finish classes respects b (eq key) (input key) query (Some key) name begun log log ([], append-nil log) valued.lawful (writes has_value) (Some lent) r.2 None [] None None None valued MakePair refl tt (Made_number q.index) None;
@@ -147,7 +147,7 @@ module _ {K V S H : Type 0} (eq : K → K → Bool) (input : K → List (List �
       pub claim_changed : HasChanged eq (Some key) begun log' before (Some q) (None, Some q.index)
       claim_changed = ended.changed (None, Some q.index) refl
 
-      nothing_there : (o : Option (Stored K V)) → MatchOption o (None ≡ None) (λ p. (None ≡ Some p.index) × (claim_changed.class ≡ key_of p)) → o ≡ None
+      nothing_there : (o : Option (Stored K V)) → MatchOption o (◌≡◌ {A = Option ℕ} None None) (λ p. (None ≡ Some p.index) × (claim_changed.class ≡ key_of p)) → o ≡ None
       nothing_there None h = refl
       nothing_there (Some p) h = absurd (let e = h.0 in cc e)
 

@@ -114,7 +114,7 @@ module _ (m : Machine) where
   none_exchanged answer = record { loads = refl; takes = λ count. refl; key = refl; value = refl; pair = refl; pair_of = λ n. refl }
 
   -- an insertion that writes, by the pair that serves
-  Writes_by : Option ℕ → Made → Write → Answer → Type 0
+  abbrev Writes_by : Option ℕ → Made → Write → Answer → Type 0
   Writes_by served made write answer = Moves (exchanged (served_ask served write made) (Some answer)) false (is_some (change_in (write_then m served made write answer)))
 
   writing_by : (served : Option ℕ) (made : Made) (write : Write) (answer : Answer) → Writes_by served made write answer

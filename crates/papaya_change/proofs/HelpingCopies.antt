@@ -117,6 +117,7 @@ module _ {K V S H : Type 0} (eq : K → K → Bool) (input : K → List (List �
       hand (Aborted i) e left told is = stays told is left
       hand (Done i j) e left told is = stays told is left
       hand (Slot i x) e left told is = stays told is left
+      hand Made_word e left told is = stays told is left
 
       ended : (z : Bool) → (found == old) ≡ z → h.kept ≡ c.kept → MatchBool z (h.last ≡ marked_or (kind_of_ask c.machine) pair c.last) (h.last ≡ or_last pair c.last) → IsHandLeft at c.fresh h.fresh → Leaves log (if z then answers.Call Exchanged else answers.Call (Found_instead found))
       ended true is kept last left = exchanged eq input build write finish classes respects b name matches fed form k begun made v c r standing at old new asked found log pair t c' is refl refl kept last (hand at refl left Exchanged (inl refl))

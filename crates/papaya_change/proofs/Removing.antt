@@ -58,6 +58,7 @@ use Rattle.papaya_change.specs.Showings.{WasHeld}
 use Rattle.papaya_change.proofs.Changing.{Coded, Wide, barren, call_hands, call_rests, counted, compared, hint_table, hinted, load_table, loaded_lawful, loads, quiet, size_table, sized, slot_table}
 use Rattle.papaya_change.proofs.OwnSays.{own_said, own_shows, own_stood}
 use Rattle.papaya_change.proofs.OwnSteps.{own_kind, own_order}
+use Rattle.papaya_call.specs.Machine.{MayInsert}
 use Rattle.papaya_change.proofs.Refusals.{limit_inserts, refused_for, shows_none}
 use Rattle.papaya_rests.proofs.Silent.{IsSilent, not_done}
 use Rattle.papaya_lookup.proofs.Driving.{can_bury}
@@ -252,7 +253,7 @@ module _ {K V S H F : Type 0} (eq : K → K → Bool) (input : K → List (List 
           -- it was buried
           buried : (found == old) ≡ true → RemovingOn log' (record x { call = record x.call { taken = pair; put = None } }) f (Some Exchanged)
           buried is = goes_on log' pre (record x.call { taken = pair; put = None }) Exchanged refl tt (λ cause e. cc e) (Ask_exchange (Slot t i) old new) tries tt
-              (exchanged eq input build write finish classes respects b matches query lawful None name begun log log' m x.call.table x.call.last x.call.kept [] x.call.taken x.call.put x.call.fresh r.calling t i old new found None pair tries s (λ q none. absurd (cc none)) is)
+              (exchanged eq input build write finish classes respects b matches query lawful None name begun log log' m x.call.table x.call.last x.call.kept [] x.call.taken x.call.put x.call.fresh r.calling t i old new found None pair tries s (λ q none. absurd (cc none)) (λ claim q none. absurd (cc none)) is)
 
           -- it was not
           not_buried : (found == old) ≡ false → RemovingOn log' (record x { call = record x.call { last = or_last pair x.call.last } }) f (Some (Found_instead found))

@@ -21,7 +21,7 @@ use Rattle.papaya_rests.proofs.RestsHeld.{ended_in, machine_replies}
 use Rattle.papaya_book.specs.declared.rule.entry.Begun.{Begun}
 use Rattle.papaya_book.specs.declared.rule.entry.Event.{Event}
 use Rattle.papaya_change.specs.declared.removal.Removal.{Removal}
-use Rattle.papaya_change.specs.Changing.{HasChanged}
+use Rattle.papaya_change.specs.Changing.{HasChanged, HasItsKey}
 use Rattle.papaya_lookup.specs.History.{Change, changes_of, history_of, key_of}
 use Rattle.papaya_book.specs.Logs.{Member, Stored, exchanges_of, pair_named}
 use Rattle.papaya_book.specs.declared.rule.entry.Named.TheVariants.{Pair}

@@ -1,5 +1,6 @@
 -- An insertion that is made at once in place of a pair: one of that pair's key is logged and put in, and its machine, which nothing runs, goes on so.
-use Rattle.std.proofs.Common.{◌≡◌, inl, inr, ⊎_elim, ℕ, ◌<◌, ◌==◌, ◌&&◌, eq-eqb, Bool, true, false, zero, suc, MatchOption, Option, None, Some, List, [], ◌∷◌, ◌++◌, append-nil, length, refl, sym, ap, ◌∙◌, subst}
+use Rattle.std.proofs.Common.{◌≡◌, inl, inr, ⊎_elim, ℕ, ◌<◌, ◌==◌, ◌&&◌, eq-eqb, Bool, true, false, if◌then◌else◌, MatchOption, Option, None, Some, List, [], ◌∷◌, ◌++◌, append-nil, length, refl, sym, ap, ◌∙◌, subst}
+use Rattle.std.proofs.lemmas.Bool.{ne_eqb}
 use Rattle.std.specs.Cmp.{IsEquivalence}
 use mathlib.Core.List.{IsPrefix}
 use denote.Bor.{Bor}
@@ -7,17 +8,17 @@ use Rattle.logbook.specs.Pages.{Book}
 use Rattle.papaya_words.specs.Word.{kind_of, live_word, pair_of}
 use Rattle.papaya_words.specs.declared.word.Kind.TheVariants as kinds
 use Rattle.papaya_ask.specs.declared.ask.At.TheVariants.{Slot}
-use Rattle.papaya_ask.specs.declared.ask.Ask.TheVariants.{MakePairOf, MakeValue, Exchange as Ask_exchange}
+use Rattle.papaya_ask.specs.declared.ask.Ask.TheVariants.{MakeKey, MakePairOf, MakeValue, Exchange as Ask_exchange}
 use Rattle.papaya_ask.specs.declared.ask.Answer.TheVariants.{Exchanged, Made as Made_number}
 use Rattle.papaya_ask.specs.declared.ask.StepKind.{StepKind}
 use Rattle.papaya_ask.specs.declared.ask.StepKind.TheVariants as steps
 use Rattle.papaya_ask.specs.declared.call.Reply.TheVariants.{Replaced}
 use Rattle.papaya_ask.specs.declared.search.Place.{Place}
-use Rattle.papaya_call.specs.declared.machine.State.TheVariants.{Writing, Ended}
+use Rattle.papaya_call.specs.declared.machine.State.TheVariants.{Writing, Counting, Ended}
 use Rattle.papaya_call.specs.declared.made.Made.{Made}
 use Rattle.papaya_call.specs.declared.write.Write.{Write}
-use Rattle.papaya_call.specs.Made.{nothing_made}
-use Rattle.papaya_call.specs.Write.{made_of}
+use Rattle.papaya_call.specs.Made.{nothing_made, of_grown, own_grown}
+use Rattle.papaya_call.specs.Write.{claimed_by, made_of, made_to_write}
 use Rattle.papaya_chain.specs.declared.ask.Answer.TheVariants as answers
 use Rattle.papaya_chain.specs.declared.ask.Ask.TheVariants.{Call}
 use Rattle.papaya_chain.specs.declared.machine.Machine.{Machine}
@@ -48,8 +49,7 @@ use Rattle.papaya_change.proofs.Written.{own_query}
 
 -- a live word is no empty one
 pub live_full : (word : ℕ) → kind_of word ≡ kinds.Live → (word == 0) ≡ false
-live_full zero live = absurd (cc live)
-live_full (suc n) live = refl
+live_full word live = ne_eqb word 0 (λ e. let z : kind_of 0 ≡ kinds.Live = subst (λ (n : ℕ). kind_of n ≡ kinds.Live) e live in cc z)
 
 module _ {K V S H : Type 0} (eq : K → K → Bool) (input : K → List (List ℕ)) (build : S → H) (write : H → List ℕ → H) (finish : H → ℕ) (classes : IsEquivalence eq) (respects : (x y : K) → eq x y ≡ true → input x ≡ input y)
     (b : Begun K V S) (name : Book) (key : K) (begun : List (Event K V S)) where
@@ -112,10 +112,10 @@ module _ {K V S H : Type 0} (eq : K → K → Bool) (input : K → List (List �
       has_value = record none { valued = true }
 
       asks_value : ask_of (writes none) ≡ Call MakeValue
-      asks_value = rw full refl
+      asks_value = rw full (ap (λ (z : Bool). Call (if z then MakeKey else MakeValue)) full)
 
       to_value : after (writes none) (answers.Call (Made_number 0)) ≡ writes has_value
-      to_value = rw full refl
+      to_value = rw full (ap (λ (z : Bool). writes (made_to_write (if z then own_grown false false none else of_grown false none) target 0)) full)
 
       valued : Under log (writes has_value) (Some lent) r.2 [] None None
       valued =
@@ -132,10 +132,13 @@ module _ {K V S H : Type 0} (eq : K → K → Bool) (input : K → List (List �
       has_pair = record has_value { of = Some (made_of target q.index) }
 
       asks_pair : ask_of (writes has_value) ≡ Call (MakePairOf (pair_of word))
-      asks_pair = rw full refl
+      asks_pair = rw full (ap (λ (z : Bool). Call (if z then MakeKey else MakePairOf (pair_of word))) full)
 
       to_pair : after (writes has_value) (answers.Call (Made_number q.index)) ≡ writes has_pair
-      to_pair = rw full refl
+      to_pair =
+          rw full
+          (ap (λ (z : Bool). writes (made_to_write (if z then own_grown false true has_value else of_grown true has_value) target q.index)) full
+          ∙ ap (λ (z : Bool). writes (if z then record has_value { own = Some q.index } else has_pair)) full)
 
       of_met : (o : Stored K V) → r.2 ≡ Some o → key_of q ≡ key_of o
       of_met o e = let both : Some p ≡ Some o = sym last_is ∙ e in let one : p ≡ o = cc both in key_is ∙ ap key_of one
@@ -145,7 +148,7 @@ module _ {K V S H : Type 0} (eq : K → K → Bool) (input : K → List (List �
           subst (λ (m : Machine). Under log m (Some lent) r.2 (q ∷ []) None None) to_pair
           (quiet eq input build write finish classes respects b (eq key) (input key) query (Some key) name begun log log ([], append-nil log) valued.lawful (writes has_value) (Some lent) r.2 None [] None None None valued (MakePairOf (pair_of word)) asks_pair (Made_number q.index) r.2 (q ∷ []) (Some lent) None
           (record {
-            told = inr (q, λ o e f. ap (λ z. Some z) (of_met o e), refl, refl, refl);
+            told = inr (q, λ o e f. ap (λ z. Some z) (of_met o e), (refl, refl, refl));
             same = refl;
             busy = λ z. z;
             brings = barren eq input build write finish classes respects b (eq key) (input key) query (Some key) name begun log log ([], append-nil log) valued.lawful (writes has_value) (Some lent) r.2 None [] None None None valued (MakePairOf (pair_of word)) asks_pair tt (Made_number q.index) None;
@@ -162,7 +165,7 @@ module _ {K V S H : Type 0} (eq : K → K → Bool) (input : K → List (List �
       serves_there = rw (full, same_place) refl
 
       replaces : kind_of_ask m ≡ Some steps.Replace
-      replaces = rw (full, same_place) refl
+      replaces = rw (full, same_place) (ap (λ (z : Bool). Some (if z then steps.Claim else steps.Replace)) full)
 
       -- the slot is one of the table
       pub slot_there : IsTable log at.table table × (at.probe.i < length table.slots)
@@ -191,7 +194,7 @@ module _ {K V S H : Type 0} (eq : K → K → Bool) (input : K → List (List �
         ends = insertion_at h b.mode 1 has_pair (Ended (Replaced (pair_of word) q.index))
 
         to_end : after m (answers.Call Exchanged) ≡ ends
-        to_end = rw (full, same_place) refl
+        to_end = rw (full, same_place) (ap (λ (z : Bool). insertion_at h b.mode 1 has_pair (if z then Counting (claimed_by target q.index) else Ended (Replaced (pair_of word) q.index))) full)
 
         pub ended : Under log' ends (Some lent) r.2 (q ∷ []) before (Some q)
         ended =

@@ -21,7 +21,8 @@ use Rattle.papaya_call.specs.declared.machine.State.{State}
 use Rattle.papaya_call.specs.declared.machine.State.TheVariants.{Making, Searching, Writing}
 use Rattle.papaya_call.specs.Compute.{nothing}
 use Rattle.papaya_call.specs.Made.{nothing_made}
-use Rattle.papaya_call.specs.Machine.{goes_as, replaces, started}
+use Rattle.papaya_call.specs.Machine.{goes_as, replaces}
+use Rattle.papaya_chain.specs.Machine.{started}
 use Rattle.papaya_law.specs.Invariant.{named}
 use Rattle.papaya_rests.specs.Told.{or_last}
 use Rattle.papaya_rests.proofs.LoadsLeft.{chosen}
@@ -51,7 +52,7 @@ use Rattle.papaya_change.proofs.Written.{own_query}
 abbrev pub led_by : ResizeMode → Seen → State
 led_by mode seen = goes_as (Insert true) mode nothing seen
 
-module _ {K V : Type 0} where
+module _ (K V : Type 0) where
   abbrev Left : Seen → ℕ
   Left seen = left_to {K = K} {V = V} (turn_of seen)
 
@@ -89,37 +90,37 @@ module _ {K V : Type 0} where
   fewer_yes at word false low = fewer_on at low
 
   -- a place that is looked at next is one of the search
-  within_on : (search : Search) → IsSeen (On search) → (next : Place) → turn_of {K = K} {V = V} (On search) ≡ Next next → IsWithin next
+  within_on : (goes : Search) → IsSeen (On goes) → (next : Place) → turn_of {K = K} {V = V} (On goes) ≡ Next next → IsWithin next
   within_on (Looking at) seen next e = let is : at ≡ next = cc e in subst IsWithin is seen
-  within_on search seen next e = absurd (cc e)
+  within_on goes seen next e = absurd (cc e)
 
   pub within_next : (seen : Seen) → IsSeen seen → (next : Place) → turn_of {K = K} {V = V} seen ≡ Next next → IsWithin next
-  within_next (On search) is next e = within_on search is next e
+  within_next (On goes) is next e = within_on goes is next e
   within_next seen is next e = absurd (cc e)
 
   -- where a turn leads that met no pair, the search leads the machine
-  led_on : (mode : ResizeMode) (search : Search) (state : State) → led_to (turn_of {K = K} {V = V} (On search)) ≡ Some state → led_by mode (On search) ≡ state
+  led_on : (mode : ResizeMode) (goes : Search) (state : State) → led_to (turn_of {K = K} {V = V} (On goes)) ≡ Some state → led_by mode (On goes) ≡ state
   led_on mode (Looking at) state e = cc e
-  led_on mode search state e = absurd (cc e)
+  led_on mode goes state e = absurd (cc e)
 
   pub led_so : (mode : ResizeMode) (seen : Seen) (state : State) → led_to (turn_of {K = K} {V = V} seen) ≡ Some state → led_by mode seen ≡ state
-  led_so mode (On search) state e = led_on mode search state e
+  led_so mode (On goes) state e = led_on mode goes state e
   led_so mode (Seen_empty at) state e = cc e
   led_so mode seen state e = absurd (cc e)
 
-  none_on : (search : Search) → met_by (turn_of {K = K} {V = V} (On search)) ≡ None
+  none_on : (goes : Search) → met_by (turn_of {K = K} {V = V} (On goes)) ≡ None
   none_on (Looking at) = refl
-  none_on search = refl
+  none_on goes = refl
 
   pub none_met : (seen : Seen) → met_by (turn_of {K = K} {V = V} seen) ≡ None
-  none_met (On search) = none_on search
+  none_met (On goes) = none_on goes
   none_met (Seen_empty at) = refl
   none_met seen = refl
 
 -- a pair was met only where its key matches
 pub here_same : (at : Place) (word : ℕ) (same : Bool) (a : Place) (w : ℕ) → at_yes (Comparing at word) same ≡ Here a w → same ≡ true
 here_same at word true a w e = refl
-here_same at word false a w e = absurd (chosen (λ s. s ≡ Here a w → Rattle.std.proofs.Common.⊥) (nat_lt at.probe.len at.limit) (On (Looking (next_place at))) (Over at.table) (λ _ f. cc f) (λ _ f. cc f) e)
+here_same at word false a w e = absurd (chosen (λ s. s ≡ Here a w → ⊥) (nat_lt at.probe.len at.limit) (On (Looking (next_place at))) (Over at.table) (λ _ f. cc f) (λ _ f. cc f) e)
 
 module _ {K V S H : Type 0} (eq : K → K → Bool) (input : K → List (List ℕ)) (build : S → H) (write : H → List ℕ → H) (finish : H → ℕ) (classes : IsEquivalence eq) (respects : (x y : K) → eq x y ≡ true → input x ≡ input y)
     (b : Begun K V S) (name : Book) (key : K) (begun : List (Event K V S)) where
@@ -160,7 +161,7 @@ module _ {K V S H : Type 0} (eq : K → K → Bool) (input : K → List (List �
   -- where a turn met no pair, it leads the machine on as the search does
   pub turned : (log : List (Event K V S)) (seen : Seen) (table : Sheet) → At log (led_by b.mode seen) None table → (state : State) → led_to (turn_of {K = K} {V = V} seen) ≡ Some state → At log state (met_by (turn_of {K = K} {V = V} seen)) table
   turned log seen table r state e =
-      subst (λ (o : Option (Stored K V)). At log state o table) (sym (none_met {K = K} {V = V} seen)) (subst (λ (s : State). At log s None table) (led_so {K = K} {V = V} b.mode seen state e) r)
+      subst (λ (o : Option (Stored K V)). At log state o table) (sym (none_met K V seen)) (subst (λ (s : State). At log s None table) (led_so K V b.mode seen state e) r)
 
   -- its hint was loaded, and looked at with the key's hash
   module _ (log log' : List (Event K V S)) (pre : IsPrefix log log') (at : Place) (table : Sheet) (r : At log (Searching (Looking at)) None table) (n : ℕ) (n_is : n ≡ h) (hint : ℕ) (told : IsSlotHint eq hash b at.table at.probe.i hint log') where

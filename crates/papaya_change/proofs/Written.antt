@@ -170,7 +170,7 @@ module _ {K V S H : Type 0} (eq : K → K → Bool) (input : K → List (List �
               (quiet eq input build write finish classes respects b (eq key) (input key) own_query (Some key) name begun log log ([], append-nil log) r.calling.lawful m w.call.table w.call.last w.call.kept made w.call.taken w.call.put w.call.fresh r.calling
               MakePair asks (Made_number q.index) w.call.last (q ∷ made) w.call.table w.call.fresh
               (record {
-                told = inr (q, ap (λ z. Some z) is, refl, refl, refl);
+                told = inr (q, ap (λ z. Some z) is, (refl, refl, refl));
                 same = refl;
                 busy = λ z. z;
                 brings = barren eq input build write finish classes respects b (eq key) (input key) own_query (Some key) name begun log log ([], append-nil log) r.calling.lawful m w.call.table w.call.last w.call.kept made w.call.taken w.call.put w.call.fresh r.calling MakePair asks tt (Made_number q.index) w.call.fresh;
@@ -183,7 +183,7 @@ module _ {K V S H : Type 0} (eq : K → K → Bool) (input : K → List (List �
               (quiet eq input build write finish classes respects b (eq key) (input key) own_query (Some key) name begun log log ([], append-nil log) r.calling.lawful m w.call.table w.call.last w.call.kept made w.call.taken w.call.put w.call.fresh r.calling
               (MakePairOf n) asks (Made_number q.index) w.call.last (q ∷ made) w.call.table w.call.fresh
               (record {
-                told = inr (q, λ p e f. ap (λ z. Some z) (is p e), refl, refl, refl);
+                told = inr (q, λ p e f. ap (λ z. Some z) (is p e), (refl, refl, refl));
                 same = refl;
                 busy = λ z. z;
                 brings = barren eq input build write finish classes respects b (eq key) (input key) own_query (Some key) name begun log log ([], append-nil log) r.calling.lawful m w.call.table w.call.last w.call.kept made w.call.taken w.call.put w.call.fresh r.calling (MakePairOf n) asks tt (Made_number q.index) w.call.fresh;

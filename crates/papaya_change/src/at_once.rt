@@ -22,10 +22,10 @@ use crate::means::Means;
 use papaya_ask::ask::StepKind;
 use papaya_ask::search::{Place, Search, Seen};
 use papaya_book::book::gains::named_pair;
+use papaya_book::book::pairs::{KeyPart, ValuePart};
 use papaya_book::count::Shard;
 use papaya_book::keyed::Hashed;
 use papaya_book::rule::own::{Given, Own};
-use papaya_book::book::pairs::{KeyPart, ValuePart};
 use papaya_book::table::Table;
 use papaya_book::window::Window;
 use papaya_call::write::Write;
@@ -259,7 +259,7 @@ fn replace_at<'a, R: Wait, K: Hash + Eq + Drop, V: Drop, S: BuildHasher>(
     ensures sees { Sees window.old window.new }
     ensures lawful { IsLawful window.new }
     ensures put { IfOk result (λ answer. HasWritten window.old window.new key value
-        table.now (MetPair met.entry) answer) }
+        table.now (MetPair met) answer) }
     ensures refused { IfErr result (λ refused. IsMemoryCapacityOrLimit refused) }
     ensures crowded { result ≡ Err Refused.Capacity → HasNoRoom means.now.initial
         (tables_of window.new.sight.log) given.new.done }

@@ -6,7 +6,7 @@ ghost use Rattle.papaya_book.specs.declared.rule.entry.Named.TheVariants.{Pair a
 ghost use Rattle.papaya_change.specs.Doing.{Answers, has_changed, was_made};
 ghost use Rattle.papaya_book.specs.Limits.{HasNoRoom, IsSpent, tables_of};
 ghost use Rattle.papaya_change.specs.Insertions.{CanInsert, HasPut, HasPutSince, Inserts};
-ghost use Rattle.std.specs.Prelude.{◌≡◌, ◌<◌, ◌^◌, false, is_ok, None, Some, Err, IfErr, IfOk};
+ghost use Rattle.std.specs.Prelude.{◌≡◌, ℕ, ◌<◌, ◌^◌, false, true, is_ok, None, Some, Err, IfErr, IfOk};
 ghost use Rattle.std.specs.Int.{IsPowerOfTwo};
 ghost use Rattle.papaya_call.specs.Machine.{ask_of as call_ask_of};
 ghost use Rattle.papaya_chain.specs.Machine.{IsStanding, ask_of};
@@ -23,11 +23,11 @@ use crate::means::Means;
 use crate::writing::Writer;
 use papaya_ask::ask::{Answer, Ask as CallAsk, At};
 use papaya_ask::call::{Reply, Task};
+use papaya_book::book::pairs::{KeyPart, ValuePart};
 use papaya_book::count::Shard;
 use papaya_book::keyed::Hashed;
 use papaya_book::rule::entry::Stored;
 use papaya_book::rule::own::{Given, Own};
-use papaya_book::book::pairs::{KeyPart, ValuePart};
 use papaya_book::window::Window;
 use papaya_call::made::Made;
 use papaya_call::write::Write;
@@ -102,9 +102,12 @@ impl<'a, K: Hash + Eq + Drop, V: Drop, S: BuildHasher> Insertion<'a, K, V, S> {
         ensures machine { self.new.writer.call.machine ≡ self.old.writer.call.machine }
         ensures inserts { Inserts window.old self.old window.new self.new (Some result) }
     {
-        let made = if words.0 == 0 { &self.own } else { &self.of };
-        let Some(made) = made else { unreachable!() };
-        self.writer.put(number, place, words, made, window)
+        if words.0 == 0 {
+            let Some(own) = &self.own else { unreachable!() };
+            return self.writer.put(number, place, words, own, window);
+        }
+        let Some(of) = &self.of else { unreachable!() };
+        self.writer.put(number, place, words, of, window)
     }
 
     /// The answer to what the machine asks. None where it has replied.

@@ -20,8 +20,8 @@ ghost use Rattle.papaya_book.specs.declared.rule.entry.Named.TheVariants.{Pair a
 
 use crate::driver::Driver;
 use papaya_ask::ask::{Answer, At};
-use papaya_book::keyed::Keyed;
 use papaya_book::book::pairs::{KeyPart, ValuePart};
+use papaya_book::keyed::Keyed;
 use papaya_book::rule::entry::Stored;
 use papaya_book::window::Window;
 use papaya_words::limits::MAX_LOG_LEN;
