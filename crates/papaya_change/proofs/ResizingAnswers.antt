@@ -207,6 +207,7 @@ module _ {K V S H : Type 0} (eq : K → K → Bool) (input : K → List (List �
       hand (Aborted i) e left told is = hand_kept log pre (answers.Call told) (not_made told is) h' left
       hand (places.Done i j) e left told is = hand_kept log pre (answers.Call told) (not_made told is) h' left
       hand (Slot i x) e left told is = hand_kept log pre (answers.Call told) (not_made told is) h' left
+      hand places.Made e left told is = hand_kept log pre (answers.Call told) (not_made told is) h' left
 
       placed_marked : (kind : Option StepKind) → IsPlaced b (Some name) (pair_named (marked_or kind pair h.last))
       placed_marked (Some kinds.Mark) = t.placed

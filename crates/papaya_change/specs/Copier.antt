@@ -7,7 +7,7 @@ use Rattle.papaya_words.specs.declared.probe.Refused.{Refused}
 use Rattle.papaya_words.specs.declared.probe.Refused.TheVariants.{Capacity, Memory}
 use Rattle.papaya_ask.specs.Search.{IsSize}
 use Rattle.papaya_ask.specs.declared.ask.At.{At}
-use Rattle.papaya_ask.specs.declared.ask.At.TheVariants.{Root, Next, Aborted, Done, Slot}
+use Rattle.papaya_ask.specs.declared.ask.At.TheVariants.{Root, Next, Aborted, Done, Slot, Made as Made_word}
 use Rattle.papaya_ask.specs.declared.ask.Answer.TheVariants.{Exchanged, Found, Made, Ok, Refused as Was_refused, Size, Word, Yes}
 use Rattle.papaya_ask.specs.declared.ask.StepKind.{StepKind}
 use Rattle.papaya_ask.specs.declared.ask.StepKind.TheVariants as kinds
@@ -51,6 +51,7 @@ IsReached log (Done t chunk) = (w : Where Sheet) × (table_in (steps_of log) t �
     × (chunk < length w.value.done)
 IsReached log (Slot t x) = (w : Where Sheet) × (table_in (steps_of log) t ≡ Some w)
     × (x < length w.value.slots)
+IsReached log Made_word = ⊥
 
 -- a pair is held, and lies in the logs
 pub record IsHeld {K V S : Type 0} (b : Begun K V S) (name : Book) (held : Option (Stored K V))

@@ -166,6 +166,7 @@ impl<K: Hash + Eq, V, S: BuildHasher> Copier<K, V, S> {
                 self.tell(pair);
                 word
             }
+            At::Made => unreachable!(),
         }
     }
 
@@ -250,7 +251,7 @@ impl<K: Hash + Eq, V, S: BuildHasher> Copier<K, V, S> {
     {
         match at {
             At::Root => (window.copy_root(kind, &self.kept, words), None),
-            At::Next(_) => unreachable!(),
+            At::Next(_) | At::Made => unreachable!(),
             At::Aborted(number) => {
                 let table = window.table(number);
                 let found = window.copy_aborted(table, number, kind, &self.kept, words);
