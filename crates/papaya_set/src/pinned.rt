@@ -237,7 +237,7 @@ impl<'a, K: Hash + Eq + Drop, S: BuildHasher> HashSetRef<'a, K, S> {
         ensures seen { IsPrefix self.now.seen (history_of result.log) }
         ensures put { IfOk result.answer (IsInsertedBetween K.eq key self.now.seen
             (history_of result.log)) }
-        ensures refused { IfErr result.answer (IsPlainRefusal self.now.set.begun.limit) }
+        ensures refused { IfErr result.answer (IsPlainRefusal self.now.map.begun.limit) }
     {
         let mut pass = self.keys.begun(self.keys.map().number());
         match self.keys.insert_as(rt, key, (), &mut pass) {
@@ -257,7 +257,7 @@ impl<'a, K: Hash + Eq + Drop, S: BuildHasher> HashSetRef<'a, K, S> {
             (rule_of ⟦<Law<K, (), S> as Rule<Event<K, (), S>, Named<K, ()>>>⟧) self.now K.eq
             (λ h. IfOk result (IsInsertedBetween K.eq key self.now.seen h))) }
         ensures put { IfOk result (IsInserted K.eq key) }
-        ensures refused { IfErr result (IsPlainRefusal self.now.set.begun.limit) }
+        ensures refused { IfErr result (IsPlainRefusal self.now.map.begun.limit) }
     {
         let Told { answer, marker: _ } = self.insert_told(rt, key);
         answer

@@ -1,5 +1,5 @@
 //! The set that threads share.
-ghost use Rattle.std.specs.Prelude.{◌≡◌, IfErr, IfOk};
+ghost use Rattle.std.specs.Prelude.{◌≡◌, IfErr, IfOk, None};
 ghost use Rattle.papaya_words.specs.declared.limits.TheConstants.{DEFAULT_CHUNK, DEFAULT_SHARDS};
 ghost use Rattle.papaya_keys.specs.Sizes.{IsAllowed, IsSizeRefusal};
 ghost use Rattle.papaya_map.specs.Fixed.{IsFor};
