@@ -364,8 +364,8 @@ impl<K: Hash + Eq + Drop, S: BuildHasher> HashSet<K, S> {
         }
     }
 
-    /// Stores a key, and answers whether it was absent: `insert` of 0.2.5. As its text
-    /// says, an equal key that is stored stays. Refused for a wrong guard, and as
+    /// Stores a key, and answers whether it was absent: `insert` of 0.2.5. As its text says, an equal
+    /// key that is stored stays. Refused for a wrong guard, and as
     /// [`HashSetRef::insert`](crate::set::HashSetRef::insert).
     pub fn insert<R: Wait, G: Guard>(&self, rt: &R, key: K, guard: &G) -> Result<bool, Refused>
         ensures* own { sem 𝓛 (of_its_history (EventOf K.row unit-field.row S.row).coded.code

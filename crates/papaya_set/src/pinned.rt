@@ -246,12 +246,12 @@ impl<'a, K: Hash + Eq + Drop, S: BuildHasher> HashSetRef<'a, K, S> {
         }
     }
 
-    /// Stores a key, and answers whether it was absent: `insert` of 0.2.5. As its text
-    /// says, an equal key that is stored stays. Of threads that store equal keys at once just one is answered
-    /// true.
+    /// Stores a key, and answers whether it was absent: `insert` of 0.2.5. As its text says, an equal
+    /// key that is stored stays. Of threads that store equal keys at once just one is answered true.
     ///
     /// `Refused::Memory` where a growth was refused. `Refused::Capacity` where a log is full, or a
-    /// further table would be too long. Refused, it changes nothing.
+    /// further table would be too long. `Refused::Limit` where the set has a limit on keys, and as
+    /// many were logged, or were about to be. Refused, it changes nothing.
     pub fn insert<R: Wait>(&self, rt: &R, key: K) -> Result<bool, Refused>
         ensures* own { sem 𝓛 (of_its_history (EventOf K.row unit-field.row S.row).coded.code
             (rule_of ⟦<Law<K, (), S> as Rule<Event<K, (), S>, Named<K, ()>>>⟧) self.now K.eq

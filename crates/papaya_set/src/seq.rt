@@ -193,8 +193,8 @@ impl<K: Hash + Eq, S: BuildHasher> HashSet<K, S> {
 }
 
 impl<K: Hash + Eq + Drop, S: BuildHasher> HashSet<K, S> {
-    /// Stores a key, and answers whether it was absent: `insert` of 0.2.5. As its text
-    /// says, an equal key that is stored stays.
+    /// Stores a key, and answers whether it was absent: `insert` of 0.2.5. As its text says, an equal
+    /// key that is stored stays.
     ///
     /// Refused as [`HashMap::insert`]. The set is as it was then, and the key is dropped, at once
     /// or with the set.
