@@ -22,8 +22,9 @@ use std::marker::Model;
 /// A hash set for one caller: `papaya::HashSet` for where a `&mut` will do, as
 /// [`papaya_seq::seq::HashMap`] is for the map.
 ///
-/// Contracts see it as the map of its keys to unit values, so its clauses are the map's. Keys that
-/// were removed or replaced stay in the log, until the set is dropped.
+/// Contracts see it as the map of its keys to unit values, so its clauses are the map's. A key that
+/// was removed stays in the log, and so does what an insertion of an equal key logged, until
+/// [`HashSet::reclaim`], or until the set is dropped.
 #[derive(Drop)]
 pub struct HashSet<K: Hash + Eq, S: BuildHasher = BuildHasherDefault<FoldHasher>> {
     pub(crate) map: HashMap<K, (), S>,

@@ -14,8 +14,8 @@ use std::sync::Wait;
 /// A set that threads share: `HashSet` of 0.2.5.
 ///
 /// Contracts see it as the map of its keys to unit values, and of that what is fixed when it is
-/// made, so its clauses are the map's. Keys that were removed or replaced stay in the log, until the
-/// set is dropped.
+/// made, so its clauses are the map's. A key that was removed stays in the log, and so does what an
+/// insertion of an equal key logged, until [`HashSet::reclaim`], or until the set is dropped.
 #[derive(Drop)]
 pub struct HashSet<K: Hash + Eq, S: BuildHasher = BuildHasherDefault<FoldHasher>> {
     pub(crate) map: HashMap<K, (), S>,
