@@ -1,10 +1,10 @@
 //! The builder of a set, which asks for its parts one by one.
-ghost use Rattle.std.specs.Prelude.{◌≡◌, [], IfErr, IfOk};
+ghost use Rattle.std.specs.Prelude.{◌≡◌, [], IfErr, IfOk, None, Some};
 ghost use Rattle.std.specs.Arc.{arc_value};
 ghost use Rattle.papaya_words.specs.declared.limits.TheConstants.{DEFAULT_CHUNK, DEFAULT_SHARDS};
 ghost use Rattle.papaya_keys.specs.Sizes.{IsAllowed, IsSizeRefusal};
 ghost use Rattle.papaya_timeline.specs.Content.{content};
-ghost use Rattle.papaya_timeline.specs.New.{IsNew};
+ghost use Rattle.papaya_timeline.specs.New.{IsNewLimited};
 ghost use Rattle.papaya_seq.specs.Map.{core_of};
 ghost use Rattle.papaya_map.specs.Fixed.{IsFor};
 
@@ -29,6 +29,7 @@ pub struct HashSetBuilder<K, S = BuildHasherDefault<FoldHasher>> {
     capacity: usize,
     mode: ResizeMode,
     shards: usize,
+    limit: Option<u64>,
     keys: PhantomData<K>,
 }
 
@@ -43,17 +44,20 @@ impl<K, S> Model for HashSetBuilder<K, S> {
       capacity = b.capacity;
       mode = b.mode;
       shards = b.shards;
+      limit = b.limit;
     } };
 }
 
 impl<K: Hash + Eq> HashSet<K, BuildHasherDefault<FoldHasher>> {
     /// A builder of a set for no keys, which resizes as [`ResizeMode::default`] says, counts its keys
-    /// over [`DEFAULT_SHARDS`] shards, and has a collector of number 0: `builder` of 0.2.5.
+    /// over [`DEFAULT_SHARDS`] shards, has no limit on the keys that it logs, and has a collector of
+    /// number 0: `builder` of 0.2.5.
     pub fn builder() -> HashSetBuilder<K, BuildHasherDefault<FoldHasher>>
         ensures collector { result.collector ≡ 0 }
         ensures capacity { result.capacity ≡ 0 }
         ensures mode { result.mode ≡ ResizeMode.Incremental DEFAULT_CHUNK }
         ensures shards { result.shards ≡ DEFAULT_SHARDS }
+        ensures limit { result.limit ≡ None }
     {
         HashSetBuilder {
             hasher: BuildHasherDefault::new(),
@@ -61,6 +65,7 @@ impl<K: Hash + Eq> HashSet<K, BuildHasherDefault<FoldHasher>> {
             capacity: 0,
             mode: ResizeMode::default(),
             shards: DEFAULT_SHARDS,
+            limit: None,
             keys: PhantomData,
         }
     }
@@ -75,6 +80,7 @@ impl<K, S: Drop> HashSetBuilder<K, S> {
           capacity = self.capacity;
           mode = self.mode;
           shards = self.shards;
+          limit = self.limit;
         } }
     {
         let HashSetBuilder {
@@ -83,6 +89,7 @@ impl<K, S: Drop> HashSetBuilder<K, S> {
             capacity,
             mode,
             shards,
+            limit,
             keys,
         } = self;
         HashSetBuilder {
@@ -91,6 +98,7 @@ impl<K, S: Drop> HashSetBuilder<K, S> {
             capacity,
             mode,
             shards,
+            limit,
             keys,
         }
     }
@@ -105,6 +113,7 @@ impl<K, S> HashSetBuilder<K, S> {
           capacity = self.capacity;
           mode = self.mode;
           shards = self.shards;
+          limit = self.limit;
         } }
     {
         HashSetBuilder { collector, ..self }
@@ -120,6 +129,7 @@ impl<K, S> HashSetBuilder<K, S> {
           capacity = self.capacity;
           mode = self.mode;
           shards = self.shards;
+          limit = self.limit;
         } }
     {
         let number = collector.number();
@@ -134,6 +144,7 @@ impl<K, S> HashSetBuilder<K, S> {
           capacity = capacity;
           mode = self.mode;
           shards = self.shards;
+          limit = self.limit;
         } }
     {
         HashSetBuilder { capacity, ..self }
@@ -147,6 +158,7 @@ impl<K, S> HashSetBuilder<K, S> {
           capacity = self.capacity;
           mode = mode;
           shards = self.shards;
+          limit = self.limit;
         } }
     {
         HashSetBuilder { mode, ..self }
@@ -161,9 +173,29 @@ impl<K, S> HashSetBuilder<K, S> {
           capacity = self.capacity;
           mode = self.mode;
           shards = shards;
+          limit = self.limit;
         } }
     {
         HashSetBuilder { shards, ..self }
+    }
+
+    /// Asks for a limit on the keys that the set logs, as
+    /// [`papaya_map::builder::HashMapBuilder::pair_limit`] does for a map: one that was removed
+    /// counts until `reclaim`, and so does one that was inserted where an equal one was stored.
+    pub fn pair_limit(self, keys: u64) -> HashSetBuilder<K, S>
+        ensures { result ≡ record {
+          hasher = self.hasher;
+          collector = self.collector;
+          capacity = self.capacity;
+          mode = self.mode;
+          shards = self.shards;
+          limit = Some keys;
+        } }
+    {
+        HashSetBuilder {
+            limit: Some(keys),
+            ..self
+        }
     }
 }
 
@@ -171,7 +203,7 @@ impl<K: Hash + Eq + Drop, S: BuildHasher + Drop> HashSetBuilder<K, S> {
     /// The set: `build` of 0.2.5. Refused as [`HashSet::with_parts`].
     pub fn build<R: Wait>(self, rt: &R, alloc: Global) -> Result<HashSet<K, S>, Refused>
         ensures ok { IfOk result (λ set. IsAllowed self.mode self.capacity self.shards) }
-        ensures made { IfOk result (IsFor self.mode self.capacity self.shards) }
+        ensures made { IfOk result (IsFor self.mode self.capacity self.shards self.limit) }
         ensures hasher { IfOk result (λ set. set.begun.hasher ≡ self.hasher) }
         ensures collector { IfOk result (λ set. set.collector ≡ self.collector) }
         ensures err { IfErr result (λ e. IsSizeRefusal self.mode self.capacity self.shards e) }
@@ -182,15 +214,19 @@ impl<K: Hash + Eq + Drop, S: BuildHasher + Drop> HashSetBuilder<K, S> {
             capacity,
             mode,
             shards,
+            limit,
             keys: _,
         } = self;
-        let map = HashMap::builder()
+        let builder = HashMap::builder()
             .hasher(hasher)
             .collector(collector)
             .capacity(capacity)
             .resize_mode(mode)
-            .shards(shards)
-            .build(rt, alloc)?;
+            .shards(shards);
+        let map = match limit {
+            Some(keys) => builder.pair_limit(keys).build(rt, alloc)?,
+            None => builder.build(rt, alloc)?,
+        };
         Ok(HashSet { map })
     }
 
@@ -198,7 +234,7 @@ impl<K: Hash + Eq + Drop, S: BuildHasher + Drop> HashSetBuilder<K, S> {
     /// Refused as [`seq::HashSet::with_parts`].
     pub fn build_seq(self, alloc: Global) -> Result<seq::HashSet<K, S>, Refused>
         ensures ok { IfOk result (λ set. IsAllowed self.mode self.capacity self.shards
-            × IsNew {A = Unit {0}} self.mode self.capacity self.shards self.hasher
+            × IsNewLimited {A = Unit {0}} self.mode self.capacity self.shards self.hasher self.limit
             (core_of set)) }
         ensures empty { IfOk result (λ set. content K.eq set.store ≡ []) }
         ensures err { IfErr result (IsSizeRefusal self.mode self.capacity self.shards) }
@@ -208,9 +244,10 @@ impl<K: Hash + Eq + Drop, S: BuildHasher + Drop> HashSetBuilder<K, S> {
             capacity,
             mode,
             shards,
+            limit,
             ..
         } = self;
-        seq::HashSet::with_parts(alloc, mode, capacity, shards, hasher)
+        seq::HashSet::with_parts(alloc, mode, capacity, shards, hasher, limit)
     }
 }
 
