@@ -1,4 +1,4 @@
-use Rattle.std.proofs.Common.{◌≡◌, ◌<◌, ◌^◌, inl, IfErr, IfOk, Option, None, Some, Result, Ok, Err, ◌∷◌, refl, sym, ap, ◌∙◌, rules, subst}
+use Rattle.std.proofs.Common.{◌≡◌, ◌<◌, ◌^◌, inl, IfErr, IfOk, Some, Result, Ok, Err, ◌∷◌, refl, sym, ◌∙◌, rules, subst}
 use Rattle.papaya_words.specs.declared.probe.Refused.TheVariants.{Capacity, Memory}
 use Rattle.papaya_ask.specs.declared.ask.Answer.TheVariants.{Made, Refused}
 use Rattle.papaya_book.specs.declared.book.pairs.KeyPart.TheVariants as keys
@@ -8,7 +8,7 @@ use Rattle.papaya_book.specs.Parts.{begun_of}
 use Rattle.papaya_book.specs.Rule.{IsPlaced}
 use Rattle.papaya_book.specs.declared.rule.entry.Named.TheVariants as names
 use Rattle.papaya_lookup.specs.History.{key_of}
-use Rattle.papaya_change.specs.Writing.{HasKey, HasValue, IsWriting, IsWritingOn}
+use Rattle.papaya_change.specs.Writing.{HasKey, HasValue, IsWritingOn}
 use Rattle.papaya_change.proofs.Written.{pair_made, pair_unmade, with_given}
 use Rattle.papaya_change.proofs.writing.Writer.log_pair.Goals as goal
 
