@@ -1,5 +1,5 @@
 -- An insertion that is made at once at an empty place: its pair is logged and claimed, and its machine, which nothing runs, goes on so.
-use Rattle.std.proofs.Common.{◌≡◌, inl, inr, ⊎_elim, ℕ, ◌<◌, ◌==◌, Bool, true, false, MatchOption, is_some, Option, None, Some, List, [], ◌∷◌, ◌++◌, append-nil, length, refl, sym, ap, ◌∙◌, subst}
+use Rattle.std.proofs.Common.{◌≡◌, inl, inr, ⊎_elim, ℕ, ◌<◌, ◌==◌, Bool, true, MatchOption, Option, None, Some, List, [], ◌∷◌, ◌++◌, append-nil, length, refl, sym, ap, ◌∙◌, subst}
 use Rattle.std.specs.Cmp.{IsEquivalence}
 use Rattle.std.specs.Prelude.{pos}
 use denote.Bor.{Bor}
@@ -7,7 +7,7 @@ use Rattle.logbook.specs.Pages.{Book}
 use Rattle.papaya_words.specs.Word.{hint_of, live_word, pair_of}
 use Rattle.papaya_ask.specs.declared.ask.At.TheVariants.{Slot}
 use Rattle.papaya_ask.specs.declared.ask.Ask.TheVariants.{MakeKey, MakePair, MakeValue}
-use Rattle.papaya_ask.specs.declared.ask.Answer.TheVariants.{Exchanged, Made as Made_number}
+use Rattle.papaya_ask.specs.declared.ask.Answer.TheVariants.{Made as Made_number}
 use Rattle.papaya_ask.specs.declared.ask.StepKind.TheVariants as steps
 use Rattle.papaya_ask.specs.declared.search.Place.{Place}
 use Rattle.papaya_call.specs.declared.machine.State.TheVariants.{Writing, Counting, Noting}
@@ -16,10 +16,7 @@ use Rattle.papaya_call.specs.declared.write.Claimed.{Claimed}
 use Rattle.papaya_call.specs.declared.write.Write.{Write}
 use Rattle.papaya_call.specs.Made.{nothing_made}
 use Rattle.papaya_call.specs.Write.{claimed_by}
-use Rattle.papaya_chain.specs.declared.ask.Answer.TheVariants as answers
 use Rattle.papaya_chain.specs.declared.machine.Machine.{Machine}
-use Rattle.papaya_chain.specs.Machine.{after}
-use Rattle.papaya_rests.specs.Rests.{change_in}
 use Rattle.papaya_book.specs.declared.rule.entry.Begun.{Begun}
 use Rattle.papaya_book.specs.declared.rule.entry.Event.{Event}
 use Rattle.papaya_book.specs.declared.rule.entry.Named.TheVariants as names
@@ -28,7 +25,7 @@ use Rattle.papaya_book.specs.Hashes.{hash_of}
 use Rattle.papaya_book.specs.Hinted.{IsSlotHint}
 use Rattle.papaya_book.specs.Logs.{Stored, exchanges_of}
 use Rattle.papaya_book.specs.Plays.{CanExchange}
-use Rattle.papaya_book.specs.Rule.{IsLawfulLog, IsPlaced}
+use Rattle.papaya_book.specs.Rule.{IsPlaced}
 use Rattle.papaya_book.specs.Sheets.{Sheet}
 use Rattle.papaya_lookup.specs.History.{Change, changes_of, history_of, key_of}
 use Rattle.papaya_lookup.proofs.Driving.{can_put}

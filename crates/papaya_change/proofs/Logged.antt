@@ -18,7 +18,7 @@ use Rattle.papaya_book.specs.declared.rule.entry.Begun.{Begun}
 use Rattle.papaya_book.specs.declared.rule.entry.Event.{Event}
 use Rattle.papaya_book.specs.declared.rule.entry.Named.TheVariants as names
 use Rattle.papaya_book.specs.declared.window.Window.{Window}
-use Rattle.papaya_book.specs.Logs.{Stored, exchanges_of, state_of}
+use Rattle.papaya_book.specs.Logs.{Stored, exchanges_of}
 use Rattle.papaya_book.specs.Rule.{IsLawfulLog, IsPlaced}
 use Rattle.papaya_book.specs.Windows.{Does}
 use Rattle.papaya_lookup.specs.Drivers.{own, past}

@@ -1,10 +1,9 @@
 -- The pairs that an insertion made stay as they are with each answer but one to an ask for a pair, which is made for the place of its write.
-use Rattle.std.proofs.Common.{◌≡◌, ◌⊎◌, ⊎_elim, ℕ, ◌==◌, nat_lt, Bool, true, false, cond, Option, None, Some, List, refl, sym, ap, ◌∙◌, subst}
+use Rattle.std.proofs.Common.{◌≡◌, ⊎_elim, ℕ, ◌==◌, nat_lt, Bool, true, false, cond, Option, None, Some, List, refl, sym, subst}
 use Rattle.std.proofs.lemmas.Bool.{cond_both}
 use Rattle.papaya_words.specs.Word.{pair_of}
 use Rattle.papaya_ask.specs.declared.ask.Answer.{Answer}
 use Rattle.papaya_ask.specs.declared.ask.Answer.TheVariants.{Word as Word_read, Exchanged, Found as Found_instead, Yes, Op, Size, Made as Made_number, Ok as Ok_done, Refused as Was_refused}
-use Rattle.papaya_ask.specs.declared.ask.Ask.{Ask}
 use Rattle.papaya_ask.specs.declared.ask.Ask.TheVariants.{MakePair, MakePairOf}
 use Rattle.papaya_ask.specs.declared.ask.OpKind.{OpKind}
 use Rattle.papaya_ask.specs.declared.ask.OpKind.TheVariants as ops
@@ -16,15 +15,14 @@ use Rattle.papaya_call.specs.declared.made.Grown.TheVariants.{On, Pair}
 use Rattle.papaya_call.specs.declared.made.Made.{Made}
 use Rattle.papaya_call.specs.declared.made.Number.{Number}
 use Rattle.papaya_call.specs.declared.made.Number.TheVariants.{Wanted, Free, Taken}
-use Rattle.papaya_call.specs.declared.made.Of.{Of}
 use Rattle.papaya_call.specs.declared.machine.Machine.{Machine}
 use Rattle.papaya_call.specs.declared.machine.State.{State as Stage}
 use Rattle.papaya_call.specs.declared.machine.State.TheVariants.{AtRoot, Making, Opening, Searching, Writing, Offering, Showing, Pairing, Putting, Burying, Counting, Noting, Uncounting, Leaving, Growing, Ended}
 use Rattle.papaya_call.specs.declared.write.Write.{Write}
 use Rattle.papaya_call.specs.Compute.{in_place_of}
-use Rattle.papaya_call.specs.Made.{answered, grown, grown_as, make_ask, number_ask, of_ask, of_grown, own_ask, own_grown, pair_ask, paired, taken_as, told, told_as, told_limit}
+use Rattle.papaya_call.specs.Made.{answered, grown, grown_as, number_ask, of_ask, of_grown, own_ask, own_grown, pair_ask, paired, taken_as, told, told_as, told_limit}
 use Rattle.papaya_call.specs.Machine.{after, ask_of, asks, made_at_exchanged, made_at_op, made_at_word, made_decided, made_in, made_to_pair, number_told, write_made, write_taken}
-use Rattle.papaya_call.specs.Write.{made_of, made_to_write, served_ask, serves, with_pair_at, write_ask, write_grown}
+use Rattle.papaya_call.specs.Write.{made_of, made_to_write, served_ask, serves, write_grown}
 use Rattle.papaya_chain.specs.declared.ask.Answer.TheVariants as answers
 use Rattle.papaya_chain.specs.declared.machine.Machine.{Machine as Chain}
 use Rattle.papaya_chain.specs.declared.machine.Phase.TheVariants.{Calling}

@@ -29,7 +29,7 @@ use Rattle.papaya_chain.specs.Resizer.{after, ask_of, follows_of, kind_of_ask}
 use Rattle.papaya_rests.specs.Copier.{HasWords, link_in_copying}
 use Rattle.papaya_chain_rests.specs.Resizers.{HasLink, IsResizeCause, IsStageTold, RestsStage, link_of}
 use Rattle.papaya_chain_rests.specs.Told.{Hands, IsCopyTold}
-use Rattle.papaya_chain_rests.proofs.LinkStates.{In, Of}
+use Rattle.papaya_chain_rests.proofs.LinkStates.{Of}
 use Rattle.papaya_chain_rests.proofs.ResizerRefusals.{resizer_why}
 use Rattle.papaya_chain_rests.proofs.ResizerRests.{stage_learns}
 use Rattle.papaya_law.specs.Exchange.{Exchange, State}

@@ -1,6 +1,6 @@
 -- The search of an insertion that is made at once: where each of its steps leads the machine that nothing runs.
-use Rattle.std.proofs.Common.{◌≡◌, inl, inr, ℕ, ◌<◌, ◌≤◌, ◌==◌, nat_lt, Bool, true, false, cond, if◌then◌else◌, MatchOption, Option, None, Some, List, [], length, refl, sym, ap, ◌∙◌, subst, arith}
-use Rattle.std.proofs.lemmas.Bool.{cond_both, ne_eqb}
+use Rattle.std.proofs.Common.{◌≡◌, inl, ℕ, ◌<◌, ◌≤◌, nat_lt, Bool, true, false, if◌then◌else◌, Option, None, Some, List, [], length, refl, sym, ap, ◌∙◌, subst, arith}
+use Rattle.std.proofs.lemmas.Bool.{ne_eqb}
 use Rattle.std.specs.Cmp.{IsEquivalence}
 use mathlib.Core.List.{IsPrefix}
 use denote.Bor.{Bor}
@@ -43,7 +43,6 @@ use Rattle.papaya_lookup.proofs.Readings.{IsQuery}
 use Rattle.papaya_lookup.proofs.Turning.{compared_look, read_hinted}
 use Rattle.papaya_change.specs.Changing.{IsCalling}
 use Rattle.papaya_change.specs.Seeking.{IsInsertingAt, insertion_at, led_to, left_at, left_to, met_by, turn_of}
-use Rattle.papaya_change.specs.declared.at_once.Turn.{Turn}
 use Rattle.papaya_change.specs.declared.at_once.Turn.TheVariants.{Next}
 use Rattle.papaya_change.proofs.Changing.{begins, compared, hint_table, hinted as hint_loaded, loads, sized, slot_table}
 use Rattle.papaya_change.proofs.Written.{own_query}

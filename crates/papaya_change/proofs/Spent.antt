@@ -1,7 +1,7 @@
 -- A call that was told that no number is left for a pair: the limit on pairs is spent.
-use Rattle.std.proofs.Common.{◌≡◌, ◌⊎◌, ⊎_elim, ℕ, Bool, ◌≤◌, MatchOption, Option, Some, List, sym, ap, ◌∙◌, subst, arith}
+use Rattle.std.proofs.Common.{◌≡◌, ⊎_elim, ℕ, Bool, ◌≤◌, MatchOption, Option, Some, List, sym, ◌∙◌, subst, arith}
 use Rattle.papaya_words.specs.declared.probe.Refused.{Refused as Cause}
-use Rattle.papaya_words.specs.declared.probe.Refused.TheVariants.{Capacity, Limit, Memory}
+use Rattle.papaya_words.specs.declared.probe.Refused.TheVariants.{Limit}
 use Rattle.papaya_ask.specs.declared.ask.Answer.{Answer}
 use Rattle.papaya_ask.specs.declared.ask.Answer.TheVariants.{Refused as Was_refused}
 use Rattle.papaya_call.specs.declared.machine.Machine.{Machine}
@@ -12,7 +12,7 @@ use Rattle.papaya_rests.specs.Rests.{IsAtLimit}
 use Rattle.papaya_book.specs.declared.rule.entry.Begun.{Begun}
 use Rattle.papaya_book.specs.declared.rule.entry.Event.{Event}
 use Rattle.papaya_book.specs.declared.rule.own.Given.{Given}
-use Rattle.papaya_book.specs.Limits.{IsFull, IsSpent}
+use Rattle.papaya_book.specs.Limits.{IsSpent}
 use Rattle.papaya_book.specs.Logs.{exchanges_of, setting_of, state_of}
 use Rattle.papaya_book.specs.Rule.{IsLawfulLog}
 use Rattle.papaya_change.specs.Writing.{IsUnsaid, TellsTaken}

@@ -1,5 +1,5 @@
 -- A call takes a number for a pair: it may wherever the count stands that it was told of, and after it tried to it rests again.
-use Rattle.std.proofs.Common.{◌≡◌, ◌⊎◌, inl, inr, ℕ, ◌+◌, ◌==◌, Bool, true, false, MatchBool, Option, None, Some, List, [], ◌∷◌, ◌++◌, refl, sym, ap, ◌∙◌, subst}
+use Rattle.std.proofs.Common.{◌≡◌, ℕ, ◌==◌, Bool, true, false, MatchBool, Option, None, Some, List, [], ◌∷◌, ◌++◌, refl, sym, ap, ◌∙◌, subst}
 use Rattle.std.specs.Cmp.{IsEquivalence}
 use mathlib.Core.List.{IsPrefix}
 use denote.Bor.{Bor}
@@ -8,7 +8,6 @@ use Rattle.logbook.specs.Pages.{Book}
 use Rattle.logbook.specs.declared.tokens.Pen.{Pen}
 use Rattle.papaya_ask.specs.declared.ask.At.TheVariants.{Made as Made_word}
 use Rattle.papaya_ask.specs.declared.ask.Ask.TheVariants.{Exchange as Ask_exchange}
-use Rattle.papaya_ask.specs.declared.ask.Answer.{Answer}
 use Rattle.papaya_ask.specs.declared.ask.Answer.TheVariants.{Exchanged, Found as Found_instead}
 use Rattle.papaya_ask.specs.declared.ask.StepKind.{StepKind}
 use Rattle.papaya_ask.specs.declared.ask.StepKind.TheVariants as kinds
@@ -18,7 +17,7 @@ use Rattle.papaya_chain.specs.declared.machine.Machine.{Machine}
 use Rattle.papaya_chain.specs.Machine.{after, ask_of, kind_of_ask}
 use Rattle.papaya_chain_rests.proofs.Names.{call_asks}
 use Rattle.papaya_law.specs.Code.{Coding}
-use Rattle.papaya_law.specs.Exchange.{Exchange, Setting}
+use Rattle.papaya_law.specs.Exchange.{Setting}
 use Rattle.papaya_rests.specs.Rests.{change_of_kind}
 use Rattle.papaya_rests.specs.Told.{Hands, IsAsked, IsTold, word_of}
 use Rattle.papaya_book.specs.Sheets.{Sheet}

@@ -23,7 +23,7 @@ use Rattle.papaya_book.specs.declared.rule.own.Given.TheVariants.{Sum}
 use Rattle.papaya_book.specs.Calls.{HasCome, IsTable}
 use Rattle.papaya_book.specs.Hinted.{IsSlotHint}
 use Rattle.papaya_book.specs.Limits.{IsFull}
-use Rattle.papaya_book.specs.Logs.{Stored, number_of, pair_named, steps_of, table_in}
+use Rattle.papaya_book.specs.Logs.{Stored, pair_named, steps_of, table_in}
 use Rattle.papaya_book.specs.Plays.{CanExchange}
 use Rattle.papaya_book.specs.Rule.{IsLawfulLog, IsPlaced}
 use Rattle.papaya_book.specs.Sheets.{Sheet}

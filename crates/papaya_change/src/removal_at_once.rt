@@ -20,8 +20,7 @@ use std::hash::{BuildHasher, Hash};
 #[inline(always)]
 fn fits(limit: Option<u64>)
     ensures { IsLimit limit }
-{
-}
+{}
 
 /// Finds a key's pair by a lookup's search, shows it to the closure where it is live, and buries it if
 /// that agrees. None where the pair is being moved, or another word stands in its place by then: the

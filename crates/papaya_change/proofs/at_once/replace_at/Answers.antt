@@ -1,4 +1,4 @@
-use Rattle.std.proofs.Common.{◌≡◌, ℕ, ◌==◌, Bool, true, Result, Ok, Err, IfOk, None, Some, sym, ap, ◌∙◌, rules, subst}
+use Rattle.std.proofs.Common.{◌≡◌, ℕ, ◌==◌, Bool, true, Result, Ok, Err, IfOk, Some, sym, ap, ◌∙◌, rules, subst}
 use Rattle.papaya_words.specs.Word.{live_word}
 use Rattle.papaya_ask.specs.declared.ask.StepKind.TheVariants as steps
 use Rattle.papaya_call.specs.declared.machine.State.{State}
@@ -29,8 +29,8 @@ put_slot-found-requires-clause-place g c =
     let key_is : key_of q ≡ key_of p = c.in-Ok.ensures.key in
     let hash = (hash_of g.K.Hash.hash_input g.S.BuildHasher.build_hasher g.S.Hasher.Hasher.write g.S.Hasher.Hasher.finish) in let full = live_full met.word c.requires.live in
     let st = c.requires.stands in let led : Some (Writing (record { place = met.place; old = met.word })) ≡ Some st.0 = st.1 in let to : Writing (record { place = met.place; old = met.word }) ≡ st.0 = cc led in
-    let r = subst (λ (z : State). IsInsertingAt g.K.PartialEq.eq hash b w.begun.book key st.2 log z (Some p) c.args.table.now) (sym to) st.3 in
-    (slot_there g.K.PartialEq.eq g.K.Hash.hash_input g.S.BuildHasher.build_hasher g.S.Hasher.Hasher.write g.S.Hasher.Hasher.finish g.met.K.Eq.laws g.met.K.Hash.respects_eq b w.begun.book key st.2 log met.place met.word full p c.args.table.now r c.requires.limit q key_is c.in-Ok.ensures.placed).1
+    let r = subst (λ (z : State). IsInsertingAt g.K.PartialEq.eq hash b w.begun.book key st.2.0 log z (Some p) c.args.table.now) (sym to) st.2.1 in
+    (slot_there g.K.PartialEq.eq g.K.Hash.hash_input g.S.BuildHasher.build_hasher g.S.Hasher.Hasher.write g.S.Hasher.Hasher.finish g.met.K.Eq.laws g.met.K.Hash.respects_eq b w.begun.book key st.2.0 log met.place met.word full p c.args.table.now r c.requires.limit q key_is c.in-Ok.ensures.placed).1
 
 pub put_slot-found-requires-clause-can : goal.put_slot-found-requires-clause-can
 put_slot-found-requires-clause-can g c =
@@ -39,8 +39,8 @@ put_slot-found-requires-clause-can g c =
     let hash = (hash_of g.K.Hash.hash_input g.S.BuildHasher.build_hasher g.S.Hasher.Hasher.write g.S.Hasher.Hasher.finish) in let full = live_full met.word c.requires.live in
     let word : c.live.result.0 ≡ live_word q.index = c.live.ensures ∙ ap live_word c.index-2.ensures in
     let st = c.requires.stands in let led : Some (Writing (record { place = met.place; old = met.word })) ≡ Some st.0 = st.1 in let to : Writing (record { place = met.place; old = met.word }) ≡ st.0 = cc led in
-    let r = subst (λ (z : State). IsInsertingAt g.K.PartialEq.eq hash b w.begun.book key st.2 log z (Some p) c.args.table.now) (sym to) st.3 in
-    rw word (put_can g.K.PartialEq.eq g.K.Hash.hash_input g.S.BuildHasher.build_hasher g.S.Hasher.Hasher.write g.S.Hasher.Hasher.finish g.met.K.Eq.laws g.met.K.Hash.respects_eq b w.begun.book key st.2 log met.place met.word full p c.args.table.now r c.requires.limit q key_is c.in-Ok.ensures.placed (pair_of-live_word q.index))
+    let r = subst (λ (z : State). IsInsertingAt g.K.PartialEq.eq hash b w.begun.book key st.2.0 log z (Some p) c.args.table.now) (sym to) st.2.1 in
+    rw word (put_can g.K.PartialEq.eq g.K.Hash.hash_input g.S.BuildHasher.build_hasher g.S.Hasher.Hasher.write g.S.Hasher.Hasher.finish g.met.K.Eq.laws g.met.K.Hash.respects_eq b w.begun.book key st.2.0 log met.place met.word full p c.args.table.now r c.requires.limit q key_is c.in-Ok.ensures.placed (pair_of-live_word q.index))
 
 pub insert_met-requires-clause-met : goal.insert_met-requires-clause-met
 insert_met-requires-clause-met g c =
@@ -48,9 +48,9 @@ insert_met-requires-clause-met g c =
     let key_is : key_of q ≡ key_of p = c.in-Ok.ensures.key in
     let hash = (hash_of g.K.Hash.hash_input g.S.BuildHasher.build_hasher g.S.Hasher.Hasher.write g.S.Hasher.Hasher.finish) in let full = live_full met.word c.requires.live in
     let st = c.requires.stands in let led : Some (Writing (record { place = met.place; old = met.word })) ≡ Some st.0 = st.1 in let to : Writing (record { place = met.place; old = met.word }) ≡ st.0 = cc led in
-    let r = subst (λ (z : State). IsInsertingAt g.K.PartialEq.eq hash b w.begun.book key st.2 log z (Some p) c.args.table.now) (sym to) st.3 in
+    let r = subst (λ (z : State). IsInsertingAt g.K.PartialEq.eq hash b w.begun.book key st.2.0 log z (Some p) c.args.table.now) (sym to) st.2.1 in
     let put = c.put_slot-found in
-    key_there g.K.PartialEq.eq g.K.Hash.hash_input g.S.BuildHasher.build_hasher g.S.Hasher.Hasher.write g.S.Hasher.Hasher.finish g.met.K.Eq.laws g.met.K.Hash.respects_eq b w.begun.book key st.2 log met.place met.word full p c.args.table.now r c.requires.limit q key_is c.in-Ok.ensures.placed put.new.self.sight.log put.ensures.tried.tried.now put.ensures.sees.log
+    key_there g.K.PartialEq.eq g.K.Hash.hash_input g.S.BuildHasher.build_hasher g.S.Hasher.Hasher.write g.S.Hasher.Hasher.finish g.met.K.Eq.laws g.met.K.Hash.respects_eq b w.begun.book key st.2.0 log met.place met.word full p c.args.table.now r c.requires.limit q key_is c.in-Ok.ensures.placed put.new.self.sight.log put.ensures.tried.tried.now put.ensures.sees.log
 
 pub returns-then-found-word-clause-put : goal.returns-then-found-word-clause-put
 returns-then-found-word-clause-put g c =
@@ -73,7 +73,7 @@ returns-clause-put g c = λ begun state led stands.
     let put = c.put_slot-found in let mid = put.new.self.sight.log in
     let tried = subst (λ (z : ℕ). IsSlotTried g.K.PartialEq.eq hash b w.begun.book met.place.table met.place.probe.i (Some steps.Replace) met.word z (Some q) (names.Pair q) log put.result.0 mid put.result.1) word put.ensures.tried in
     let is : (put.result.0 == met.word) ≡ true = search rules in
-    let done = replace_done g.K.PartialEq.eq g.K.Hash.hash_input g.S.BuildHasher.build_hasher g.S.Hasher.Hasher.write g.S.Hasher.Hasher.finish g.met.K.Eq.laws g.met.K.Hash.respects_eq b w.begun.book key begun log met.place met.word full p c.args.table.now r c.requires.limit q key_is c.in-Ok.ensures.placed c.args.value value_is mid put.result.0 put.result.1 tried is in ?
+    replace_done g.K.PartialEq.eq g.K.Hash.hash_input g.S.BuildHasher.build_hasher g.S.Hasher.Hasher.write g.S.Hasher.Hasher.finish g.met.K.Eq.laws g.met.K.Hash.respects_eq b w.begun.book key begun log met.place met.word full p c.args.table.now r c.requires.limit q key_is c.in-Ok.ensures.placed c.args.value value_is mid put.result.0 put.result.1 tried is c.value.result c.in-Some.taken c.in-Some.is (c.value.ensures ∙ ap (λ z. z.value) c.pair-2.ensures)
 
 pub returns-clause-made : goal.returns-clause-made
 returns-clause-made g c =
@@ -82,10 +82,10 @@ returns-clause-made g c =
     let hash = (hash_of g.K.Hash.hash_input g.S.BuildHasher.build_hasher g.S.Hasher.Hasher.write g.S.Hasher.Hasher.finish) in let full = live_full met.word c.requires.live in
     let word : c.live.result.0 ≡ live_word q.index = c.live.ensures ∙ ap live_word c.index-2.ensures in
     let st = c.requires.stands in let led : Some (Writing (record { place = met.place; old = met.word })) ≡ Some st.0 = st.1 in let to : Writing (record { place = met.place; old = met.word }) ≡ st.0 = cc led in
-    let r = subst (λ (z : State). IsInsertingAt g.K.PartialEq.eq hash b w.begun.book key st.2 log z (Some p) c.args.table.now) (sym to) st.3 in
+    let r = subst (λ (z : State). IsInsertingAt g.K.PartialEq.eq hash b w.begun.book key st.2.0 log z (Some p) c.args.table.now) (sym to) st.2.1 in
     let value_is : q.value.value ≡ c.args.value = c.in-Ok.ensures.value in
     let put = c.put_slot-found in let mid = put.new.self.sight.log in
     let tried = subst (λ (z : ℕ). IsSlotTried g.K.PartialEq.eq hash b w.begun.book met.place.table met.place.probe.i (Some steps.Replace) met.word z (Some q) (names.Pair q) log put.result.0 mid put.result.1) word put.ensures.tried in
     let is : (put.result.0 == met.word) ≡ true = search rules in
     let does = subst (λ (z : Bool). Does z c.args.window.now put.new.self) is put.ensures.does in
-    makes g.K.PartialEq.eq (Some key) st.2 put.result.1 (Some q) (ends g.K.PartialEq.eq g.K.Hash.hash_input g.S.BuildHasher.build_hasher g.S.Hasher.Hasher.write g.S.Hasher.Hasher.finish g.met.K.Eq.laws g.met.K.Hash.respects_eq b w.begun.book key st.2 log met.place met.word full p c.args.table.now r c.requires.limit q key_is c.in-Ok.ensures.placed c.args.value value_is mid put.result.0 put.result.1 tried is) c.args.window.now put.new.self (ended g.K.PartialEq.eq g.K.Hash.hash_input g.S.BuildHasher.build_hasher g.S.Hasher.Hasher.write g.S.Hasher.Hasher.finish g.met.K.Eq.laws g.met.K.Hash.respects_eq b w.begun.book key st.2 log met.place met.word full p c.args.table.now r c.requires.limit q key_is c.in-Ok.ensures.placed c.args.value value_is mid put.result.0 put.result.1 tried is).changed does
+    makes g.K.PartialEq.eq (Some key) st.2.0 put.result.1 (Some q) (ends g.K.PartialEq.eq g.K.Hash.hash_input g.S.BuildHasher.build_hasher g.S.Hasher.Hasher.write g.S.Hasher.Hasher.finish g.met.K.Eq.laws g.met.K.Hash.respects_eq b w.begun.book key st.2.0 log met.place met.word full p c.args.table.now r c.requires.limit q key_is c.in-Ok.ensures.placed c.args.value value_is mid put.result.0 put.result.1 tried is) c.args.window.now put.new.self (ended g.K.PartialEq.eq g.K.Hash.hash_input g.S.BuildHasher.build_hasher g.S.Hasher.Hasher.write g.S.Hasher.Hasher.finish g.met.K.Eq.laws g.met.K.Hash.respects_eq b w.begun.book key st.2.0 log met.place met.word full p c.args.table.now r c.requires.limit q key_is c.in-Ok.ensures.placed c.args.value value_is mid put.result.0 put.result.1 tried is).changed does

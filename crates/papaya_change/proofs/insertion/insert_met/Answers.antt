@@ -1,4 +1,4 @@
-use Rattle.std.proofs.Common.{◌≡◌, ◌∙◌, Result, Ok, Err, IfOk, None, Some, refl, sym, ap, subst}
+use Rattle.std.proofs.Common.{◌≡◌, ◌∙◌, Result, Ok, Err, IfOk, Some, refl, sym, ap, subst}
 use Rattle.papaya_call.specs.declared.machine.State.TheVariants.{AtRoot}
 use Rattle.papaya_call.specs.declared.made.Made.{Made}
 use Rattle.papaya_call.specs.Made.{nothing_made}
@@ -7,14 +7,12 @@ use Rattle.papaya_book.specs.declared.rule.entry.Named.TheVariants as names
 use Rattle.papaya_book.specs.Hashes.{hash_of}
 use Rattle.papaya_book.specs.Logs.{Stored}
 use Rattle.papaya_book.specs.Parts.{begun_of}
-use Rattle.papaya_book.specs.PairParts.{value_in}
-use Rattle.papaya_book.specs.declared.book.pairs.KeyPart.TheVariants as keys
 use Rattle.papaya_book.specs.declared.book.pairs.ValuePart.TheVariants as values
 use Rattle.papaya_book.specs.Rule.{IsPlaced}
 use Rattle.papaya_lookup.specs.History.{key_of}
 use Rattle.papaya_lookup.proofs.KeptKeys.{key_at_stays}
 use Rattle.papaya_change.specs.Seeking.{insertion_at}
-use Rattle.papaya_change.specs.Writing.{HasKey, HasKeyAt, HasValue, held_value}
+use Rattle.papaya_change.specs.Writing.{HasKeyAt, HasValue, held_value}
 use Rattle.papaya_change.proofs.InsertingReplies.{put_since}
 use Rattle.papaya_change.proofs.Logged.{begins_met}
 use Rattle.papaya_change.proofs.insertion.insert_met.Goals as goal

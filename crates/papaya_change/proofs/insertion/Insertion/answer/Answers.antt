@@ -33,23 +33,23 @@ pub unreachable-requires-in-ShowNone : goal.unreachable-requires-in-ShowNone
 unreachable-requires-in-ShowNone g c =
     let m = c.args.self.now.writer.call.machine in let task = c.requires.can.3.task_is in
     let may : (a : Ask) → c.in-Call.ask ≡ a → MayAsk (Insert true) (calls.kind_of_ask m.call) a = λ a e.
-        let own = call_asks m a (sym c.ask.ensures.value ∙ c.in-Call.is ∙ ap (λ z. Call z) e) in
-        subst (λ (z : Ask). MayAsk (Insert true) (calls.kind_of_ask m.call) z) own.1 (subst (λ (z : Task). MayAsk z (calls.kind_of_ask m.call) (calls.ask_of m.call)) task (asked_of_task m.call c.requires.standing.call)) in
+    let own = call_asks m a (sym c.ask.ensures.value ∙ c.in-Call.is ∙ ap (λ z. Call z) e) in
+    subst (λ (z : Ask). MayAsk (Insert true) (calls.kind_of_ask m.call) z) own.1 (subst (λ (z : Task). MayAsk z (calls.kind_of_ask m.call) (calls.ask_of m.call)) task (asked_of_task m.call c.requires.standing.call)) in
     ⊎_elim
     (λ e. may ShowNone e)
     (λ o.
-        ⊎_elim
-        (λ e. may (ShowPair e.0) e.1)
-        (λ e.
-            ⊎_elim
-            (λ at. let is : c.in-Call.ask ≡ Exchange Root e.1 e.2 = e.3 ∙ ap (λ z. Exchange z e.1 e.2) at in search rules)
-            (λ o'.
-                ⊎_elim
-                (λ at. let is : c.in-Call.ask ≡ Exchange Made_word e.1 e.2 = e.3 ∙ ap (λ z. Exchange z e.1 e.2) at in search rules)
-                (λ at. let is : c.in-Call.ask ≡ Exchange (Slot at.0 at.1) e.1 e.2 = e.3 ∙ ap (λ z. Exchange z e.1 e.2) at.2 in search rules)
-                o')
-            (exchanged (calls.kind_of_ask m.call) e.0 e.1 e.2 (may (Exchange e.0 e.1 e.2) e.3)))
-        o)
+    ⊎_elim
+    (λ e. may (ShowPair e.0) e.1)
+    (λ e.
+    ⊎_elim
+    (λ at. let is : c.in-Call.ask ≡ Exchange Root e.1 e.2 = e.3 ∙ ap (λ z. Exchange z e.1 e.2) at in search rules)
+    (λ o'.
+    ⊎_elim
+    (λ at. let is : c.in-Call.ask ≡ Exchange Made_word e.1 e.2 = e.3 ∙ ap (λ z. Exchange z e.1 e.2) at in search rules)
+    (λ at. let is : c.in-Call.ask ≡ Exchange (Slot at.0 at.1) e.1 e.2 = e.3 ∙ ap (λ z. Exchange z e.1 e.2) at.2 in search rules)
+    o')
+    (exchanged (calls.kind_of_ask m.call) e.0 e.1 e.2 (may (Exchange e.0 e.1 e.2) e.3)))
+    o)
     c.in-ShowNone.is
 
 pub returns-in-Load-clause-inserts : goal.returns-in-Load-clause-inserts

@@ -1,6 +1,5 @@
 use Rattle.std.proofs.Common.{sym, ◌∙◌, subst}
 use Rattle.papaya_ask.specs.declared.ask.Ask.{Ask}
-use Rattle.papaya_ask.specs.declared.ask.Ask.TheVariants.{MakePairOf}
 use Rattle.papaya_rests.specs.Says.{MakesPair}
 use Rattle.papaya_rests.specs.Rests.{IsNumberAsk}
 use Rattle.papaya_book.specs.Parts.{begun_of}

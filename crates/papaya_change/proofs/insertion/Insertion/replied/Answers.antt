@@ -1,4 +1,4 @@
-use Rattle.std.proofs.Common.{◌≡◌, Some, sym, ap, ◌∙◌, rules}
+use Rattle.std.proofs.Common.{◌≡◌, sym, ap, ◌∙◌, rules}
 use Rattle.papaya_words.specs.declared.probe.Refused.{Refused as Cause}
 use Rattle.papaya_ask.specs.declared.ask.Ask.TheVariants.{Done}
 use Rattle.papaya_ask.specs.declared.call.Reply.TheVariants.{Refused}

@@ -1,4 +1,4 @@
-use Rattle.std.proofs.Common.{◌≡◌, ◌<◌, ◌^◌, inl, IfErr, IfOk, Option, None, Some, Result, Ok, Err, ◌∷◌, refl, sym, ap, ◌∙◌, rules, subst}
+use Rattle.std.proofs.Common.{◌≡◌, ◌<◌, ◌^◌, inl, IfErr, IfOk, Some, Result, Ok, Err, ◌∷◌, refl, sym, ◌∙◌, rules, subst}
 use Rattle.papaya_words.specs.declared.probe.Refused.TheVariants.{Capacity, Memory}
 use Rattle.papaya_ask.specs.declared.ask.Answer.TheVariants.{Made, Refused}
 use Rattle.papaya_book.specs.declared.book.pairs.KeyPart.TheVariants as keys
@@ -8,7 +8,7 @@ use Rattle.papaya_book.specs.Parts.{begun_of}
 use Rattle.papaya_book.specs.Rule.{IsPlaced}
 use Rattle.papaya_book.specs.declared.rule.entry.Named.TheVariants as names
 use Rattle.papaya_lookup.specs.History.{key_of}
-use Rattle.papaya_change.specs.Writing.{HasKey, HasValue, IsWriting, IsWritingOn}
+use Rattle.papaya_change.specs.Writing.{HasKey, HasValue, IsWritingOn}
 use Rattle.papaya_change.proofs.Written.{pair_made, pair_unmade, with_given}
 use Rattle.papaya_change.proofs.writing.Writer.log_pair.Goals as goal
 
@@ -37,7 +37,7 @@ returns-in-Ok-clause-writes g c = if_err _ _ c.hold.result c.hold.ensures.err (�
     let has_part : x.key ≡ Some c.in-Some-take.key = search rules in
     let key_is : key_of q ≡ key = c.in-Ok.ensures.key ∙ (subst (HasKey b w.begun.book key) has_part r.keyed).0 in
     let going = with_given g.K.PartialEq.eq (hash_of g.K.Hash.hash_input g.S.BuildHasher.build_hasher g.S.Hasher.Hasher.write g.S.Hasher.Hasher.finish) b w.begun.book key made begun log (record x { value = Some (values.Of q); key = Some (keys.Of c.again.result) }) c.hold.new.self.call.given (Refused Capacity)
-    (pair_unmade g.K.PartialEq.eq g.K.Hash.hash_input g.S.BuildHasher.build_hasher g.S.Hasher.Hasher.write g.S.Hasher.Hasher.finish g.met.K.Eq.laws g.met.K.Hash.respects_eq b w.begun.book key made begun log x r (Some (keys.Of c.again.result)) (Some (values.Of q)) (subst (λ z. (key_of z ≡ key) × IsPlaced b (Some w.begun.book) (names.Pair z)) (sym c.again.ensures) (key_is, placed)) placed  (Refused Capacity) c.requires.asks (inl (Capacity, refl)) tt) in
+    (pair_unmade g.K.PartialEq.eq g.K.Hash.hash_input g.S.BuildHasher.build_hasher g.S.Hasher.Hasher.write g.S.Hasher.Hasher.finish g.met.K.Eq.laws g.met.K.Hash.respects_eq b w.begun.book key made begun log x r (Some (keys.Of c.again.result)) (Some (values.Of q)) (subst (λ z. (key_of z ≡ key) × IsPlaced b (Some w.begun.book) (names.Pair z)) (sym c.again.ensures) (key_is, placed)) placed (Refused Capacity) c.requires.asks (inl (Capacity, refl)) tt) in
     subst (λ z. IsWritingOn g.K.PartialEq.eq (hash_of g.K.Hash.hash_input g.S.BuildHasher.build_hasher g.S.Hasher.Hasher.write g.S.Hasher.Hasher.finish) b w.begun.book key made begun log c.hold.new.self z) (sym h.0) (rw c.hold.ensures.rest going))
 
 pub returns-in-Err-clause-writes : goal.returns-in-Err-clause-writes
@@ -47,4 +47,4 @@ returns-in-Err-clause-writes g c = λ key made begun r.
     let valued = subst (HasValue b w.begun.book) has_value r.valued in
     let has_key : x.key ≡ Some c.in-Err.key = search rules in
     let back_keyed = subst (HasKey b w.begun.book key) has_key r.keyed in
-    pair_unmade g.K.PartialEq.eq g.K.Hash.hash_input g.S.BuildHasher.build_hasher g.S.Hasher.Hasher.write g.S.Hasher.Hasher.finish g.met.K.Eq.laws g.met.K.Hash.respects_eq b w.begun.book key made begun log x r (Some c.in-Err.key) (Some c.in-Err.value) back_keyed valued  (Refused Memory) c.requires.asks (inl (Memory, refl)) tt
+    pair_unmade g.K.PartialEq.eq g.K.Hash.hash_input g.S.BuildHasher.build_hasher g.S.Hasher.Hasher.write g.S.Hasher.Hasher.finish g.met.K.Eq.laws g.met.K.Hash.respects_eq b w.begun.book key made begun log x r (Some c.in-Err.key) (Some c.in-Err.value) back_keyed valued (Refused Memory) c.requires.asks (inl (Memory, refl)) tt

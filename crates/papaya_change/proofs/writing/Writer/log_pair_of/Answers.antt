@@ -1,12 +1,11 @@
-use Rattle.std.proofs.Common.{◌≡◌, ◌<◌, ◌^◌, inl, IfErr, IfOk, Option, None, Some, Result, Ok, Err, ◌∷◌, refl, sym, ap, ◌∙◌, rules, subst}
+use Rattle.std.proofs.Common.{◌≡◌, ◌<◌, ◌^◌, inl, IfErr, IfOk, Some, Result, Ok, Err, ◌∷◌, refl, sym, ap, ◌∙◌, rules, subst}
 use Rattle.papaya_words.specs.declared.probe.Refused.TheVariants.{Capacity, Memory}
 use Rattle.papaya_ask.specs.declared.ask.Answer.TheVariants.{Made, Refused}
-use Rattle.papaya_book.specs.declared.book.pairs.KeyPart.TheVariants as keys
 use Rattle.papaya_book.specs.declared.book.pairs.ValuePart.TheVariants as values
 use Rattle.papaya_book.specs.Hashes.{hash_of}
 use Rattle.papaya_book.specs.Parts.{begun_of}
 use Rattle.papaya_lookup.specs.History.{key_of}
-use Rattle.papaya_change.specs.Writing.{HasKey, HasValue, IsWriting, IsWritingOn}
+use Rattle.papaya_change.specs.Writing.{HasValue, IsWritingOn}
 use Rattle.papaya_change.proofs.Written.{of_made, of_unmade, with_given}
 use Rattle.papaya_change.proofs.writing.Writer.log_pair_of.Goals as goal
 
