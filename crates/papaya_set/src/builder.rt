@@ -11,6 +11,7 @@ ghost use Rattle.papaya_map.specs.Fixed.{IsFor};
 use crate::seq;
 use crate::set::HashSet;
 use papaya_keys::guard::Collector;
+use papaya_map::builder::HashMapBuilder;
 use papaya_map::map::HashMap;
 use papaya_words::limits::DEFAULT_SHARDS;
 use papaya_words::probe::{Refused, ResizeMode};
@@ -199,6 +200,24 @@ impl<K, S> HashSetBuilder<K, S> {
     }
 }
 
+/// Asks a map's builder that was asked for no limit for this one, if there is one.
+fn limited<K, S>(builder: HashMapBuilder<K, (), S>, limit: Option<u64>) -> HashMapBuilder<K, (), S>
+    requires { builder.limit ≡ None }
+    ensures { result ≡ record {
+      hasher = builder.hasher;
+      collector = builder.collector;
+      capacity = builder.capacity;
+      mode = builder.mode;
+      shards = builder.shards;
+      limit = limit;
+    } }
+{
+    match limit {
+        Some(keys) => builder.pair_limit(keys),
+        None => builder,
+    }
+}
+
 impl<K: Hash + Eq + Drop, S: BuildHasher + Drop> HashSetBuilder<K, S> {
     /// The set: `build` of 0.2.5. Refused as [`HashSet::with_parts`].
     pub fn build<R: Wait>(self, rt: &R, alloc: Global) -> Result<HashSet<K, S>, Refused>
@@ -223,10 +242,7 @@ impl<K: Hash + Eq + Drop, S: BuildHasher + Drop> HashSetBuilder<K, S> {
             .capacity(capacity)
             .resize_mode(mode)
             .shards(shards);
-        let map = match limit {
-            Some(keys) => builder.pair_limit(keys).build(rt, alloc)?,
-            None => builder.build(rt, alloc)?,
-        };
+        let map = limited(builder, limit).build(rt, alloc)?;
         Ok(HashSet { map })
     }
 
