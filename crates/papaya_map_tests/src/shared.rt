@@ -123,7 +123,7 @@ impl Shared for Numbers {
     fn made<R: Wait>(rt: &R, alloc: Global, making: Making) -> Result<Self, Refused> {
         match making {
             Making::Parts(mode, capacity, hasher) => {
-                HashMap::with_parts(rt, alloc, mode, capacity, 4, hasher)
+                HashMap::with_parts(rt, alloc, mode, capacity, 4, hasher, None)
             }
             Making::Hasher => HashMap::with_hasher(rt, alloc, APART),
             Making::Capacity(pairs) => HashMap::with_capacity_and_hasher(rt, alloc, pairs, APART),

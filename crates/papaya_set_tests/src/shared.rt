@@ -86,7 +86,7 @@ fn made<R: Wait>(rt: &R, alloc: Global, by: u64) -> Result<Keys, Refused> {
         1 => HashSet::with_capacity(rt, alloc, 3),
         2 => HashSet::with_hasher(rt, alloc, BuildHasherDefault::new()),
         3 => HashSet::with_capacity_and_hasher(rt, alloc, 3, BuildHasherDefault::new()),
-        4 => HashSet::with_parts(rt, alloc, mode, 3, 2, BuildHasherDefault::new()),
+        4 => HashSet::with_parts(rt, alloc, mode, 3, 2, BuildHasherDefault::new(), None),
         _ => HashSet::builder()
             .capacity(3)
             .resize_mode(mode)
