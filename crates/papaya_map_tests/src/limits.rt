@@ -111,7 +111,7 @@ pub fn fills_up<R: Wait, C: Calls>(rt: &R, map: &mut C, from: u64, end: u64) -> 
     for key in from..end {
         match map.insert(rt, key, key) {
             Absent => taken = taken.wrapping_add(1),
-            AT_LIMIT => {}
+            Answer::Refused(Refused::Limit) => {}
             _ => return false,
         }
     }
