@@ -33,6 +33,7 @@ fn empty<R: Wait>(rt: &R, alloc: Global, mode: ResizeMode) -> Result<Map, Refuse
         0,
         DEFAULT_SHARDS,
         BuildHasherDefault::new(),
+        None,
     )
 }
 
