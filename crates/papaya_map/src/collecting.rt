@@ -17,8 +17,8 @@ use std::sync::Wait;
 
 impl<K: Hash + Eq + Drop, V: Drop, S: BuildHasher> HashMap<K, V, S> {
     /// Stores pairs in the order in which they come: what the trait `Extend` does in 0.2.5. Of two
-    /// pairs with equal keys the later one stays. No room is made ahead, so for no pairs nothing is
-    /// done at all. Calls of others go on between the pairs.
+    /// pairs with equal keys the first one's key stays, and the later one's value. No room is made
+    /// ahead, so for no pairs nothing is done at all. Calls of others go on between the pairs.
     ///
     /// Refused as [`HashMapRef::insert_as`](crate::map::HashMapRef::insert_as) is for a pair. The pairs
     /// before it were stored then, and those after it were not asked for.
@@ -71,7 +71,7 @@ impl<K: Hash + Eq + Copy + Drop, V: Copy + Drop, S: BuildHasher> HashMap<K, V, S
 
 impl<K: Hash + Eq + Drop, V: Drop, S: BuildHasher + Default + Drop> HashMap<K, V, S> {
     /// A map of these pairs: what the trait `FromIterator` makes in 0.2.5. Of two pairs with equal
-    /// keys it has the later one, and of no pairs it has no table. It resizes and counts as one of
+    /// keys it has the first one's key and the later one's value, and of no pairs it has no table. It resizes and counts as one of
     /// [`HashMap::with_hasher`] does.
     ///
     /// `Refused::Memory` where the map was not made; else refused as [`HashMap::extend`].
@@ -97,7 +97,7 @@ impl<K: Hash + Eq + Drop, V: Drop, S: BuildHasher + Default + Drop> HashMap<K, V
 
 impl<K: Hash + Eq + Drop, V: Drop> HashMap<K, V, BuildHasherDefault<FoldHasher>> {
     /// A map of the pairs of an array: what `From<[(K, V); N]>` makes in 0.2.5. Of two pairs with
-    /// equal keys it has the later one.
+    /// equal keys it has the first one's key and the later one's value.
     ///
     /// `Refused::Memory` where the map was not made, or the array had no room in memory; else
     /// refused as [`HashMap::extend`].
