@@ -71,8 +71,8 @@ impl<K: Hash + Eq + Copy + Drop, V: Copy + Drop, S: BuildHasher> HashMap<K, V, S
 
 impl<K: Hash + Eq + Drop, V: Drop, S: BuildHasher + Default + Drop> HashMap<K, V, S> {
     /// A map of these pairs: what the trait `FromIterator` makes in 0.2.5. Of two pairs with equal
-    /// keys it has the first one's key and the later one's value, and of no pairs it has no table. It resizes and counts as one of
-    /// [`HashMap::with_hasher`] does.
+    /// keys it has the first one's key and the later one's value, and of no pairs it has no table. It
+    /// resizes and counts as one of [`HashMap::with_hasher`] does.
     ///
     /// `Refused::Memory` where the map was not made; else refused as [`HashMap::extend`].
     pub fn from_iter<R: Wait, U: IntoIterator<Item = (K, V)>>(
