@@ -96,12 +96,7 @@ const NONE: [Turn; 1] = [Does(&[
 
 #[test]
 fn a_map_that_logs_no_pair_stores_none(rt: HostRuntime) -> Result<(), Fail> {
-    runs::<_, Numbers>(
-        &rt,
-        rt.alloc(),
-        &[Making::Built(Asked::Limit(0))],
-        &NONE,
-    )
+    runs::<_, Numbers>(&rt, rt.alloc(), &[Making::Built(Asked::Limit(0))], &NONE)
 }
 
 /// Inserts absent keys, each with itself, of which some may be refused at the limit: are just the others
