@@ -1,5 +1,5 @@
 -- What an update answers whose closure answers what the closures of a script do, and why a map without a limit refuses.
-use Rattle.std.proofs.Common.{◌≡◌, ◌==◌, ℕ, None, Some, Ok, Err, Option, [], inl, inr, ◌∙◌, ap, sym, subst}
+use Rattle.std.proofs.Common.{◌≡◌, ◌==◌, ℕ, None, Some, Ok, Err, Option, [], inl, inr, ◌∙◌, ap, subst}
 use Rattle.std.proofs.lemmas.Bool.{false≢true}
 use Rattle.std.specs.Fn.{FnReturnsAt, Shared}
 use Rattle.std.specs.Prelude.{IfErr, IfOk, IsSome, Result}

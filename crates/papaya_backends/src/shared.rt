@@ -170,8 +170,9 @@ pub(crate) fn run_shared<H: Wait, S: BuildHasher + Drop, R: Read, W: Write>(
         IsRun AnyTime ShowsLine IsBad (lines_of text)
         (Appends (W.contents output.old) (W.contents output.new)) result) }
 {
-    let map: HashMap<u64, u64, S> = HashMap::with_parts(rt, alloc, mode, 0, SHARDS, hasher, None)
-        .map_err(Failure::Refused)?;
+    let map: HashMap<u64, u64, S> = HashMap::with_parts(
+        rt, alloc, mode, 0, SHARDS, hasher, None,
+    ).map_err(Failure::Refused)?;
     let mut caller = Caller::new(rt, &map);
     run_lines(alloc, &mut caller, input, output)
 }
