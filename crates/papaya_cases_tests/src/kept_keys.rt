@@ -1,4 +1,4 @@
-// Where an equal key comes the one that is stored stays: in maps, for one caller and shared by threads.
+// Where an equal key comes the one that is stored stays: in maps, for one caller and shared.
 use crate::expect::is;
 use crate::labels::{Labelled, seven};
 use papaya_call::answers::Operation;

@@ -45,7 +45,8 @@ fn label(set: &Keys) -> Option<char> {
     }
 }
 
-/// Retains by a closure that waits at the gate, and agrees from so many calls on: was it open in time?
+/// Retains by a closure that waits at the gate, and agrees from so many calls on: was it open in
+/// time?
 fn retains<R: Wait>(rt: &R, set: &Keys, from: u64, gate: &Gate) -> Result<bool, Refused> {
     let pinned = set.pin();
     let mut calls = 0u64;
@@ -273,8 +274,8 @@ fn with_seven<R: Wait>(rt: &R, alloc: Global, mode: ResizeMode) -> Result<Keys, 
     Ok(set)
 }
 
-/// A closure is shown a key whose pair is replaced before it answers, and then the key once more, which
-/// stays as it was stored. What is left is what the closure answers of that.
+/// A closure is shown a key whose pair is replaced before it answers, and then the key once more,
+/// which stays as it was stored. What is left is what the closure answers of that.
 fn overlaps<R: Threads + Wait + Sync + Abort>(rt: &R, set: &Keys, from: u64, left: Option<char>) {
     let did = both(rt, set, Job::Retain(from), Job::Replace);
     is(rt, (did, label(set)), ((true, true), left));

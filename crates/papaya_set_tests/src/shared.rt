@@ -120,8 +120,16 @@ fn sets_are_made(rt: HostRuntime) {
 fn a_set_is_made_of_the_first_of_equal_keys(rt: HostRuntime) {
     let alloc = rt.alloc();
     let keys = [key(7, 'x'), key(7, 'y')];
-    is(&rt, label_in(HashSet::from_iter(&rt, alloc, keys)), Some('x'));
-    is(&rt, label_in(HashSet::from_array(&rt, alloc, keys)), Some('x'));
+    is(
+        &rt,
+        label_in(HashSet::from_iter(&rt, alloc, keys)),
+        Some('x'),
+    );
+    is(
+        &rt,
+        label_in(HashSet::from_array(&rt, alloc, keys)),
+        Some('x'),
+    );
 }
 
 /// A set that logs two keys at most, of which one was stored twice.
