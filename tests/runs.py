@@ -248,14 +248,14 @@ def full(runs):
 
 
 # How many steps a call of key 7 makes. In a new map an insertion loads the root, makes a table, opens
-# it, learns its size, loads the hint and the slot, makes the key and the pair, claims the slot, counts,
-# and writes the hint. Where the key is there any call loads the root, learns the size, loads the hint
-# and the slot and compares the key. A lookup is over then. An update shows the pair, makes the key and
-# the new pair, and replaces the old one; a removal shows the pair, buries it, and counts.
-STEPS = {"i": 11, "g": 5, "u": 9, "r": 8}
+# it, learns its size, loads the hint and the slot, makes the key, the value and the pair, claims the slot,
+# counts, and writes the hint. Where the key is there any call loads the root, learns the size, loads the
+# hint and the slot and compares the key. A lookup is over then. An update shows the pair, makes the value
+# and the new pair, and replaces the old one; a removal shows the pair, buries it, and counts.
+STEPS = {"i": 12, "g": 5, "u": 9, "r": 8}
 
 # The step in which an insertion into a new map claims the slot.
-CLAIM = 9
+CLAIM = 10
 
 # A call that is stopped, another one, and the step in which the first one looks or changes the map.
 # Then what is printed for each of them and what is found after both, where the first is stopped before
@@ -286,10 +286,10 @@ def stopped(runs, rest):
 
 def without_memory(runs, rest):
     """An insertion makes one step without memory after so many: it is refused where that step makes a
-    table, the key or the pair."""
+    table, the key, the value or the pair."""
     for made in range(STEPS["i"]):
         lines = ["begin 0 i 7 100", *["step 0"] * made, "refuse 0"]
-        is_refused = made in (1, 6, 7)
+        is_refused = made in (1, 6, 7, 8)
         is_over = is_refused or made == STEPS["i"] - 1
         lines += [*([] if is_over else ["finish 0"]), "begin 2 g 7", "finish 2"]
         printed = ["0: refused 1 Memory", "2: none"] if is_refused else ["0: none", "2: some 100"]
@@ -555,7 +555,7 @@ def walking(runs):
 
 def growing_without_memory(runs):
     """One step of an insertion that needs a longer table has no memory. The call is refused where that step
-    makes the key, the pair or the table, and nowhere else; then there is memory, and the map grows."""
+    makes the key, the value, the pair or the table, and nowhere else; then there is memory, and the map grows."""
     keys = FULL + 4
     later = [line for key in range(FULL, keys) for line in whole(1, f"i {key} {key}")]
     for args in GROWING:
@@ -570,7 +570,7 @@ def growing_without_memory(runs):
             olds = ["1: none" if is_refused else f"1: old {FULL}", *["1: none"] * (keys - FULL - 1)]
             printed = [*["0: none"] * FULL, *said, *olds, *found(0, keys)]
             runs.run(args, [*lines, *later, *looked_up(0, keys)], printed)
-        runs.is_so(refused == 3, f"{args}: {refused} steps of a growth make something")
+        runs.is_so(refused == 4, f"{args}: {refused} steps of a growth make something")
 
 
 def said_by(runs, args, lines, keys):
@@ -619,10 +619,10 @@ def each_without_memory(runs):
             for made in steps:
                 lines = [*filled(keys), f"begin 0 {call}", *["step 0"] * made, "refuse 0"]
                 refuse_step(runs, args, keys, call, lines)
-    # An insertion makes its key, its pair and a table, and one more where that is given up.
+    # An insertion makes its key, its value, its pair and a table, and one more where that is given up.
     of_new = [refused[args, keys, f"i {keys} 20"] for args, keys in [("core block id", FULL), ("core block zero", 64)]]
     of_others = [sum(it for (*_, call), it in refused.items() if call == word) for word in ["walk", "clear", "r 0"]]
-    runs.is_so(of_new == [3, 4] and all(of_others), f"makes something in {of_new} and {of_others} steps")
+    runs.is_so(of_new == [4, 5] and all(of_others), f"makes something in {of_new} and {of_others} steps")
 
 
 def refuse_step(runs, args, keys, call, lines):

@@ -1,12 +1,13 @@
 """Tries the wrong machines of tests/twins: each changes a machine and the definition that its contract
-equals alike. So the machine's function is still proved, and it is a law of papaya_rests or
-papaya_chain_rests that has to refuse it.
+equals alike. So the machine's function is still proved, and it is a law of papaya_rests, of
+papaya_chain_rests or of papaya_alone that has to refuse it.
 
     python3 tests/twins.py [TWIN..]
 
 A twin has the lines of an edit in must-fail/, with files below crates/, and two before them: `law:`, the law
-that refuses it, and `fn:`, the machine's function. A twin of papaya_call goes with one of papaya_copy: the
-laws of calls say nothing of copiers and those of copiers nothing of calls.
+that refuses it, and `fn:`, the machine's function, or several. A twin of papaya_call goes with one of
+papaya_copy, where papaya_rests has both laws: those of calls say nothing of copiers and those of copiers
+nothing of calls.
 """
 
 import os
@@ -33,10 +34,10 @@ def try_copy(room, *twins):
         copy_of(crate, f"{room}/{crate}")
     for twin in twins:
         twin.apply(room)
-    machines = [it.words["fn"] for it in twins]
-    said = check(room, top, read, [*(it.partition("::")[2] for it in laws), *machines])
-    for twin, law, machine in zip(twins, laws, machines):
-        if verdicts_of(said).get(machine) != "proved":
+    machines = [it.words["fn"].split() for it in twins]
+    said = check(room, top, read, [*(it.partition("::")[2] for it in laws), *sum(machines, [])])
+    for twin, law, of_twin in zip(twins, laws, machines):
+        if any(verdicts_of(said).get(it) != "proved" for it in of_twin):
             raise Bad(f"{twin.name}: BAD TWIN: its machine is not proved\n{digest(said)}")
         if not is_refused(said, law):
             raise Bad(f"{twin.name}: NOT REFUSED by the law {law}\n{digest(said)}")
@@ -45,8 +46,9 @@ def try_copy(room, *twins):
 
 def copies_of(twins):
     """The twins, by their copies."""
-    calls = [it for it in twins if all(file.startswith("papaya_call/") for file, _, _ in it.pairs)]
-    copiers = [it for it in twins if all(file.startswith("papaya_copy/") for file, _, _ in it.pairs)]
+    low = [it for it in twins if it.words["law"].startswith("papaya_rests::")]
+    calls = [it for it in low if all(file.startswith("papaya_call/") for file, _, _ in it.pairs)]
+    copiers = [it for it in low if all(file.startswith("papaya_copy/") for file, _, _ in it.pairs)]
     pairs = [[it for it in pair if it] for pair in zip_longest(calls, copiers)]
     return pairs + [[it] for it in twins if it not in calls and it not in copiers]
 

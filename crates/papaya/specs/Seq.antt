@@ -2,7 +2,7 @@
 pub use Rattle.papaya_law.specs.Content.{lookup}
 pub use Rattle.papaya_store.specs.Store.{StoreState, Stored}
 pub use Rattle.papaya_timeline.specs.Content.{content, map_in}
-pub use Rattle.papaya_seq.specs.Map.{Inserts, MapState, value_of}
+pub use Rattle.papaya_seq.specs.Map.{Inserts, IsSpent, MapState, kept_key, value_of}
 pub use Rattle.papaya_seq.specs.Entries.{IsPut}
 pub use Rattle.papaya_seq.specs.Clones.{IsCloned, IsRebuilt}
 pub use Rattle.papaya_seq.specs.Computes.{IsUpdatedOrInserted}

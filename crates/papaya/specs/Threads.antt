@@ -1,10 +1,11 @@
 -- What the contracts of the map that threads share speak of: its history, and what a call answers and does.
--- The first six lines are enough for `get`, `insert` and plain calls.
+-- The first seven lines are enough for `get`, `insert` and plain calls.
 pub use Rattle.papaya_book.specs.Logs.{Member, Stored}
 pub use Rattle.papaya_lookup.specs.History.{AllLegalChanges, Change, IsLegalHistory, Makes, changed, key_of, replay, replay_from}
 pub use Rattle.papaya_lookup.specs.Answers.{IsAnsweredBetween, IsPairAnsweredBetween}
-pub use Rattle.papaya_change.specs.Changes.{IsChangeOf, IsPut}
+pub use Rattle.papaya_change.specs.Changes.{IsChangeOf, IsPut, key_kept}
 pub use Rattle.papaya_change.specs.Writing.{IsMemoryOrCapacity}
+pub use Rattle.papaya_map.specs.Limited.{IsPlainRefusal, IsWriteRefusal}
 pub use Rattle.papaya_map.specs.Plain.{IsOfHistory}
 pub use Rattle.papaya_change.specs.RemovalAnswers.{IsJudged, IsRemovalBy, IsRemoved}
 pub use Rattle.papaya_change.specs.Showings.{AreShown, HasSaid, Judges, Operates, WasHeld, WasLast}

@@ -28,6 +28,7 @@ use Rattle.papaya_copy.specs.declared.step.Stepped.TheVariants as stepped
 use Rattle.papaya_copy.specs.Settle.{settle_ask}
 use Rattle.papaya_copy.specs.Step.{chunk_at, next_scan, scanned, step_ask}
 use Rattle.papaya_copy.specs.Copying.{all_of, copying_ask, further as further_of, leads, lone, over}
+use Rattle.papaya_call.specs.declared.made.Number.TheVariants.{Wanted}
 use Rattle.papaya_chain.specs.declared.ask.Answer.{Answer}
 use Rattle.papaya_chain.specs.declared.ask.Answer.TheVariants as answers
 use Rattle.papaya_chain.specs.declared.machine.Machine.{Machine}
@@ -37,7 +38,7 @@ use Rattle.papaya_rests.specs.Alone.{IsBare, IsPut, IsSame}
 use Rattle.papaya_rests.specs.Copier.{aim_of}
 use Rattle.papaya_rests.proofs.AloneCurrent.{machine_stays}
 use Rattle.papaya_rests.proofs.AloneSteps.{exchange_done}
-use Rattle.papaya_alone.specs.Ahead.{IsAsideAhead, IsCurrent}
+use Rattle.papaya_alone.specs.Ahead.{IsAsideAhead, IsCallRead}
 use Rattle.papaya_alone.specs.Budget.{Budget, IsSpent, SpendsCopy}
 use Rattle.papaya_alone.specs.Current.{IsCopiedRead, IsCopyingRead, IsIncremental, IsSettleRead, IsSteppedRead}
 use Rattle.papaya_alone.specs.Measure.{further, left_of_chunk, left_of_copied, left_of_settle, left_of_step, left_of_stepped}
@@ -135,16 +136,16 @@ module _ (words words' : At → ℕ) (bare : IsBare words) (bare' : IsBare words
       (subst (λ y. IsSpent before later ⊎ ((later ≡ before) × (left_of_copied y < left_of_settle settle))) led f) (subst (IsCopiedRead mode words') led e.1))
 
   -- a chunk is over, without blocking: the call goes on in the next table, or copies its slot first
-  over_current : IsIncremental mode → (aim : Aim) (n : ℕ) → AimsAt aim n → words' words_at.Root ≤ n → IsCurrent words' (after_copied m (over aim))
+  over_current : IsIncremental mode → (aim : Aim) (n : ℕ) → AimsAt aim n → words' words_at.Root ≤ n → IsCallRead words' (after_copied m (over aim))
   over_current inc (aims.Search t) n is least = enters_current words' m inc t (omega (arith, is, least))
   over_current inc (aims.Settle slot) n is least = (any_alive mode words' mode slot.to inc, omega (arith, is, least))
   over_current inc aims.Chunk n is least = absurd is
   over_current inc (aims.All met) n is least = absurd is
 
   -- either way what was read stands there when a chunk is over
-  overs_current : (aim : Aim) → IsFor m aim → ((n : ℕ) → AimsAt aim n → words' words_at.Root ≤ n) → IsCurrent words' (after_copied m (over aim))
+  overs_current : (aim : Aim) → IsFor m aim → ((n : ℕ) → AimsAt aim n → words' words_at.Root ≤ n) → IsCallRead words' (after_copied m (over aim))
   overs_current aim (inl (inc, (n, is, t))) least = over_current inc aim n is (least n is)
-  overs_current aim (inr (blocks, (met, is))) least = subst (λ a. IsCurrent words' (after_copied m (over a))) (sym is) ((tt, tt), λ t how e. absurd (subst IsIncremental blocks how))
+  overs_current aim (inr (blocks, (met, is))) least = subst (λ a. IsCallRead words' (after_copied m (over a))) (sym is) ((tt, tt), λ t how e. absurd (subst IsIncremental blocks how))
 
   -- the table for which it copies is behind the root
   aim_least : (aim : Aim) → IsFor m aim → IsBehind words → words' words_at.Root ≡ words words_at.Root → (n : ℕ) → AimsAt aim n → words' words_at.Root ≤ n
@@ -160,13 +161,13 @@ module _ (words words' : At → ℕ) (bare : IsBare words) (bare' : IsBare words
       let same : words' words_at.Root ≡ words words_at.Root = done.1.others words_at.Root (λ e. cc) in
       let e = copying_ends mode m.call.initial m.number words words' bare' (copyings.Stepping aim (steps.Advancing scan)) answer read told in (
         inl (inr (subst (λ a. SpendsCopy (Ask_exchange here 0 1) a before later) done.0 spends)),
-        subst (λ a. IsCopiedRead mode words' (copying_after (copyings.Stepping aim (steps.Advancing scan)) mode m.call.initial m.number a) → IsCurrent words' (after_copied m (copying_after (copyings.Stepping aim (steps.Advancing scan)) mode m.call.initial m.number a))) (sym done.0)
+        subst (λ a. IsCopiedRead mode words' (copying_after (copyings.Stepping aim (steps.Advancing scan)) mode m.call.initial m.number a) → IsCallRead words' (after_copied m (copying_after (copyings.Stepping aim (steps.Advancing scan)) mode m.call.initial m.number a))) (sym done.0)
             (λ there. (there, λ t how e. let l = left t how e in omega (arith, l, same))) e.1,
       )
 
   -- a chunk was copied before: no word is exchanged, so this is over at the next chunk that is not copied
   further_lowers : (aim : Aim) (chunk : Chunk) (left : ℕ) → IsFor m aim → IsBehind words' → ((n : ℕ) → AimsAt aim n → words' words_at.Root ≤ n) → IsSteppedRead mode words' (stepped.Further chunk) → left_of_chunk chunk settles.Looking < left
-      → (rank_of (words' words_at.Root) (after_copied m (further_of aim chunk)) < rank 5 0 left) × IsCurrent words' (after_copied m (further_of aim chunk))
+      → (rank_of (words' words_at.Root) (after_copied m (further_of aim chunk)) < rank 5 0 left) × IsCallRead words' (after_copied m (further_of aim chunk))
   further_lowers (aims.Search t) chunk left which behind least read less = (omega arith, overs_current (aims.Search t) which least)
   further_lowers (aims.Settle slot) chunk left which behind least read less = (omega arith, overs_current (aims.Settle slot) which least)
   further_lowers aims.Chunk chunk left (inl which) behind least read less = absurd which.1.1
@@ -195,7 +196,7 @@ module _ (words words' : At → ℕ) (bare : IsBare words) (bare' : IsBare words
       Fits end = (left_of_stepped end < left_of_step (steps.Scanning scan)) × IsSteppedRead mode words' end
 
       Led : Stepped → Type 0
-      Led end = (rank_of (words' words_at.Root) (after_copied m (leads aim mode end)) < most) × IsCurrent words' (after_copied m (leads aim mode end))
+      Led end = (rank_of (words' words_at.Root) (after_copied m (leads aim mode end)) < most) × IsCallRead words' (after_copied m (leads aim mode end))
 
       led : Led (scanned scan done)
       led =
@@ -223,7 +224,7 @@ module _ (words words' : At → ℕ) (bare : IsBare words) (bare' : IsBare words
       let done : (answer ≡ answers.Call Exchanged) × IsPut words words_at.Root to words' = exchange_done _ _ (words words_at.Root) from read.1 told in
       let root : words' words_at.Root ≡ to = done.1.here in (
         inl (inr (subst (λ a. SpendsCopy (Ask_exchange words_at.Root from to) a before later) done.0 spends)),
-        subst (λ a. IsCurrent words' (after_copied m (copying_after (copyings.Stepping aim (steps.Promoting from to)) mode m.call.initial m.number a))) (sym done.0)
+        subst (λ a. IsCallRead words' (after_copied m (copying_after (copyings.Stepping aim (steps.Promoting from to)) mode m.call.initial m.number a))) (sym done.0)
             (overs_current aim which (λ n is. let l = least n is in omega (arith, l, root))),
       )
 
@@ -243,7 +244,7 @@ module _ (words words' : At → ℕ) (bare : IsBare words) (bare' : IsBare words
   met_lowers blocks met root is same was kept false =
       subst (λ r. Lowers words words' before later m (rank 3 0 0) (after_copied m (copied.Root r))) is (
         inr (kept, anew_rank words' m),
-        anew_current words' m (machine_stays words words' (record m.call { state = At_root }) bare (Word_read (words' words_at.Root)) tt (ap Word_read (same words_at.Root), same)).read,
+        anew_current words' m (machine_stays words words' (record m.call { state = At_root; made = record m.call.made { number = Wanted } }) bare (Word_read (words' words_at.Root)) tt tt (ap Word_read (same words_at.Root), same)).read,
       )
 
   -- a chunk begins at the root

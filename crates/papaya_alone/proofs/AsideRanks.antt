@@ -25,7 +25,7 @@ use Rattle.papaya_chain.specs.declared.ask.Answer.{Answer}
 use Rattle.papaya_chain.specs.declared.machine.Machine.{Machine}
 use Rattle.papaya_chain.specs.Machine.{after_linked, link_after}
 use Rattle.papaya_chain_rests.specs.Rests.{left_by}
-use Rattle.papaya_alone.specs.Ahead.{IsCurrent}
+use Rattle.papaya_alone.specs.Ahead.{IsCallRead}
 use Rattle.papaya_alone.specs.Budget.{Budget, IsSpent, SpendsCopy}
 use Rattle.papaya_alone.specs.Current.{IsIncremental, IsLinkedRead, IsLinkRead}
 use Rattle.papaya_alone.specs.Measure.{left_of_link, left_of_linked, left_of_step}
@@ -48,7 +48,7 @@ link_most (links.Linking behind table chunks) = omega arith
 module _ (words words' : At → ℕ) (before later : Budget) (m : Machine) where
   -- the budget is spent, or less is left; and what was read stands there still
   abbrev pub Lowers : ℕ → Machine → Type 0
-  Lowers most m' = (IsSpent before later ⊎ ((later ≡ before) × (rank_of (words' words_at.Root) m' < most))) × IsCurrent words' m'
+  Lowers most m' = (IsSpent before later ⊎ ((later ≡ before) × (rank_of (words' words_at.Root) m' < most))) × IsCallRead words' m'
 
   module _ (inc : IsIncremental m.call.mode) (link : Link) (left : (t : ℕ) → left_by m.call.state ≡ Some t → words' words_at.Root ≤ t) (behind : left_by m.call.state ≡ Some (follows link)) where
     -- where the making of a table led

@@ -21,10 +21,10 @@ use Rattle.papaya_chain.specs.declared.machine.Phase.TheVariants.{Calling}
 use Rattle.papaya_chain.specs.Machine.{called, leaves, onward, stepped}
 use Rattle.papaya_chain.proofs.Settings.{settings_stay}
 use Rattle.papaya_chain_rests.specs.Rests.{left_by}
-use Rattle.papaya_rests.specs.Alone.{IsBare, IsPrompt, IsPut, IsRead}
+use Rattle.papaya_rests.specs.Alone.{IsBare, IsNumberRead, IsPrompt, IsPut, IsRead}
 use Rattle.papaya_rests.proofs.AloneCurrent.{machine_stays}
 use Rattle.papaya_rests.proofs.AloneSteps.{exchange_done}
-use Rattle.papaya_alone.specs.Ahead.{IsAheadIn, IsCurrent}
+use Rattle.papaya_alone.specs.Ahead.{IsAheadIn, IsCallRead}
 use Rattle.papaya_alone.specs.Budget.{Budget, IsSpent, SpendsCall, SpendsExchange}
 use Rattle.papaya_alone.specs.Current.{IsIncremental}
 use Rattle.papaya_alone.specs.Measure.{further}
@@ -36,6 +36,7 @@ module _ (before later : Budget) where
   -- an exchange spends one, or none
   exchange_spent : (kind : Option StepKind) → SpendsExchange kind before later → IsSpent before later ⊎ (later ≡ before)
   exchange_spent (Some kinds.Replace) h = inr h
+  exchange_spent (Some kinds.Take) h = inr h
   exchange_spent kind h = inl (inr h)
 
   -- an answer of a call spends, or leaves the budget
@@ -44,14 +45,14 @@ module _ (before later : Budget) where
   call_spent kind (call_asks.Exchange at old new) Exchanged h = exchange_spent kind h
   call_spent kind ask answer h = inr h
 
-module _ (words words' : At → ℕ) (bare : IsBare words) (before later : Budget) (start : ℕ) (helped : Bool) (call : Call_machine) where
+module _ (words words' : At → ℕ) (bare : IsBare words) (before later : Budget) (start : ℕ) (helped : Bool) (call : Call_machine) (known : IsNumberRead words call.made.number) where
   -- the machine in a stage of its call
   abbrev in_stage : Stage → Machine
   in_stage stage = record { call = record call { state = stage }; number = start; helped = helped; phase = Calling }
 
   -- the budget is spent, or less is left; and what was read stands there still
   abbrev pub Lowered : Stage → Machine → Type 0
-  Lowered stage m' = (IsSpent before later ⊎ ((later ≡ before) × (rank_of (words' words_at.Root) m' < rank_in call.made stage))) × IsCurrent words' m'
+  Lowered stage m' = (IsSpent before later ⊎ ((later ≡ before) × (rank_of (words' words_at.Root) m' < rank_in call.made stage))) × IsCallRead words' m'
 
   -- a first table is opened by an exchange
   opens : (stage : Stage) (told : Answer) → IsOpening stage → IsRead words stage → IsPrompt call.task words (asks call.made call.hash stage) told words' → SpendsCall (kind_asked call.made stage) (asks call.made call.hash stage) told before later → IsSpent before later
@@ -65,7 +66,7 @@ module _ (words words' : At → ℕ) (bare : IsBare words) (before later : Budge
     steps_on : Lowered stage (stepped (in_stage stage) told)
     steps_on =
         let m : Call_machine = record call { state = stage } in
-        let ends : Ends words words' m call.made stage told = call_ends words words' m told read ahead number prompt in (
+        let ends : Ends words words' m call.made stage told = call_ends words words' m told known read ahead number prompt in (
           ⊎_elim
               (λ (spent : IsSpent before later). inl spent)
               (λ (kept : later ≡ before).
@@ -74,7 +75,7 @@ module _ (words words' : At → ℕ) (bare : IsBare words) (before later : Budge
               (λ (less : rank_in (call_machine.after m told).made (call_machine.after m told).state < rank_in call.made stage). inr (kept, less))
               ends.0)
               (call_spent before later (kind_asked call.made stage) (asks call.made call.hash stage) told spends),
-          ((machine_stays words words' m bare told read prompt).read, subst (λ how. IsAheadIn how words' (call_machine.after m told).state) (sym (settings_stay m told).0) ends.1),
+          ((machine_stays words words' m bare told known read prompt).read, subst (λ how. IsAheadIn how words' (call_machine.after m told).state) (sym (settings_stay m told).0) ends.1),
         )
 
     -- what the next table's number is

@@ -1,9 +1,8 @@
 -- What is told of the law's words is what the words answer a call.
 use Rattle.std.proofs.Common.{◌≡◌, ⊎_elim, ℕ, ◌==◌, ◌&&◌, Bool, true, false, Option, Some, None, List, [], ◌++◌, cond, refl, sym, ap, ◌∙◌, subst, eqb-true}
-use Rattle.std.specs.Prelude.{MatchBool}
 use Rattle.papaya_words.specs.Word.{live_word, pair_of}
 use Rattle.papaya_ask.specs.declared.ask.Ask.{Ask}
-use Rattle.papaya_ask.specs.declared.ask.Ask.TheVariants.{Load, Exchange as Ask_exchange, SameKey, ShowNone, ShowPair, SizeOf, MakeKey, MakePair, MakeTable, AddToShard, Done as Ask_done, LoadHint, WriteHint}
+use Rattle.papaya_ask.specs.declared.ask.Ask.TheVariants.{Load, Exchange as Ask_exchange, SameKey, ShowNone, ShowPair, SizeOf, MakeKey, MakeValue, MakePair, MakePairOf, MakeTable, AddToShard, Done as Ask_done, LoadHint, WriteHint}
 use Rattle.papaya_ask.specs.declared.ask.Answer.{Answer}
 use Rattle.papaya_ask.specs.declared.ask.At.{At}
 use Rattle.papaya_ask.specs.declared.ask.At.TheVariants as words_at
@@ -13,8 +12,7 @@ use Rattle.papaya_ask.specs.declared.search.Search.TheVariants.{Sizing, Looking,
 use Rattle.papaya_call.specs.declared.machine.Machine.{Machine}
 use Rattle.papaya_call.specs.declared.machine.State.{State as Stage}
 use Rattle.papaya_call.specs.declared.machine.State.TheVariants.{AtRoot, Making, Opening, Searching, Writing, Offering, Showing, Pairing, Putting, Burying, Counting, Noting, Uncounting, Leaving, Growing, Ended}
-use Rattle.papaya_call.specs.declared.write.Made.{Made}
-use Rattle.papaya_call.specs.declared.write.Made.TheVariants.{Nothing, Key, Pair}
+use Rattle.papaya_call.specs.declared.made.Made.{Made}
 use Rattle.papaya_call.specs.Machine.{ask_of, asks, kind_of_ask}
 use Rattle.papaya_law.specs.Allows.{AllAllowed}
 use Rattle.papaya_law.specs.Code.{Coding, IsHashed, code}
@@ -25,14 +23,15 @@ use Rattle.papaya_law.proofs.Codes.{code_pair}
 use Rattle.papaya_law.proofs.OneMap.{keeping}
 use Rattle.papaya_rests.specs.Alone.{IsPrompt, IsSame}
 use Rattle.papaya_rests.specs.Rests.{Rests, RestsStage}
-use Rattle.papaya_rests.specs.Told.{Hands, IsAsked, IsOneOf, IsOwnWord, IsTold, word_of}
+use Rattle.papaya_rests.specs.Told.{Hands, IsAsked, IsOwnWord, IsTold, word_of}
+use Rattle.papaya_rests.proofs.Makings.{IsPairAsk, IsWriteAsk, pairing_asks, write_asks}
 use Rattle.papaya_rests.proofs.RestsExchange.{machine_may}
 use Rattle.papaya_rests.proofs.RestsNames.{IsNamed, ask_named}
 use Rattle.papaya_alone.specs.Prompt.{IsBounded, IsServed}
 use Rattle.papaya_alone.proofs.CallRanks.{IsNumberAsked}
-use Rattle.papaya_alone.proofs.CopyPrompts.{number_there}
+use Rattle.papaya_alone.proofs.CopyPrompts.{by_each, number_there}
 
-module _ {K P : Type 0} (g : Setting K P) (c : Coding K P) (s : State P) (k : K) (hands : Hands P) (keys : (q : P) → IsOneOf hands.made q → g.key q ≡ k) where
+module _ {K P : Type 0} (g : Setting K P) (c : Coding K P) (s : State P) (k : K) (hands : Hands P) where
   -- two words of the law that stand for one number, in one slot
   put_alike : (v w old : Word P) (b : Bool) → code g c v ≡ code g c w → code g c (cond b v old) ≡ code g c (cond b w old)
   put_alike v w old true e = e
@@ -50,18 +49,20 @@ module _ {K P : Type 0} (g : Setting K P) (c : Coding K P) (s : State P) (k : K)
   slots_alike t x v w e (words_at.Next u) = refl
   slots_alike t x v w e (words_at.Aborted u) = refl
   slots_alike t x v w e (words_at.Done u chunk) = refl
+  slots_alike t x v w e words_at.Made = refl
   slots_alike t x v w e (words_at.Slot u y) = put_alike v w (s.slot u y) ((u == t) && (y == x)) e
 
   -- exchanges of which one is asked leave the same words
-  asked_alike : (kind : Option StepKind) (at : At) (new : ℕ) (e e' : Exchange P) → IsAsked c kind at new s hands e → IsAsked c kind at new s hands e' → (a : At) → word_of g c (after s e) a ≡ word_of g c (after s e') a
+  asked_alike : (kind : Option StepKind) (at : At) (new : ℕ) (e e' : Exchange P) → IsAsked g c k kind at new s hands e → IsAsked g c k kind at new s hands e' → (a : At) → word_of g c (after s e) a ≡ word_of g c (after s e') a
   asked_alike (Some kinds.Open) words_at.Root new e e' h i a = ap (λ y. word_of g c (after s y) a) (h ∙ sym i)
-  asked_alike (Some kinds.Claim) (words_at.Slot t x) new e e' (p, own, is) (q, own', is') a =
+  asked_alike (Some kinds.Claim) (words_at.Slot t x) new e e' (p, own, same, is) (q, own', same', is') a =
       ap (λ y. word_of g c (after s y) a) is ∙ slots_alike t x (Live p) (Live q) (own_alike new p q own own') a ∙ sym (ap (λ y. word_of g c (after s y) a) is')
-  asked_alike (Some kinds.Replace) (words_at.Slot t x) new e e' (o, p, live, own, is) (o', q, live', own', is') a =
+  asked_alike (Some kinds.Replace) (words_at.Slot t x) new e e' (o, p, live, own, same, is) (o', q, live', own', same', is') a =
       ap (λ y. word_of g c (after s y) a) is ∙ slots_alike t x (Live p) (Live q) (own_alike new p q own own') a ∙ sym (ap (λ y. word_of g c (after s y) a) is')
   asked_alike (Some kinds.Bury) (words_at.Slot t x) new e e' (p, live, is) (q, live', is') a =
       let same : p ≡ q = cc (live, live') in
       ap (λ y. word_of g c (after s y) a) (is ∙ ap (Bury t x) same ∙ sym is')
+  asked_alike (Some kinds.Take) words_at.Made new e e' h i a = ap (λ y. word_of g c (after s y) a) (h ∙ sym i)
   asked_alike kind at new e e' h i a = absurd h
 
 module _ {K P : Type 0} (g : Setting K P) (c : Coding K P) (hashed : IsHashed g c) (begun since : List (Exchange P)) (may : AllAllowed g start (begun ++ since)) (k : K) where
@@ -74,11 +75,6 @@ module _ {K P : Type 0} (g : Setting K P) (c : Coding K P) (hashed : IsHashed g 
   keeps = keeping g hashed.lawful (begun ++ since) may
 
   module _ (bounded : IsBounded g now) (m : Machine) (hands : Hands P) (r : Rests g c begun since k m hands) where
-    -- by each outcome of a test
-    by_each : (b : Bool) {A B C D : Type 0} → (b ≡ true → A → C) → (b ≡ false → B → D) → MatchBool b A B → MatchBool b C D
-    by_each true f h x = f refl x
-    by_each false f h x = h refl x
-
     -- where nothing was exchanged
     same_none : (es : List (Exchange P)) → es ≡ [] → IsSame (word_of g c now) (word_of g c (run es now))
     same_none es none at = ap (λ l. word_of g c (run l now) at) none
@@ -92,14 +88,10 @@ module _ {K P : Type 0} (g : Setting K P) (c : Coding K P) (hashed : IsHashed g 
     compared_in made (Searching (Looking at)) x n e = absurd cc
     compared_in made (Searching (Reading at)) x n e = absurd cc
     compared_in made (Searching (Comparing at word)) x n e = let is : pair_of word ≡ n = cc e in (x.0, x.1, sym (ap pair_of x.2.loaded ∙ (code_pair g c hashed.coding x.2.was x.0 x.2.names)) ∙ is)
-    compared_in Nothing (Writing write) x n e = absurd cc
-    compared_in Key (Writing write) x n e = absurd cc
-    compared_in (Pair i) (Writing write) x n e = absurd cc
+    compared_in made (Writing write) x n e = absurd (subst IsWriteAsk e (write_asks made write))
     compared_in made (Offering gap) x n e = absurd cc
     compared_in made (Showing removal) x n e = absurd cc
-    compared_in Nothing (Pairing purpose) x n e = absurd cc
-    compared_in Key (Pairing purpose) x n e = absurd cc
-    compared_in (Pair i) (Pairing purpose) x n e = absurd cc
+    compared_in made (Pairing purpose) x n e = absurd (subst IsPairAsk e (pairing_asks made purpose))
     compared_in made (Putting put) x n e = absurd cc
     compared_in made (Burying removal) x n e = absurd cc
     compared_in made (Counting i) x n e = absurd cc
@@ -116,6 +108,7 @@ module _ {K P : Type 0} (g : Setting K P) (c : Coding K P) (hashed : IsHashed g 
     number_in (Load (words_at.Aborted t)) named = tt
     number_in (Load (words_at.Done t chunk)) named = tt
     number_in (Load (words_at.Slot t x)) named = tt
+    number_in (Load words_at.Made) named = tt
     number_in (Ask_exchange at old new) named = tt
     number_in (LoadHint t x) named = tt
     number_in (WriteHint t x hint) named = tt
@@ -124,7 +117,9 @@ module _ {K P : Type 0} (g : Setting K P) (c : Coding K P) (hashed : IsHashed g 
     number_in (ShowPair n) named = tt
     number_in (SizeOf t) named = tt
     number_in MakeKey named = tt
+    number_in MakeValue named = tt
     number_in MakePair named = tt
+    number_in (MakePairOf n) named = tt
     number_in (MakeTable slots limit chunks) named = tt
     number_in (AddToShard by) named = tt
     number_in (Ask_done reply) named = tt
@@ -140,7 +135,7 @@ module _ {K P : Type 0} (g : Setting K P) (c : Coding K P) (hashed : IsHashed g 
         by_each (word_of g c now at == old)
         (λ e (a, (x, asked, one), h').
         let made = machine_may g c hashed begun since may k m hands r at old new is (eqb-true (word_of g c now at) old e) in
-        let alike : (b : At) → word_of g c (run es now) b ≡ word_of g c (after now made.0) b = λ b. ap (λ l. word_of g c (run l now) b) one ∙ asked_alike g c now k hands r.made.keys (kind_of_ask m) at new x made.0 asked made.1 b in
+        let alike : (b : At) → word_of g c (run es now) b ≡ word_of g c (after now made.0) b = λ b. ap (λ l. word_of g c (run l now) b) one ∙ asked_alike g c now k hands (kind_of_ask m) at new x made.0 asked made.1 b in
         (a, record { here = alike at ∙ made.3.here; others = λ other differs. alike other ∙ made.3.others other differs }))
         (λ e (a, none, h'). (a, same_none es none)) told
     prompt_of (LoadHint t x) is answer es hands' served told = ((told.0.0, told.0.2), same_none es told.1.0)
@@ -155,7 +150,9 @@ module _ {K P : Type 0} (g : Setting K P) (c : Coding K P) (hashed : IsHashed g 
         let on = subst (IsNamed g c hashed begun since may k) is (ask_named g c hashed begun since may k hands m.task m.hash m.made m.state r.stage) in
         ((g.size t, limit, bounded.size t limit on most, e), same_none es told.1.0)
     prompt_of MakeKey is answer es hands' served told = (served, same_none es told.1.0)
-    prompt_of MakePair is answer es hands' served told = (served, same_none es (⊎_elim (λ h. h.1.0) (λ h. h.3) told))
+    prompt_of MakeValue is answer es hands' served told = (served, same_none es told.1.0)
+    prompt_of MakePair is answer es hands' served told = (served, same_none es (⊎_elim (λ h. h.1.0) (λ h. h.2.1) told))
+    prompt_of (MakePairOf n) is answer es hands' served told = (served, same_none es (⊎_elim (λ h. h.1.0) (λ h. h.2.1) told))
     prompt_of (MakeTable slots limit chunks) is answer es hands' served told = (served, same_none es told.1.0)
     prompt_of (AddToShard by) is answer es hands' served told = (told.0, same_none es told.1.0)
     prompt_of (Ask_done reply) is answer es hands' served told = absurd served

@@ -8,11 +8,11 @@ use Rattle.papaya_words.specs.declared.probe.ResizeMode.TheVariants.{Incremental
 use Rattle.papaya_words.specs.declared.word.Kind.{Kind}
 use Rattle.papaya_words.specs.declared.word.Kind.TheVariants as word_kinds
 use Rattle.papaya_ask.specs.declared.ask.At.{At}
-use Rattle.papaya_ask.specs.declared.ask.At.TheVariants.{Root, Next, Slot}
+use Rattle.papaya_ask.specs.declared.ask.At.TheVariants.{Root, Next, Slot, Made as Made_word}
 use Rattle.papaya_ask.specs.declared.ask.Ask.{Ask}
 use Rattle.papaya_ask.specs.declared.ask.Ask.TheVariants.{Load}
 use Rattle.papaya_ask.specs.declared.ask.Answer.{Answer}
-use Rattle.papaya_ask.specs.declared.ask.Answer.TheVariants.{Exchanged, Size, Made as Made_number, Refused as Was_refused}
+use Rattle.papaya_ask.specs.declared.ask.Answer.TheVariants.{Exchanged, Found as Found_instead, Size, Made as Made_number, Refused as Was_refused}
 use Rattle.papaya_ask.specs.declared.ask.OpKind.{OpKind}
 use Rattle.papaya_ask.specs.declared.ask.OpKind.TheVariants as op_kinds
 use Rattle.papaya_ask.specs.declared.call.Reply.TheVariants.{Absent, Replaced}
@@ -31,24 +31,29 @@ use Rattle.papaya_ask.specs.declared.search.Place.{Place}
 use Rattle.papaya_ask.specs.declared.search.Search.TheVariants.{Sizing, Looking, Reading, Comparing}
 use Rattle.papaya_ask.specs.declared.search.Seen.{Seen}
 use Rattle.papaya_ask.specs.declared.search.Seen.TheVariants as seen
-use Rattle.papaya_call.specs.declared.write.Made.{Made}
-use Rattle.papaya_call.specs.declared.write.Made.TheVariants.{Nothing, Key, Pair}
+use Rattle.papaya_call.specs.declared.made.Made.{Made}
+use Rattle.papaya_call.specs.declared.made.Number.{Number}
+use Rattle.papaya_call.specs.declared.made.Number.TheVariants.{Wanted, Free, Taken}
 use Rattle.papaya_call.specs.declared.write.Write.{Write}
 use Rattle.papaya_call.specs.declared.machine.Machine.{Machine}
 use Rattle.papaya_call.specs.declared.machine.State.{State}
 use Rattle.papaya_call.specs.declared.machine.State.TheVariants.{AtRoot, Making, Opening, Searching, Writing, Offering, Showing, Pairing, Putting, Burying, Counting, Noting, Uncounting, Leaving, Growing, Ended}
 use Rattle.papaya_ask.specs.Search.{IsSize, next_place, go_on, look_at, match_at, look, at_yes as search_compared, hinted}
-use Rattle.papaya_call.specs.Compute.{fills, lacks, offered, chosen, provides, recalls}
+use Rattle.papaya_call.specs.Compute.{fills, in_place_of, lacks, offered, chosen, provides, recalled, recalls}
+use Rattle.papaya_call.specs.Made.{answered, serves_at}
 use Rattle.papaya_call.specs.Machine.{after, ask_of, asks, absent, at_root, left as next_or_end, passes, replaces, removes, computes, goes_as, written, agreed}
 use Rattle.papaya_rests.proofs.Leads.{occupies_leads}
-use Rattle.papaya_rests.specs.Alone.{IsPut, IsMaking, IsSaying, IsPrompt, IsRead}
+use Rattle.papaya_rests.specs.Alone.{IsNumberRead, IsPut, IsMaking, IsSame, IsSaying, IsPrompt, IsRead, left, left_in, left_to_log, left_to_number, left_to_pair, left_to_serve_with, left_to_write}
 use Rattle.papaya_rests.proofs.AloneSteps.{by_saying, exchange_done}
+use Rattle.papaya_rests.proofs.Makings.{HoldsOfPairAsks, pair_holds, pairing_leads, unserved_leads, write_then, write_then_is}
+use Rattle.papaya_rests.proofs.RestsLearn.{by_test}
 use Rattle.papaya_alone.specs.Ahead.{IsAhead, IsAheadIn, IsGapAhead, IsPurposeAhead}
 use Rattle.papaya_alone.specs.Current.{IsIncremental}
 use Rattle.papaya_alone.specs.Measure.{further}
 use Rattle.papaya_alone.specs.Prompt.{IsNumber}
-use Rattle.papaya_alone.specs.Rank.{hops_of, left_of_search, rank, rank_in, rank_to_serve, table_of, unmade}
-use Rattle.papaya_call.specs.Write.{claimed_by}
+use Rattle.papaya_alone.specs.Rank.{hops_of, left_of_search, rank, rank_in, rank_to_serve, table_of}
+use Rattle.papaya_alone.proofs.Calm.{pairing_nearer, writing_nearer}
+use Rattle.papaya_call.specs.Write.{claimed_by, served_ask, serves}
 
 -- what a search saw, with as much as may come of it
 abbrev rank_of_seen : Seen → ℕ
@@ -107,11 +112,29 @@ compared_sees : (at : Place) (word : ℕ) (same : Bool) → SeesIn (rank 2 (furt
 compared_sees at word true = let f = match_sees (kind_of word) at word in let l = f.0 in (omega (arith, l), f.1)
 compared_sees at word false = go_on_sees at
 
--- a key and a pair at most are to be made
-pub unmade_most : (m : Made) → unmade m ≤ 2
-unmade_most Nothing = omega arith
-unmade_most Key = omega arith
-unmade_most (Pair n) = omega arith
+-- few steps are left to a pair, and to a write
+number_most : (number : Number) → left_to_number number ≤ 2
+number_most Wanted = omega arith
+number_most (Free count) = omega arith
+number_most Taken = omega arith
+
+log_most : (logged : Bool) → left_to_log logged ≤ 1
+log_most true = omega arith
+log_most false = omega arith
+
+pub pair_most : (made : Made) (old : ℕ) → left_to_pair made old ≤ 5
+pair_most made old =
+    let a = number_most made.number in
+    let b = log_most made.valued in
+    let c = cond_both (old == 0) (left_to_log made.keyed) 0 (λ n. n ≤ 1) (λ _. log_most made.keyed) (λ _. omega arith) in
+    omega (arith, a, b, c)
+
+pub write_most : (made : Made) (write : Write) → left_to_write made write ≤ 8
+write_most made write = by_served (serves made write)
+  where
+    by_served : (served : Option ℕ) → left_to_serve_with served made write.old ≤ 8
+    by_served None = omega (arith, pair_most made write.old)
+    by_served (Some n) = omega arith
 
 -- what is asked for a load is a number
 abbrev pub IsNumberAsked : (At → ℕ) → Ask → Type 0
@@ -135,7 +158,7 @@ module _ (made : Made) (how : ResizeMode) (words : At → ℕ) where
   -- a pair with the key is replaced
   replaces_leads : (kind : Kind) (at : Place) (word : ℕ) → IsAhead how words at.table → Leads (rank 2 (further at.table) (2 ^ 68 + 3)) (replaces kind at word)
   replaces_leads word_kinds.Empty at word h = (omega arith, h)
-  replaces_leads word_kinds.Live at word h = (omega (arith, unmade_most made), tt)
+  replaces_leads word_kinds.Live at word h = (omega (arith, write_most made (record { place = at; old = word })), tt)
   replaces_leads word_kinds.Marked at word h = (omega arith, h)
   replaces_leads word_kinds.Copied at word h = (omega arith, h)
   replaces_leads word_kinds.Buried at word h = (omega arith, h)
@@ -154,8 +177,11 @@ module _ (made : Made) (how : ResizeMode) (words : At → ℕ) where
   recalls_leads : (choice : Option Choice) (at : Place) (word n : ℕ) → Leads (rank 2 0 0) (recalls choice at word n)
   recalls_leads None at word n = (omega arith, tt)
   recalls_leads (Some (choices.Replace old new)) at word n =
-      let put : Put = record { write = record { place = at; old = word }; pair = new } in
-      cond_both (old == n) (Putting put) (Showing (record { place = at; word = word })) (Leads (rank 2 0 0)) (λ _. (omega arith, tt)) (λ _. (omega arith, tt))
+      let write : Write = record { place = at; old = word } in
+      let put : Put = record { write = write; pair = new.pair } in
+      cond_both (old == n) (recalled new at word) (Showing (record { place = at; word = word })) (Leads (rank 2 0 0))
+      (λ _. cond_both (serves_at new at.table at.probe.i) (Putting put) (Pairing (purposes.Again write)) (Leads (rank 2 0 0)) (λ _. (omega arith, tt)) (λ _. (omega (arith, pair_most made word), tt)))
+      (λ _. (omega arith, tt))
   recalls_leads (Some (choices.Remove old)) at word n =
       let removal : Removal = record { place = at; word = word } in
       cond_both (old == n) (Burying removal) (Showing removal) (Leads (rank 2 0 0)) (λ _. (omega arith, tt)) (λ _. (omega arith, tt))
@@ -177,7 +203,7 @@ module _ (made : Made) (how : ResizeMode) (words : At → ℕ) where
 
   -- the key is absent
   lacks_leads : (fill : Option ℕ) (gap : Gap) → IsGapAhead how words gap → Leads (rank 2 (hops_of gap) (2 ^ 68 + 10)) (lacks fill gap)
-  lacks_leads None gap h = (omega (arith, unmade_most made), h)
+  lacks_leads None gap h = (omega arith, h)
   lacks_leads (Some n) gap h = more (rank 2 (hops_of gap) (2 ^ 68 + 3)) _ (fills gap n) (omega arith) (fills_leads gap n h)
 
   absent_leads : (task : Task) (fill : Option ℕ) (gap : Gap) → IsGapAhead how words gap → Leads (rank 2 (hops_of gap) (2 ^ 68 + 10)) (absent task fill gap)
@@ -202,7 +228,7 @@ module _ (made : Made) (how : ResizeMode) (words : At → ℕ) where
   goes_leads RemoveIf held (seen.Here at word) h = more made how words (rank 2 (further at.table) (2 ^ 68 + 3)) _ (removes (kind_of word) at word) (omega arith) (removes_leads made how words (kind_of word) at word h)
   goes_leads Compute held (seen.Here at word) h = more made how words (rank 2 (further at.table) (2 ^ 68 + 3)) _ (computes (kind_of word) held at word) (omega arith) (computes_leads made how words (kind_of word) held at word h)
   goes_leads Get held (seen.Empty at) h = (omega arith, tt)
-  goes_leads (Insert replace) held (seen.Empty at) h = (omega (arith, unmade_most made), tt)
+  goes_leads (Insert replace) held (seen.Empty at) h = (omega (arith, write_most made (record { place = at; old = 0 })), tt)
   goes_leads RemoveIf held (seen.Empty at) h = (omega arith, tt)
   goes_leads Compute held (seen.Empty at) h = more made how words (rank 2 (further at.table) (2 ^ 68 + 10)) _ (lacks held.fill (gaps.At at)) (omega arith) (lacks_leads made how words held.fill (gaps.At at) h)
   goes_leads Get held (seen.Over t) h = passes_leads made words how Get held.fill t h
@@ -234,13 +260,13 @@ module _ (made : Made) (how : ResizeMode) (words : At → ℕ) where
   written_leads write n = cond_both (write.old == 0) (Counting (claimed_by write n)) (Ended (Replaced (pair_of write.old) n)) (Leads made how words (rank 1 0 0)) (λ _. (omega arith, tt)) (λ _. (omega arith, tt))
 
   -- what its closure answered leads on
-  offered_leads : (gap : Gap) (kind : OpKind) → IsGapAhead how words gap → Leads made how words (rank 2 (hops_of gap) (2 ^ 68 + 7)) (offered gap kind)
-  offered_leads gap op_kinds.Insert h = (omega (arith, unmade_most made), h)
+  offered_leads : (gap : Gap) (kind : OpKind) → IsGapAhead how words gap → Leads (answered kind made) how words (rank 2 (hops_of gap) (2 ^ 68 + 9)) (offered gap kind)
+  offered_leads gap op_kinds.Insert h = (omega (arith, pair_most (answered op_kinds.Insert made) 0), h)
   offered_leads gap op_kinds.Remove h = (omega arith, tt)
   offered_leads gap (op_kinds.Abort t) h = (omega arith, tt)
 
-  chosen_leads : (removal : Removal) (kind : OpKind) → Leads made how words (rank 1 0 8) (chosen removal kind)
-  chosen_leads removal op_kinds.Insert = (omega (arith, unmade_most made), tt)
+  chosen_leads : (removal : Removal) (kind : OpKind) → Leads (answered kind made) how words (rank 1 0 8) (chosen removal kind)
+  chosen_leads removal op_kinds.Insert = (omega (arith, pair_most (answered op_kinds.Insert made) removal.word), tt)
   chosen_leads removal op_kinds.Remove = (omega arith, tt)
   chosen_leads removal (op_kinds.Abort t) = (omega arith, tt)
 
@@ -248,11 +274,13 @@ module _ (made : Made) (how : ResizeMode) (words : At → ℕ) where
 some_less : (made : Made) (purpose : Purpose) → 0 < rank_to_serve made purpose
 some_less made (purposes.Fill gap) = omega arith
 some_less made (purposes.Replace write) = omega arith
+some_less made (purposes.Again write) = omega arith
 
 -- the pair that a compute made leads on
 provides_leads : (made' made : Made) (how : ResizeMode) (words : At → ℕ) (purpose : Purpose) (n : ℕ) → IsPurposeAhead how words purpose → (rank_in made' (provides purpose n) < rank_to_serve made purpose) × IsAheadIn how words (provides purpose n)
 provides_leads made' made how words (purposes.Fill gap) n h = let f = fills_leads made' how words gap n h in let l = f.0 in (omega (arith, l), f.1)
 provides_leads made' made how words (purposes.Replace write) n h = (omega arith, tt)
+provides_leads made' made how words (purposes.Again write) n h = (omega arith, tt)
 
 module _ (words words' : At → ℕ) (m : Machine) where
   -- after this answer less is left, or a first table was opened; and the call is at the root or behind it
@@ -274,6 +302,7 @@ module _ (words words' : At → ℕ) (m : Machine) where
   still_purpose : (purpose : Purpose) → words' Root ≡ words Root → IsPurposeAhead m.mode words purpose → IsPurposeAhead m.mode words' purpose
   still_purpose (purposes.Fill gap) same h = still_gap gap same h
   still_purpose (purposes.Replace write) same h = tt
+  still_purpose (purposes.Again write) same h = tt
 
   -- what was to be made was made, or refused
   making_ends : (made : Made) (s : State) (answer : Answer) → IsMaking answer → ((n : ℕ) → Ends made s (Made_number n)) → ((refused : Refused) → Ends made s (Was_refused refused)) → Ends made s answer
@@ -287,26 +316,56 @@ module _ (words words' : At → ℕ) (m : Machine) where
   size_ends : (made : Made) (t : ℕ) (answer : Answer) → (slots : ℕ) × (limit : ℕ) × IsSize slots limit × (answer ≡ Size slots limit) → IsAhead m.mode words' t → Ends made (Searching (Sizing t)) answer
   size_ends made t answer (slots, limit, size, e) h = let few : limit < 2 ^ 32 = size.few in subst (Ends made (Searching (Sizing t))) (sym e) (inr (omega arith), h)
 
-  -- an insertion's key is made, then its pair, then it is written
-  writing_ends : (made : Made) (write : Write) (answer : Answer) → IsRead words (Writing write) → IsPrompt m.task words (asks made m.hash (Writing write)) answer words' → Ends made (Writing write) answer
-  writing_ends Nothing write answer read told = making_ends Nothing (Writing write) answer told.0 (λ n. (inr (omega arith), tt)) (λ refused. (inr (omega arith), tt))
-  writing_ends Key write answer read told = making_ends Key (Writing write) answer told.0 (λ n. (inr (omega arith), tt)) (λ refused. (inr (omega arith), tt))
-  writing_ends (Pair n) write answer read told =
-      let at : At = Slot write.place.table write.place.probe.i in
-      let done : (answer ≡ Exchanged) × IsPut words at _ words' = exchange_done _ _ (words at) write.old read told in
-      let f = written_leads (Pair n) m.mode words' write n in
-      let l = f.0 in
-      subst (Ends (Pair n) (Writing write)) (sym done.0) (inr (omega (arith, l)), f.1)
+  -- where fewer steps are left to a call that makes a pair, less is left by its rank
+  abbrev Follows : Made → State → State → Type 0
+  Follows made s next = (made' : Made) → left_in made' next < left_in made s → (rank_in made' next < rank_in made s) × IsAheadIn m.mode words' next
 
-  -- a compute's key is made, once, and then its pair
-  pairing_ends : (made : Made) (purpose : Purpose) (answer : Answer) → IsPurposeAhead m.mode words purpose → IsPrompt m.task words (asks made m.hash (Pairing purpose)) answer words' → Ends made (Pairing purpose) answer
-  pairing_ends Nothing purpose answer h told = making_ends Nothing (Pairing purpose) answer told.0 (λ n. (inr (key_less purpose), still_purpose purpose (told.1 Root) h)) (λ refused. (inr (some_less Nothing purpose), tt))
+  follows : (made : Made) (s : State) (answer : Answer) → Follows made s (after (record m { made = made; state = s }) answer).state → (left (after (record m { made = made; state = s }) answer) < left_in made s) → Ends made s answer
+  follows made s answer f less = let h = f (after (record m { made = made; state = s }) answer).made less in (inr h.0, h.1)
+
+  -- an insertion's pair is made, then it is written
+  writing_ends : (made : Made) (write : Write) (answer : Answer) → IsNumberRead words made.number → IsRead words (Writing write) → IsPrompt m.task words (asks made m.hash (Writing write)) answer words' → Ends made (Writing write) answer
+  writing_ends made write answer known read told =
+      follows made (Writing write) answer
+      (subst (Follows made (Writing write)) (sym (write_then_is m made write answer)) (by_served (serves made write) refl))
+      (writing_nearer words words' m made answer known write read told)
     where
-      key_less : (purpose : Purpose) → rank_to_serve Key purpose < rank_to_serve Nothing purpose
-      key_less (purposes.Fill gap) = omega arith
-      key_less (purposes.Replace write) = omega arith
-  pairing_ends Key purpose answer h told = making_ends Key (Pairing purpose) answer told.0 (λ n. let f = provides_leads Key Key m.mode words' purpose n (still_purpose purpose (told.1 Root) h) in (inr f.0, f.1)) (λ refused. (inr (some_less Key purpose), tt))
-  pairing_ends (Pair k) purpose answer h told = making_ends (Pair k) (Pairing purpose) answer told.0 (λ n. let f = provides_leads (Pair k) (Pair k) m.mode words' purpose n (still_purpose purpose (told.1 Root) h) in (inr f.0, f.1)) (λ refused. (inr (some_less (Pair k) purpose), tt))
+      written_follows : (n : ℕ) → Follows made (Writing write) (written write n)
+      written_follows n made' less = cond_both (write.old == 0) (Counting (claimed_by write n)) (Ended (Replaced (pair_of write.old) n)) (λ s. left_in made' s < left_to_write made write → (rank_in made' s < rank 1 0 (left_to_write made write)) × IsAheadIn m.mode words' s)
+          (λ _ l. (omega (arith, l), tt)) (λ _ l. (omega (arith, l), tt)) less
+
+      by_served : (served : Option ℕ) → serves made write ≡ served → Follows made (Writing write) (write_then m served made write answer)
+      by_served None is = unserved_leads m (Follows made (Writing write)) (λ refused made' less. (omega (arith, less), tt)) made write (λ made' less. (omega (arith, less), tt)) answer
+      by_served (Some n) is =
+          let done : (answer ≡ Exchanged) × IsPut words (Slot write.place.table write.place.probe.i) _ words' = exchange_done _ _ (words (Slot write.place.table write.place.probe.i)) write.old read (subst (λ o. IsPrompt m.task words (served_ask o write made) answer words') is told) in
+          subst (λ a. Follows made (Writing write) (write_then m (Some n) made write a)) (sym done.0) (written_follows n)
+
+  -- a call that makes a pair leaves the root
+  pairing_root : (purpose : Purpose) (made : Made) (answer : Answer) → IsPrompt m.task words (asks made m.hash (Pairing purpose)) answer words' → words' Root ≡ words Root
+  pairing_root purpose made answer told = pair_holds (λ ask. IsPrompt m.task words ask answer words' → words' Root ≡ words Root) each made (in_place_of purpose) told
+    where
+      each : HoldsOfPairAsks (λ ask. IsPrompt m.task words ask answer words' → words' Root ≡ words Root)
+      each = record {
+        loads = λ told. told.1 Root;
+        takes = λ count told. by_test (words Made_word == count) ((answer ≡ Exchanged) × IsPut words Made_word (count + 1) words') ((answer ≡ Found_instead (words Made_word)) × IsSame words words') (words' Root ≡ words Root) told
+            (λ _ done. done.1.others Root (λ (e : Root ≡ Made_word). cc)) (λ _ lost. lost.1 Root);
+        key = λ told. told.1 Root;
+        value = λ told. told.1 Root;
+        pair = λ told. told.1 Root;
+        pair_of = λ n told. told.1 Root;
+      }
+
+  -- a compute's pair is made
+  pairing_ends : (made : Made) (purpose : Purpose) (answer : Answer) → IsNumberRead words made.number → IsRead words (Pairing purpose) → IsPurposeAhead m.mode words' purpose → IsPrompt m.task words (asks made m.hash (Pairing purpose)) answer words' → Ends made (Pairing purpose) answer
+  pairing_ends made purpose answer known read h told =
+      follows made (Pairing purpose) answer
+      (pairing_leads m (Follows made (Pairing purpose)) (λ refused made' less. (some_less made purpose, tt)) made purpose (λ made' less. (stays_less made' purpose less, h)) (λ n made' less. provides_leads made' made m.mode words' purpose n h) answer)
+      (pairing_nearer words words' m made answer known purpose read told)
+    where
+      stays_less : (made' : Made) (purpose : Purpose) → left_in made' (Pairing purpose) < left_in made (Pairing purpose) → rank_to_serve made' purpose < rank_to_serve made purpose
+      stays_less made' (purposes.Fill gap) less = omega (arith, less)
+      stays_less made' (purposes.Replace write) less = omega (arith, less)
+      stays_less made' (purposes.Again write) less = omega (arith, less)
 
   -- a closure was shown a pair
   showing_ends : (made : Made) (removal : Removal) (answer : Answer) → IsSaying m.task answer → Ends made (Showing removal) answer
@@ -328,63 +387,64 @@ module _ (words words' : At → ℕ) (m : Machine) where
   next_ends made Blocking t word inc h number = absurd inc
 
   -- in each state
-  ends_in : (made : Made) (s : State) (answer : Answer) → IsRead words s → IsAheadIn m.mode words s → IsNumberAsked words (asks made m.hash s) → IsPrompt m.task words (asks made m.hash s) answer words' → Ends made s answer
-  ends_in made AtRoot answer read h number told =
+  ends_in : (made : Made) (s : State) (answer : Answer) → IsNumberRead words made.number → IsRead words s → IsAheadIn m.mode words s → IsNumberAsked words (asks made m.hash s) → IsPrompt m.task words (asks made m.hash s) answer words' → Ends made s answer
+  ends_in made AtRoot answer known read h number told =
       let f = root_leads made m.mode words' m.task m.remembered.fill (words Root) (told.1 Root) in
       let l = f.0 in
       subst (Ends made AtRoot) (sym told.0) (inr (omega (arith, l)), f.1)
-  ends_in made Making answer read h number told = making_ends made Making answer told.0 (λ n. (inr (omega arith), tt)) (λ refused. (inr (omega arith), tt))
-  ends_in made (Opening t) answer read h number told =
+  ends_in made Making answer known read h number told = making_ends made Making answer told.0 (λ n. (inr (omega arith), tt)) (λ refused. (inr (omega arith), tt))
+  ends_in made (Opening t) answer known read h number told =
       let done : (answer ≡ Exchanged) × IsPut words Root t words' = exchange_done _ _ (words Root) 0 read told in
       subst (Ends made (Opening t)) (sym done.0) (inl tt, at_root_ahead made m.mode words' m.mode t done.1.here)
-  ends_in made (Searching (Sizing t)) answer read h number told = size_ends made t answer told.0 (still_ahead m.mode t (told.1 Root) h)
-  ends_in made (Searching (Looking at)) answer read h number told =
+  ends_in made (Searching (Sizing t)) answer known read h number told = size_ends made t answer told.0 (still_ahead m.mode t (told.1 Root) h)
+  ends_in made (Searching (Looking at)) answer known read h number told =
       let hint : ℕ = told.0.0 in
       let a = hinted_sees at m.hash hint in
       let b = goes_leads made m.mode words' m.task m.remembered (hinted at m.hash hint) (subst (IsAhead m.mode words') (sym a.1) (still_ahead m.mode at.table (told.1 Root) h)) in
       let i = a.0 in
       let j = b.0 in
       subst (Ends made (Searching (Looking at))) (sym told.0.1) (inr (omega (arith, i, j)), b.1)
-  ends_in made (Searching (Reading at)) answer read h number told =
+  ends_in made (Searching (Reading at)) answer known read h number told =
       let word : ℕ = words (Slot at.table at.probe.i) in
       let a = look_sees (kind_of word) at word in
       let b = goes_leads made m.mode words' m.task m.remembered (look at word) (subst (IsAhead m.mode words') (sym a.1) (still_ahead m.mode at.table (told.1 Root) h)) in
       let i = a.0 in
       let j = b.0 in
       subst (Ends made (Searching (Reading at))) (sym told.0) (inr (omega (arith, i, j)), b.1)
-  ends_in made (Searching (Comparing at word)) answer read h number told =
+  ends_in made (Searching (Comparing at word)) answer known read h number told =
       let same : Bool = told.0.0 in
       let a = compared_sees at word same in
       let b = goes_leads made m.mode words' m.task m.remembered (search_compared (Comparing at word) same) (subst (IsAhead m.mode words') (sym a.1) (still_ahead m.mode at.table (told.1 Root) h)) in
       let i = a.0 in
       let j = b.0 in
       subst (Ends made (Searching (Comparing at word))) (sym told.0.1) (inr (omega (arith, i, j)), b.1)
-  ends_in made (Writing write) answer read h number told = writing_ends made write answer read told
-  ends_in made (Offering gap) answer read h number told =
+  ends_in made (Writing write) answer known read h number told = writing_ends made write answer known read told
+  ends_in made (Offering gap) answer known read h number told =
       let f = offered_leads made m.mode words' gap told.0.0 (still_gap gap (told.1 Root) h) in
       let l = f.0 in
       subst (Ends made (Offering gap)) (sym told.0.1) (inr (omega (arith, l)), f.1)
-  ends_in made (Showing removal) answer read h number told = showing_ends made removal answer told.0
-  ends_in made (Pairing purpose) answer read h number told = pairing_ends made purpose answer h told
-  ends_in made (Putting put) answer read h number told =
+  ends_in made (Showing removal) answer known read h number told = showing_ends made removal answer told.0
+  ends_in made (Pairing purpose) answer known read h number told =
+      pairing_ends made purpose answer known read (still_purpose purpose (pairing_root purpose made answer told) h) told
+  ends_in made (Putting put) answer known read h number told =
       let at : At = Slot put.write.place.table put.write.place.probe.i in
       let done : (answer ≡ Exchanged) × IsPut words at _ words' = exchange_done _ _ (words at) put.write.old read told in
       let f = written_leads made m.mode words' put.write put.pair in
       let l = f.0 in
       subst (Ends made (Putting put)) (sym done.0) (inr (omega (arith, l)), f.1)
-  ends_in made (Burying removal) answer read h number told =
+  ends_in made (Burying removal) answer known read h number told =
       let at : At = Slot removal.place.table removal.place.probe.i in
       let done : (answer ≡ Exchanged) × IsPut words at _ words' = exchange_done _ _ (words at) removal.word read told in
       subst (Ends made (Burying removal)) (sym done.0) (inr (omega arith), tt)
-  ends_in made (Counting n) answer read h number told = subst (Ends made (Counting n)) (sym told.0) (inr (omega arith), tt)
-  ends_in made (Noting n) answer read h number told = subst (Ends made (Noting n)) (sym told.0) (inr (omega arith), tt)
-  ends_in made (Uncounting n) answer read h number told = subst (Ends made (Uncounting n)) (sym told.0) (inr (omega arith), tt)
-  ends_in made (Leaving t) answer read h number told =
+  ends_in made (Counting n) answer known read h number told = subst (Ends made (Counting n)) (sym told.0) (inr (omega arith), tt)
+  ends_in made (Noting n) answer known read h number told = subst (Ends made (Noting n)) (sym told.0) (inr (omega arith), tt)
+  ends_in made (Uncounting n) answer known read h number told = subst (Ends made (Uncounting n)) (sym told.0) (inr (omega arith), tt)
+  ends_in made (Leaving t) answer known read h number told =
       let f = next_ends made m.mode t (words (Next t)) h.0 (still_ahead m.mode t (told.1 Root) h.1) number in
       subst (Ends made (Leaving t)) (sym told.0) (inr f.0, f.1)
-  ends_in made (Growing need) answer read h number told = subst (Ends made (Growing need)) (sym told.0) (inr (omega arith), tt)
-  ends_in made (Ended reply) answer read h number told = absurd told
+  ends_in made (Growing need) answer known read h number told = subst (Ends made (Growing need)) (sym told.0) (inr (omega arith), tt)
+  ends_in made (Ended reply) answer known read h number told = absurd told
 
   -- of the machine
-  pub call_ends : (answer : Answer) → IsRead words m.state → IsAheadIn m.mode words m.state → IsNumberAsked words (ask_of m) → IsPrompt m.task words (ask_of m) answer words' → Ends m.made m.state answer
-  call_ends answer read h number told = ends_in m.made m.state answer read h number told
+  pub call_ends : (answer : Answer) → IsNumberRead words m.made.number → IsRead words m.state → IsAheadIn m.mode words m.state → IsNumberAsked words (ask_of m) → IsPrompt m.task words (ask_of m) answer words' → Ends m.made m.state answer
+  call_ends answer known read h number told = ends_in m.made m.state answer known read h number told

@@ -61,6 +61,7 @@ carry_puts (carries.Linking hash link) word other h e = link_puts link other (no
     no_next (words_at.Aborted t) h = tt
     no_next (words_at.Done t chunk) h = tt
     no_next (words_at.Slot t i) h = tt
+    no_next words_at.Made h = absurd h
 carry_puts (carries.Aborting table) word other h e = subst IsOfRoot e h
 
 module _ (mode : ResizeMode) (words words' : At → ℕ) (slot : Slot) (word : ℕ) where

@@ -25,6 +25,11 @@ use Rattle.papaya_rests.proofs.CopierExchange.{one_asked}
 use Rattle.papaya_chain_rests.specs.Told.{Hands, IsCopyTold}
 use Rattle.papaya_alone.specs.Prompt.{IsBounded, IsCopyPrompt, IsNumber}
 
+-- by each outcome of a test
+pub by_each : (b : Bool) {A B C D : Type 0} → (b ≡ true → A → C) → (b ≡ false → B → D) → MatchBool b A B → MatchBool b C D
+by_each true f h x = f refl x
+by_each false f h x = h refl x
+
 module _ {K P : Type 0} (g : Setting K P) (c : Coding K P) (s : State P) where
   -- an empty slot's word is 0
   empty_none : (w : Word P) → kind w ≡ word_kinds.Empty → code g c w ≡ 0
@@ -44,11 +49,6 @@ module _ {K P : Type 0} (g : Setting K P) (c : Coding K P) (hashed : IsHashed g 
   abbrev words : At → ℕ
   words = word_of g c s
 
-  -- by each outcome of a test
-  by_each : (b : Bool) {A B C D : Type 0} → (b ≡ true → A → C) → (b ≡ false → B → D) → MatchBool b A B → MatchBool b C D
-  by_each true f h x = f refl x
-  by_each false f h x = h refl x
-
   -- where nothing was exchanged
   same_none : (es : List (Exchange P)) → es ≡ [] → IsSame words (word_of g c (run es s))
   same_none es none at = ap (λ l. word_of g c (run l s) at) none
@@ -64,6 +64,7 @@ module _ {K P : Type 0} (g : Setting K P) (c : Coding K P) (hashed : IsHashed g 
   number_there (words_at.Aborted t) there = tt
   number_there (words_at.Done t chunk) there = tt
   number_there (words_at.Slot t x) there = tt
+  number_there words_at.Made there = absurd there
 
   module _ (kind_asked : Option StepKind) (behind : ℕ) where
     -- an exchange of it whose old word stands there is one of the law

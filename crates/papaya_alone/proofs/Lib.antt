@@ -8,6 +8,7 @@ pub mod StepEnds
 pub mod CopyEnds
 pub mod CopyPrompts
 pub mod CopyLaw
+pub mod Calm
 pub mod CallRanks
 pub mod CallPrompts
 pub mod Onwards
@@ -17,6 +18,7 @@ pub mod AsideCopies
 pub mod MachineLaw
 pub mod Measures
 pub mod ChainLaw
+pub mod AtLimit
 pub mod CopyLeads
 pub mod ResizerLaw
 pub mod ResizerEnds

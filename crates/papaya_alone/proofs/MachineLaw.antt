@@ -4,7 +4,11 @@ use Rattle.std.proofs.lemmas.Bool.{cases_lt, cases_order}
 use Rattle.papaya_words.specs.declared.probe.ResizeMode.{ResizeMode}
 use Rattle.papaya_words.specs.declared.probe.ResizeMode.TheVariants.{Incremental, Blocking}
 use Rattle.papaya_ask.specs.declared.ask.At.{At}
+use Rattle.papaya_ask.specs.declared.ask.At.TheVariants as words_at
+use Rattle.papaya_ask.specs.declared.copy_ask.CopyAsk.{CopyAsk}
+use Rattle.papaya_ask.specs.declared.copy_ask.CopyAsk.TheVariants.{Exchange}
 use Rattle.papaya_call.specs.declared.machine.Machine.{Machine as Call_machine}
+use Rattle.papaya_call.specs.Machine as call_machine
 use Rattle.papaya_copy.specs.declared.copying.Aim.TheVariants as aims
 use Rattle.papaya_copy.specs.declared.copying.Copying.{Copying}
 use Rattle.papaya_copy.specs.declared.copying.Copying.TheVariants as copyings
@@ -22,15 +26,17 @@ use Rattle.papaya_law.specs.Allows.{AllAllowed}
 use Rattle.papaya_law.specs.Class.{IsOn}
 use Rattle.papaya_law.specs.Code.{Coding, IsHashed}
 use Rattle.papaya_law.specs.Copying.{IsTarget}
-use Rattle.papaya_law.specs.Exchange.{Setting, State, Exchange, run, start, walk}
+use Rattle.papaya_law.specs.Exchange.{Setting, State, Exchange as Exchange_made, run, start, walk}
 use Rattle.papaya_law.specs.Invariant.{IsKeeping, IsSound}
 use Rattle.papaya_law.specs.Meaning.{map_left}
 use Rattle.papaya_law.proofs.Chain.{has_next, none_between, pos_before}
 use Rattle.papaya_law.proofs.OneMap.{keeping, keeping_sound}
-use Rattle.papaya_rests.specs.Copier.{HasWords, RestsCopying, RestsLinked, aim_of, link_in_copying}
+use Rattle.papaya_rests.specs.Alone.{IsNumberRead}
+use Rattle.papaya_rests.specs.Copier.{AreThere, HasWords, IsThere, RestsCopying, RestsLinked, aim_of, link_in_copying}
 use Rattle.papaya_rests.specs.Rests as calls
 use Rattle.papaya_rests.specs.Rests.{IsCutAs, IsModeOf}
 use Rattle.papaya_rests.specs.Told.{word_of}
+use Rattle.papaya_rests.specs.Told as call_told
 use Rattle.papaya_rests.proofs.CopierCopies.{copying_there, link_there}
 use Rattle.papaya_rests.proofs.CopierExchange.{copying_may, link_may}
 use Rattle.papaya_rests.proofs.RestsNames.{come_on}
@@ -39,6 +45,7 @@ use Rattle.papaya_chain_rests.specs.Rests.{IsLinking, RestsPhase, left_by}
 use Rattle.papaya_chain_rests.specs.Told.{Hands, IsCopyTold, IsTold}
 use Rattle.papaya_chain_rests.proofs.Aside.{left_come}
 use Rattle.papaya_chain_rests.proofs.Making.{link_learns_all}
+use Rattle.papaya_chain_rests.proofs.Replies.{aside_asks}
 use Rattle.papaya_alone.specs.Ahead.{IsAsideAhead, IsPhaseRead}
 use Rattle.papaya_alone.specs.Budget.{Budget, Spends, SpendsCopy}
 use Rattle.papaya_alone.specs.Current.{IsCopyingRead, IsIncremental}
@@ -50,6 +57,7 @@ use Rattle.papaya_alone.proofs.CallLaw.{call_lowers}
 use Rattle.papaya_alone.proofs.CallPrompts.{asked_number, call_prompt}
 use Rattle.papaya_alone.proofs.CopyPrompts.{told_prompt, words_bare}
 use Rattle.papaya_alone.proofs.Onwards.{AimsAt, aims_at}
+use Rattle.papaya_alone.proofs.Telling.{IsPutAt, stays_at}
 
 module _ {K P : Type 0} (g : Setting K P) (s : State P) (sound : IsSound g s) where
   -- where a table is on the chain there is a root
@@ -90,7 +98,7 @@ pub blocks : (how : ResizeMode) (blocking : Bool) → IsModeOf how blocking → 
 blocks (Incremental chunk) blocking is e = absurd (cc (is, e))
 blocks Blocking blocking is e = refl
 
-module _ {K P : Type 0} (g : Setting K P) (c : Coding K P) (hashed : IsHashed g c) (begun since : List (Exchange P)) (may : AllAllowed g start (begun ++ since)) (k : K) (bounded : IsBounded g (run (begun ++ since) start)) (hands : Hands P) (number : ℕ) (helped : Bool) (call : Call_machine) (r : calls.Rests g c begun since k call hands.call) (cut : IsCutAs call.mode g.chunk_of) (answer : Answer) (es : List (Exchange P)) (hands' : Hands P) (before later : Budget) where
+module _ {K P : Type 0} (g : Setting K P) (c : Coding K P) (hashed : IsHashed g c) (begun since : List (Exchange_made P)) (may : AllAllowed g start (begun ++ since)) (k : K) (bounded : IsBounded g (run (begun ++ since) start)) (hands : Hands P) (number : ℕ) (helped : Bool) (call : Call_machine) (r : calls.Rests g c begun since k call hands.call) (cut : IsCutAs call.mode g.chunk_of) (answer : Answer) (es : List (Exchange_made P)) (hands' : Hands P) (before later : Budget) where
   -- the state, and the words before the answer and after it
   abbrev now : State P
   now = run (begun ++ since) start
@@ -122,42 +130,61 @@ module _ {K P : Type 0} (g : Setting K P) (c : Coding K P) (hashed : IsHashed g 
   left_on t e = come_on g c hashed begun since may k t (left_come g c hashed begun since may k hands.call call.task call.state r.stage t e)
 
   -- it asks for itself
-  calling_falls : IsPhaseRead call.mode words call.state Calling → IsTold g c k now (kind_of_ask (at_phase Calling)) (follows_of (at_phase Calling)) hands (ask_of (at_phase Calling)) answer es hands' → IsServedAsk call.task (ask_of (at_phase Calling)) answer → Spends (kind_of_ask (at_phase Calling)) (ask_of (at_phase Calling)) answer before later → Falls Calling
-  calling_falls read told served spends =
+  calling_falls : IsNumberRead words call.made.number → IsPhaseRead call.mode words call.state Calling → IsTold g c k now (kind_of_ask (at_phase Calling)) (follows_of (at_phase Calling)) hands (ask_of (at_phase Calling)) answer es hands' → IsServedAsk call.task (ask_of (at_phase Calling)) answer → Spends (kind_of_ask (at_phase Calling)) (ask_of (at_phase Calling)) answer before later → Falls Calling
+  calling_falls known read told served spends =
       let is : answer ≡ answers.Call told.told = told.is in
       subst (λ a. IsServedAsk call.task (ask_of (at_phase Calling)) a → Spends (kind_of_ask (at_phase Calling)) (ask_of (at_phase Calling)) a before later → Lowers words words' before later (at_phase Calling) (rank_of_phase now.root call Calling) (after (at_phase Calling) a)) (sym is)
-      (λ serves spent. call_lowers words words' (words_bare g c now) before later number helped call read.0 read.1 (asked_number g c hashed begun since may k bounded call hands.call r) told.told
+      (λ serves spent. call_lowers words words' (words_bare g c now) before later number helped call known read.0 read.1 (asked_number g c hashed begun since may k bounded call hands.call r) told.told
       (call_prompt g c hashed begun since may k bounded call hands.call r told.told es told.call serves told.tells) spent)
       served spends
 
+  -- no copy takes a number for a pair
+  takes_none : (ask : CopyAsk) → AreThere g c now hands.call.last hands.kept ask → IsPutAt ask words_at.Made → ⊥
+  takes_none (Exchange at old new) there is = subst (IsThere g c now hands.call.last hands.kept) (sym is) there
+  takes_none ask there is = is
+
   -- its next table is made
-  linking_falls : (link : Link) → HasWords g (Some link) → IsLinking g c begun since k (at_phase (Linking link)) link → IsPhaseRead call.mode words call.state (Linking link) → IsCopyTold g c now (link_kind link) (follows link) hands (link_ask link) answer es hands' → SpendsCopy (link_ask link) answer before later → Falls (Linking link)
-  linking_falls link made at read told spends =
-      let prompt : IsCopyPrompt words (link_ask link) answer words' =
-      told_prompt g c hashed now (map_left g (begun ++ since)) keeps bounded hands (link_kind link) (follows link) (link_ask link)
-      (link_there g c hashed now (map_left g (begun ++ since)) keeps hands.call.last hands.kept link at.rests)
-      (link_may g c hashed now (map_left g (begun ++ since)) keeps hands.call.last hands.kept link at.rests made) answer es hands' told
-      in
-      let out = link_learns_all g c hashed begun since may call.mode cut call.initial hands link at.rests answer (λ _. made) es hands' told in
-      let later_sound : IsSound g (run (begun ++ (since ++ es)) start) = keeping_sound g (run (begun ++ (since ++ es)) start) (map_left g (begun ++ (since ++ es))) (keeping g hashed.lawful (begun ++ (since ++ es)) out.0) in
-      linking_lowers words words' before later (at_phase (Linking link)) read.0 link read.1 read.2 at.left answer prompt spends
-      (λ table e.
-      let led : ((run (begun ++ (since ++ es)) start).next (follows link) ≡ table) × (0 < table) = subst (RestsLinked g c (run (begun ++ (since ++ es)) start) hands'.call.last hands'.kept (follows link)) e out.1 in
-      let next = led.0 in
-      let some = led.1 in
-      ⊎_elim
-      (λ (none : (run (begun ++ (since ++ es)) start).next (follows link) ≡ 0). absurd (omega (arith, none, next, some)))
-      (λ (h : (0 < follows link) × (follows link < (run (begun ++ (since ++ es)) start).next (follows link))). let up = h.1 in omega (arith, up, next))
-      (later_sound.rises (follows link)))
+  module _ (link : Link) (made : HasWords g (Some link)) (at : IsLinking g c begun since k (at_phase (Linking link)) link) (told : IsCopyTold g c now (link_kind link) (follows link) hands (link_ask link) answer es hands') where
+    link_named : AreThere g c now hands.call.last hands.kept (link_ask link)
+    link_named = link_there g c hashed now (map_left g (begun ++ since)) keeps hands.call.last hands.kept link at.rests
+
+    -- what is told of the words is what they answer
+    link_prompt : IsCopyPrompt words (link_ask link) answer words'
+    link_prompt = told_prompt g c hashed now (map_left g (begun ++ since)) keeps bounded hands (link_kind link) (follows link) (link_ask link) link_named
+        (link_may g c hashed now (map_left g (begun ++ since)) keeps hands.call.last hands.kept link at.rests made) answer es hands' told
+
+    -- as many numbers are taken as before
+    link_counts : words' words_at.Made ≡ words words_at.Made
+    link_counts = stays_at words words' answer (link_ask link) link_prompt words_at.Made (takes_none (link_ask link) link_named)
+
+    linking_falls : IsPhaseRead call.mode words call.state (Linking link) → SpendsCopy (link_ask link) answer before later → Falls (Linking link)
+    linking_falls read spends =
+        let out = link_learns_all g c hashed begun since may call.mode cut call.initial hands link at.rests answer (λ _. made) es hands' told in
+        let later_sound : IsSound g (run (begun ++ (since ++ es)) start) = keeping_sound g (run (begun ++ (since ++ es)) start) (map_left g (begun ++ (since ++ es))) (keeping g hashed.lawful (begun ++ (since ++ es)) out.0) in
+        linking_lowers words words' before later (at_phase (Linking link)) read.0 link read.1 read.2 at.left answer link_prompt spends
+        (λ table e.
+        let led : ((run (begun ++ (since ++ es)) start).next (follows link) ≡ table) × (0 < table) = subst (RestsLinked g c (run (begun ++ (since ++ es)) start) hands'.call.last hands'.kept (follows link)) e out.1 in
+        let next = led.0 in
+        let some = led.1 in
+        ⊎_elim
+        (λ (none : (run (begun ++ (since ++ es)) start).next (follows link) ≡ 0). absurd (omega (arith, none, next, some)))
+        (λ (h : (0 < follows link) × (follows link < (run (begun ++ (since ++ es)) start).next (follows link))). let up = h.1 in omega (arith, up, next))
+        (later_sound.rises (follows link)))
 
   -- the root is copied
   module _ (copying : Copying) (rests : RestsCopying g c now hands.call.last hands.kept copying) (made : HasWords g (link_in_copying copying)) (told : IsCopyTold g c now (copying_kind copying) (copying_follows copying) hands (copying_ask copying) answer es hands') where
+    copy_named : AreThere g c now hands.call.last hands.kept (copying_ask copying)
+    copy_named = copying_there g c hashed now (map_left g (begun ++ since)) keeps hands.call.last hands.kept copying rests
+
     -- what is told of the words is what they answer
     copy_prompt : IsCopyPrompt words (copying_ask copying) answer words'
     copy_prompt =
-        told_prompt g c hashed now (map_left g (begun ++ since)) keeps bounded hands (copying_kind copying) (copying_follows copying) (copying_ask copying)
-        (copying_there g c hashed now (map_left g (begun ++ since)) keeps hands.call.last hands.kept copying rests)
+        told_prompt g c hashed now (map_left g (begun ++ since)) keeps bounded hands (copying_kind copying) (copying_follows copying) (copying_ask copying) copy_named
         (copying_may g c hashed now (map_left g (begun ++ since)) keeps hands.call.last hands.kept copying rests made) answer es hands' told
+
+    -- as many numbers are taken as before
+    copy_counts : words' words_at.Made ≡ words words_at.Made
+    copy_counts = stays_at words words' answer (copying_ask copying) copy_prompt words_at.Made (takes_none (copying_ask copying) copy_named)
 
     -- what is known of the words then
     copying_falls : IsFor (at_phase (Copying_root copying)) (aim_of copying) → IsPhaseRead call.mode words call.state (Copying_root copying) → IsKnown call.mode words copying → SpendsCopy (copying_ask copying) answer before later → Falls (Copying_root copying)
@@ -221,7 +248,16 @@ module _ {K P : Type 0} (g : Setting K P) (c : Coding K P) (hashed : IsHashed g 
       copying_falls copying at.rests made told (inr (e, (at.met, at.aim))) read (known_all call.mode e copying at.met at.aim at.table at.left) spends
 
   -- in each phase
-  pub phase_falls : (phase : Phase) → HasWords g (link_in phase) → RestsPhase g c begun since k (at_phase phase) hands phase → IsPhaseRead call.mode words call.state phase → IsTold g c k now (kind_of_ask (at_phase phase)) (follows_of (at_phase phase)) hands (ask_of (at_phase phase)) answer es hands' → IsServedAsk call.task (ask_of (at_phase phase)) answer → Spends (kind_of_ask (at_phase phase)) (ask_of (at_phase phase)) answer before later → Falls phase
-  phase_falls Calling made at read told served spends = calling_falls read told served spends
-  phase_falls (Linking link) made at read told served spends = linking_falls link made at read told spends
-  phase_falls (Copying_root copying) made at read told served spends = helping_falls copying made at read told spends
+  pub phase_falls : (phase : Phase) → HasWords g (link_in phase) → RestsPhase g c begun since k (at_phase phase) hands phase → IsNumberRead words call.made.number → IsPhaseRead call.mode words call.state phase → IsTold g c k now (kind_of_ask (at_phase phase)) (follows_of (at_phase phase)) hands (ask_of (at_phase phase)) answer es hands' → IsServedAsk call.task (ask_of (at_phase phase)) answer → Spends (kind_of_ask (at_phase phase)) (ask_of (at_phase phase)) answer before later → Falls phase
+  phase_falls Calling made at known read told served spends = calling_falls known read told served spends
+  phase_falls (Linking link) made at known read told served spends = linking_falls link made at told read spends
+  phase_falls (Copying_root copying) made at known read told served spends = helping_falls copying made at read told spends
+
+  -- where the call is set aside, as many numbers are taken as before
+  pub aside_counts : (t : ℕ) → left_by call.state ≡ Some t → (phase : Phase) → HasWords g (link_in phase) → RestsPhase g c begun since k (at_phase phase) hands phase → IsTold g c k now (kind_of_ask (at_phase phase)) (follows_of (at_phase phase)) hands (ask_of (at_phase phase)) answer es hands' → words' words_at.Made ≡ words words_at.Made
+  aside_counts t left Calling made at told =
+      let tells = subst (λ a. call_told.IsTold g c k now (call_machine.kind_of_ask call) hands.call a told.told es told.call) (aside_asks call.made call.hash call.state t left) told.tells in
+      ap (λ l. word_of g c (run l now) words_at.Made) tells.1
+  aside_counts t left (Linking link) made at told = link_counts link made at told
+  aside_counts t left (Copying_root copying) made (inl at) told = copy_counts copying at.rests made told
+  aside_counts t left (Copying_root copying) made (inr at) told = copy_counts copying at.rests made told

@@ -10,7 +10,7 @@ use Rattle.papaya_call.specs.declared.compute.Purpose.{Purpose}
 use Rattle.papaya_call.specs.declared.compute.Purpose.TheVariants as purposes
 use Rattle.papaya_call.specs.declared.machine.State.{State}
 use Rattle.papaya_call.specs.declared.machine.State.TheVariants.{AtRoot, Making, Opening, Searching, Writing, Offering, Showing, Pairing, Putting, Burying, Counting, Noting, Uncounting, Leaving, Growing, Ended}
-use Rattle.papaya_call.specs.declared.write.Made.{Made}
+use Rattle.papaya_call.specs.declared.made.Made.{Made}
 use Rattle.papaya_call.specs.Machine.{IsStandingState}
 use Rattle.papaya_copy.specs.declared.carry.Carry.{Carry}
 use Rattle.papaya_copy.specs.declared.carry.Carry.TheVariants as carries
@@ -34,7 +34,7 @@ use Rattle.papaya_alone.specs.Budget.{Budget, IsSpent}
 use Rattle.papaya_alone.specs.Measure.{left_of_carry, left_of_copying, left_of_settle, left_of_step}
 use Rattle.papaya_alone.specs.Rank.{left_of_search, rank, rank_at_root, rank_in, rank_of, rank_of_phase, rank_to_serve}
 use Rattle.papaya_alone.proofs.AsideRanks.{link_most}
-use Rattle.papaya_alone.proofs.CallRanks.{unmade_most}
+use Rattle.papaya_alone.proofs.CallRanks.{pair_most, write_most}
 
 -- a search within its table has no more left than this
 search_small : (search : Search) → IsSearching search → left_of_search search < 2 ^ 70
@@ -44,20 +44,21 @@ search_small (Reading at) h = let few = h.size.few in omega (arith, few)
 search_small (Comparing at word) h = let few = h.size.few in omega (arith, few)
 
 serve_small : (made : Made) (purpose : Purpose) → rank_to_serve made purpose < 2 ^ 190
-serve_small made (purposes.Fill gaps.NoRoot) = omega (arith, unmade_most made)
-serve_small made (purposes.Fill (gaps.At at)) = omega (arith, unmade_most made)
-serve_small made (purposes.Fill (gaps.After t)) = omega (arith, unmade_most made)
-serve_small made (purposes.Replace write) = omega (arith, unmade_most made)
+serve_small made (purposes.Fill gaps.NoRoot) = omega (arith, pair_most made 0)
+serve_small made (purposes.Fill (gaps.At at)) = omega (arith, pair_most made 0)
+serve_small made (purposes.Fill (gaps.After t)) = omega (arith, pair_most made 0)
+serve_small made (purposes.Replace write) = omega (arith, pair_most made write.old)
+serve_small made (purposes.Again write) = omega (arith, pair_most made write.old)
 
 state_small : (task : Task) (made : Made) (state : State) → IsStandingState task state → rank_in made state < 2 ^ 190
 state_small task made AtRoot h = omega arith
 state_small task made Making h = omega arith
 state_small task made (Opening t) h = omega arith
 state_small task made (Searching search) h = let s = search_small search h in omega (arith, s)
-state_small task made (Writing write) h = omega (arith, unmade_most made)
-state_small task made (Offering gaps.NoRoot) h = omega (arith, unmade_most made)
-state_small task made (Offering (gaps.At at)) h = omega (arith, unmade_most made)
-state_small task made (Offering (gaps.After t)) h = omega (arith, unmade_most made)
+state_small task made (Writing write) h = omega (arith, write_most made write)
+state_small task made (Offering gaps.NoRoot) h = omega arith
+state_small task made (Offering (gaps.At at)) h = omega arith
+state_small task made (Offering (gaps.After t)) h = omega arith
 state_small task made (Showing removal) h = omega arith
 state_small task made (Pairing purpose) h = serve_small made purpose
 state_small task made (Putting put) h = omega arith

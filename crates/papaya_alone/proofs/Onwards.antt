@@ -18,7 +18,7 @@ use Rattle.papaya_chain.specs.declared.machine.Phase.TheVariants.{Linking}
 use Rattle.papaya_chain.specs.Machine.{aim_for, begins_anew, enters, goes_on, grows_as, onward}
 use Rattle.papaya_chain_rests.specs.Rests.{left_by}
 use Rattle.papaya_rests.specs.Alone.{IsRead}
-use Rattle.papaya_alone.specs.Ahead.{IsAhead, IsCurrent}
+use Rattle.papaya_alone.specs.Ahead.{IsAhead, IsCallRead}
 use Rattle.papaya_alone.specs.Current.{IsAimRead, IsIncremental}
 use Rattle.papaya_alone.specs.Measure.{further}
 use Rattle.papaya_alone.specs.Rank.{rank, rank_at_root, rank_of}
@@ -50,7 +50,7 @@ module _ (words : At → ℕ) where
 
   module _ (m : Machine) (inc : IsIncremental m.call.mode) where
     -- a call for a key in a further table
-    pub enters_current : (n : ℕ) → words words_at.Root ≤ n → IsCurrent words (enters m n)
+    pub enters_current : (n : ℕ) → words words_at.Root ≤ n → IsCallRead words (enters m n)
     enters_current n h = (tt, ahead_of m.call.mode n inc h)
 
     -- what it copies for is of the mode
@@ -61,7 +61,7 @@ module _ (words : At → ℕ) where
     aim_read (aims.All met) = tt
 
     -- it copies a chunk, or its slot, or goes on
-    goes_current : (helped : Bool) (aim : Aim) (n : ℕ) → AimsAt aim n → words words_at.Root ≤ n → ((t : ℕ) → left_by m.call.state ≡ Some t → words words_at.Root ≤ t) → IsCurrent words (goes_on m helped aim n)
+    goes_current : (helped : Bool) (aim : Aim) (n : ℕ) → AimsAt aim n → words words_at.Root ≤ n → ((t : ℕ) → left_by m.call.state ≡ Some t → words words_at.Root ≤ t) → IsCallRead words (goes_on m helped aim n)
     goes_current false aim n is h left = ((aim_read aim, tt), λ t how e. left t e)
     goes_current true (aims.Search t) n is h left = enters_current n h
     goes_current true (aims.Settle slot) n is h left = (any_alive m.call.mode words m.call.mode slot.to inc, omega (arith, is, h))
@@ -69,7 +69,7 @@ module _ (words : At → ℕ) where
     goes_current true (aims.All met) n is h left = absurd is
 
     -- so it goes on
-    pub onward_current : (n : ℕ) → words words_at.Root ≤ n → ((t : ℕ) → left_by m.call.state ≡ Some t → words words_at.Root ≤ t) → IsCurrent words (onward m n)
+    pub onward_current : (n : ℕ) → words words_at.Root ≤ n → ((t : ℕ) → left_by m.call.state ≡ Some t → words words_at.Root ≤ t) → IsCallRead words (onward m n)
     onward_current n h left = goes_current m.helped (aim_for m.call.state n) n (aims_at m.call.state n) h left
 
   module _ (m : Machine) where
@@ -88,7 +88,7 @@ module _ (words : At → ℕ) where
     onward_rank n t up most = goes_rank m.helped (aim_for m.call.state n) n t (aims_at m.call.state n) up most
 
     -- a call that begins anew is at the root
-    pub anew_current : IsRead words (begins_anew m (words words_at.Root)).call.state → IsCurrent words (begins_anew m (words words_at.Root))
+    pub anew_current : IsRead words (begins_anew m (words words_at.Root)).call.state → IsCallRead words (begins_anew m (words words_at.Root))
     anew_current read = (read, (root_leads m.call.made m.call.mode words m.call.task m.call.remembered.fill (words words_at.Root) refl).1)
 
     -- with less left than before
@@ -97,7 +97,7 @@ module _ (words : At → ℕ) where
 
 -- the next table is there: a call goes on to it, or copies first
 pub goes_on_lowers : (words : At → ℕ) (m : Machine) → IsIncremental m.call.mode → (n t : ℕ) → words words_at.Root ≤ t → ((u : ℕ) → left_by m.call.state ≡ Some u → words words_at.Root ≤ u) → (n == 0) ≡ false → (n ≡ 0) ⊎ ((t < n) × (n ≤ 2 ^ 32))
-    → (rank_of (words words_at.Root) (onward m n) < rank 2 (further t) (2 ^ 68 + 3)) × IsCurrent words (onward m n)
+    → (rank_of (words words_at.Root) (onward m n) < rank 2 (further t) (2 ^ 68 + 3)) × IsCallRead words (onward m n)
 goes_on_lowers words m inc n t least left some number =
     ⊎_elim
     (λ (none : n ≡ 0). absurd (let y : (n == 0) ≡ true = ap (λ x. x == 0) none in cc (y, some)))
@@ -119,13 +119,13 @@ all_rank root met is =
 module _ (words : At → ℕ) (m : Machine) where
   -- the next table was looked up by a call that needs it: less is left, and what was read stands there
   pub grows_lowers : (how : ResizeMode) → m.call.mode ≡ how → (need : Need) (n : ℕ) → left_by m.call.state ≡ Some (needed need) → IsAhead how words (needed need) → words (words_at.Next (needed need)) ≡ n → (n ≡ 0) ⊎ ((needed need < n) × (n ≤ 2 ^ 32))
-      → (rank_of (words words_at.Root) (grows_as m how need n) < rank 2 (further (needed need)) (2 ^ 68 + 3)) × IsCurrent words (grows_as m how need n)
+      → (rank_of (words words_at.Root) (grows_as m how need n) < rank 2 (further (needed need)) (2 ^ 68 + 3)) × IsCallRead words (grows_as m how need n)
   grows_lowers Blocking moded need n left ahead is number =
       let a = all_rank (words words_at.Root) (needed need) ahead in
       (omega (arith, a), ((tt, tt), λ t how e. absurd (subst IsIncremental moded how)))
   grows_lowers (Incremental chunk) moded need n left ahead is number =
       let inc : IsIncremental m.call.mode = subst IsIncremental (sym moded) tt in
       let least : (t : ℕ) → left_by m.call.state ≡ Some t → words words_at.Root ≤ t = λ t e. let same : t ≡ needed need = cc (left, e) in omega (arith, same, ahead) in
-      cond_both (n == 0) (record m { phase = Linking (links.Sizing (needed need) (needed need) false) }) (onward m n) (λ m'. (rank_of (words words_at.Root) m' < rank 2 (further (needed need)) (2 ^ 68 + 3)) × IsCurrent words m')
+      cond_both (n == 0) (record m { phase = Linking (links.Sizing (needed need) (needed need) false) }) (onward m n) (λ m'. (rank_of (words words_at.Root) m' < rank 2 (further (needed need)) (2 ^ 68 + 3)) × IsCallRead words m')
       (λ none. (omega arith, (inc, is ∙ eqb-true n 0 none, least)))
       (λ some. goes_on_lowers words m inc n (needed need) (ahead_least words (Incremental chunk) (needed need) ahead) least some number)

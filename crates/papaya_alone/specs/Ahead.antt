@@ -8,7 +8,7 @@ use Rattle.papaya_ask.specs.declared.ask.At.TheVariants as words_at
 use Rattle.papaya_call.specs.declared.compute.Gap.{Gap}
 use Rattle.papaya_call.specs.declared.compute.Gap.TheVariants.{NoRoot, At as At_place, After}
 use Rattle.papaya_call.specs.declared.compute.Purpose.{Purpose}
-use Rattle.papaya_call.specs.declared.compute.Purpose.TheVariants.{Fill, Replace}
+use Rattle.papaya_call.specs.declared.compute.Purpose.TheVariants.{Fill, Replace, Again}
 use Rattle.papaya_call.specs.declared.machine.State.{State}
 use Rattle.papaya_call.specs.declared.machine.State.TheVariants.{Searching, Offering, Pairing, Leaving, Growing}
 use Rattle.papaya_call.specs.Machine.{needed}
@@ -17,7 +17,7 @@ use Rattle.papaya_chain.specs.declared.machine.Phase.{Phase}
 use Rattle.papaya_chain.specs.declared.machine.Phase.TheVariants.{Calling, Linking, Copying as Copying_root}
 use Rattle.papaya_copy.specs.declared.copying.Copying.{Copying}
 use Rattle.papaya_copy.specs.declared.copying.Copying.TheVariants as copyings
-use Rattle.papaya_rests.specs.Alone.{IsRead}
+use Rattle.papaya_rests.specs.Alone.{IsNumberRead, IsRead}
 use Rattle.papaya_chain_rests.specs.Rests.{left_by}
 use Rattle.papaya_alone.specs.Current.{IsCopyingRead, IsIncremental, IsLinkRead}
 use Rattle.papaya_alone.specs.Rank.{table_of}
@@ -37,6 +37,7 @@ module _ (mode : ResizeMode) (words : At → ℕ) where
   abbrev pub IsPurposeAhead : Purpose → Type 0
   IsPurposeAhead (Fill gap) = IsGapAhead gap
   IsPurposeAhead (Replace write) = Unit {0}
+  IsPurposeAhead (Again write) = Unit {0}
 
   -- the table that a call is in; without blocking alone a call leaves one for the next
   abbrev pub IsAheadIn : State → Type 0
@@ -60,6 +61,11 @@ module _ (mode : ResizeMode) (words : At → ℕ) where
   IsPhaseRead state (Copying_root copying) = IsCopyingRead mode words copying
       × IsAsideAhead state copying
 
--- what a call, or the copy for which it is set aside, has read stands there still
-abbrev pub IsCurrent : (At → ℕ) → Machine → Type 0
-IsCurrent words m = IsPhaseRead m.call.mode words m.call.state m.phase
+-- what a call, or the copy for which it is set aside, has read of tables stands there still
+abbrev pub IsCallRead : (At → ℕ) → Machine → Type 0
+IsCallRead words m = IsPhaseRead m.call.mode words m.call.state m.phase
+
+-- and as many numbers were taken for pairs as it read
+pub record IsCurrent (words : At → ℕ) (m : Machine) : Type 0 where
+  pub number : IsNumberRead words m.call.made.number
+  pub read : IsCallRead words m

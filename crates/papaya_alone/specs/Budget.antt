@@ -4,7 +4,7 @@ use Rattle.papaya_ask.specs.declared.ask.Answer.{Answer as Call_answer}
 use Rattle.papaya_ask.specs.declared.ask.Ask.{Ask as Call_ask}
 use Rattle.papaya_ask.specs.declared.ask.Ask.TheVariants as call_asks
 use Rattle.papaya_ask.specs.declared.ask.StepKind.{StepKind}
-use Rattle.papaya_ask.specs.declared.ask.StepKind.TheVariants.{Replace}
+use Rattle.papaya_ask.specs.declared.ask.StepKind.TheVariants.{Replace, Take}
 use Rattle.papaya_ask.specs.declared.ask.Answer.TheVariants.{Exchanged, Made as Made_number}
 use Rattle.papaya_ask.specs.declared.copy_ask.CopyAsk.{CopyAsk}
 use Rattle.papaya_ask.specs.declared.copy_ask.CopyAsk.TheVariants.{Exchange, MakeTable}
@@ -30,9 +30,11 @@ SpendsCopy (Exchange at old new) (answers.Call Exchanged) before later =
     (later.tables ≡ before.tables) × (later.exchanges < before.exchanges)
 SpendsCopy ask answer before later = later ≡ before
 
--- an exchange of a call spends one, unless a pair takes the place of another
+-- an exchange of a call spends one, unless a pair takes the place of another, or a number is taken
+-- for a pair
 abbrev pub SpendsExchange : Option StepKind → Budget → Budget → Type 0
 SpendsExchange (Some Replace) before later = later ≡ before
+SpendsExchange (Some Take) before later = later ≡ before
 SpendsExchange _ before later = (later.tables ≡ before.tables)
     × (later.exchanges < before.exchanges)
 

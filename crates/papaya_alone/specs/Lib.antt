@@ -7,6 +7,8 @@ pub mod Current
 -- how far a call is from its end, and where it stands in the chain
 pub mod Rank
 pub mod Ahead
+-- how it takes numbers for pairs
+pub mod Limits
 -- a call that resizes the map
 pub mod Resizers
 -- a call that visits a table

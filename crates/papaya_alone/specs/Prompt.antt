@@ -66,7 +66,9 @@ abbrev pub IsServed : Task → Call_ask → Call_answer → Type 0
 IsServed task call_asks.ShowNone answer = IsSaying Compute answer
 IsServed task (call_asks.ShowPair n) answer = IsSaying task answer
 IsServed task call_asks.MakeKey answer = calls.IsMaking answer
+IsServed task call_asks.MakeValue answer = calls.IsMaking answer
 IsServed task call_asks.MakePair answer = calls.IsMaking answer
+IsServed task (call_asks.MakePairOf n) answer = calls.IsMaking answer
 IsServed task (call_asks.MakeTable slots limit chunks) answer = calls.IsMaking answer
 IsServed task (call_asks.Done reply) answer = ⊥
 IsServed task ask answer = Unit {0}

@@ -6,12 +6,11 @@ use Rattle.papaya_ask.specs.declared.search.Search.TheVariants.{Sizing, Looking,
 use Rattle.papaya_call.specs.declared.compute.Gap.{Gap}
 use Rattle.papaya_call.specs.declared.compute.Gap.TheVariants.{NoRoot, At as At_place, After}
 use Rattle.papaya_call.specs.declared.compute.Purpose.{Purpose}
-use Rattle.papaya_call.specs.declared.compute.Purpose.TheVariants.{Fill, Replace}
+use Rattle.papaya_call.specs.declared.compute.Purpose.TheVariants.{Fill, Replace, Again}
 use Rattle.papaya_call.specs.declared.machine.Machine.{Machine as Call_machine}
 use Rattle.papaya_call.specs.declared.machine.State.{State}
 use Rattle.papaya_call.specs.declared.machine.State.TheVariants.{AtRoot, Making, Opening, Searching, Writing, Offering, Showing, Pairing, Putting, Burying, Counting, Noting, Uncounting, Leaving, Growing, Ended}
-use Rattle.papaya_call.specs.declared.write.Made.{Made}
-use Rattle.papaya_call.specs.declared.write.Made.TheVariants.{Nothing, Key, Pair}
+use Rattle.papaya_call.specs.declared.made.Made.{Made}
 use Rattle.papaya_call.specs.Machine.{needed}
 use Rattle.papaya_chain.specs.declared.machine.Machine.{Machine}
 use Rattle.papaya_chain.specs.declared.machine.Phase.{Phase}
@@ -22,6 +21,7 @@ use Rattle.papaya_copy.specs.declared.copying.Copying.{Copying}
 use Rattle.papaya_copy.specs.declared.copying.Copying.TheVariants as copyings
 use Rattle.papaya_copy.specs.declared.step.Step.{Step}
 use Rattle.papaya_copy.specs.declared.step.Step.TheVariants as steps
+use Rattle.papaya_rests.specs.Alone.{left_to_pair, left_to_write}
 use Rattle.papaya_alone.specs.Budget.{Budget}
 use Rattle.papaya_alone.specs.Measure.{further, left_of_link, left_of_settle, left_of_step}
 
@@ -43,12 +43,6 @@ left_of_search (Looking at) = 2 ^ 68 + 3 * (at.limit - at.probe.len) + 19
 left_of_search (Reading at) = 2 ^ 68 + 3 * (at.limit - at.probe.len) + 18
 left_of_search (Comparing at word) = 2 ^ 68 + 3 * (at.limit - at.probe.len) + 17
 
--- what is to be made for a write
-abbrev pub unmade : Made → ℕ
-unmade Nothing = 2
-unmade Key = 1
-unmade (Pair n) = 0
-
 -- the tables that may come after the one where a key is absent
 abbrev pub hops_of : Gap → ℕ
 hops_of NoRoot = 2 ^ 32
@@ -56,8 +50,9 @@ hops_of (At_place at) = further at.table
 hops_of (After t) = further t
 
 abbrev pub rank_to_serve : Made → Purpose → ℕ
-rank_to_serve made (Fill gap) = rank 2 (hops_of gap) (2 ^ 68 + 5 + unmade made)
-rank_to_serve made (Replace write) = rank 1 0 (3 + unmade made)
+rank_to_serve made (Fill gap) = rank 2 (hops_of gap) (2 ^ 68 + 4 + left_to_pair made 0)
+rank_to_serve made (Replace write) = rank 1 0 (1 + left_to_pair made write.old)
+rank_to_serve made (Again write) = rank 1 0 (1 + left_to_pair made write.old)
 
 -- a call in a table that it has come to
 abbrev pub rank_in : Made → State → ℕ
@@ -65,8 +60,8 @@ rank_in made AtRoot = rank 4 0 0
 rank_in made Making = rank 1 0 2
 rank_in made (Opening t) = rank 1 0 1
 rank_in made (Searching search) = rank 2 (further (table_of search)) (left_of_search search)
-rank_in made (Writing write) = rank 1 0 (1 + unmade made)
-rank_in made (Offering gap) = rank 2 (hops_of gap) (2 ^ 68 + 8 + unmade made)
+rank_in made (Writing write) = rank 1 0 (left_to_write made write)
+rank_in made (Offering gap) = rank 2 (hops_of gap) (2 ^ 68 + 10)
 rank_in made (Showing removal) = rank 1 0 9
 rank_in made (Pairing purpose) = rank_to_serve made purpose
 rank_in made (Putting put) = rank 1 0 1

@@ -66,7 +66,8 @@ pub fn alone_copiers<K, P>()
 /// exchanged yet; what is to be made for the call is made or refused, and its closure answers.
 pub fn alone_calls<K, P>()
     ensures begins { (words : At → ℕ) (task : Task) (hash : ℕ) (mode : ResizeMode)
-        (initial number : ℕ) → IsCurrent words (started task hash mode initial number) }
+        (initial number : ℕ) (limit : Option ℕ)
+        → IsCurrent words (started task hash mode initial number limit) }
     ensures nearer { (g : Setting K P) (c : Coding K P) → IsHashed g c
         → (begun since : List (Exchange P)) → AllAllowed g start (begun ++ since)
         → IsBounded g (run (begun ++ since) start) → (k : K) (m : Machine) (hands : Hands P)

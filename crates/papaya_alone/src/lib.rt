@@ -6,4 +6,5 @@
 
 pub mod alone;
 pub mod chunks;
+pub mod limits;
 pub mod visitors;

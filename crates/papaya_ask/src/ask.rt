@@ -18,6 +18,8 @@ pub enum At {
     Done(u64, usize),
     /// A slot of a table: the table, and the slot's place in it from 0.
     Slot(u64, usize),
+    /// How many numbers were taken for pairs, of a map that has a limit on them.
+    Made,
 }
 
 /// What a machine asks next: one atomic step on one word or hint at most. Each kind of ask has its
@@ -45,9 +47,13 @@ pub enum Ask {
     SizeOf(u64),
     /// Log the call's key. Answered by `Made` or `Refused`, as all that is to be made.
     MakeKey,
-    /// Log a pair of the call's key and its value, or the value that its closure answered last.
-    /// Only then does a word name it.
+    /// Log the call's value, or the value that its closure answered last.
+    MakeValue,
+    /// Log a pair of the key and the value that the call logged last. Only then does a word name
+    /// it.
     MakePair,
+    /// Log a pair of the key of the pair of this number and the value that the call logged last.
+    MakePairOf(u64),
     /// Make a table of so many slots, all empty, which a search looks at in `limit + 1` places, and
     /// to which a table of so many chunks is copied.
     MakeTable {
@@ -103,7 +109,7 @@ pub enum StepKind {
     Open,
     /// A pair of an absent key is put into the map.
     Claim,
-    /// A pair gives way to another of an equal key.
+    /// A pair gives way to another of its key.
     Replace,
     /// A pair is removed.
     Bury,
@@ -123,4 +129,6 @@ pub enum StepKind {
     Promote,
     /// A table that is too small is given up.
     Abort,
+    /// A number is taken for a pair that is to be made.
+    Take,
 }

@@ -7,8 +7,8 @@ use papaya_words::probe::Refused;
 pub enum Call<K, V, A> {
     /// Looks a key up: `get` of 0.2.5.
     Get(K),
-    /// Stores a pair, in place of one with an equal key: `insert` of 0.2.5. As there, the new key
-    /// takes the old one's place too.
+    /// Stores a pair, in place of one with an equal key, whose key stays: `insert` of 0.2.5, as its
+    /// documentation has it.
     Insert(K, V),
     /// Stores a pair where the key is absent: `try_insert` of 0.2.5.
     TryInsert(K, V),

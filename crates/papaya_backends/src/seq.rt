@@ -100,8 +100,8 @@ pub(crate) fn run_seq<S: BuildHasher + Drop, R: Read, W: Write>(
         IsRun (IsNewMap mode hasher) DoesLine WritesNone (lines_of text)
         (Appends (W.contents output.old) (W.contents output.new)) result) }
 {
-    let mut map: HashMap<u64, u64, S> = HashMap::with_parts(alloc, mode, 0, 1, hasher).map_err(
-        Failure::Refused,
-    )?;
+    let mut map: HashMap<u64, u64, S> = HashMap::with_parts(
+        alloc, mode, 0, 1, hasher, None,
+    ).map_err(Failure::Refused)?;
     run_lines(alloc, &mut map, input, output)
 }

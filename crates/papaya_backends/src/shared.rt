@@ -1,6 +1,6 @@
 //! The lines on the map that threads share, by its plain calls: each is read, done and printed
 //! before the next is read.
-ghost use Rattle.std.specs.Prelude.{◌≡◌, ◌⊎◌, IfErr, IfOk, IfSome};
+ghost use Rattle.std.specs.Prelude.{◌≡◌, ◌⊎◌, IfErr, IfOk, IfSome, None};
 ghost use Rattle.std.specs.Io.KnownBytes.{Appends};
 ghost use Rattle.papaya_lines.specs.Lines.{lines_of};
 ghost use Rattle.papaya_backends.specs.Program.{AnyTime, ShowsLine};
@@ -41,19 +41,23 @@ fn listed<S: BuildHasher + Drop>(
     Ok(listed)
 }
 
-/// A caller of the shared map.
+/// A caller of the shared map, which has no limit on its pairs.
 #[derive(Drop)]
 struct Caller<'a, H: Wait, S: BuildHasher> {
     rt: &'a H,
     map: HashMapRef<'a, u64, u64, S>,
+    ghost unlimited: { map.map.begun.limit ≡ None },
 }
 
 impl<'a, H: Wait, S: BuildHasher + Drop> Caller<'a, H, S> {
-    fn new(rt: &'a H, map: &'a HashMap<u64, u64, S>) -> Caller<'a, H, S> {
+    fn new(rt: &'a H, map: &'a HashMap<u64, u64, S>) -> Caller<'a, H, S>
+        requires { map.now.begun.limit ≡ None }
+    {
         Caller { rt, map: map.pin() }
     }
 
     /// Stores a pair, and answers what is printed of it.
+    #[tactic(auto, using(crate::proofs::SharedLemmas::plain))]
     fn insert(&self, key: u64, value: u64) -> Printed
         ensures { Obeys (asked.Insert key value) result }
     {
@@ -166,9 +170,9 @@ pub(crate) fn run_shared<H: Wait, S: BuildHasher + Drop, R: Read, W: Write>(
         IsRun AnyTime ShowsLine IsBad (lines_of text)
         (Appends (W.contents output.old) (W.contents output.new)) result) }
 {
-    let map: HashMap<u64, u64, S> = HashMap::with_parts(rt, alloc, mode, 0, SHARDS, hasher).map_err(
-        Failure::Refused,
-    )?;
+    let map: HashMap<u64, u64, S> = HashMap::with_parts(
+        rt, alloc, mode, 0, SHARDS, hasher, None,
+    ).map_err(Failure::Refused)?;
     let mut caller = Caller::new(rt, &map);
     run_lines(alloc, &mut caller, input, output)
 }

@@ -16,25 +16,31 @@ use std::thread::Threads;
 /// Two rounds at 64 keys. The values are the keys' numbers, which sum to 2016; what is not there
 /// counts 1; and the second round of replacements finds each value 1 greater, that of mixed steps the
 /// seven values at multiples of ten. Of a set each yes counts 1: 57 keys are looked up by mixed steps.
+/// What a count or a compute answers is 1 more in the first round, and 2 in the second.
 const CHECKED: &str = "\
-get-hit: seq 4032 shared 4032 threads 4032 session 4032 \
+get-hit: seq 4032 shared 4032 threads 4032 session 4032 pin-a-call 4032 \
     std 4032 rwlock 4032 rwlock-threads 4032 mutex 4032 mutex-threads 4032\n\
 get-hit: seq-set 128 set 128\n\
-get-miss: seq 128 shared 128 threads 128 session 128 \
+get-miss: seq 128 shared 128 threads 128 session 128 pin-a-call 128 \
     std 128 rwlock 128 rwlock-threads 128 mutex 128 mutex-threads 128\n\
 get-miss: seq-set 0 set 0\n\
-insert-fresh: seq 128 shared 128 threads 128 session 128 \
+insert-fresh: seq 128 shared 128 threads 128 session 128 pin-a-call 128 \
     std 128 rwlock 128 rwlock-threads 128 mutex 128 mutex-threads 128\n\
 insert-fresh: seq-set 128 set 128\n\
-insert-replace: seq 4096 shared 4096 threads 4096 session 4096 \
+insert-replace: seq 4096 shared 4096 threads 4096 session 4096 pin-a-call 4096 \
     std 4096 rwlock 4096 rwlock-threads 4096 mutex 4096 mutex-threads 4096\n\
 insert-replace: seq-set 0 set 0\n\
-remove-insert: seq 4160 shared 4160 threads 4160 session 4160 \
+remove-insert: seq 4160 shared 4160 threads 4160 session 4160 pin-a-call 4160 \
     std 4160 rwlock 4160 rwlock-threads 4160 mutex 4160 mutex-threads 4160\n\
 remove-insert: seq-set 256 set 256\n\
-mixed: seq 4039 shared 4039 threads 4039 session 4039 \
+mixed: seq 4039 shared 4039 threads 4039 session 4039 pin-a-call 4039 \
     std 4039 rwlock 4039 rwlock-threads 4039 mutex 4039 mutex-threads 4039\n\
-mixed: seq-set 114 set 114\n";
+mixed: seq-set 114 set 114\n\
+update-or-insert: seq 4224 shared 4224 threads 4224 session 4224 pin-a-call 4224 \
+    std 4224 rwlock 4224 rwlock-threads 4224 mutex 4224 mutex-threads 4224\n\
+compute: seq 4224 shared 4224 threads 4224 session 4224 pin-a-call 4224\n\
+iterate: seq 4032 shared 4032 session 4032 std 4032\n\
+iterate: seq-set 128 set 128\n";
 
 /// Asserts that this was written, in a run with these arguments.
 fn has_written<A: Abort>(rt: &A, found: &[u8], wanted: &str, args: &[String]) -> Result<(), Fail> {
@@ -98,15 +104,25 @@ fn is_part<A: Abort>(rt: &A, found: Option<&str>, wanted: Option<&str>) {
     assert_eq!(rt; found, wanted);
 }
 
-/// Asserts that a line has these parts: a name, 24 steps, a time, and a sum: 84, or of a set 24.
+/// What a line's steps sum to: 84, of a set 24, and of the loop alone the keys that belong to 84.
+fn sum_of(line: &str) -> &'static str {
+    if line.contains("set/") {
+        "24"
+    } else if line.contains("loop/") {
+        "318140993604"
+    } else {
+        "84"
+    }
+}
+
+/// Asserts that a line has these parts: a name, 24 steps, a time, and a sum.
 fn is_line<A: Abort>(rt: &A, line: &str, name: Option<&str>) -> Result<(), Fail> {
-    let sum = if line.contains("set/") { "24" } else { "84" };
     let mut parts = line.split(' ');
     is_part(rt, parts.next(), name);
     is_part(rt, parts.next(), Some("24"));
     let nanoseconds = parts.next().ok_or("a time")?;
     assert!(rt; nanoseconds.parse::<u64>().is_ok(), "in {line}");
-    is_part(rt, parts.next(), Some(sum));
+    is_part(rt, parts.next(), Some(sum_of(line)));
     is_part(rt, parts.next(), None);
     Ok(())
 }
@@ -122,10 +138,12 @@ fn a_line_of_time(rt: HostRuntime) -> Result<(), Fail> {
     let mut printed = Vec::new(rt.alloc());
     assert!(rt; time_workload(&rt, rt.alloc(), plan, &mut printed).is_ok());
     let mut names = [
+        "get-hit/loop/8",
         "get-hit/seq/8",
         "get-hit/shared/8",
         "get-hit/threads/8",
         "get-hit/session/8",
+        "get-hit/pin-a-call/8",
         "get-hit/std/8",
         "get-hit/rwlock/8",
         "get-hit/rwlock-threads/8",
@@ -246,6 +264,10 @@ fn lines_of_filling(rt: HostRuntime) -> Result<(), Fail> {
         "from-empty/seq/40",
         "from-empty/shared/40",
         "from-empty/std/40",
+        "from-empty/session/40",
+        "from-empty/pin-a-call/40",
+        "from-empty-blocking/seq/40",
+        "from-empty-blocking/shared/40",
     ] {
         is_stored(&rt, lines.next().ok_or("a line")?, Some(name), Some("40"))?;
     }

@@ -1,15 +1,16 @@
 -- An exchange with which a table comes keeps the rule: it takes the pen of the table's seal, so no other table has a word of it.
-use Rattle.std.proofs.Common.{◌≡◌, ◌≢◌, ◌⊎◌, inl, inr, ⊎_elim, ℕ, ◌+◌, ◌-◌, ◌<◌, ◌≤◌, ◌==◌, Bool, true, false, MatchBool, Option, None, Some, List, [], ◌∷◌, ◌++◌, length, slice_get, slice_set, refl, sym, ap, ◌∙◌, subst, arith, length-set}
+use Rattle.std.proofs.Common.{◌≡◌, ◌≢◌, ◌⊎◌, inl, inr, ⊎_elim, ℕ, ◌+◌, ◌-◌, ◌<◌, ◌≤◌, ◌==◌, Bool, true, false, MatchBool, Option, None, Some, List, [], ◌∷◌, ◌++◌, length, slice_get, slice_set, refl, sym, ap, ◌∙◌, subst, arith, eq-eqb, length-set}
 use Rattle.std.proofs.lemmas.List.{append-nil}
+use Rattle.std.proofs.lemmas.Bool.{cond-true}
 use mathlib.Core.List.{IsPrefix}
 use prog.Atomic.{either}
 use Rattle.boxcar.specs.Table.{Where}
 use Rattle.logbook.specs.Pages.{Book, Cell, cell, gives, keeps, may_write, nib, step, Goes, Moves}
 use Rattle.papaya_ask.specs.declared.ask.At.{At}
-use Rattle.papaya_ask.specs.declared.ask.At.TheVariants.{Root, Aborted}
+use Rattle.papaya_ask.specs.declared.ask.At.TheVariants.{Root, Next, Aborted, Done, Slot, Made}
 use Rattle.papaya_law.specs.Allows.{Allows, AllAllowed}
 use Rattle.papaya_law.specs.Code.{Coding}
-use Rattle.papaya_law.specs.Exchange.{Setting, State, after, start}
+use Rattle.papaya_law.specs.Exchange.{Setting, State, after, at_put, start}
 use Rattle.papaya_law.specs.Grows.{AllSized, Entry, IsLawfulPlan, Plan, chunks_in, exchanges, places_in, setting_in, size_in}
 use Rattle.papaya_words.specs.declared.probe.ResizeMode.{ResizeMode}
 use Rattle.papaya_rests.specs.Told.{IsWritten, word_of}
@@ -18,12 +19,13 @@ use Rattle.papaya_book.specs.declared.rule.entry.Begun.{Begun}
 use Rattle.papaya_book.specs.declared.rule.entry.Named.{Named}
 use Rattle.papaya_book.specs.declared.rule.entry.Named.TheVariants as names
 use Rattle.papaya_book.specs.declared.rule.entry.Step.{Step}
+use Rattle.papaya_book.specs.declared.rule.entry.Step.TheVariants as steps
 use Rattle.papaya_book.specs.declared.rule.entry.Event.{Event}
 use Rattle.papaya_book.specs.declared.rule.entry.Event.TheVariants.{Begin, Home, Stepped}
 use Rattle.papaya_book.specs.Sheets.{Sheet}
 use Rattle.papaya_book.specs.Logs.{Stored, Member, brought, coding_of, comes, entries_of, entry_of, exchange_of, exchanges_of, key_at, kind_of, made_of, name_in, number_of, or_else, owner, place_of, places_of, plan_of, seals_of, setting_of, setting_with, slots_of, state_of, steps_of, table_in, word_names}
 use Rattle.papaya_book.specs.Makers.{Brings, CanBring, IsMade, key_of, table_of}
-use Rattle.papaya_book.specs.Rule.{IsBlank, IsKept, IsLawfulLog, IsPlaced, flag, seal_at, word_in}
+use Rattle.papaya_book.specs.Rule.{IsBlank, IsKept, IsLawfulLog, IsOfMap, IsPlaced, flag, seal_at, word_in}
 use Rattle.papaya_book.specs.Trade.{Answered, Moved}
 use Rattle.papaya_book.specs.Sheets.{Sheet}
 use Rattle.papaya_book.proofs.Cells.{cell_other, cell_same, home_still, same_or_not}
@@ -33,13 +35,42 @@ use Rattle.papaya_book.proofs.Grown.{blank_stays, keyless, sized_more}
 use Rattle.papaya_book.proofs.Joining.{brings_more}
 use Rattle.papaya_book.proofs.Loads.{key_since, same_cells, shows}
 use Rattle.papaya_book.proofs.Logs.{answered_left, entered_last, entries-append, key_later, member_last_not, member_left, name-append, name_since, or_nothing, owner_later, prefix_trans, seals-append, state_more, steps-append}
-use Rattle.papaya_book.proofs.Makers.{sealed_or_root}
+use Rattle.papaya_book.proofs.Makers.{map_key, sealed_or_map}
 use Rattle.papaya_book.proofs.Names.{word_answer}
 
 -- what is none of two is the first of neither
 or_none : {X : Type 0} (x y : Option X) → or_else x y ≡ None → x ≡ None
 or_none None y e = refl
 or_none (Some x) y e = absurd (cc e)
+
+-- where a table comes, the root or the number of a next table is another
+not_counting : {K V : Type 0} (g : Setting K (Stored K V)) (c : Coding K (Stored K V)) (g' : Setting K (Stored K V)) (s : State (Stored K V)) (e : Step K V) (w : Where Sheet) → comes e ≡ names.Table w → Allows g' s (exchange_of e)
+    → ((a : At) → (a ≡ Made → ⊥) → word_of g c (after s (exchange_of e)) a ≡ word_of g c s a) → ⊥
+not_counting g c g' s (steps.Open v) w is may same = let z : number_of v ≡ s.root = same Root (λ i. cc i) in let none = may.0 in absurd (omega arith)
+not_counting g c g' s (steps.Link t v) w is may same =
+    let now : at_put s.next t (number_of v) t ≡ s.next t = same (Next t) (λ i. cc i) in
+    let put : at_put s.next t (number_of v) t ≡ number_of v = cond-true (t == t) (number_of v) (s.next t) (eq-eqb t t refl) in
+    let none = may.last in absurd (omega arith)
+not_counting g c g' s (steps.Claim t x p) w is may same = absurd (cc is)
+not_counting g c g' s (steps.Replace t x p q) w is may same = absurd (cc is)
+not_counting g c g' s (steps.Bury t x p) w is may same = absurd (cc is)
+not_counting g c g' s (steps.Mark t x p) w is may same = absurd (cc is)
+not_counting g c g' s (steps.Close t x) w is may same = absurd (cc is)
+not_counting g c g' s (steps.Place t x p) w is may same = absurd (cc is)
+not_counting g c g' s (steps.Finish t x p) w is may same = absurd (cc is)
+not_counting g c g' s (steps.Advance t d) w is may same = absurd (cc is)
+not_counting g c g' s (steps.Promote t n) w is may same = absurd (cc is)
+not_counting g c g' s (steps.Abort t) w is may same = absurd (cc is)
+not_counting g c g' s (steps.Take m) w is may same = absurd (cc is)
+
+-- the words of the map are the root and the one that counts pairs
+of_root : (at : At) → IsOfMap at → (at ≡ Made → ⊥) → at ≡ Root
+of_root Root of n = refl
+of_root Made of n = absurd (n refl)
+of_root (Next t) of n = absurd of
+of_root (Aborted t) of n = absurd of
+of_root (Done t d) of n = absurd of
+of_root (Slot t x) of n = absurd of
 
 -- a table whose words were made is made in each longer log
 pub made_since : {K V S : Type 0} (sheet : Sheet) (v log : List (Event K V S)) → IsPrefix v log → IsMade sheet v → IsMade sheet log
@@ -53,10 +84,10 @@ made_since sheet v log pre m =
       apart = m.apart;
     })
 
-module _ {K V S : Type 0} (eq : K → K → Bool) (hash : S → K → ℕ) (plans : (mode : ResizeMode) (s : S) → IsLawfulPlan (plan_of {V = V} eq (hash s) mode))
+module _ {K V S : Type 0} (eq : K → K → Bool) (hash : S → K → ℕ) (plans : (mode : ResizeMode) (most : Option ℕ) (s : S) → IsLawfulPlan (plan_of {V = V} eq (hash s) mode most))
     (cs : List Cell) (log : List (Event K V S)) (h : IsKept eq hash cs log) (e : Step K V) (w : Where Sheet) (with_it : comes e ≡ names.Table w) (at : At) (k new : ℕ) (key : key_at (steps_of log) at ≡ Some k) (some : new ≢ 0)
-    (may : Allows (setting_with eq (hash h.begun.hasher) h.begun.mode (names.Table w) log) (state_of log) (exchange_of e))
-    (written : IsWritten (setting_of eq (hash h.begun.hasher) h.begun.mode log) (coding_of (hash h.begun.hasher)) (state_of log) at new (after (state_of log) (exchange_of e)))
+    (may : Allows (setting_with eq (hash h.begun.hasher) h.begun.mode h.begun.limit (names.Table w) log) (state_of log) (exchange_of e))
+    (written : IsWritten (setting_of eq (hash h.begun.hasher) h.begun.mode h.begun.limit log) (coding_of (hash h.begun.hasher)) (state_of log) at new (after (state_of log) (exchange_of e)))
     (placed : IsPlaced h.begun (name_in log) (comes e)) (none : table_in (steps_of log) (number_of w) ≡ None) (made : IsMade w.value log) (within : w.value.seal < length cs) (away : (cell cs w.value.seal).1 ≡ false) where
   abbrev b : Begun K V S
   b = h.begun
@@ -71,13 +102,13 @@ module _ {K V S : Type 0} (eq : K → K → Bool) (hash : S → K → ℕ) (plan
   s' = after (state_of log) (exchange_of e)
 
   abbrev g : Setting K (Stored K V)
-  g = setting_of eq (hash b.hasher) b.mode log
+  g = setting_of eq (hash b.hasher) b.mode b.limit log
 
   abbrev c : Coding K (Stored K V)
   c = coding_of (hash b.hasher)
 
   abbrev plan : Plan K (Stored K V)
-  plan = plan_of eq (hash b.hasher) b.mode
+  plan = plan_of eq (hash b.hasher) b.mode b.limit
 
   abbrev cs' : List Cell
   cs' = slice_set (slice_set cs k (new, true)) w.value.seal (0, true)
@@ -93,7 +124,7 @@ module _ {K V S : Type 0} (eq : K → K → Bool) (hash : S → K → ℕ) (plan
 
   word' : (a : At) → word_in eq hash b log' a ≡ word_of g c s' a
   word' a =
-      ap (λ (s : State (Stored K V)). word_of (setting_of eq (hash b.hasher) b.mode log') c s a) (state_more log e)
+      ap (λ (s : State (Stored K V)). word_of (setting_of eq (hash b.hasher) b.mode b.limit log') c s a) (state_more log e)
       ∙ word_sizes plan (size_in (entries_of log')) (size_in (entries_of log)) (places_in (entries_of log')) (places_in (entries_of log)) (chunks_in (entries_of log')) (chunks_in (entries_of log)) c s' a
 
   cases : (a : At) (j : ℕ) → key_at (steps_of log') a ≡ Some j → (key_at es a ≡ Some j) ⊎ IsNew es e w with_it a j
@@ -112,15 +143,19 @@ module _ {K V S : Type 0} (eq : K → K → Bool) (hash : S → K → ℕ) (plan
   not_seal : (j : ℕ) → (cell cs j).1 ≡ true → j ≢ w.value.seal
   not_seal j home i = let z = ap (λ (n : ℕ). (cell cs n).1) i in cc (z, home, away)
 
-  allowed' : AllAllowed (setting_of eq (hash b.hasher) b.mode log') start (exchanges_of log')
+  allowed' : AllAllowed (setting_of eq (hash b.hasher) b.mode b.limit log') start (exchanges_of log')
   allowed' =
-      let law = lawful_in plan (plans b.mode b.hasher) (entries_of log) h.lawful.sized in
+      let law = lawful_in plan (plans b.mode b.limit b.hasher) (entries_of log) h.lawful.sized in
       let grown = log_grows plan (entries_of log) (entry_of e) law h.lawful.allowed (brings_more eq hash b log law w h.lawful none e with_it may) in
       subst (λ (l : List (Entry (Stored K V))). AllAllowed (setting_in plan l) start (exchanges l)) (sym (entries-append log (Stepped e ∷ []))) grown
 
   -- a table of a number that did not come then had not come before
   none_before : (t : ℕ) → table_in (steps_of log') t ≡ None → table_in es t ≡ None
   none_before t n = or_none (table_in es t) (or_else (Rattle.std.proofs.Common.cond (number_of w == t) (Some w) None) None) (sym (table_then es e w with_it t) ∙ (ap (λ (l : List (Step K V)). table_in l t) (sym steps') ∙ n))
+
+  -- the word that is exchanged does not count pairs
+  not_made : at ≡ Made → ⊥
+  not_made i = not_counting g c (setting_with eq (hash b.hasher) b.mode b.limit (names.Table w) log) (state_of log) e w with_it may (λ a n. written.others a (λ x. n (x ∙ i)))
 
   unopened' : (state_of log').root ≡ 0 → (t : ℕ) → table_in (steps_of log') t ≡ None
   unopened' r t =
@@ -131,9 +166,9 @@ module _ {K V S : Type 0} (eq : K → K → Bool) (hash : S → K → ℕ) (plan
       let before : (state_of log).root ≡ 0 = sym (written.others Root (λ i. n (sym i))) ∙ root in
       let all = h.lawful.unopened before in
       ⊎_elim
-      (λ i. absurd (n i))
+      (λ i. absurd (n (of_root at i not_made)))
       (λ i. let gone : seal_at es at ≡ None = no_seal es at (all (table_of at)) in let there = i.1 in absurd (cc (gone, there)))
-      (sealed_or_root es at k key))
+      (sealed_or_map es at k key))
       (root_or_not at)
 
   apart' : (a a' : At) (j : ℕ) → key_at (steps_of log') a ≡ Some j → key_at (steps_of log') a' ≡ Some j → a ≡ a'
@@ -159,7 +194,7 @@ module _ {K V S : Type 0} (eq : K → K → Bool) (hash : S → K → ℕ) (plan
   }
 
   not_maker : (a : At) (j : ℕ) → key_at es a ≡ Some j → 1 ≢ j
-  not_maker a j x i = ⊎_elim (λ r. let z : Some j ≡ Some 0 = sym x ∙ ap (key_at es) r in let y : j ≡ 0 = cc z in absurd (omega arith)) (λ t. absurd (omega arith)) (h.counted a j x).1
+  not_maker a j x i = ⊎_elim (λ r. (map_key es a j r x).0 (sym i)) (λ t. absurd (omega arith)) (h.counted a j x).1
 
   at_k : k < length cs
   at_k = (h.counted at k key).0
@@ -182,13 +217,13 @@ module _ {K V S : Type 0} (eq : K → K → Bool) (hash : S → K → ℕ) (plan
       (same_or_not j k (j == k) refl)
 
   keyless_new : (a : At) (j : ℕ) → IsNew es e w with_it a j → key_at es a ≡ Some k → ⊥
-  keyless_new a j n x = ⊎_elim (λ r. n.not_root r) (λ s. let gone : seal_at es a ≡ None = no_seal es a n.none in let there = s.1 in cc (gone, there)) (sealed_or_root es a k x)
+  keyless_new a j n x = ⊎_elim (λ r. n.not_map r) (λ s. let gone : seal_at es a ≡ None = no_seal es a n.none in let there = s.1 in cc (gone, there)) (sealed_or_map es a k x)
 
   -- a word of the table that came is 0
   coded_new : (a : At) (j : ℕ) → IsNew es e w with_it a j → cell cs' j ≡ (word_in eq hash b log' a, true)
   coded_new a j n =
       let other : a ≡ at → ⊥ = λ same. keyless_new a j n (ap (key_at es) same ∙ key) in
-      let zero : word_in eq hash b log' a ≡ 0 = word' a ∙ (written.others a other ∙ blank_zero g c (state_of log) a n.not_root (h.lawful.blank (table_of a) n.none)) in
+      let zero : word_in eq hash b log' a ≡ 0 = word' a ∙ (written.others a other ∙ blank_zero g c (state_of log) a n.not_map (h.lawful.blank (table_of a) n.none)) in
       let value : (0, true) ≡ (word_in eq hash b log' a, true) = ap (λ (m : ℕ). (m, true)) (sym zero) in
       ⊎_elim
       (λ i. ap (cell cs') i ∙ (cell_same (slice_set cs k (new, true)) w.value.seal (0, true) past_seal ∙ value))
@@ -209,13 +244,13 @@ module _ {K V S : Type 0} (eq : K → K → Bool) (hash : S → K → ℕ) (plan
       let many = h.many in record {
         begun = b;
         lawful = lawful_brought;
-        many = long ∙ (h.many ∙ ap (λ (z : List ℕ). 2 + length z) (sym seals'));
+        many = long ∙ (h.many ∙ ap (λ (z : List ℕ). 3 + length z) (sym seals'));
         maker = cell_other (slice_set cs k (new, true)) w.value.seal 1 (0, true) (not_seal 1 (ap (λ (z : Cell). z.1) h.maker)) ∙ (cell_other cs k 1 (new, true) (not_maker at k key) ∙ (h.maker ∙ ap (λ (o : Option Book). (flag o, true)) (sym name')));
         coded = λ a j x. ⊎_elim (λ i. coded_old a j i) (λ n. coded_new a j n) (cases a j x);
         counted = λ a j x.
             ⊎_elim
             (λ i. let z = h.counted a j i in (let y = z.0 in omega arith, z.1))
-            (λ n. let l : j - 2 < length (seals_of log) = get_within (seals_of log) (j - 2) w.value.seal (made.owned a j n.key) in let p = made.past a j n.key in (omega arith, inr p))
+            (λ n. let l : j - 3 < length (seals_of log) = get_within (seals_of log) (j - 3) w.value.seal (made.owned a j n.key) in let p = made.past a j n.key in (omega arith, inr p))
             (cases a j x);
         owned = λ a j x.
             ⊎_elim
@@ -226,7 +261,7 @@ module _ {K V S : Type 0} (eq : K → K → Bool) (hash : S → K → ℕ) (plan
             ⊎_elim
             (λ r. inl r)
             (λ s. inr (owner_later log (Stepped e ∷ []) j s.0 (o ∙ s.1) ∙ sym (ap (λ (l : List (Step K V)). seal_at l a) steps' ∙ seal_later es e w with_it a s.0 s.1)))
-            (sealed_or_root es a j i))
+            (sealed_or_map es a j i))
             (h.owned a j i))
             (λ n. inr (owner_later log (Stepped e ∷ []) j w.value.seal (made.owned a j n.key) ∙ sym (ap (λ (l : List (Step K V)). seal_at l a) steps' ∙ n.seal)))
             (cases a j x);
@@ -239,7 +274,7 @@ module _ {K V S : Type 0} (eq : K → K → Bool) (hash : S → K → ℕ) (plan
             ap (λ (z : Cell). z.0) same ∙ h.fresh j two (sym (ap (λ (z : Cell). z.1) same) ∙ home) (λ a x. out a (old_there a j x));
       }
 
-module _ {K V S : Type 0} (eq : K → K → Bool) (hash : S → K → ℕ) (plans : (mode : ResizeMode) (s : S) → IsLawfulPlan (plan_of {V = V} eq (hash s) mode))
+module _ {K V S : Type 0} (eq : K → K → Bool) (hash : S → K → ℕ) (plans : (mode : ResizeMode) (most : Option ℕ) (s : S) → IsLawfulPlan (plan_of {V = V} eq (hash s) mode most))
     (b : Begun K V S) (v : List (Event K V S)) (ask : Event K V S) (w : Where Sheet) (k old new : ℕ) (key : key_at (steps_of v) (place_of ask) ≡ Some k) (began : IsPrefix (Begin b ∷ []) v)
     (with_it : brought ask ≡ names.Table w) (some : new ≢ 0) (name : Book) (named : name_in v ≡ Some name) (placed : IsPlaced b (Some name) (names.Table w)) (made : IsMade w.value v)
     (can : CanBring eq hash b (place_of ask) (kind_of ask) old new (made_of ask) w v) where
@@ -255,7 +290,7 @@ module _ {K V S : Type 0} (eq : K → K → Bool) (hash : S → K → ℕ) (plan
       let e : Step K V = m.0.step in
       let named' : name_in log ≡ Some name = name_since v log name pre named in
       let placed' : IsPlaced h.begun (name_in log) (comes e) = subst (λ (z : Begun K V S × Option Book × Named K V). IsPlaced z.0 z.1 z.2) (λ i. (sym same i, sym named' i, sym m.0.meant.with_it i)) placed in
-      let told : Answered log names_it = word_answer (setting_of eq (hash h.begun.hasher) h.begun.mode log) log h.lawful.allowed at in
+      let told : Answered log names_it = word_answer (setting_of eq (hash h.begun.hasher) h.begun.mode h.begun.limit log) log h.lawful.allowed at in
       let made' = made_since w.value v log pre made in
       let more = kept_brought eq hash plans cs log h e w m.0.meant.with_it at k new key' some m.0.allowed m.0.written placed' m.1 made' within away in (
         gives,
@@ -285,7 +320,7 @@ module _ {K V S : Type 0} (eq : K → K → Bool) (hash : S → K → ℕ) (plan
       let stands = h.coded at k key' in
       let home : (cell cs k).1 ≡ true = ap (λ (c : Cell). c.1) stands in
       let nil : log ++ [] ≡ log = append-nil log in
-      let told : Answered log names_it = word_answer (setting_of eq (hash h.begun.hasher) h.begun.mode log) log h.lawful.allowed at in (
+      let told : Answered log names_it = word_answer (setting_of eq (hash h.begun.hasher) h.begun.mode h.begun.limit log) log h.lawful.allowed at in (
         keeps,
         [],
         Some names_it,

@@ -4,7 +4,7 @@ use Rattle.std.proofs.lemmas.Bool.{cases_Bool, cond-true, cond-false}
 use Rattle.boxcar.specs.Table.{Where}
 use Rattle.logbook.specs.Pages.{Cell, cell}
 use Rattle.papaya_ask.specs.declared.ask.At.{At}
-use Rattle.papaya_ask.specs.declared.ask.At.TheVariants.{Root, Next, Aborted, Done, Slot}
+use Rattle.papaya_ask.specs.declared.ask.At.TheVariants.{Root, Next, Aborted, Done, Slot, Made}
 use Rattle.papaya_law.specs.Code.{Coding, code}
 use Rattle.papaya_law.specs.Exchange.{Empty, Setting, State}
 use Rattle.papaya_law.specs.Grows.{Plan, planned}
@@ -16,9 +16,9 @@ use Rattle.papaya_book.specs.declared.rule.entry.Step.{Step}
 use Rattle.papaya_book.specs.declared.rule.entry.Event.{Event}
 use Rattle.papaya_book.specs.Logs.{comes, in_table, key_at, number_of, or_else, owner, steps_of, table_if, table_in}
 use Rattle.papaya_book.specs.Makers.{key_of, table_of}
-use Rattle.papaya_book.specs.Rule.{IsBlank, IsKept, seal_at}
+use Rattle.papaya_book.specs.Rule.{IsBlank, IsKept, IsOfMap, seal_at}
 use Rattle.papaya_book.proofs.Logs.{get_left, owner_later, table_append, table_later}
-use Rattle.papaya_book.proofs.Makers.{sealed_or_root}
+use Rattle.papaya_book.proofs.Makers.{map_key, sealed_or_map}
 
 pub get_within : {X : Type 0} (xs : List X) (i : ℕ) (x : X) → slice_get xs i ≡ Some x → i < length xs
 get_within [] i x e = absurd (cc e)
@@ -32,6 +32,7 @@ root_or_not (Next t) = inr (λ e. cc e)
 root_or_not (Aborted t) = inr (λ e. cc e)
 root_or_not (Done t c) = inr (λ e. cc e)
 root_or_not (Slot t x) = inr (λ e. cc e)
+root_or_not Made = inr (λ e. cc e)
 
 either_in : {X : Type 0} (f : Sheet → Option X) (o n : Option (Where Sheet)) (j : X) → in_table f (or_else o n) ≡ Some j → (in_table f o ≡ Some j) ⊎ ((o ≡ None) × (in_table f n ≡ Some j))
 either_in f None n j e = inr (refl, e)
@@ -44,14 +45,16 @@ no_seal es (Next t) n = ap (in_table (λ s. Some s.seal)) n
 no_seal es (Aborted t) n = ap (in_table (λ s. Some s.seal)) n
 no_seal es (Done t c) n = ap (in_table (λ s. Some s.seal)) n
 no_seal es (Slot t x) n = ap (in_table (λ s. Some s.seal)) n
+no_seal es Made n = refl
 
 -- the words of a blank table are 0
-pub blank_zero : {K P : Type 0} (g : Setting K P) (c : Coding K P) (s : State P) (at : At) → (at ≡ Root → ⊥) → IsBlank s (table_of at) → word_of g c s at ≡ 0
-blank_zero g c s Root n b = absurd (n refl)
+pub blank_zero : {K P : Type 0} (g : Setting K P) (c : Coding K P) (s : State P) (at : At) → (IsOfMap at → ⊥) → IsBlank s (table_of at) → word_of g c s at ≡ 0
+blank_zero g c s Root n b = absurd (n tt)
 blank_zero g c s (Next t) n b = b.next
 blank_zero g c s (Aborted t) n b = ap (λ (z : Bool). cond z 1 0) b.aborted
 blank_zero g c s (Done t d) n b = ap (λ (z : Bool). cond z 1 0) (b.done d)
 blank_zero g c s (Slot t x) n b = ap (code g c) (b.slots x)
+blank_zero g c s Made n b = absurd (n tt)
 
 -- a word's number does not depend on the tables' sizes
 pub word_sizes : {K P : Type 0} (h : Plan K P) (size size' places places' : ℕ → ℕ) (chunks chunks' : ℕ → ℕ) (c : Coding K P) (s : State P) (at : At) → word_of (planned h size places chunks) c s at ≡ word_of (planned h size' places' chunks') c s at
@@ -59,6 +62,7 @@ word_sizes h size size' places places' chunks chunks' c s Root = refl
 word_sizes h size size' places places' chunks chunks' c s (Next t) = refl
 word_sizes h size size' places places' chunks chunks' c s (Aborted t) = refl
 word_sizes h size size' places places' chunks chunks' c s (Done t d) = refl
+word_sizes h size size' places places' chunks chunks' c s Made = refl
 word_sizes h size size' places places' chunks chunks' c s (Slot t x) = named_word (s.slot t x)
   where
     named_word : (w : Rattle.papaya_law.specs.Exchange.Word _) → code (planned h size places chunks) c w ≡ code (planned h size' places' chunks') c w
@@ -103,19 +107,21 @@ module _ {K V : Type 0} (es : List (Step K V)) (e : Step K V) (w : Where Sheet) 
     pub none : table_in es (table_of at) ≡ None
     pub key : key_of w.value at ≡ Some j
     pub seal : seal_at (es ++ e ∷ []) at ≡ Some w.value.seal
-    pub not_root : at ≡ Root → ⊥
+    pub not_map : IsOfMap at → ⊥
 
   -- a word that has a key had it, or is of the table that came
   pub old_or_new : (at : At) (j : ℕ) → key_at (es ++ e ∷ []) at ≡ Some j → (key_at es at ≡ Some j) ⊎ IsNew at j
   old_or_new Root j x = inl x
-  old_or_new (Next t) j x = ⊎_elim (λ h. inl h) (λ h. inr (record { is_table = h.0; none = h.1; key = h.2; seal = ap (in_table (λ s. Some s.seal)) h.3; not_root = λ r. cc r })) (in_new (λ s. Some s.next) t j x)
-  old_or_new (Aborted t) j x = ⊎_elim (λ h. inl h) (λ h. inr (record { is_table = h.0; none = h.1; key = h.2; seal = ap (in_table (λ s. Some s.seal)) h.3; not_root = λ r. cc r })) (in_new (λ s. Some s.seal) t j x)
-  old_or_new (Done t d) j x = ⊎_elim (λ h. inl h) (λ h. inr (record { is_table = h.0; none = h.1; key = h.2; seal = ap (in_table (λ s. Some s.seal)) h.3; not_root = λ r. cc r })) (in_new (λ s. slice_get s.done d) t j x)
-  old_or_new (Slot t i) j x = ⊎_elim (λ h. inl h) (λ h. inr (record { is_table = h.0; none = h.1; key = h.2; seal = ap (in_table (λ s. Some s.seal)) h.3; not_root = λ r. cc r })) (in_new (λ s. slice_get s.slots i) t j x)
+  old_or_new Made j x = inl x
+  old_or_new (Next t) j x = ⊎_elim (λ h. inl h) (λ h. inr (record { is_table = h.0; none = h.1; key = h.2; seal = ap (in_table (λ s. Some s.seal)) h.3; not_map = λ r. r })) (in_new (λ s. Some s.next) t j x)
+  old_or_new (Aborted t) j x = ⊎_elim (λ h. inl h) (λ h. inr (record { is_table = h.0; none = h.1; key = h.2; seal = ap (in_table (λ s. Some s.seal)) h.3; not_map = λ r. r })) (in_new (λ s. Some s.seal) t j x)
+  old_or_new (Done t d) j x = ⊎_elim (λ h. inl h) (λ h. inr (record { is_table = h.0; none = h.1; key = h.2; seal = ap (in_table (λ s. Some s.seal)) h.3; not_map = λ r. r })) (in_new (λ s. slice_get s.done d) t j x)
+  old_or_new (Slot t i) j x = ⊎_elim (λ h. inl h) (λ h. inr (record { is_table = h.0; none = h.1; key = h.2; seal = ap (in_table (λ s. Some s.seal)) h.3; not_map = λ r. r })) (in_new (λ s. slice_get s.slots i) t j x)
 
   -- seals stay
   pub seal_later : (at : At) (seal : ℕ) → seal_at es at ≡ Some seal → seal_at (es ++ e ∷ []) at ≡ Some seal
   seal_later Root seal x = x
+  seal_later Made seal x = x
   seal_later (Next t) seal x = same_seal_in t seal x
     where
       same_seal_in : (t seal : ℕ) → in_table (λ s. Some s.seal) (table_in es t) ≡ Some seal → in_table (λ s. Some s.seal) (table_in (es ++ e ∷ []) t) ≡ Some seal
@@ -127,22 +133,23 @@ module _ {K V : Type 0} (es : List (Step K V)) (e : Step K V) (w : Where Sheet) 
 -- the word `aborted` of a table has the table's seal for its key
 seal_key : {K V : Type 0} (es : List (Step K V)) (at : At) (seal : ℕ) → seal_at es at ≡ Some seal → key_at es (Aborted (table_of at)) ≡ Some seal
 seal_key es Root seal x = absurd (cc x)
+seal_key es Made seal x = absurd (cc x)
 seal_key es (Next t) seal x = x
 seal_key es (Aborted t) seal x = x
 seal_key es (Done t d) seal x = x
 seal_key es (Slot t i) seal x = x
 
 -- No word of a table that has come is one that was made for a table whose seal is away.
-pub no_shared : {K V S : Type 0} (eq : K → K → Bool) (hash : S → K → ℕ) (cs : List Cell) (log : List (Event K V S)) (h : IsKept eq hash cs log) (seal : ℕ) → (cell cs seal).1 ≡ false → (at : At) (j : ℕ) → key_at (steps_of log) at ≡ Some j → 2 ≤ j → owner j log ≡ Some seal → ⊥
+pub no_shared : {K V S : Type 0} (eq : K → K → Bool) (hash : S → K → ℕ) (cs : List Cell) (log : List (Event K V S)) (h : IsKept eq hash cs log) (seal : ℕ) → (cell cs seal).1 ≡ false → (at : At) (j : ℕ) → key_at (steps_of log) at ≡ Some j → 3 ≤ j → owner j log ≡ Some seal → ⊥
 no_shared eq hash cs log h seal away at j key past own =
-    let is_root : at ≡ Root → ⊥ = λ r. let z : Some j ≡ Some 0 = sym key ∙ ap (key_at (steps_of log)) r in let y : j ≡ 0 = cc z in absurd (omega arith) in
+    let of_map : IsOfMap at → ⊥ = λ r. let z = (map_key (steps_of log) at j r key).1 in absurd (omega arith) in
     ⊎_elim
-    is_root
+    of_map
     (λ i. ⊎_elim
-    is_root
+    of_map
     (λ s. let same : s.0 ≡ seal = cc (own, i, s.1) in
     let there : key_at (steps_of log) (Aborted (table_of at)) ≡ Some s.0 = seal_key (steps_of log) at s.0 s.1 in
     let home : (cell cs s.0).1 ≡ true = ap (λ (c : Cell). c.1) (h.coded (Aborted (table_of at)) s.0 there) in
     let home' : (cell cs seal).1 ≡ true = subst (λ (n : ℕ). (cell cs n).1 ≡ true) same home in cc (home', away))
-    (sealed_or_root (steps_of log) at j key))
+    (sealed_or_map (steps_of log) at j key))
     (h.owned at j key)

@@ -24,15 +24,16 @@ use Rattle.papaya_book.proofs.Cells.{cell_other, cell_same, home_still, same_or_
 use Rattle.papaya_book.proofs.Logs.{IsQuiet, member_last_not, name_later, answered_left, same_seal, steps-append, with_quiet}
 use Rattle.papaya_book.proofs.Grown.{lawful_more, same_keys, same_name, same_seals, word_more}
 use Rattle.papaya_book.proofs.Loads.{key_since, same_cells, shows}
+use Rattle.papaya_book.proofs.Makers.{map_key}
 use Rattle.papaya_book.proofs.Names.{word_answer}
 
 pub found_old : (n old : ℕ) → (n == old) ≡ true → n ≡ old
 found_old n old e = grind (arith, nat_tests)
 
-module _ {K V S : Type 0} (eq : K → K → Bool) (hash : S → K → ℕ) (plans : (mode : ResizeMode) (s : S) → IsLawfulPlan (plan_of {V = V} eq (hash s) mode)) where
+module _ {K V S : Type 0} (eq : K → K → Bool) (hash : S → K → ℕ) (plans : (mode : ResizeMode) (most : Option ℕ) (s : S) → IsLawfulPlan (plan_of {V = V} eq (hash s) mode most)) where
   module _ (cs : List Cell) (log : List (Event K V S)) (h : IsKept eq hash cs log) (e : Step K V) (quiet : IsQuiet (comes e)) (at : At) (k new : ℕ) (key : key_at (steps_of log) at ≡ Some k)
-      (may : Allows (setting_of eq (hash h.begun.hasher) h.begun.mode log) (state_of log) (exchange_of e))
-      (written : IsWritten (setting_of eq (hash h.begun.hasher) h.begun.mode log) (coding_of (hash h.begun.hasher)) (state_of log) at new (after (state_of log) (exchange_of e)))
+      (may : Allows (setting_of eq (hash h.begun.hasher) h.begun.mode h.begun.limit log) (state_of log) (exchange_of e))
+      (written : IsWritten (setting_of eq (hash h.begun.hasher) h.begun.mode h.begun.limit log) (coding_of (hash h.begun.hasher)) (state_of log) at new (after (state_of log) (exchange_of e)))
       (placed : IsPlaced h.begun (name_in log) (comes e)) where
     abbrev log' : List (Event K V S)
     log' = log ++ Stepped e ∷ []
@@ -51,9 +52,9 @@ module _ {K V S : Type 0} (eq : K → K → Bool) (hash : S → K → ℕ) (plan
 
     -- the makers' word is no word of the map
     not_maker : 1 ≢ k
-    not_maker i = ⊎_elim (λ r. let z : Some k ≡ Some 0 = sym key ∙ ap (key_at (steps_of log)) r in let y : k ≡ 0 = cc z in absurd (omega arith)) (λ t. absurd (omega arith)) (h.counted at k key).1
+    not_maker i = ⊎_elim (λ r. (map_key (steps_of log) at k r key).0 (sym i)) (λ t. absurd (omega arith)) (h.counted at k key).1
 
-    word' : (at' : At) → word_in eq hash h.begun log' at' ≡ word_of (setting_of eq (hash h.begun.hasher) h.begun.mode log) (coding_of (hash h.begun.hasher)) (after (state_of log) (exchange_of e)) at'
+    word' : (at' : At) → word_in eq hash h.begun log' at' ≡ word_of (setting_of eq (hash h.begun.hasher) h.begun.mode h.begun.limit log) (coding_of (hash h.begun.hasher)) (after (state_of log) (exchange_of e)) at'
     word' at' = word_more eq hash plans h.begun log h.lawful e quiet at k new key may written placed at'
 
     coded_more : (at' : At) (j : ℕ) → key_at (steps_of log') at' ≡ Some j → cell cs' j ≡ (word_in eq hash h.begun log' at', true)
@@ -75,11 +76,11 @@ module _ {K V S : Type 0} (eq : K → K → Bool) (hash : S → K → ℕ) (plan
         let name = same_name eq hash plans h.begun log h.lawful e quiet at k new key may written placed in record {
           begun = h.begun;
           lawful = lawful_more eq hash plans h.begun log h.lawful e quiet at k new key may written placed;
-          many = long ∙ (h.many ∙ ap (λ (z : List ℕ). 2 + length z) (sym seals));
+          many = long ∙ (h.many ∙ ap (λ (z : List ℕ). 3 + length z) (sym seals));
           maker = cell_other cs k 1 (new, true) not_maker ∙ (h.maker ∙ ap (λ (o : Option Book). (flag o, true)) (sym name));
           coded = coded_more;
           counted = λ at' j x. let z = h.counted at' j (old_key at' j x) in (let y = z.0 in omega arith, z.1);
-          owned = λ at' j x. ⊎_elim (λ i. inl i) (λ i. inr (ap (λ (z : List ℕ). Rattle.std.specs.Prelude.slice_get z (Rattle.std.specs.Prelude.◌-◌ j 2)) seals ∙ (i ∙ sym (ap (λ (l : List (Step K V)). seal_at l at') (steps-append log (Stepped e ∷ [])) ∙ same_seal (steps_of log) e at' quiet)))) (h.owned at' j (old_key at' j x));
+          owned = λ at' j x. ⊎_elim (λ i. inl i) (λ i. inr (ap (λ (z : List ℕ). Rattle.std.specs.Prelude.slice_get z (Rattle.std.specs.Prelude.◌-◌ j 3)) seals ∙ (i ∙ sym (ap (λ (l : List (Step K V)). seal_at l at') (steps-append log (Stepped e ∷ [])) ∙ same_seal (steps_of log) e at' quiet)))) (h.owned at' j (old_key at' j x));
           homes = λ j m. let z = h.homes j (member_last_not (Home j) log (Stepped e) m (λ i. cc i)) in (let y = z.0 in omega arith, home_still cs k j new within z.1);
           fresh = λ j two home out.
               let n : j ≢ k = λ i. out at (new_key at j (key ∙ ap (λ (m : ℕ). Some m) (sym i))) in
@@ -104,11 +105,11 @@ module _ {K V S : Type 0} (eq : K → K → Bool) (hash : S → K → ℕ) (plan
         let can' : CanExchange eq hash h.begun at (kind_of ask) old new (made_of ask) (brought ask) v = subst (λ (d : Begun K V S). CanExchange eq hash d at (kind_of ask) old new (made_of ask) (brought ask) v) (sym same) can in
         let m : MayStep eq hash h.begun at (kind_of ask) new (made_of ask) (brought ask) log = can' log pre h.lawful (stands ∙ found_old (cell cs k).0 old is) in
         let e : Step K V = m.step in
-        let may : Allows (setting_of eq (hash h.begun.hasher) h.begun.mode log) (state_of log) (exchange_of e) = subst (λ (g : Setting K (Stored K V)). Allows g (state_of log) (exchange_of e)) (with_quiet eq (hash h.begun.hasher) h.begun.mode log (brought ask) quiet) m.allowed in
+        let may : Allows (setting_of eq (hash h.begun.hasher) h.begun.mode h.begun.limit log) (state_of log) (exchange_of e) = subst (λ (g : Setting K (Stored K V)). Allows g (state_of log) (exchange_of e)) (with_quiet eq (hash h.begun.hasher) h.begun.mode h.begun.limit log (brought ask) quiet) m.allowed in
         let quiet' : IsQuiet (comes e) = subst (λ (n : Named K V). IsQuiet n) (sym m.meant.with_it) quiet in
         let named' : name_in log ≡ Some name = ap name_in (sym pre.1) ∙ name_later v pre.0 name named in
         let placed' : IsPlaced h.begun (name_in log) (comes e) = subst (λ (z : Begun K V S × Option Book × Named K V). IsPlaced z.0 z.1 z.2) (λ i. (sym same i, sym named' i, sym m.meant.with_it i)) placed in
-        let told : Answered log names = word_answer (setting_of eq (hash h.begun.hasher) h.begun.mode log) log h.lawful.allowed at in
+        let told : Answered log names = word_answer (setting_of eq (hash h.begun.hasher) h.begun.mode h.begun.limit log) log h.lawful.allowed at in
         let more : IsKept eq hash (slice_set cs k (new, true)) (log ++ Stepped e ∷ []) = kept_more cs log h e quiet' at k new key' may m.written placed' in (
           keeps,
           Stepped e ∷ [],
@@ -134,7 +135,7 @@ module _ {K V S : Type 0} (eq : K → K → Bool) (hash : S → K → ℕ) (plan
         let stands = h.coded at k key' in
         let home : (cell cs k).1 ≡ true = ap (λ (c : Cell). c.1) stands in
         let nil : log ++ [] ≡ log = append-nil log in
-        let told : Answered log names = word_answer (setting_of eq (hash h.begun.hasher) h.begun.mode log) log h.lawful.allowed at in (
+        let told : Answered log names = word_answer (setting_of eq (hash h.begun.hasher) h.begun.mode h.begun.limit log) log h.lawful.allowed at in (
           keeps,
           [],
           Some names,

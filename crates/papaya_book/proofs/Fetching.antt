@@ -31,7 +31,7 @@ module _ {K V S : Type 0} (eq : K → K → Bool) (hash : S → K → ℕ) where
       let stands : cell cs 0 ≡ (word_in eq hash h.begun log Root, true) = h.coded Root 0 refl in
       let home : (cell cs 0).1 ≡ true = ap (λ (z : Cell). z.1) stands in
       let nil : log ++ [] ≡ log = append-nil log in
-      let told : Answered log named = number_answer (setting_of eq (hash h.begun.hasher) h.begun.mode log) log h.lawful.allowed t in (
+      let told : Answered log named = number_answer (setting_of eq (hash h.begun.hasher) h.begun.mode h.begun.limit log) log h.lawful.allowed t in (
         (h.counted Root 0 refl).0,
         home,
         (
@@ -51,7 +51,7 @@ module _ {K V S : Type 0} (eq : K → K → Bool) (hash : S → K → ℕ) where
     fetched_lawful = subst (λ (z : Begun K V S). IsLawfulLog eq hash z log) (opened_with eq hash b f.begun log began f.lawful) f.lawful
 
     -- a table that had come is the one that is told
-    pub fetched_told : (hashed : IsHashed (setting_of eq (hash b.hasher) b.mode log) (coding_of (hash b.hasher))) (name : Book) (called : name_in log ≡ Some name) (seen : List (Event K V S)) → IsPrefix seen log → HasCome seen t → IsFoundTable eq hash b log hashed name called t state
+    pub fetched_told : (hashed : IsHashed (setting_of eq (hash b.hasher) b.mode b.limit log) (coding_of (hash b.hasher))) (name : Book) (called : name_in log ≡ Some name) (seen : List (Event K V S)) → IsPrefix seen log → HasCome seen t → IsFoundTable eq hash b log hashed name called t state
     fetched_told hashed name called seen since come =
         let here = table_since seen log t come.0.value since (come.0, come.1, refl) in
         let gained = f.state_is ∙ ap (λ (o : Option (Where Sheet)). Some (table_named o)) here.1 in

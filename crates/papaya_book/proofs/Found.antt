@@ -48,6 +48,7 @@ module _ {K V : Type 0} where
   brings_table (steps.Advance u c) t h = absurd cc
   brings_table (steps.Promote u n) t h = absurd cc
   brings_table (steps.Abort u) t h = absurd cc
+  brings_table (steps.Take m) t h = absurd cc
 
   -- a table of the chain has come, or was there before
   chain_came : (es : List (Step K V)) (s : State (Stored K V)) (t : ℕ) → Comes (run (exchanges (map entry_of es)) s) t → ((w : Where Sheet) × (table_in es t ≡ Some w)) ⊎ Comes s t

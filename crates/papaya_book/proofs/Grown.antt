@@ -40,6 +40,7 @@ root_stays g s (steps.Finish t x p) a q h = h
 root_stays g s (steps.Advance t c) a q h = h
 root_stays g s (steps.Promote t n) a q h = let m = a.target.made in absurd (omega arith)
 root_stays g s (steps.Abort t) a q h = h
+root_stays g s (steps.Take m) a q h = h
 
 abbrev flag_of : Bool → ℕ
 flag_of z = cond z 1 0
@@ -64,25 +65,25 @@ keyless es t at (inr (inl e)) n = ap (key_at es) e ∙ ap (in_table (λ s. Some 
 keyless es t at (inr (inr (inl (d, e)))) n = ap (key_at es) e ∙ ap (in_table (λ s. slice_get s.done d)) n
 keyless es t at (inr (inr (inr (x, e)))) n = ap (key_at es) e ∙ ap (in_table (λ s. slice_get s.slots x)) n
 
-module _ {K V S : Type 0} (eq : K → K → Bool) (hash : S → K → ℕ) (plans : (mode : ResizeMode) (s : S) → IsLawfulPlan (plan_of {V = V} eq (hash s) mode))
+module _ {K V S : Type 0} (eq : K → K → Bool) (hash : S → K → ℕ) (plans : (mode : ResizeMode) (most : Option ℕ) (s : S) → IsLawfulPlan (plan_of {V = V} eq (hash s) mode most))
     (b : Begun K V S) (log : List (Event K V S)) (l : IsLawfulLog eq hash b log) (e : Step K V) (quiet : IsQuiet (comes e)) (at : At) (k new : ℕ) (key : key_at (steps_of log) at ≡ Some k)
-    (may : Allows (setting_of eq (hash b.hasher) b.mode log) (state_of log) (exchange_of e))
-    (written : IsWritten (setting_of eq (hash b.hasher) b.mode log) (coding_of (hash b.hasher)) (state_of log) at new (after (state_of log) (exchange_of e)))
+    (may : Allows (setting_of eq (hash b.hasher) b.mode b.limit log) (state_of log) (exchange_of e))
+    (written : IsWritten (setting_of eq (hash b.hasher) b.mode b.limit log) (coding_of (hash b.hasher)) (state_of log) at new (after (state_of log) (exchange_of e)))
     (placed : IsPlaced b (name_in log) (comes e)) where
   abbrev log' : List (Event K V S)
   log' = log ++ Stepped e ∷ []
 
   abbrev g : Setting K (Stored K V)
-  g = setting_of eq (hash b.hasher) b.mode log
+  g = setting_of eq (hash b.hasher) b.mode b.limit log
 
   abbrev c : Coding K (Stored K V)
   c = coding_of (hash b.hasher)
 
   abbrev plan : Plan K (Stored K V)
-  plan = plan_of eq (hash b.hasher) b.mode
+  plan = plan_of eq (hash b.hasher) b.mode b.limit
 
-  pub same_setting : setting_of eq (hash b.hasher) b.mode log' ≡ g
-  same_setting = setting_same eq (hash b.hasher) b.mode log e quiet
+  pub same_setting : setting_of eq (hash b.hasher) b.mode b.limit log' ≡ g
+  same_setting = setting_same eq (hash b.hasher) b.mode b.limit log e quiet
 
   pub same_name : name_in log' ≡ name_in log
   same_name = name-append log (Stepped e ∷ []) ∙ or_nothing (name_in log)
@@ -96,11 +97,11 @@ module _ {K V S : Type 0} (eq : K → K → Bool) (hash : S → K → ℕ) (plan
   pub same_keys : (at : At) → key_at (steps_of log') at ≡ key_at (steps_of log) at
   same_keys at = ap (λ (l : List (Step K V)). key_at l at) (steps-append log (Stepped e ∷ [])) ∙ same_key (steps_of log) e at quiet
 
-  pub allowed_more : AllAllowed (setting_of eq (hash b.hasher) b.mode log') start (exchanges_of log')
+  pub allowed_more : AllAllowed (setting_of eq (hash b.hasher) b.mode b.limit log') start (exchanges_of log')
   allowed_more =
       let entries : entries_of log' ≡ entries_of log ++ entry_of e ∷ [] = entries-append log (Stepped e ∷ []) in
       let setting : setting_in plan (entries_of log ++ entry_of e ∷ []) ≡ g = ap (setting_in plan) (sym entries) ∙ same_setting in
-      let law = lawful_in plan (plans b.mode b.hasher) (entries_of log) l.sized in
+      let law = lawful_in plan (plans b.mode b.limit b.hasher) (entries_of log) l.sized in
       let grown = log_grows plan (entries_of log) (entry_of e) law l.allowed (subst (λ (h : Setting K (Stored K V)). Allows h (state_of log) (exchange_of e)) (sym setting) may) in
       subst (λ (es : List (Entry (Stored K V))). AllAllowed (setting_in plan es) start (exchanges es)) (sym entries) grown
 

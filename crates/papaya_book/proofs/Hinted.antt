@@ -55,7 +55,7 @@ module _ {K V S H : Type 0} (eq : K → K → Bool) (input : K → List (List �
 
   module _ (log : List (Event K V S)) (lawful : IsLawfulLog eq hash b log) where
     abbrev g : Setting K (Stored K V)
-    g = setting_of eq (hash b.hasher) b.mode log
+    g = setting_of eq (hash b.hasher) b.mode b.limit log
 
     abbrev c : Coding K (Stored K V)
     c = coding_of (hash b.hasher)
@@ -73,7 +73,7 @@ module _ {K V S H : Type 0} (eq : K → K → Bool) (input : K → List (List �
         let may : AllAllowed g start (es ++ fs) = subst (AllAllowed g start) (sym all) lawful.allowed in
         let after : IsLater g (state_of before) (state_of log) = subst (λ (z : List (Exchange (Stored K V))). IsLater g (run es start) (run z start)) all (later g hashed.lawful es fs may) in record {
           lawful = lawful;
-          is = hint_lasts g c hashed.coding (state_of before) (state_of log) after t x n (hint_agrees (setting_of eq (hash b.hasher) b.mode before) g c (λ p. refl) ((state_of before).slot t x) n is.is);
+          is = hint_lasts g c hashed.coding (state_of before) (state_of log) after t x n (hint_agrees (setting_of eq (hash b.hasher) b.mode b.limit before) g c (λ p. refl) ((state_of before).slot t x) n is.is);
         }
 
     -- of which the book was opened with the same, and no two slots share a word

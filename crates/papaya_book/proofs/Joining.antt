@@ -24,12 +24,12 @@ use Rattle.papaya_book.proofs.Comes.{table_there}
 use Rattle.papaya_book.proofs.Found.{brings_table, on_came}
 use Rattle.papaya_book.proofs.TableSizes.{words_of}
 
-module _ {K V S : Type 0} (eq : K → K → Bool) (hash : S → K → ℕ) (b : Begun K V S) (log : List (Event K V S)) (law : IsLawful (setting_of eq (hash b.hasher) b.mode log)) (w : Where Sheet) where
+module _ {K V S : Type 0} (eq : K → K → Bool) (hash : S → K → ℕ) (b : Begun K V S) (log : List (Event K V S)) (law : IsLawful (setting_of eq (hash b.hasher) b.mode b.limit log)) (w : Where Sheet) where
   abbrev g : Setting K (Stored K V)
-  g = setting_of eq (hash b.hasher) b.mode log
+  g = setting_of eq (hash b.hasher) b.mode b.limit log
 
   abbrev with_it : Setting K (Stored K V)
-  with_it = setting_with eq (hash b.hasher) b.mode (names.Table w) log
+  with_it = setting_with eq (hash b.hasher) b.mode b.limit (names.Table w) log
 
   abbrev s : State (Stored K V)
   s = state_of log
@@ -58,7 +58,7 @@ module _ {K V S : Type 0} (eq : K → K → Bool) (hash : S → K → ℕ) (b : 
         (cases_Bool (t == number_of w))
 
     pub with_agrees : Agrees (IsOn s.first s.next) g with_it
-    with_agrees = record { blocking = refl; key = λ p. refl; same = λ k k'. refl; size = λ t on. refl; chunk_of = λ x. refl; chunks = other; places = λ t on. refl; place = λ k t j on. refl }
+    with_agrees = record { blocking = refl; key = λ p. refl; same = λ k k'. refl; size = λ t on. refl; chunk_of = λ x. refl; most = refl; chunks = other; places = λ t on. refl; place = λ k t j on. refl }
 
     -- and the exchanges so far were allowed in it
     pub with_allowed : AllAllowed with_it start (exchanges_of log)
@@ -66,7 +66,7 @@ module _ {K V S : Type 0} (eq : K → K → Bool) (hash : S → K → ℕ) (b : 
 
     module _ (e : Step K V) (is : comes e ≡ names.Table w) where
       abbrev plan : Plan K (Stored K V)
-      plan = plan_of eq (hash b.hasher) b.mode
+      plan = plan_of eq (hash b.hasher) b.mode b.limit
 
       abbrev longer : Setting K (Stored K V)
       longer = setting_in plan (entries_of log ++ entry_of e ∷ [])
@@ -85,7 +85,7 @@ module _ {K V S : Type 0} (eq : K → K → Bool) (hash : S → K → ℕ) (b : 
       both_agree : Agrees (IsOn s.first s.next) with_it longer
       both_agree =
           let a = log_agrees plan (entries_of log) (entry_of e ∷ []) in
-          record { blocking = a.blocking; key = a.key; same = a.same; size = a.size; chunk_of = a.chunk_of; chunks = λ t on. a.chunks t on ∙ sym (other t on); places = a.places; place = a.place }
+          record { blocking = a.blocking; key = a.key; same = a.same; size = a.size; chunk_of = a.chunk_of; most = a.most; chunks = λ t on. a.chunks t on ∙ sym (other t on); places = a.places; place = a.place }
 
       -- what is allowed in it is allowed in the setting of the log that has the step
       pub brings_more : Allows with_it s (exchange_of e) → Allows longer s (exchange_of e)

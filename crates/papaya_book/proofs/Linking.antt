@@ -7,7 +7,7 @@ use Rattle.papaya_ask.specs.declared.ask.At.TheVariants.{Next}
 use Rattle.papaya_ask.specs.declared.ask.StepKind.TheVariants as kinds
 use Rattle.papaya_law.specs.Allows.{AllAllowed, Allows}
 use Rattle.papaya_law.specs.Class.{IsOn}
-use Rattle.papaya_law.specs.Exchange.{Exchange, Open, Claim, Replace, Bury, Link, Mark, Close, Place, Finish, Advance, Promote, Abort, Setting, State, after, run, start}
+use Rattle.papaya_law.specs.Exchange.{Exchange, Open, Claim, Replace, Bury, Link, Mark, Close, Place, Finish, Advance, Promote, Abort, Take, Setting, State, after, run, start}
 use Rattle.papaya_law.specs.Code.{IsHashed}
 use Rattle.papaya_law.specs.Grows.{Agrees, Comes, exchanges}
 use Rattle.papaya_law.specs.Invariant.{IsKeeping, IsSound}
@@ -59,6 +59,7 @@ comes_stays g s (Finish u x p) sound may t some c = c
 comes_stays g s (Advance u d) sound may t some c = c
 comes_stays g s (Promote u n) sound may t some c = c
 comes_stays g s (Abort u) sound may t some c = c
+comes_stays g s (Take m) sound may t some c = c
 
 -- through more exchanges too
 comes_still : {K P : Type 0} (g : Setting K P) → IsLawful g → (es : List (Exchange P)) (s : State P) (m : K → Option P) → IsKeeping g s m → AllAllowed g s es → (t : ℕ) → 0 < t → Comes s t → Comes (run es s) t
@@ -86,6 +87,7 @@ module _ {K V : Type 0} (g : Setting K (Stored K V)) (law : IsLawful g) where
   came_now s (steps.Advance u c) t w h = absurd (cc h)
   came_now s (steps.Promote u n) t w h = absurd (cc h)
   came_now s (steps.Abort u) t w h = absurd (cc h)
+  came_now s (steps.Take m) t w h = absurd (cc h)
 
   -- a table that has come is the first one or some table's next
   came_comes : (es : List (Step K V)) (s : State (Stored K V)) (m : K → Option (Stored K V)) → IsKeeping g s m → AllAllowed g s (exchanges (map entry_of es)) → (t : ℕ) → 0 < t → (w : Where Sheet) → table_in es t ≡ Some w → Comes (run (exchanges (map entry_of es)) s) t
@@ -99,9 +101,9 @@ module _ {K V : Type 0} (g : Setting K (Stored K V)) (law : IsLawful g) where
       (either_table (table_if (comes e) t) (table_in es t) w h)
 
 module _ {K V S : Type 0} (eq : K → K → Bool) (hash : S → K → ℕ) (b : Begun K V S) where
-  module _ (log : List (Event K V S)) (law : IsLawful (setting_of eq (hash b.hasher) b.mode log)) (l : IsLawfulLog eq hash b log) where
+  module _ (log : List (Event K V S)) (law : IsLawful (setting_of eq (hash b.hasher) b.mode b.limit log)) (l : IsLawfulLog eq hash b log) where
     abbrev g : Setting K (Stored K V)
-    g = setting_of eq (hash b.hasher) b.mode log
+    g = setting_of eq (hash b.hasher) b.mode b.limit log
 
     abbrev s : State (Stored K V)
     s = state_of log
@@ -144,12 +146,12 @@ module _ {K V S : Type 0} (eq : K → K → Bool) (hash : S → K → ℕ) (b : 
         absurd (omega arith)
 
   -- a table that may be linked brings a number that is no other table's
-  pub can_link : ((log : List (Event K V S)) → IsLawfulLog eq hash b log → IsLawful (setting_of eq (hash b.hasher) b.mode log)) → (t : ℕ) (sheet : Sheet) (w : Where Sheet) (v : List (Event K V S)) → IsTable v t sheet
+  pub can_link : ((log : List (Event K V S)) → IsLawfulLog eq hash b log → IsLawful (setting_of eq (hash b.hasher) b.mode b.limit log)) → (t : ℕ) (sheet : Sheet) (w : Where Sheet) (v : List (Event K V S)) → IsTable v t sheet
       → CanExchange eq hash b (Next t) (Some kinds.Link) 0 (number_of w) None (names.Table w) v → CanBring eq hash b (Next t) (Some kinds.Link) 0 (number_of w) None w v
   can_link laws t sheet w v came can log pre l is =
       let m = can log pre l is in
       let e : exchange_of m.step ≡ Link t (number_of w) = copy_wished (Next t) (number_of w) (state_of log) None (exchange_of m.step) (Some kinds.Link) tt m.meant.asked in
-      let with_it = setting_with eq (hash b.hasher) b.mode (names.Table w) log in
+      let with_it = setting_with eq (hash b.hasher) b.mode b.limit (names.Table w) log in
       let may : Allows with_it (state_of log) (Link t (number_of w)) = subst (Allows with_it (state_of log)) e m.allowed in
       let here = table_since v log t sheet pre came in
       (m, last_came log (laws log l) l (table_in (steps_of log) (number_of w)) t (number_of w) refl may.on.0 (here.0, here.1) may.last may.rises)
@@ -166,17 +168,17 @@ module _ {K V S H : Type 0} (eq : K → K → Bool) (input : K → List (List �
   hash = hash_of input build write finish
 
   module _ (log : List (Event K V S)) (l : IsLawfulLog eq hash b log) (w : Where Sheet) where
-    hashed : IsHashed (setting_of eq (hash b.hasher) b.mode log) (coding_of (hash b.hasher))
+    hashed : IsHashed (setting_of eq (hash b.hasher) b.mode b.limit log) (coding_of (hash b.hasher))
     hashed = is_hashed eq input build write finish classes respects b log l
 
-    pub with_hashed : IsHashed (setting_with eq (hash b.hasher) b.mode (names.Table w) log) (coding_of (hash b.hasher))
+    pub with_hashed : IsHashed (setting_with eq (hash b.hasher) b.mode b.limit (names.Table w) log) (coding_of (hash b.hasher))
     with_hashed = joining.with_hashed eq hash b log hashed.lawful w hashed
 
-    pub with_agrees : table_in (steps_of log) (number_of w) ≡ None → Agrees (IsOn (state_of log).first (state_of log).next) (setting_of eq (hash b.hasher) b.mode log) (setting_with eq (hash b.hasher) b.mode (names.Table w) log)
+    pub with_agrees : table_in (steps_of log) (number_of w) ≡ None → Agrees (IsOn (state_of log).first (state_of log).next) (setting_of eq (hash b.hasher) b.mode b.limit log) (setting_with eq (hash b.hasher) b.mode b.limit (names.Table w) log)
     with_agrees none = joining.with_agrees eq hash b log hashed.lawful w l none
 
-    pub with_allowed : table_in (steps_of log) (number_of w) ≡ None → AllAllowed (setting_with eq (hash b.hasher) b.mode (names.Table w) log) start (exchanges_of log)
+    pub with_allowed : table_in (steps_of log) (number_of w) ≡ None → AllAllowed (setting_with eq (hash b.hasher) b.mode b.limit (names.Table w) log) start (exchanges_of log)
     with_allowed none = joining.with_allowed eq hash b log hashed.lawful w l none
 
-    pub with_chunks : (setting_with eq (hash b.hasher) b.mode (names.Table w) log).chunks (number_of w) ≡ length w.value.done
+    pub with_chunks : (setting_with eq (hash b.hasher) b.mode b.limit (names.Table w) log).chunks (number_of w) ≡ length w.value.done
     with_chunks = joining.with_chunks eq hash b log hashed.lawful w

@@ -24,7 +24,7 @@ use Rattle.papaya_book.proofs.Found.{names_some, next_came, root_came}
 use Rattle.papaya_book.proofs.Logs.{came_entered, steps-append, table_came, table_later}
 use Rattle.papaya_book.proofs.Names.{pair_came}
 
-module _ {K V S : Type 0} (eq : K → K → Bool) (hash : S → K → ℕ) (b : Begun K V S) (log : List (Event K V S)) (hashed : IsHashed (setting_of eq (hash b.hasher) b.mode log) (coding_of (hash b.hasher))) (name : Book) (called : name_in log ≡ Some name) (found : ℕ) (state : Option (Named K V)) where
+module _ {K V S : Type 0} (eq : K → K → Bool) (hash : S → K → ℕ) (b : Begun K V S) (log : List (Event K V S)) (hashed : IsHashed (setting_of eq (hash b.hasher) b.mode b.limit log) (coding_of (hash b.hasher))) (name : Book) (called : name_in log ≡ Some name) (found : ℕ) (state : Option (Named K V)) where
   -- the table of the number that was found
   pub record IsFoundTable : Type 0 where
     pub table : Where Sheet
@@ -52,7 +52,7 @@ module _ {K V S : Type 0} (eq : K → K → Bool) (hash : S → K → ℕ) (b : 
 
   pub root_told : IsRead eq hash b Root found log state → found ≢ 0 → IsFoundTable
   root_told r some =
-      let c = root_came (setting_of eq (hash b.hasher) b.mode log) hashed.lawful (steps_of log) r.lawful.allowed found r.is some in
+      let c = root_came (setting_of eq (hash b.hasher) b.mode b.limit log) hashed.lawful (steps_of log) r.lawful.allowed found r.is some in
       let is : table_in (steps_of log) (state_of log).root ≡ Some c.0 = ap (table_in (steps_of log)) r.is ∙ c.1 in
       found_table c.0 r.lawful (r.state_is ∙ ap (λ (o : Option (Where Sheet)). Some (table_named o)) is) c.1
 
@@ -72,13 +72,13 @@ module _ {K V S : Type 0} (eq : K → K → Bool) (hash : S → K → ℕ) (b : 
 
   pub slot_told : (t x : ℕ) → IsRead eq hash b (Slot t x) found log state → (kind_of found ≡ kinds.Empty → ⊥) → (kind_of found ≡ kinds.Closed → ⊥) → IsSlotPair t x
   slot_told t x r m n =
-      let c = names_some (setting_of eq (hash b.hasher) b.mode log) (coding_of (hash b.hasher)) hashed.coding ((state_of log).slot t x) found r.is m n in
+      let c = names_some (setting_of eq (hash b.hasher) b.mode b.limit log) (coding_of (hash b.hasher)) hashed.coding ((state_of log).slot t x) found r.is m n in
       let p = c.0 in record {
         pair = p;
         gained = r.state_is ∙ ap (λ (o : Option (Stored K V)). Some (pair_named o)) c.1;
         stands = c.1;
         number = c.2;
-        placed = r.lawful.placed (names.Pair p) (came_entered (names.Pair p) log (pair_came (setting_of eq (hash b.hasher) b.mode log) (steps_of log) r.lawful.allowed p t x c.1));
+        placed = r.lawful.placed (names.Pair p) (came_entered (names.Pair p) log (pair_came (setting_of eq (hash b.hasher) b.mode b.limit log) (steps_of log) r.lawful.allowed p t x c.1));
       }
 
 -- the key of a slot's word, in a table that has come
@@ -105,7 +105,7 @@ one_told (Some q) p e = ap (λ z. Some z) (cc e)
 
 module _ {K V S : Type 0} (eq : K → K → Bool) (hash : S → K → ℕ) (b : Begun K V S) (log : List (Event K V S)) (found : ℕ) (state : Option (Named K V)) (t x : ℕ) (r : IsRead eq hash b (Slot t x) found log state) where
   kind_here : (w : Word (Stored K V)) → (state_of log).slot t x ≡ w → kind_of found ≡ kind w
-  kind_here w e = ap kind_of (sym r.is) ∙ (ap (λ (z : Word (Stored K V)). kind_of (code (setting_of eq (hash b.hasher) b.mode log) (coding_of (hash b.hasher)) z)) e ∙ code_kind (setting_of eq (hash b.hasher) b.mode log) (coding_of (hash b.hasher)) w)
+  kind_here w e = ap kind_of (sym r.is) ∙ (ap (λ (z : Word (Stored K V)). kind_of (code (setting_of eq (hash b.hasher) b.mode b.limit log) (coding_of (hash b.hasher)) z)) e ∙ code_kind (setting_of eq (hash b.hasher) b.mode b.limit log) (coding_of (hash b.hasher)) w)
 
   no_pair : (o : Option (Stored K V)) → IsPairOf found state o → (w : Word (Stored K V)) → (state_of log).slot t x ≡ w → named w ≡ None → (kind w ≡ kinds.Empty) ⊎ (kind w ≡ kinds.Closed) → named ((state_of log).slot t x) ≡ o
   no_pair o i w e none h = ap named e ∙ (none ∙ sym (i.none (⊎_elim (λ k. inl (kind_here w e ∙ k)) (λ k. inr (kind_here w e ∙ k)) h)))
@@ -131,7 +131,7 @@ module _ {K V S : Type 0} (eq : K → K → Bool) (hash : S → K → ℕ) (b : 
   pub told_pair : (p : Stored K V) → state ≡ Some (names.Pair p) → named ((state_of log).slot t x) ≡ Some p
   told_pair p e = one_told (named ((state_of log).slot t x)) p (cc (sym r.state_is ∙ e))
 
-module _ {K V S : Type 0} (eq : K → K → Bool) (hash : S → K → ℕ) (b : Begun K V S) (log : List (Event K V S)) (hashed : IsHashed (setting_of eq (hash b.hasher) b.mode log) (coding_of (hash b.hasher))) (name : Book) (called : name_in log ≡ Some name) (found : ℕ) (state : Option (Named K V)) (t x : ℕ) (r : IsRead eq hash b (Slot t x) found log state) where
+module _ {K V S : Type 0} (eq : K → K → Bool) (hash : S → K → ℕ) (b : Begun K V S) (log : List (Event K V S)) (hashed : IsHashed (setting_of eq (hash b.hasher) b.mode b.limit log) (coding_of (hash b.hasher))) (name : Book) (called : name_in log ≡ Some name) (found : ℕ) (state : Option (Named K V)) (t x : ℕ) (r : IsRead eq hash b (Slot t x) found log state) where
   -- the pair of a slot's word may be taken
   pub names_pair : NamesPair found state
   names_pair m n = let s = slot_told eq hash b log hashed name called found state t x r m n in (s.pair, s.gained, s.number)
@@ -139,4 +139,4 @@ module _ {K V S : Type 0} (eq : K → K → Bool) (hash : S → K → ℕ) (b : 
   -- which lies in the logs
   pub found_placed : (o : Option (Stored K V)) → named ((state_of log).slot t x) ≡ o → IsPlaced b (Some name) (pair_named o)
   found_placed None e = tt
-  found_placed (Some p) e = r.lawful.placed (names.Pair p) (came_entered (names.Pair p) log (pair_came (setting_of eq (hash b.hasher) b.mode log) (steps_of log) r.lawful.allowed p t x e))
+  found_placed (Some p) e = r.lawful.placed (names.Pair p) (came_entered (names.Pair p) log (pair_came (setting_of eq (hash b.hasher) b.mode b.limit log) (steps_of log) r.lawful.allowed p t x e))

@@ -37,7 +37,7 @@ module _ {K V S : Type 0} where
         let stands : cell cs k ≡ (word_in eq hash h.begun log at, true) = h.coded at k key in
         let home : (cell cs k).1 ≡ true = ap (λ (z : Cell). z.1) stands in
         let nil : log ++ [] ≡ log = append-nil log in
-        let told : Answered log named = word_answer (setting_of eq (hash h.begun.hasher) h.begun.mode log) log h.lawful.allowed at in (
+        let told : Answered log named = word_answer (setting_of eq (hash h.begun.hasher) h.begun.mode h.begun.limit log) log h.lawful.allowed at in (
           (h.counted at k key).0,
           home,
           (

@@ -8,7 +8,7 @@ use Rattle.boxcar.specs.Table.{Where}
 use Rattle.logbook.specs.Pages.{Book}
 use Rattle.papaya_words.specs.declared.probe.ResizeMode.{ResizeMode}
 use Rattle.papaya_ask.specs.declared.ask.At.{At}
-use Rattle.papaya_ask.specs.declared.ask.At.TheVariants.{Root, Next, Aborted, Done, Slot}
+use Rattle.papaya_ask.specs.declared.ask.At.TheVariants.{Root, Next, Aborted, Done, Slot, Made}
 use Rattle.papaya_law.specs.Exchange.{Exchange, State, run, start, after}
 use Rattle.papaya_law.specs.Grows.{Entry, brings, exchanges, size_in, places_in, chunks_in, setting_in}
 use Rattle.papaya_book.specs.Sheets.{Sheet}
@@ -110,6 +110,7 @@ module _ {K V : Type 0} where
   key_later es fs (Aborted t) k e = key_in_later (λ s. Some s.seal) (table_in es t) (table_in (es ++ fs) t) (table_later es fs t) k e
   key_later es fs (Done t c) k e = key_in_later (λ s. slice_get s.done c) (table_in es t) (table_in (es ++ fs) t) (table_later es fs t) k e
   key_later es fs (Slot t x) k e = key_in_later (λ s. slice_get s.slots x) (table_in es t) (table_in (es ++ fs) t) (table_later es fs t) k e
+  key_later es fs Made k e = e
 
   no_table : (n : Named K V) (t : ℕ) → IsQuiet n → table_if n t ≡ None
   no_table names.Nothing t q = refl
@@ -126,6 +127,7 @@ module _ {K V : Type 0} where
   same_key es e (Aborted t) q = ap (in_table (λ s. Some s.seal)) (same_table es e t q)
   same_key es e (Done t c) q = ap (in_table (λ s. slice_get s.done c)) (same_table es e t q)
   same_key es e (Slot t x) q = ap (in_table (λ s. slice_get s.slots x)) (same_table es e t q)
+  same_key es e Made q = refl
 
   pub same_seal : (es : List (Step K V)) (e : Step K V) (at : At) → IsQuiet (comes e) → seal_at (es ++ e ∷ []) at ≡ seal_at es at
   same_seal es e Root q = refl
@@ -133,6 +135,7 @@ module _ {K V : Type 0} where
   same_seal es e (Aborted t) q = ap (in_table (λ s. Some s.seal)) (same_table es e t q)
   same_seal es e (Done t c) q = ap (in_table (λ s. Some s.seal)) (same_table es e t q)
   same_seal es e (Slot t x) q = ap (in_table (λ s. Some s.seal)) (same_table es e t q)
+  same_seal es e Made q = refl
 
   -- it brings none
   pub brings_none : (e : Step K V) (t : ℕ) → IsQuiet (comes e) → brings (exchange_of e) t ≡ false
@@ -148,6 +151,7 @@ module _ {K V : Type 0} where
   brings_none (steps.Advance u c) t q = refl
   brings_none (steps.Promote u n) t q = refl
   brings_none (steps.Abort u) t q = refl
+  brings_none (steps.Take m) t q = refl
 
   size_same : (es : List (Entry (Stored K V))) (e : Entry (Stored K V)) (t : ℕ) → brings e.by t ≡ false → size_in (es ++ e ∷ []) t ≡ size_in es t
   size_same [] e t h = cond-false (brings e.by t) e.size 1 h
@@ -199,7 +203,7 @@ module _ {K V S : Type 0} where
   name_since xs ys b pre e = ap name_in (sym pre.1) ∙ name_later xs pre.0 b e
 
   pub owner_later : (xs ys : List (Event K V S)) (k seal : ℕ) → owner k xs ≡ Some seal → owner k (xs ++ ys) ≡ Some seal
-  owner_later xs ys k seal e = ap (λ (l : List ℕ). slice_get l (k - 2)) (seals-append xs ys) ∙ get_left (seals_of xs) (seals_of ys) (k - 2) seal e
+  owner_later xs ys k seal e = ap (λ (l : List ℕ). slice_get l (k - 3)) (seals-append xs ys) ∙ get_left (seals_of xs) (seals_of ys) (k - 3) seal e
 
   pub entered_left : (n : Named K V) (xs ys : List (Event K V S)) → Entered n xs → Entered n (xs ++ ys)
   entered_left n [] ys h = absurd h
@@ -239,19 +243,19 @@ module _ {K V S : Type 0} where
   steps_same log e h = steps-append log (e ∷ []) ∙ (ap (λ (l : List (Step K V)). steps_of log ++ (l ++ [])) h ∙ append-nil (steps_of log))
 
   -- an exchange with which no table comes leaves the setting
-  pub setting_same : (eq : K → K → Bool) (hash : K → ℕ) (mode : ResizeMode) (log : List (Event K V S)) (e : Step K V) → IsQuiet (comes e) → setting_of eq hash mode (log ++ Stepped e ∷ []) ≡ setting_of eq hash mode log
-  setting_same eq hash mode log e q =
-      ap (setting_in (plan_of eq hash mode)) (entries-append log (Stepped e ∷ []))
+  pub setting_same : (eq : K → K → Bool) (hash : K → ℕ) (mode : ResizeMode) (most : Option ℕ) (log : List (Event K V S)) (e : Step K V) → IsQuiet (comes e) → setting_of eq hash mode most (log ++ Stepped e ∷ []) ≡ setting_of eq hash mode most log
+  setting_same eq hash mode most log e q =
+      ap (setting_in (plan_of eq hash mode most)) (entries-append log (Stepped e ∷ []))
       ∙ (let sizes : size_in (entries_of log ++ entry_of e ∷ []) ≡ size_in (entries_of log) = fun_ext (λ t. size_same (entries_of log) (entry_of e) t (brings_none e t q)) in
       let places : places_in (entries_of log ++ entry_of e ∷ []) ≡ places_in (entries_of log) = fun_ext (λ t. places_same (entries_of log) (entry_of e) t (brings_none e t q)) in
       let chunks : chunks_in (entries_of log ++ entry_of e ∷ []) ≡ chunks_in (entries_of log) = fun_ext (λ t. chunks_same (entries_of log) (entry_of e) t (brings_none e t q)) in
-      λ i. Rattle.papaya_law.specs.Grows.planned (plan_of eq hash mode) (sizes i) (places i) (chunks i))
+      λ i. Rattle.papaya_law.specs.Grows.planned (plan_of eq hash mode most) (sizes i) (places i) (chunks i))
 
   -- where what comes is no table, it is the setting of the log
-  pub with_quiet : (eq : K → K → Bool) (hash : K → ℕ) (mode : ResizeMode) (log : List (Event K V S)) (n : Named K V) → IsQuiet n → setting_with eq hash mode n log ≡ setting_of eq hash mode log
-  with_quiet eq hash mode log names.Nothing q = refl
-  with_quiet eq hash mode log (names.Pair p) q = refl
-  with_quiet eq hash mode log (names.Table w) q = absurd q
+  pub with_quiet : (eq : K → K → Bool) (hash : K → ℕ) (mode : ResizeMode) (most : Option ℕ) (log : List (Event K V S)) (n : Named K V) → IsQuiet n → setting_with eq hash mode most n log ≡ setting_of eq hash mode most log
+  with_quiet eq hash mode most log names.Nothing q = refl
+  with_quiet eq hash mode most log (names.Pair p) q = refl
+  with_quiet eq hash mode most log (names.Table w) q = absurd q
 
 run-append : {P : Type 0} (xs ys : List (Exchange P)) (s : State P) → run (xs ++ ys) s ≡ run ys (run xs s)
 run-append [] ys s = refl

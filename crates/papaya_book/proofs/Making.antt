@@ -4,7 +4,7 @@ use mathlib.Core.List.{IsPrefix}
 use Rattle.boxcar.specs.Table.{Where}
 use Rattle.logbook.specs.Pages.{Book, Named}
 use Rattle.papaya_ask.specs.declared.ask.At.{At}
-use Rattle.papaya_ask.specs.declared.ask.At.TheVariants.{Root, Next, Aborted, Done, Slot}
+use Rattle.papaya_ask.specs.declared.ask.At.TheVariants.{Root, Next, Aborted, Done, Slot, Made}
 use Rattle.papaya_ask.specs.declared.ask.StepKind.TheVariants as kinds
 use Rattle.papaya_law.specs.Code.{Coding}
 use Rattle.papaya_law.specs.Exchange.{Setting, State, Open, after}
@@ -31,6 +31,7 @@ others_stay g c s t (Next u) n = refl
 others_stay g c s t (Aborted u) n = refl
 others_stay g c s t (Done u d) n = refl
 others_stay g c s t (Slot u x) n = refl
+others_stay g c s t Made n = refl
 
 -- where there is no root, a table may be opened
 pub can_open : {K V S : Type 0} (eq : K → K → Bool) (hash : S → K → ℕ) (b : Begun K V S) (made : Option (Stored K V)) (w : Where Sheet) (v : List (Event K V S)) → CanBring eq hash b Root (Some kinds.Open) 0 (number_of w) made w v
@@ -39,7 +40,7 @@ can_open eq hash b made w v log pre l is = (
     step = steps.Open w;
     meant = record { asked = inl refl; with_it = refl };
     allowed = (is, omega arith);
-    written = record { here = refl; others = λ at n. others_stay (setting_of eq (hash b.hasher) b.mode log) (coding_of (hash b.hasher)) (state_of log) (number_of w) at n };
+    written = record { here = refl; others = λ at n. others_stay (setting_of eq (hash b.hasher) b.mode b.limit log) (coding_of (hash b.hasher)) (state_of log) (number_of w) at n };
   },
   l.unopened is (number_of w),
 )
@@ -61,11 +62,11 @@ module _ {K V S : Type 0} where
   made_later v log pre [] least seal m = tt
   made_later v log pre (k ∷ ks) least seal m = (m.0, owner_since v log k seal pre m.1, home_since v log k pre m.2, made_later v log pre ks k seal m.3)
 
-  pub below : (log : List (Event K V S)) (k seal : ℕ) → owner k log ≡ Some seal → k < 2 + length (seals_of log)
-  below log k seal e = let l = get_within (seals_of log) (k - 2) seal e in omega arith
+  pub below : (log : List (Event K V S)) (k seal : ℕ) → owner k log ≡ Some seal → k < 3 + length (seals_of log)
+  below log k seal e = let l = get_within (seals_of log) (k - 3) seal e in omega arith
 
   -- one more
-  pub made_more : (v log : List (Event K V S)) → IsPrefix v log → (ks : List ℕ) (least seal k : ℕ) → least < 2 + length (seals_of v) → AreMade ks least seal v → 2 + length (seals_of v) ≤ k → owner k log ≡ Some seal → Member (Home k) log → AreMade (ks ++ k ∷ []) least seal log
+  pub made_more : (v log : List (Event K V S)) → IsPrefix v log → (ks : List ℕ) (least seal k : ℕ) → least < 3 + length (seals_of v) → AreMade ks least seal v → 3 + length (seals_of v) ≤ k → owner k log ≡ Some seal → Member (Home k) log → AreMade (ks ++ k ∷ []) least seal log
   made_more v log pre [] least seal k low m after own home = (omega arith, own, home, tt)
   made_more v log pre (j ∷ ks) least seal k low m after own home =
       (m.0, owner_since v log j seal pre m.1, home_since v log j pre m.2, made_more v log pre ks j seal k (below v j seal m.1) m.3 after own home)
@@ -84,11 +85,11 @@ module _ {K V S : Type 0} where
   one_place log (j ∷ ks) least seal (suc x) (suc y) k m e f = ap suc (one_place log ks j seal x y k m.3 e f)
 
   -- words that were made after those of a log follow on them
-  pub made_append : (v log : List (Event K V S)) → IsPrefix v log → (ks js : List ℕ) (least seal : ℕ) → least < 2 + length (seals_of v) → AreMade ks least seal v → ((m : ℕ) → m < 2 + length (seals_of v) → AreMade js m seal log) → AreMade (ks ++ js) least seal log
+  pub made_append : (v log : List (Event K V S)) → IsPrefix v log → (ks js : List ℕ) (least seal : ℕ) → least < 3 + length (seals_of v) → AreMade ks least seal v → ((m : ℕ) → m < 3 + length (seals_of v) → AreMade js m seal log) → AreMade (ks ++ js) least seal log
   made_append v log pre [] js least seal low m more = more least low
   made_append v log pre (k ∷ ks) js least seal low m more = (m.0, owner_since v log k seal pre m.1, home_since v log k pre m.2, made_append v log pre ks js k seal (below v k seal m.1) m.3 more)
 
-  module _ (sheet : Sheet) (log : List (Event K V S)) (some : 0 < length sheet.slots) (past : 2 ≤ sheet.seal) (own : owner sheet.seal log ≡ Some sheet.seal) (made : AreMade (sheet.next ∷ (sheet.done ++ sheet.slots)) sheet.seal sheet.seal log) where
+  module _ (sheet : Sheet) (log : List (Event K V S)) (some : 0 < length sheet.slots) (past : 3 ≤ sheet.seal) (own : owner sheet.seal log ≡ Some sheet.seal) (made : AreMade (sheet.next ∷ (sheet.done ++ sheet.slots)) sheet.seal sheet.seal log) where
     abbrev row : List ℕ
     row = sheet.done ++ sheet.slots
 
@@ -109,6 +110,7 @@ module _ {K V S : Type 0} where
 
     each : (at : At) (k : ℕ) → key_of sheet at ≡ Some k → (sheet.seal ≤ k) × (owner k log ≡ Some sheet.seal) × ((k ≡ sheet.seal) ⊎ Member (Home k) log)
     each Root k e = absurd (cc e)
+    each Made k e = absurd (cc e)
     each (Next t) k e = let i : sheet.next ≡ k = cc e in subst (λ (n : ℕ). (sheet.seal ≤ n) × (owner n log ≡ Some sheet.seal) × ((n ≡ sheet.seal) ⊎ Member (Home n) log)) i (let l = made.0 in omega arith, made.1, inr made.2)
     each (Aborted t) k e = let i : sheet.seal ≡ k = cc e in subst (λ (n : ℕ). (sheet.seal ≤ n) × (owner n log ≡ Some sheet.seal) × ((n ≡ sheet.seal) ⊎ Member (Home n) log)) i (omega arith, own, inl refl)
     each (Done t c) k e = let r = row_at c k (done_in c k e) in (let l = made.0 in let a = r.0 in omega arith, r.1, inr r.2)
@@ -129,22 +131,27 @@ module _ {K V S : Type 0} where
     -- which word of a table it is, by the order in which they were made
     other : (at at' : At) (k : ℕ) → table_of at ≡ table_of at' → key_of sheet at ≡ Some k → key_of sheet at' ≡ Some k → at ≡ at'
     other Root at' k t e f = absurd (cc e)
+    other Made at' k t e f = absurd (cc e)
     other (Next t) Root k u e f = absurd (cc f)
+    other (Next t) Made k u e f = absurd (cc f)
     other (Next t) (Next t') k u e f = ap Next u
     other (Next t) (Aborted t') k u e f = let i : sheet.next ≡ k = cc e in let j : sheet.seal ≡ k = cc f in let m = made.0 in absurd (omega arith)
     other (Next t) (Done t' c) k u e f = absurd (not_next c k (cc e) (done_in c k f))
     other (Next t) (Slot t' x) k u e f = absurd (not_next (length sheet.done + x) k (cc e) (slot_in x k f))
     other (Aborted t) Root k u e f = absurd (cc f)
+    other (Aborted t) Made k u e f = absurd (cc f)
     other (Aborted t) (Next t') k u e f = let i : sheet.seal ≡ k = cc e in let j : sheet.next ≡ k = cc f in let m = made.0 in absurd (omega arith)
     other (Aborted t) (Aborted t') k u e f = ap Aborted u
     other (Aborted t) (Done t' c) k u e f = absurd (not_seal c k (cc e) (done_in c k f))
     other (Aborted t) (Slot t' x) k u e f = absurd (not_seal (length sheet.done + x) k (cc e) (slot_in x k f))
     other (Done t c) Root k u e f = absurd (cc f)
+    other (Done t c) Made k u e f = absurd (cc f)
     other (Done t c) (Next t') k u e f = absurd (not_next c k (cc f) (done_in c k e))
     other (Done t c) (Aborted t') k u e f = absurd (not_seal c k (cc f) (done_in c k e))
     other (Done t c) (Done t' d) k u e f = let i : c ≡ d = one_index c d k (done_in c k e) (done_in d k f) in λ z. Done (u z) (i z)
     other (Done t c) (Slot t' x) k u e f = absurd (not_both c x k e f)
     other (Slot t x) Root k u e f = absurd (cc f)
+    other (Slot t x) Made k u e f = absurd (cc f)
     other (Slot t x) (Next t') k u e f = absurd (not_next (length sheet.done + x) k (cc f) (slot_in x k e))
     other (Slot t x) (Aborted t') k u e f = absurd (not_seal (length sheet.done + x) k (cc f) (slot_in x k e))
     other (Slot t x) (Done t' c) k u e f = absurd (not_both c x k f e)

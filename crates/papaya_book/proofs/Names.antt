@@ -2,7 +2,7 @@
 use Rattle.std.proofs.Common.{◌≡◌, ◌⊎◌, inl, inr, ⊎_elim, ℕ, Option, None, Some, List, [], ◌∷◌, map, refl, sym, ap, ◌∙◌}
 use Rattle.boxcar.specs.Table.{Where}
 use Rattle.papaya_ask.specs.declared.ask.At.{At}
-use Rattle.papaya_ask.specs.declared.ask.At.TheVariants.{Root, Next, Aborted, Done, Slot}
+use Rattle.papaya_ask.specs.declared.ask.At.TheVariants.{Root, Next, Aborted, Done, Slot, Made}
 use Rattle.papaya_law.specs.Exchange.{Word, Closed, Live, Marked, Copied, Buried, Setting, State, after, run, slot_put, start}
 use Rattle.papaya_law.specs.Allows.{Allows, AllAllowed}
 use Rattle.papaya_law.specs.Grows.{exchanges}
@@ -44,6 +44,7 @@ module _ {K V : Type 0} (g : Setting K (Stored K V)) where
   stands_after s (steps.Advance t c) a p h = inl h
   stands_after s (steps.Promote t n) a p h = inl h
   stands_after s (steps.Abort t) a p h = inl h
+  stands_after s (steps.Take m) a p h = inl h
 
   -- a pair that stands after a list stood before it, or came with it
   stands_came : (es : List (Step K V)) (s : State (Stored K V)) → AllAllowed g s (exchanges (map entry_of es)) → (p : Stored K V) → Stands (run (exchanges (map entry_of es)) s) p → Stands s p ⊎ Came (names.Pair p) es
@@ -78,6 +79,7 @@ module _ {K V S : Type 0} (g : Setting K (Stored K V)) (log : List (Event K V S)
   word_answer (Next t) = table_answer (table_in (steps_of log) ((state_of log).next t)) (table_entered ((state_of log).next t))
   word_answer (Aborted t) = tt
   word_answer (Done t c) = tt
+  word_answer Made = tt
   word_answer (Slot t x) = pair_answer (named ((state_of log).slot t x)) (λ p e. came_entered (names.Pair p) log (pair_came g (steps_of log) allowed p t x e))
 
   -- so is a table that has come

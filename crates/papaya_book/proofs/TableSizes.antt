@@ -66,6 +66,7 @@ module _ {K V : Type 0} where
   brings_if (steps.Advance u c) t = refl
   brings_if (steps.Promote u n) t = refl
   brings_if (steps.Abort u) t = refl
+  brings_if (steps.Take m) t = refl
 
   -- the setting's size of a table that came is its sheet's
   pub sizes : (es : List (Step K V)) (t : ℕ) (w : Where Sheet) → table_in es t ≡ Some w → (size_in (map entry_of es) t ≡ length w.value.slots) × (places_in (map entry_of es) t ≡ w.value.limit + 1)

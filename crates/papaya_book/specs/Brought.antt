@@ -1,14 +1,30 @@
--- Where a pair's key lies, as clauses see it.
+-- Where a pair's key and its value lie, as clauses see it.
 use Rattle.std.specs.Prelude.{◌≡◌, None, Some}
-use Rattle.papaya_book.specs.Pairs.{KeyHeld}
-use Rattle.papaya_book.specs.declared.rule.pair.KeyAt.{KeyAt}
-use Rattle.papaya_book.specs.declared.rule.pair.KeyAt.TheVariants.{Here, With}
+use Rattle.papaya_book.specs.Pairs.{Pair}
+use Rattle.papaya_book.specs.declared.rule.pair.Held.{Held}
+use Rattle.papaya_book.specs.declared.rule.pair.Held.TheVariants.{Own, Keyed, Lent, Both}
 
-abbrev pub key_held : {K V : Type 0} → KeyAt K V → KeyHeld K
-key_held (Here k) = record { value = k; at = None }
-key_held (With w) = record { value = w.value.key.value; at = Some (w.bucket, w.row) }
+abbrev pub pair_held : {K V : Type 0} → Held K V → Pair K V
+pair_held (Own k v) = record { key = record { value = k; at = None }; value = v; value_at = None }
+pair_held (Keyed w v) = record {
+  key = record { value = w.value.key.value; at = Some (w.bucket, w.row) };
+  value = v;
+  value_at = None;
+}
+pair_held (Lent k w) = record {
+  key = record { value = k; at = None };
+  value = w.value.value;
+  value_at = Some (w.bucket, w.row);
+}
+pair_held (Both w u) = record {
+  key = record { value = w.value.key.value; at = Some (w.bucket, w.row) };
+  value = u.value.value;
+  value_at = Some (u.bucket, u.row);
+}
 
--- where it lies at another pair, that one brought it
-abbrev pub IsBrought : {K V : Type 0} → KeyAt K V → Type 0
-IsBrought (Here k) = Unit {0}
-IsBrought (With w) = w.value.key.at ≡ None
+-- where a key or a value lies at another pair, that one brought it
+abbrev pub IsBrought : {K V : Type 0} → Held K V → Type 0
+IsBrought (Own k v) = Unit {0}
+IsBrought (Keyed w v) = w.value.key.at ≡ None
+IsBrought (Lent k w) = w.value.value_at ≡ None
+IsBrought (Both w u) = (w.value.key.at ≡ None) × (u.value.value_at ≡ None)

@@ -13,7 +13,7 @@ module _ {K V S : Type 0} (eq : K → K → Bool) (hash : S → K → ℕ) where
   -- the number may be the hint of slot x of table t after the log
   pub record IsSlotHint (b : Begun K V S) (t x hint : ℕ) (log : List (Event K V S)) : Type 0 where
     pub lawful : IsLawfulLog eq hash b log
-    pub is : IsHint (setting_of eq (hash b.hasher) b.mode log) (coding_of (hash b.hasher))
+    pub is : IsHint (setting_of eq (hash b.hasher) b.mode b.limit log) (coding_of (hash b.hasher))
         (state_of log) t x hint
 
   -- it might be that of the slot whose word has this key, after some beginning of the log

@@ -1,6 +1,7 @@
 -- what a clause sees of a pair, of a table, of a token, and of a key's hash
 pub mod Pairs
 pub mod Brought
+pub mod PairParts
 pub mod Sheets
 pub mod Tokens
 pub mod Hashes

@@ -1,9 +1,9 @@
--- Numbers that the logs of a book gave past their limits, and sums of its count that make a table
--- too long.
-use Rattle.std.specs.Prelude.{◌≡◌, ◌⊎◌, ℕ, ◌<◌, ◌≤◌, ◌^◌, Bool, List, [], ◌∷◌, ◌++◌, length}
+-- Numbers that the logs of a book gave past their limits, sums of its count that make a table too
+-- long, and a limit on pairs that is spent.
+use Rattle.std.specs.Prelude.{◌≡◌, ◌⊎◌, ℕ, ◌<◌, ◌≤◌, ◌^◌, Bool, MatchOption, Option, List, [], ◌∷◌, ◌++◌, length}
 use Rattle.papaya_words.specs.Table.{length_after}
 use Rattle.papaya_words.specs.declared.limits.TheConstants.{MAX_LOG_LEN, MAX_TABLES}
-use Rattle.papaya_book.specs.Logs.{Member, comes, steps_of}
+use Rattle.papaya_book.specs.Logs.{Member, comes, state_of, steps_of}
 use Rattle.papaya_book.specs.declared.rule.entry.Event.{Event}
 use Rattle.papaya_book.specs.declared.rule.entry.Named.{Named}
 use Rattle.papaya_book.specs.declared.rule.entry.Named.TheVariants as names
@@ -51,3 +51,7 @@ pub record IsTooLong (initial : ℕ) (tables : List ℕ) (given : List Given) : 
 -- there is no room for what a call would make: a log is full, or a table would be too long
 abbrev pub HasNoRoom : (initial : ℕ) → (tables : List ℕ) → List Given → Type 0
 HasNoRoom initial tables given = IsFull given ⊎ IsTooLong initial tables given
+
+-- the map has a limit on pairs, and so many numbers for pairs were taken
+abbrev pub IsSpent : {K V S : Type 0} → (limit : Option ℕ) → List (Event K V S) → Type 0
+IsSpent limit log = MatchOption limit ⊥ (λ n. (state_of log).made ≡ n)

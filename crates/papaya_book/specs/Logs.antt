@@ -7,7 +7,7 @@ use Rattle.papaya_words.specs.Chunks.{chunk_len, chunk_of}
 use Rattle.papaya_words.specs.declared.probe.ResizeMode.{ResizeMode}
 use Rattle.papaya_words.specs.declared.probe.ResizeMode.TheVariants.{Incremental, Blocking}
 use Rattle.papaya_ask.specs.declared.ask.At.{At}
-use Rattle.papaya_ask.specs.declared.ask.At.TheVariants.{Root, Next, Aborted, Done, Slot}
+use Rattle.papaya_ask.specs.declared.ask.At.TheVariants.{Root, Next, Aborted, Done, Slot, Made}
 use Rattle.papaya_ask.specs.declared.ask.StepKind.{StepKind}
 use Rattle.papaya_law.specs.Exchange as law
 use Rattle.papaya_law.specs.Exchange.{Setting, Exchange, State, at_put, run, start}
@@ -37,9 +37,10 @@ abbrev pub is_blocking : ResizeMode → Bool
 is_blocking (Incremental chunk) = false
 is_blocking Blocking = true
 
--- how the keys' places and the chunks of slots are found
-abbrev pub plan_of : {K V : Type 0} → (K → K → Bool) → (K → ℕ) → ResizeMode → Plan K (Stored K V)
-plan_of eq hash mode = hashed (is_blocking mode) (chunk_of (chunk_len mode))
+-- how the keys' places and the chunks of slots are found, and how many pairs may be made
+abbrev pub plan_of : {K V : Type 0} → (K → K → Bool) → (K → ℕ) → ResizeMode → (most : Option ℕ)
+    → Plan K (Stored K V)
+plan_of eq hash mode most = hashed (is_blocking mode) (chunk_of (chunk_len mode)) most
     (λ p. p.value.key.value) eq hash
 
 -- the first of two that is there
@@ -74,6 +75,7 @@ module _ {K V : Type 0} where
   exchange_of (steps.Advance t c) = law.Advance t c
   exchange_of (steps.Promote t n) = law.Promote t n
   exchange_of (steps.Abort t) = law.Abort t
+  exchange_of (steps.Take m) = law.Take m
 
   -- what comes into the book with an exchange: a new pair, or a table
   abbrev pub comes : Step K V → Named K V
@@ -127,6 +129,7 @@ module _ {K V : Type 0} where
   key_at es (Aborted t) = in_table (λ s. Some s.seal) (table_in es t)
   key_at es (Done t c) = in_table (λ s. slice_get s.done c) (table_in es t)
   key_at es (Slot t x) = in_table (λ s. slice_get s.slots x) (table_in es t)
+  key_at es Made = Some 2
 
 -- what a word names: a pair, or a table that has come
 abbrev pub pair_named : {K V : Type 0} → Option (Stored K V) → Named K V
@@ -143,6 +146,7 @@ word_names es s (Next t) = table_named (table_in es (s.next t))
 word_names es s (Aborted t) = names.Nothing
 word_names es s (Done t c) = names.Nothing
 word_names es s (Slot t x) = pair_named (named (s.slot t x))
+word_names es s Made = names.Nothing
 
 module _ {K V S : Type 0} where
   -- what comes into the book with an entry
@@ -191,18 +195,18 @@ module _ {K V S : Type 0} where
   state_of log = run (exchanges_of log) start
 
   -- the setting that a log makes
-  abbrev pub setting_of : (K → K → Bool) → (K → ℕ) → ResizeMode → List (Event K V S)
-      → Setting K (Stored K V)
-  setting_of eq hash mode log = setting_in (plan_of eq hash mode) (entries_of log)
+  abbrev pub setting_of : (K → K → Bool) → (K → ℕ) → ResizeMode → (most : Option ℕ)
+      → List (Event K V S) → Setting K (Stored K V)
+  setting_of eq hash mode most log = setting_in (plan_of eq hash mode most) (entries_of log)
 
   -- The setting in which an exchange is asked for with which this comes. Of a table that comes it says
   -- besides how many words for chunks it has, which no entry of the log says yet.
-  abbrev pub setting_with : (K → K → Bool) → (K → ℕ) → ResizeMode → Named K V → List (Event K V S)
-      → Setting K (Stored K V)
-  setting_with eq hash mode names.Nothing log = setting_of eq hash mode log
-  setting_with eq hash mode (names.Pair p) log = setting_of eq hash mode log
-  setting_with eq hash mode (names.Table w) log = record (setting_of eq hash mode log) {
-    chunks = at_put (setting_of eq hash mode log).chunks (number_of w) (length w.value.done);
+  abbrev pub setting_with : (K → K → Bool) → (K → ℕ) → ResizeMode → (most : Option ℕ) → Named K V
+      → List (Event K V S) → Setting K (Stored K V)
+  setting_with eq hash mode most names.Nothing log = setting_of eq hash mode most log
+  setting_with eq hash mode most (names.Pair p) log = setting_of eq hash mode most log
+  setting_with eq hash mode most (names.Table w) log = record (setting_of eq hash mode most log) {
+    chunks = at_put (setting_of eq hash mode most log).chunks (number_of w) (length w.value.done);
   }
 
   -- the name that the book was told first
@@ -225,7 +229,7 @@ module _ {K V S : Type 0} where
 
   -- the seal of the table that the word of this key is for
   abbrev pub owner : ℕ → List (Event K V S) → Option ℕ
-  owner k log = slice_get (seals_of log) (k - 2)
+  owner k log = slice_get (seals_of log) (k - 3)
 
 -- pairs are named in words by their numbers
 abbrev pub coding_of : {K V : Type 0} → (K → ℕ) → Coding K (Stored K V)

@@ -4,7 +4,7 @@ use Rattle.std.specs.Prelude.{◌≡◌, ◌⊎◌, ℕ, ◌+◌, ◌<◌, ◌�
 use mathlib.Core.List.{IsPrefix}
 use Rattle.logbook.specs.Pages.{View, Step as Book_step, nib, no_nib, may_make}
 use Rattle.papaya_ask.specs.declared.ask.At.{At}
-use Rattle.papaya_ask.specs.declared.ask.At.TheVariants.{Root, Next, Aborted, Done, Slot}
+use Rattle.papaya_ask.specs.declared.ask.At.TheVariants.{Root, Next, Aborted, Done, Slot, Made}
 use Rattle.papaya_book.specs.Sheets.{Sheet}
 use Rattle.boxcar.specs.Table.{Where}
 use Rattle.papaya_ask.specs.declared.ask.StepKind.{StepKind}
@@ -24,7 +24,7 @@ module _ {K V S : Type 0} where
     pub before : List (Event K V S)
     pub since : IsPrefix seen before
     pub is : log ≡ before ++ Born seal ∷ []
-    pub key_is : key ≡ 2 + length (seals_of before)
+    pub key_is : key ≡ 3 + length (seals_of before)
 
   -- a seal: the word is for the table of this very word
   abbrev pub Seals : Book_step (Event K V S) → View (Event K V S) (Named K V) → ℕ
@@ -54,6 +54,7 @@ key_of s (Next t) = Some s.next
 key_of s (Aborted t) = Some s.seal
 key_of s (Done t c) = slice_get s.done c
 key_of s (Slot t x) = slice_get s.slots x
+key_of s Made = None
 
 -- the table of a place
 abbrev pub table_of : At → ℕ
@@ -62,11 +63,12 @@ table_of (Next t) = t
 table_of (Aborted t) = t
 table_of (Done t c) = t
 table_of (Slot t x) = t
+table_of Made = 0
 
 -- A table whose words were made for it and have come home, all but the seal; each is another word.
 pub record IsMade {K V S : Type 0} (sheet : Sheet) (log : List (Event K V S)) : Type 0 where
   pub some_slot : 0 < length sheet.slots
-  pub past : (at : At) (k : ℕ) → key_of sheet at ≡ Some k → 2 ≤ k
+  pub past : (at : At) (k : ℕ) → key_of sheet at ≡ Some k → 3 ≤ k
   pub owned : (at : At) (k : ℕ) → key_of sheet at ≡ Some k → owner k log ≡ Some sheet.seal
   pub home : (at : At) (k : ℕ) → key_of sheet at ≡ Some k → (k ≡ sheet.seal) ⊎ Member (Home k) log
   pub apart : (at at' : At) (k : ℕ) → table_of at ≡ table_of at' → key_of sheet at ≡ Some k

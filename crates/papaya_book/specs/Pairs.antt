@@ -10,19 +10,29 @@ pub record KeyHeld (K : Type 0) : Type 0 where
   pub value : K
   pub at : Option (ℕ × ℕ)
 
+-- Where a value lies is told in the same way: None where its pair brought it.
 pub record Pair (K V : Type 0) : Type 0 where
   pub key : KeyHeld K
   pub value : V
+  pub value_at : Option (ℕ × ℕ)
 
 abbrev pub pair_coded : {K V : Type 0} → Coded K → Coded V → Coded (Pair K V)
 pair_coded {K} {V} k v = coded_via
-    (coded× (coded× k (coded_option (coded× coded_ℕ coded_ℕ))) v)
-    (λ (p : Pair K V). ((p.key.value, p.key.at), p.value))
+    (coded× (coded× k (coded_option (coded× coded_ℕ coded_ℕ)))
+    (coded× v (coded_option (coded× coded_ℕ coded_ℕ))))
+    (λ (p : Pair K V). ((p.key.value, p.key.at), (p.value, p.value_at)))
     (λ x y e i. record {
       key = record { value = (e i).0.0; at = (e i).0.1 };
-      value = (e i).1;
+      value = (e i).1.0;
+      value_at = (e i).1.1;
     })
 
--- where the key lies at another pair, that one is in this log
+-- what lies at another pair is in this log
+abbrev pub LiesIn : Shelves → Option (ℕ × ℕ) → Type 0
+LiesIn log at = MatchOption at (Unit {0}) (λ at. at.1 ≡ id_at log.buckets at.0)
+
 abbrev pub IsKeyIn : {K : Type 0} → Shelves → KeyHeld K → Type 0
-IsKeyIn log key = MatchOption key.at (Unit {0}) (λ at. at.1 ≡ id_at log.buckets at.0)
+IsKeyIn log key = LiesIn log key.at
+
+abbrev pub IsValueIn : {K V : Type 0} → Shelves → Pair K V → Type 0
+IsValueIn log pair = LiesIn log pair.value_at

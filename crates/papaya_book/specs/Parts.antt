@@ -6,6 +6,7 @@ abbrev pub begun_of : {K V S H : Type 0} → Parts K V S H → Begun K V S
 begun_of p = record {
   hasher = p.hasher;
   mode = p.mode;
+  limit = p.limit;
   pairs = p.pairs;
   tables = p.tables;
 }

@@ -3,13 +3,14 @@ use Rattle.std.specs.Prelude.{◌≡◌, ◌⊎◌, ℕ, ◌==◌, Bool, MatchBo
 use mathlib.Core.List.{IsPrefix}
 use Rattle.logbook.specs.Pages.{View, Step as Book_step}
 use Rattle.papaya_ask.specs.declared.ask.At.{At}
+use Rattle.papaya_ask.specs.declared.ask.At.TheVariants as places
 use Rattle.papaya_ask.specs.declared.ask.StepKind.{StepKind}
 use Rattle.papaya_ask.specs.declared.ask.StepKind.TheVariants as kinds
 use Rattle.papaya_law.specs.Allows.{Allows}
 use Rattle.papaya_law.specs.Code.{Coding}
-use Rattle.papaya_law.specs.Exchange.{Exchange, State, after}
+use Rattle.papaya_law.specs.Exchange.{Exchange, Open, Claim, Replace, Bury, Take, Live, State, after}
 use Rattle.papaya_rests.specs.Copier.{IsCopyAsked}
-use Rattle.papaya_rests.specs.Told.{IsAsked, IsWritten, Hands}
+use Rattle.papaya_rests.specs.Told.{IsOwnWord, IsWritten, Hands}
 use Rattle.papaya_book.specs.declared.rule.entry.Named.{Named}
 use Rattle.papaya_book.specs.declared.rule.entry.Begun.{Begun}
 use Rattle.papaya_book.specs.declared.rule.entry.Step.{Step}
@@ -35,11 +36,26 @@ IsPutting kind = (kind ≡ Some kinds.Claim) ⊎ (kind ≡ Some kinds.Replace)
 abbrev pub Numbered : {K V : Type 0} → Coding K (Stored K V)
 Numbered = coding_of (λ k. 0)
 
+-- The exchange of the law that a call asks for, whatever the call's key: a pair that comes is one that
+-- the call made, and has the key of the one that it replaces.
+abbrev pub IsCallAsked : {K V : Type 0} → Option StepKind → At → ℕ → State (Stored K V)
+    → Hands (Stored K V) → Exchange (Stored K V) → Type 0
+IsCallAsked (Some kinds.Open) places.Root new s hands e = e ≡ Open new
+IsCallAsked {K} {V} (Some kinds.Claim) (places.Slot t x) new s hands e = (q : Stored K V)
+    × IsOwnWord Numbered hands new q × (e ≡ Claim t x q)
+IsCallAsked {K} {V} (Some kinds.Replace) (places.Slot t x) new s hands e = (p : Stored K V)
+    × (q : Stored K V) × (s.slot t x ≡ Live p) × IsOwnWord Numbered hands new q
+    × (q.value.key.value ≡ p.value.key.value) × (e ≡ Replace t x p q)
+IsCallAsked {K} {V} (Some kinds.Bury) (places.Slot t x) new s hands e = (p : Stored K V)
+    × (s.slot t x ≡ Live p) × (e ≡ Bury t x p)
+IsCallAsked (Some kinds.Take) places.Made new s hands e = e ≡ Take s.made
+IsCallAsked _ _ new s hands e = ⊥
+
 -- The exchange of the law that is asked for: by a call, with a pair that it made, or for a copy, with
 -- the pair that is carried.
 abbrev pub IsWished : {K V : Type 0} → Option StepKind → At → ℕ → State (Stored K V)
     → Option (Stored K V) → Exchange (Stored K V) → Type 0
-IsWished kind at new s made e = IsAsked Numbered kind at new s (hands_of made) e
+IsWished kind at new s made e = IsCallAsked kind at new s (hands_of made) e
     ⊎ IsCopyAsked Numbered kind at new s made e
 
 module _ {K V S : Type 0} (eq : K → K → Bool) (hash : S → K → ℕ) where
@@ -68,10 +84,10 @@ module _ {K V S : Type 0} (eq : K → K → Bool) (hash : S → K → ℕ) where
       (made : Option (Stored K V)) (brings : Named K V) (log : List (Event K V S)) : Type 0 where
     pub step : Step K V
     pub meant : IsMeant at kind new made brings log step
-    pub allowed : Allows (setting_with eq (hash b.hasher) b.mode brings log) (state_of log)
+    pub allowed : Allows (setting_with eq (hash b.hasher) b.mode b.limit brings log) (state_of log)
         (exchange_of step)
-    pub written : IsWritten (setting_of eq (hash b.hasher) b.mode log) (coding_of (hash b.hasher))
-        (state_of log) at new (after (state_of log) (exchange_of step))
+    pub written : IsWritten (setting_of eq (hash b.hasher) b.mode b.limit log)
+        (coding_of (hash b.hasher)) (state_of log) at new (after (state_of log) (exchange_of step))
 
   abbrev pub CanExchange : Begun K V S → At → Option StepKind → (old new : ℕ) → Option (Stored K V)
       → Named K V → List (Event K V S) → Type 0

@@ -3,7 +3,7 @@ use Rattle.std.specs.Prelude.{◌≡◌, ◌⊎◌, ℕ, ◌+◌, ◌^◌, ◌<�
 use Rattle.boxcar.specs.Table.{Shows}
 use Rattle.logbook.specs.Pages.{Book, Cell, cell}
 use Rattle.papaya_ask.specs.declared.ask.At.{At}
-use Rattle.papaya_ask.specs.declared.ask.At.TheVariants.{Root, Next, Aborted, Done, Slot}
+use Rattle.papaya_ask.specs.declared.ask.At.TheVariants.{Root, Next, Aborted, Done, Slot, Made}
 use Rattle.papaya_law.specs.Exchange.{Empty, State, start}
 use Rattle.papaya_law.specs.Allows.{AllAllowed}
 use Rattle.papaya_law.specs.Grows.{AllSized}
@@ -14,7 +14,7 @@ use Rattle.papaya_book.specs.declared.rule.entry.Begun.{Begun}
 use Rattle.papaya_book.specs.declared.rule.entry.Step.{Step}
 use Rattle.papaya_book.specs.declared.rule.entry.Event.{Event}
 use Rattle.papaya_book.specs.declared.rule.entry.Event.TheVariants.{Begin, Home}
-use Rattle.papaya_book.specs.Pairs.{IsKeyIn}
+use Rattle.papaya_book.specs.Pairs.{IsKeyIn, IsValueIn}
 use Rattle.papaya_book.specs.Logs.{Entered, Member, coding_of, entries_of, exchanges_of, in_table, key_at, name_in, owner, seals_of, setting_of, state_of, steps_of, table_in}
 
 -- the words of a table of which nothing is said yet
@@ -31,6 +31,13 @@ seal_at es (Next t) = in_table (λ s. Some s.seal) (table_in es t)
 seal_at es (Aborted t) = in_table (λ s. Some s.seal) (table_in es t)
 seal_at es (Done t c) = in_table (λ s. Some s.seal) (table_in es t)
 seal_at es (Slot t x) = in_table (λ s. Some s.seal) (table_in es t)
+seal_at es Made = None
+
+-- the place is that of a word of the map itself, and in no table
+abbrev pub IsOfMap : At → Type 0
+IsOfMap Root = Unit {0}
+IsOfMap Made = Unit {0}
+IsOfMap _ = ⊥
 
 -- what the word that only makers use holds: 1 once the book has its name
 abbrev pub flag : Option Book → ℕ
@@ -43,6 +50,7 @@ module _ {K V S : Type 0} where
   abbrev pub IsPlaced : Begun K V S → Option Book → Named K V → Type 0
   IsPlaced b name names.Nothing = Unit {0}
   IsPlaced b name (names.Pair p) = Shows b.pairs p × IsKeyIn b.pairs p.value.key
+      × IsValueIn b.pairs p.value
   IsPlaced b name (names.Table w) = Shows b.tables w × (w.index < 2 ^ 32)
       × (name ≡ Some w.value.book)
 
@@ -52,7 +60,8 @@ module _ {K V S : Type 0} where
     pub record IsLawfulLog (b : Begun K V S) (log : List (Event K V S)) : Type 0 where
       pub rest : List (Event K V S)
       pub is : log ≡ Begin b ∷ rest
-      pub allowed : AllAllowed (setting_of eq (hash b.hasher) b.mode log) start (exchanges_of log)
+      pub allowed : AllAllowed (setting_of eq (hash b.hasher) b.mode b.limit log) start
+          (exchanges_of log)
       pub sized : AllSized (entries_of log)
       pub placed : (n : Named K V) → Entered n log → IsPlaced b (name_in log) n
       -- a table that has not come is blank, and before there is a root none has come
@@ -64,23 +73,23 @@ module _ {K V S : Type 0} where
 
     -- the word that stands at a place after a log
     abbrev pub word_in : Begun K V S → List (Event K V S) → At → ℕ
-    word_in b log at = word_of (setting_of eq (hash b.hasher) b.mode log)
+    word_in b log at = word_of (setting_of eq (hash b.hasher) b.mode b.limit log)
         (coding_of (hash b.hasher)) (state_of log) at
 
     -- The words in the book are the codes of what the exchanges leave.
     pub record IsKept (cells : List Cell) (log : List (Event K V S)) : Type 0 where
       pub begun : Begun K V S
       pub lawful : IsLawfulLog begun log
-      pub many : length cells ≡ 2 + length (seals_of log)
+      pub many : length cells ≡ 3 + length (seals_of log)
       pub maker : cell cells 1 ≡ (flag (name_in log), true)
       pub coded : (at : At) (k : ℕ) → key_at (steps_of log) at ≡ Some k
           → cell cells k ≡ (word_in begun log at, true)
       pub counted : (at : At) (k : ℕ) → key_at (steps_of log) at ≡ Some k
-          → (k < length cells) × ((at ≡ Root) ⊎ (2 ≤ k))
+          → (k < length cells) × (IsOfMap at ⊎ (3 ≤ k))
       -- a table's words were added for its seal
       pub owned : (at : At) (k : ℕ) → key_at (steps_of log) at ≡ Some k
-          → (at ≡ Root) ⊎ (owner k log ≡ seal_at (steps_of log) at)
+          → IsOfMap at ⊎ (owner k log ≡ seal_at (steps_of log) at)
       -- words that came home stay there, and hold 0 while they are in no table
       pub homes : (k : ℕ) → Member (Home k) log → (k < length cells) × ((cell cells k).1 ≡ true)
-      pub fresh : (k : ℕ) → 2 ≤ k → (cell cells k).1 ≡ true
+      pub fresh : (k : ℕ) → 3 ≤ k → (cell cells k).1 ≡ true
           → ((at : At) → key_at (steps_of log) at ≡ Some k → ⊥) → (cell cells k).0 ≡ 0

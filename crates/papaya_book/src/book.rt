@@ -18,6 +18,8 @@ pub mod kept;
 pub mod layer;
 pub mod logs;
 pub mod maker;
+pub mod numbers;
+pub mod pairs;
 pub mod parts;
 
 use crate::book::gains::pair_in;
@@ -35,19 +37,21 @@ use papaya_ask::ask::At;
 use papaya_log::token::tell;
 use std::hash::{BuildHasher, Hash};
 
-/// What all callers of a map share: what its book was opened with, the root and the word that only
-/// makers of tables use. `origin` has seen the first entry of the log alone, and `begun` also the
-/// book's name.
+/// What all callers of a map share: what its book was opened with, the root, the word that only makers
+/// of tables use and the one that counts numbers for pairs. `origin` has seen the first entry of the
+/// log alone, and `begun` also the book's name.
 #[derive(Drop)]
 pub struct Book<K: Hash + Eq, V, S: BuildHasher> {
     pub parts: Parts<K, V, S>,
     pub root: Cell<K, V, S>,
     pub maker: Cell<K, V, S>,
+    pub made: Cell<K, V, S>,
     pub begun: Sight<K, V, S>,
     pub origin: Sight<K, V, S>,
     ghost chunked: { IsChunked parts.mode } by { IsChunked-prop parts.mode },
     ghost root_is: { root ≡ word_named begun.book 0 },
     ghost maker_is: { maker ≡ word_named begun.book 1 },
+    ghost made_is: { made ≡ word_named begun.book 2 },
     ghost begins: { first_in begun.log ≡ Some (Begin (begun_of parts)) },
     ghost called: { name_in begun.log ≡ Some begun.book },
     ghost origin_book: { origin.book ≡ begun.book },

@@ -31,12 +31,13 @@ pub struct Window<'a, K: Hash + Eq, V, S: Keyed<K>> {
 }
 
 impl<'a, K: Hash + Eq, V, S: BuildHasher> Window<'a, K, V, S> {
-    ghost use Rattle.std.specs.Prelude.{◌⊎◌, ◌<◌, ◌==◌, Bool, IfErr, IfOk, length};
+    ghost use Rattle.std.specs.Prelude.{◌⊎◌, ◌<◌, ◌==◌, Bool, IfErr, IfOk, None, length};
+    ghost use Rattle.papaya_ask.specs.declared.ask.At.TheVariants.{Made};
     ghost use Rattle.papaya_ask.specs.Search.{IsSize};
     ghost use Rattle.papaya_book.specs.Books.{IsLeft, Seals, root_then};
     ghost use Rattle.papaya_book.specs.Limits.{IsFull};
-    ghost use Rattle.papaya_book.specs.Windows.{CanPutSlot, CanTrySlot, Does, IsHint, IsIn, IsLawful, IsMade, IsNext, IsRoot};
-    ghost use Rattle.papaya_book.specs.Windows.{IsSlot, IsSlotWord, IsTable, MayHint, Opens, PutsSlot, Sees, TriesSlot};
+    ghost use Rattle.papaya_book.specs.Windows.{CanCopy, CanPutSlot, CanTrySlot, CopiesWord, Does, IsHint, IsIn, IsLawful, IsMade, IsNext, IsRoot};
+    ghost use Rattle.papaya_book.specs.Windows.{IsSlot, IsSlotWord, IsTable, IsWord, MayHint, Opens, PutsSlot, Sees, TriesSlot};
     ghost use Rattle.papaya_book.specs.declared.rule.entry.Named.TheVariants.{Pair as PairNamed, Table as TableNamed};
 
     /// What one who has seen so much, and made these exchanges, sees of the book.
@@ -90,6 +91,25 @@ impl<'a, K: Hash + Eq, V, S: BuildHasher> Window<'a, K, V, S> {
         ensures own { self.new.own ≡ self.old.own }
     {
         self.book.next(table, number, &mut self.sight)
+    }
+
+    /// One atomic load: how many numbers for pairs were taken.
+    pub fn made(&mut self) -> u64
+        ensures sees { Sees self.old self.new }
+        ensures own { self.new.own ≡ self.old.own }
+        ensures word { IsWord self.old self.new Made result }
+    {
+        self.book.made(&mut self.sight)
+    }
+
+    /// One atomic exchange of that word: the count found there.
+    pub fn take(&mut self, kind: Option<StepKind>, words: (u64, u64)) -> u64
+        requires can { CanCopy self.old Made kind None words }
+        ensures sees { Sees self.old self.new }
+        ensures own { self.new.own ≡ self.old.own }
+        ensures tried { CopiesWord self.old self.new Made kind None words result }
+    {
+        self.book.take(kind, words, &mut self.sight)
     }
 
     /// One atomic load of the hint of a table's slot: 0, which says nothing, where none was written.

@@ -10,15 +10,18 @@ use Rattle.papaya_call.specs.declared.compute.Choice.TheVariants.{Replace as To_
 use Rattle.papaya_call.specs.declared.compute.Gap.{Gap}
 use Rattle.papaya_call.specs.declared.compute.Gap.TheVariants.{NoRoot, At, After}
 use Rattle.papaya_call.specs.declared.compute.Purpose.{Purpose}
-use Rattle.papaya_call.specs.declared.compute.Purpose.TheVariants.{Fill, Replace}
+use Rattle.papaya_call.specs.declared.compute.Purpose.TheVariants.{Fill, Replace, Again}
 use Rattle.papaya_call.specs.declared.compute.Put.{Put}
 use Rattle.papaya_call.specs.declared.compute.Remembered.{Remembered}
 use Rattle.papaya_call.specs.declared.machine.State.{State}
+use Rattle.papaya_call.specs.declared.made.Of.{Of}
 use Rattle.papaya_call.specs.declared.machine.State.TheVariants.{Making, Offering, Pairing, Putting, Showing, Burying, Growing, Ended}
 use Rattle.papaya_call.specs.declared.need.Need.TheVariants.{Room}
 use Rattle.papaya_call.specs.declared.remove.Removal.{Removal}
 use Rattle.papaya_ask.specs.declared.search.Place.{Place}
 use Rattle.papaya_ask.specs.Search.{IsWithin}
+use Rattle.papaya_call.specs.Made.{serves_at}
+use Rattle.papaya_call.specs.Write.{made_of}
 
 -- nothing was answered yet
 abbrev pub nothing : Remembered
@@ -52,12 +55,25 @@ chosen shown (Abort t) = Ended (Aborted t)
 abbrev pub provides : Purpose → ℕ → State
 provides (Fill gap) n = fills gap n
 provides (Replace write) n = Putting (record { write = write; pair = n })
+provides (Again write) n = Putting (record { write = write; pair = n })
+
+-- the word in whose place a pair is to stand
+abbrev pub in_place_of : Purpose → ℕ
+in_place_of (Fill gap) = 0
+in_place_of (Replace write) = write.old
+in_place_of (Again write) = write.old
+
+-- a pair was made of what the closure answered of the pair that this word names, for this slot or
+-- for another
+abbrev pub recalled : Of → Place → (word : ℕ) → State
+recalled new at word = if serves_at new at.table at.probe.i
+    then Putting (record { write = record { place = at; old = word }; pair = new.pair })
+    else Pairing (Again (record { place = at; old = word }))
 
 -- a remembered answer was given to the pair of this number, or not
 abbrev pub recalls : Option Choice → Place → (word pair : ℕ) → State
 recalls None at word n = Showing (record { place = at; word = word })
-recalls (Some (To_replace old new)) at word n = if old == n
-    then Putting (record { write = record { place = at; old = word }; pair = new })
+recalls (Some (To_replace old new)) at word n = if old == n then recalled new at word
     else Showing (record { place = at; word = word })
 recalls (Some (To_remove old)) at word n = if old == n
     then Burying (record { place = at; word = word })
@@ -74,10 +90,16 @@ with_choice held shown Insert = held
 with_choice held shown Remove = record held { choice = Some (To_remove (pair_of shown.word)) }
 with_choice held shown (Abort t) = held
 
--- and after the pair of this number was made
+-- and after the pair of this number was made; where it is for an absent key, no pair that the
+-- closure was shown before comes again
 abbrev pub with_pair : Remembered → Purpose → ℕ → Remembered
-with_pair held (Fill gap) n = record held { fill = Some n }
-with_pair held (Replace write) n = record held { choice = Some (To_replace (pair_of write.old) n) }
+with_pair held (Fill gap) n = record { fill = Some n; choice = None }
+with_pair held (Replace write) n = record held {
+  choice = Some (To_replace (pair_of write.old) (made_of write n));
+}
+with_pair held (Again write) n = record held {
+  choice = Some (To_replace (pair_of write.old) (made_of write n));
+}
 
 -- a gap, a purpose and a put within their table; the number of a pair fits a word
 abbrev pub IsGap : Gap → Type 0
@@ -88,6 +110,7 @@ IsGap (After table) = Unit {0}
 abbrev pub IsPurpose : Purpose → Type 0
 IsPurpose (Fill gap) = IsGap gap
 IsPurpose (Replace write) = IsWithin write.place
+IsPurpose (Again write) = IsWithin write.place
 
 pub record IsPut (put : Put) : Type 0 where
   pub within : IsWithin put.write.place
@@ -100,7 +123,7 @@ IsFill (Some n) = n < 2 ^ 48
 
 abbrev pub IsChoice : Option Choice → Type 0
 IsChoice None = Unit {0}
-IsChoice (Some (To_replace old new)) = new < 2 ^ 48
+IsChoice (Some (To_replace old new)) = new.pair < 2 ^ 48
 IsChoice (Some (To_remove old)) = Unit {0}
 
 pub record IsRemembered (held : Remembered) : Type 0 where

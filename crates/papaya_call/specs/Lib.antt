@@ -1,5 +1,6 @@
 pub mod Answers
 pub mod Compute
 pub mod Machine
+pub mod Made
 pub mod Remove
 pub mod Write

@@ -4,14 +4,14 @@ use Rattle.std.specs.Prelude.{pos, negsuc}
 use Rattle.papaya_words.specs.Word.{kind_of, pair_of}
 use Rattle.papaya_words.specs.declared.limits.TheConstants.{FIRST_TABLE_LEN, FIRST_TABLE_LIMIT}
 use Rattle.papaya_words.specs.declared.probe.Refused.{Refused}
-use Rattle.papaya_words.specs.declared.probe.Refused.TheVariants.{Capacity}
+use Rattle.papaya_words.specs.declared.probe.Refused.TheVariants.{Capacity, Limit}
 use Rattle.papaya_words.specs.declared.probe.ResizeMode.{ResizeMode}
 use Rattle.papaya_words.specs.declared.probe.ResizeMode.TheVariants.{Incremental, Blocking}
 use Rattle.papaya_words.specs.declared.word.Kind.{Kind}
 use Rattle.papaya_words.specs.declared.word.Kind.TheVariants.{Live, Buried}
 use Rattle.papaya_ask.specs.declared.ask.At.TheVariants.{Root, Next}
 use Rattle.papaya_ask.specs.declared.ask.Ask.{Ask}
-use Rattle.papaya_ask.specs.declared.ask.Ask.TheVariants.{Load, Exchange, LoadHint, SameKey, ShowNone, SizeOf, MakeKey, MakePair, MakeTable, AddToShard, Done}
+use Rattle.papaya_ask.specs.declared.ask.Ask.TheVariants.{Load, Exchange, LoadHint, SameKey, ShowNone, SizeOf, MakeTable, AddToShard, Done}
 use Rattle.papaya_ask.specs.declared.ask.Answer.{Answer}
 use Rattle.papaya_ask.specs.declared.ask.Answer.TheVariants.{Word as Word_read, Exchanged, Found as Found_instead, Yes, Op, Size, Made as Made_number, Ok as Ok_done, Refused as Was_refused}
 use Rattle.papaya_ask.specs.declared.ask.OpKind.{OpKind}
@@ -31,35 +31,32 @@ use Rattle.papaya_ask.specs.declared.search.Place.{Place}
 use Rattle.papaya_ask.specs.declared.search.Search.TheVariants.{Sizing}
 use Rattle.papaya_ask.specs.declared.search.Seen.{Seen}
 use Rattle.papaya_ask.specs.declared.search.Seen.TheVariants.{On, Empty, Here, Over}
-use Rattle.papaya_call.specs.declared.write.Made.{Made}
-use Rattle.papaya_call.specs.declared.write.Made.TheVariants.{Nothing, Key, Pair}
+use Rattle.papaya_call.specs.declared.made.Grown.{Grown}
+use Rattle.papaya_call.specs.declared.made.Grown.TheVariants.{On as More, Pair}
+use Rattle.papaya_call.specs.declared.made.Made.{Made}
 use Rattle.papaya_call.specs.declared.write.Write.{Write}
 use Rattle.papaya_call.specs.declared.machine.State.{State}
 use Rattle.papaya_call.specs.declared.machine.State.TheVariants.{AtRoot, Making, Opening, Searching, Writing, Offering, Showing, Pairing, Putting, Burying, Counting, Noting, Uncounting, Leaving, Growing, Ended}
 use Rattle.papaya_call.specs.declared.machine.Machine.{Machine}
 use Rattle.papaya_ask.specs.Search.{IsSize, IsWithin, IsSearching, look}
 use Rattle.papaya_ask.specs.Search.{ask_of as search_ask, at_size as search_sized, at_word as search_loaded, at_yes as search_compared}
-use Rattle.papaya_call.specs.Compute.{IsGap, IsPurpose, IsPut, IsRemembered, chosen, lacks, meets, nothing, offered, provides, with_choice, with_pair}
+use Rattle.papaya_call.specs.Compute.{IsGap, IsPurpose, IsPut, IsRemembered, chosen, in_place_of, lacks, meets, nothing, offered, provides, with_choice, with_pair}
 use Rattle.papaya_call.specs.Remove.{removal_ask, show_ask}
-use Rattle.papaya_call.specs.Write.{IsMade, claimed_by, note_ask, write_ask, write_kind}
+use Rattle.papaya_call.specs.Made.{IsMade, answered, grown, nothing_made, number_kind, pair_ask, taken, told}
+use Rattle.papaya_call.specs.Write.{claimed_by, note_ask, put_ask, serves, write_ask, write_grown, write_kind}
 
 -- a call that begins
-abbrev pub started : Task → ℕ → ResizeMode → ℕ → Machine
-started task hash mode initial = record {
+abbrev pub started : Task → (hash : ℕ) → ResizeMode → (initial : ℕ) → (limit : Option ℕ)
+    → Machine
+started task hash mode initial limit = record {
   task = task;
   hash = hash;
   mode = mode;
   initial = initial;
-  made = Nothing;
+  made = nothing_made limit;
   remembered = nothing;
   state = AtRoot;
 }
-
--- a pair of a value that the closure answered: the key is made first, once a call
-abbrev pub pairing_ask : Made → Ask
-pairing_ask Nothing = MakeKey
-pairing_ask Key = MakePair
-pairing_ask (Pair n) = MakePair
 
 -- the table whose next one is needed
 abbrev pub needed : Need → ℕ
@@ -75,8 +72,8 @@ asks made hash (Searching search) = search_ask search
 asks made hash (Writing write) = write_ask write made
 asks made hash (Offering gap) = ShowNone
 asks made hash (Showing removal) = show_ask removal
-asks made hash (Pairing purpose) = pairing_ask made
-asks made hash (Putting put) = write_ask put.write (Pair put.pair)
+asks made hash (Pairing purpose) = pair_ask made (in_place_of purpose)
+asks made hash (Putting put) = put_ask put.write put.pair
 asks made hash (Burying removal) = removal_ask removal
 asks made hash (Counting claimed) = AddToShard (pos 1)
 asks made hash (Noting claimed) = note_ask claimed hash
@@ -89,14 +86,14 @@ abbrev pub ask_of : Machine → Ask
 ask_of m = asks m.made m.hash m.state
 
 -- the kind of the exchange that it asks for
-abbrev pub write_kind_of : Made → Write → Option StepKind
-write_kind_of Nothing write = None
-write_kind_of Key write = None
-write_kind_of (Pair n) write = Some (write_kind write)
+abbrev pub served_kind : Option ℕ → Made → Write → Option StepKind
+served_kind None made write = number_kind made.number
+served_kind (Some n) made write = Some (write_kind write)
 
 abbrev pub kind_asked : Made → State → Option StepKind
 kind_asked made (Opening table) = Some Open
-kind_asked made (Writing write) = write_kind_of made write
+kind_asked made (Writing write) = served_kind (serves made write) made write
+kind_asked made (Pairing purpose) = number_kind made.number
 kind_asked made (Putting put) = Some (write_kind put.write)
 kind_asked made (Burying removal) = Some Bury
 kind_asked made _ = None
@@ -181,10 +178,38 @@ abbrev pub written : Write → ℕ → State
 written write n = if write.old == 0 then Counting (claimed_by write n)
     else Ended (Replaced (pair_of write.old) n)
 
-abbrev pub exchanged : Made → Write → State
-exchanged Nothing write = Writing write
-exchanged Key write = Writing write
-exchanged (Pair n) write = written write n
+abbrev pub exchanged : Option ℕ → Write → State
+exchanged None write = Writing write
+exchanged (Some n) write = written write n
+
+-- so many numbers were taken for pairs, and none is left where that is the limit
+abbrev pub numbered : Option Made → State → State
+numbered None state = Ended (Reply_refused Limit)
+numbered (Some made) state = state
+
+abbrev pub number_told : Option Made → Made → Made
+number_told None made = made
+number_told (Some told) made = told
+
+abbrev pub state_told : Machine → (count : ℕ) → Machine
+state_told m count = record m {
+  made = number_told (told m.made count) m.made;
+  state = numbered (told m.made count) m.state;
+}
+
+-- an insertion that has no pair for its place is told so
+abbrev pub write_told : Option ℕ → Made → Write → ℕ → State
+write_told None made write count = numbered (told made count) (Writing write)
+write_told (Some n) made write count = Writing write
+
+abbrev pub write_made : Option ℕ → Made → ℕ → Made
+write_made None made count = number_told (told made count) made
+write_made (Some n) made count = made
+
+-- the number was taken, or the pair was written
+abbrev pub write_taken : Option ℕ → Made → Made
+write_taken None made = taken made
+write_taken (Some n) made = made
 
 -- a burial found this word in the place of its own; for a removal the key was absent where another
 -- call buried its pair
@@ -223,19 +248,27 @@ at_word m word AtRoot = at_root m.task m.remembered.fill word
 at_word m word (Searching search) = goes m (search_loaded search m.hash word)
 at_word m word (Leaving table) = left m.task m.remembered.fill table word
 at_word m word (Growing need) = Ended (Reply_refused Capacity)
+at_word m word (Writing write) = write_told (serves m.made write) m.made write word
+at_word m word (Pairing purpose) = numbered (told m.made word) (Pairing purpose)
 at_word m word state = state
 
 abbrev pub at_exchanged : Made → State → State
 at_exchanged made (Opening table) = Searching (Sizing table)
-at_exchanged made (Writing write) = exchanged made write
+at_exchanged made (Writing write) = exchanged (serves made write) write
 at_exchanged made (Putting put) = written put.write put.pair
 at_exchanged made (Burying removal) = Uncounting (pair_of removal.word)
 at_exchanged made state = state
 
--- a lost exchange of a slot goes on with the word that was found there
+-- a lost exchange of a slot goes on with the word that was found there, and one of the count of
+-- numbers with what that is now
+abbrev pub write_lost : Option ℕ → Machine → Write → ℕ → State
+write_lost None m write word = numbered (told m.made word) (Writing write)
+write_lost (Some n) m write word = goes m (look write.place word)
+
 abbrev pub at_found : Machine → ℕ → State → State
 at_found m word (Opening table) = Searching (Sizing word)
-at_found m word (Writing write) = goes m (look write.place word)
+at_found m word (Writing write) = write_lost (serves m.made write) m write word
+at_found m word (Pairing purpose) = numbered (told m.made word) (Pairing purpose)
 at_found m word (Putting put) = goes m (look put.write.place word)
 at_found m word (Burying removal) = beaten m removal word
 at_found m word state = state
@@ -256,53 +289,55 @@ at_ok (Uncounting pair) = Ended (Removed pair)
 at_ok state = state
 
 -- only what was to be made can be refused
-abbrev pub refuses : Made → Refused → Write → State
-refuses Nothing refused write = Ended (Reply_refused refused)
-refuses Key refused write = Ended (Reply_refused refused)
-refuses (Pair n) refused write = Writing write
+abbrev pub refuses : Option ℕ → Refused → Write → State
+refuses None refused write = Ended (Reply_refused refused)
+refuses (Some n) refused write = Writing write
 
 abbrev pub at_refused : Made → Refused → State → State
 at_refused made refused Making = Ended (Reply_refused refused)
-at_refused made refused (Writing write) = refuses made refused write
+at_refused made refused (Writing write) = refuses (serves made write) refused write
 at_refused made refused (Pairing purpose) = Ended (Reply_refused refused)
 at_refused made refused state = state
 
--- what was made: a table, the key, or the pair
-abbrev pub made_then : Made → ℕ → Made
-made_then Nothing n = Key
-made_then Key n = Pair n
-made_then (Pair m) n = Pair m
+-- what is known of the numbers that are taken
+abbrev pub made_at_word : Made → ℕ → State → Made
+made_at_word made count (Writing write) = write_made (serves made write) made count
+made_at_word made count (Pairing purpose) = number_told (told made count) made
+made_at_word made count _ = made
 
--- the key is made once
-abbrev pub keyed : Made → Made
-keyed Nothing = Key
-keyed Key = Key
-keyed (Pair m) = Pair m
+abbrev pub made_at_exchanged : Made → State → Made
+made_at_exchanged made (Writing write) = write_taken (serves made write) made
+made_at_exchanged made (Pairing purpose) = taken made
+made_at_exchanged made _ = made
+
+-- what a compute made
+abbrev pub made_to_pair : Grown → Made
+made_to_pair (More made) = made
+made_to_pair (Pair made) = made
 
 abbrev pub made_in : Made → ℕ → State → Made
-made_in made n (Writing write) = made_then made n
-made_in made n (Pairing purpose) = keyed made
+made_in made n (Writing write) = write_grown (serves made write) made write n
+made_in made n (Pairing purpose) = made_to_pair (grown made (in_place_of purpose))
 made_in made n _ = made
 
 -- a pair that was made for a compute leads on, and is remembered
-abbrev pub paired : Made → Purpose → ℕ → State
-paired Nothing purpose n = Pairing purpose
-paired Key purpose n = provides purpose n
-paired (Pair m) purpose n = provides purpose n
+abbrev pub paired : Grown → Purpose → ℕ → State
+paired (More made) purpose n = Pairing purpose
+paired (Pair made) purpose n = provides purpose n
 
-abbrev pub paired_held : Made → Remembered → Purpose → ℕ → Remembered
-paired_held Nothing held purpose n = held
-paired_held Key held purpose n = with_pair held purpose n
-paired_held (Pair m) held purpose n = with_pair held purpose n
+abbrev pub paired_held : Grown → Remembered → Purpose → ℕ → Remembered
+paired_held (More made) held purpose n = held
+paired_held (Pair made) held purpose n = with_pair held purpose n
 
 abbrev pub state_in : Made → ℕ → State → State
 state_in made n Making = Opening n
-state_in made n (Pairing purpose) = paired made purpose n
+state_in made n (Pairing purpose) = paired (grown made (in_place_of purpose)) purpose n
 state_in made n state = state
 
 -- what is remembered after a pair was made
 abbrev pub held_in : Made → Remembered → ℕ → State → Remembered
-held_in made held n (Pairing purpose) = paired_held made held purpose n
+held_in made held n (Pairing purpose) =
+    paired_held (grown made (in_place_of purpose)) held purpose n
 held_in made held n _ = held
 
 abbrev pub state_made : Machine → ℕ → Machine
@@ -322,17 +357,36 @@ abbrev pub held_at_op : Task → Remembered → OpKind → State → Remembered
 held_at_op task held kind (Showing removal) = decided_held task held removal kind
 held_at_op task held kind _ = held
 
+abbrev pub made_decided : Task → OpKind → Made → Made
+made_decided Compute kind made = answered kind made
+made_decided _ kind made = made
+
+abbrev pub made_at_op : Task → OpKind → Made → State → Made
+made_at_op task kind made (Offering gap) = answered kind made
+made_at_op task kind made (Showing removal) = made_decided task kind made
+made_at_op task kind made _ = made
+
 abbrev pub state_op : Machine → OpKind → Machine
 state_op m kind = record m {
+  made = made_at_op m.task kind m.made m.state;
   remembered = held_at_op m.task m.remembered kind m.state;
   state = at_op m.task kind m.state;
 }
 
 -- the machine after an answer
 abbrev pub after : Machine → Answer → Machine
-after m (Word_read word) = record m { state = at_word m word m.state }
-after m Exchanged = record m { state = at_exchanged m.made m.state }
-after m (Found_instead word) = record m { state = at_found m word m.state }
+after m (Word_read word) = record m {
+  made = made_at_word m.made word m.state;
+  state = at_word m word m.state;
+}
+after m Exchanged = record m {
+  made = made_at_exchanged m.made m.state;
+  state = at_exchanged m.made m.state;
+}
+after m (Found_instead word) = record m {
+  made = made_at_word m.made word m.state;
+  state = at_found m word m.state;
+}
 after m (Yes same) = record m { state = at_yes m same m.state }
 after m (Op kind) = state_op m kind
 after m (Size slots limit) = record m { state = at_size m.hash slots limit m.state }

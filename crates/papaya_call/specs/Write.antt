@@ -1,28 +1,58 @@
 -- The write of an insertion at one place.
-use Rattle.std.specs.Prelude.{ℕ, ◌<◌, ◌^◌, ◌==◌, if◌then◌else◌}
+use Rattle.std.specs.Prelude.{ℕ, ◌==◌, if◌then◌else◌, Option, Some, None}
 use Rattle.papaya_words.specs.Word.{hint_of, live_word}
 use Rattle.papaya_ask.specs.declared.ask.At.TheVariants.{Slot}
 use Rattle.papaya_ask.specs.declared.ask.Ask.{Ask}
-use Rattle.papaya_ask.specs.declared.ask.Ask.TheVariants.{Exchange, WriteHint, MakeKey, MakePair}
+use Rattle.papaya_ask.specs.declared.ask.Ask.TheVariants.{Exchange, WriteHint}
 use Rattle.papaya_ask.specs.declared.ask.StepKind.{StepKind}
 use Rattle.papaya_ask.specs.declared.ask.StepKind.TheVariants.{Claim, Replace}
+use Rattle.papaya_ask.specs.declared.search.Place.{Place}
+use Rattle.papaya_call.specs.declared.made.Grown.{Grown}
+use Rattle.papaya_call.specs.declared.made.Grown.TheVariants.{On, Pair}
+use Rattle.papaya_call.specs.declared.made.Made.{Made}
+use Rattle.papaya_call.specs.declared.made.Of.{Of}
 use Rattle.papaya_call.specs.declared.write.Claimed.{Claimed}
-use Rattle.papaya_call.specs.declared.write.Made.{Made}
-use Rattle.papaya_call.specs.declared.write.Made.TheVariants.{Nothing, Key, Pair}
 use Rattle.papaya_call.specs.declared.write.Write.{Write}
+use Rattle.papaya_call.specs.Made.{grown, pair_ask, serves_at}
 
--- the number of a pair fits a word
-abbrev pub IsMade : Made → Type 0
-IsMade Nothing = Unit {0}
-IsMade Key = Unit {0}
-IsMade (Pair n) = n < 2 ^ 48
+-- the pair of this number was made with the key that is at the write's place
+abbrev pub made_of : Write → ℕ → Of
+made_of write n = record { pair = n; table = write.place.table; index = write.place.probe.i }
 
--- the key is made, then the pair, then the exchange
+-- the pair that was made with the key at a place
+abbrev pub served_of : Option Of → Place → Option ℕ
+served_of None at = None
+served_of (Some of) at = if serves_at of at.table at.probe.i then Some of.pair else None
+
+-- the pair that an insertion made and that may stand there
+abbrev pub serves : Made → Write → Option ℕ
+serves made write = if write.old == 0 then made.own else served_of made.of write.place
+
+-- the exchange by which a pair comes to stand there
+abbrev pub put_ask : Write → ℕ → Ask
+put_ask write n = Exchange (Slot write.place.table write.place.probe.i) write.old (live_word n)
+
+-- what the pair still needs, then the exchange
+abbrev pub served_ask : Option ℕ → Write → Made → Ask
+served_ask None write made = pair_ask made write.old
+served_ask (Some n) write made = put_ask write n
+
 abbrev pub write_ask : Write → Made → Ask
-write_ask write Nothing = MakeKey
-write_ask write Key = MakePair
-write_ask write (Pair n) = Exchange (Slot write.place.table write.place.probe.i) write.old
-    (live_word n)
+write_ask write made = served_ask (serves made write) write made
+
+-- a pair was made for the place
+abbrev pub with_pair_at : Made → Write → ℕ → Made
+with_pair_at made write n = if write.old == 0 then record made { own = Some n }
+    else record made { of = Some (made_of write n) }
+
+-- what an insertion made: the key, the value, or the pair for its place
+abbrev pub made_to_write : Grown → Write → ℕ → Made
+made_to_write (On made) write n = made
+made_to_write (Pair made) write n = with_pair_at made write n
+
+abbrev pub write_grown : Option ℕ → Made → Write → ℕ → Made
+write_grown None made write n = made_to_write (grown made write.old) write n
+write_grown (Some m) made write n = made
 
 -- an empty slot is claimed, a pair is replaced
 abbrev pub write_kind : Write → StepKind

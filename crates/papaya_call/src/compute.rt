@@ -2,11 +2,12 @@
 ghost use Rattle.std.specs.Prelude.{◌≡◌, ◌<◌, ◌^◌};
 ghost use Rattle.papaya_ask.specs.declared.call.Task.{Task};
 ghost use Rattle.papaya_ask.specs.declared.call.Task.TheVariants.{Compute};
-ghost use Rattle.papaya_call.specs.Compute.{IsGap, IsPurpose, IsRemembered, chosen, fills, meets, nothing, offered, provides, with_choice, with_pair};
+ghost use Rattle.papaya_call.specs.Compute.{IsGap, IsPurpose, IsRemembered, chosen, fills, in_place_of, meets, nothing, offered, provides, recalled, with_choice, with_pair};
 ghost use Rattle.papaya_call.specs.Machine.{IsStandingState};
 ghost use Rattle.papaya_ask.specs.Search.{IsWithin};
 
 use crate::machine::State;
+use crate::made::Of;
 use crate::need::Need;
 use crate::remove::Removal;
 use crate::write::Write;
@@ -34,6 +35,9 @@ pub enum Purpose {
     Fill(Gap),
     /// It was shown the pair that the old word of this write names.
     Replace(Write),
+    /// It was shown the pair that the old word of this write names, and a pair was made of its
+    /// answer, but for another slot.
+    Again(Write),
 }
 
 /// A pair that was made, and where it is to stand.
@@ -48,7 +52,7 @@ pub struct Put {
 #[derive(Clone, Copy)]
 pub enum Choice {
     /// The new pair, which was made of what it answered, is to take the place of the old one.
-    Replace { old: u64, new: u64 },
+    Replace { old: u64, new: Of },
     /// This pair is to be removed.
     Remove(u64),
 }
@@ -86,10 +90,7 @@ impl Remembered {
     {
         let pair = Word(word).pair();
         match self.choice {
-            Some(Choice::Replace { old, new }) if old == pair => {
-                let write = Write { place, old: word };
-                State::Putting(Put { write, pair: new })
-            }
+            Some(Choice::Replace { old, new }) if old == pair => State::recalled(new, place, word),
             Some(Choice::Remove(old)) if old == pair => State::Burying(Removal { place, word }),
             _ => State::Showing(Removal { place, word }),
         }
@@ -111,7 +112,8 @@ impl Remembered {
         }
     }
 
-    /// What is remembered after the pair of this number was made.
+    /// What is remembered after the pair of this number was made. Where it is for an absent key, no
+    /// pair that the closure was shown before comes again.
     pub fn with_pair(self, purpose: Purpose, pair: u64) -> Remembered
         requires remembered { IsRemembered self }
         requires pair { pair < 2 ^ 48 }
@@ -121,12 +123,13 @@ impl Remembered {
         match purpose {
             Purpose::Fill(_) => Remembered {
                 fill: Some(pair),
-                ..self
+                choice: None,
             },
-            Purpose::Replace(write) => {
+            Purpose::Replace(write) | Purpose::Again(write) => {
                 let old = Word(write.old).pair();
+                let new = write.of(pair);
                 Remembered {
-                    choice: Some(Choice::Replace { old, new: pair }),
+                    choice: Some(Choice::Replace { old, new }),
                     ..self
                 }
             }
@@ -134,7 +137,39 @@ impl Remembered {
     }
 }
 
+impl Purpose {
+    /// The word in whose place the pair is to stand.
+    #[inline(always)]
+    pub fn in_place_of(self) -> u64
+        ensures { result ≡ in_place_of self }
+    {
+        match self {
+            Purpose::Fill(_) => 0,
+            Purpose::Replace(write) | Purpose::Again(write) => write.old,
+        }
+    }
+}
+
 impl State {
+    /// A pair was made of what the closure answered of the pair that this word names. Where that
+    /// stands in another slot than it was made for, a new one of its value is made.
+    pub(crate) fn recalled(new: Of, place: Place, word: u64) -> State
+        requires within { IsWithin place }
+        requires pair { new.pair < 2 ^ 48 }
+        ensures value { result ≡ recalled new place word }
+        ensures standing { IsStandingState Compute result }
+    {
+        let write = Write { place, old: word };
+        if new.serves(place) {
+            State::Putting(Put {
+                write,
+                pair: new.pair,
+            })
+        } else {
+            State::Pairing(Purpose::Again(write))
+        }
+    }
+
     /// The pair of this number goes where its key is absent.
     pub(crate) fn fills(gap: Gap, pair: u64) -> State
         requires gap { IsGap gap }
@@ -193,7 +228,7 @@ impl State {
     {
         match purpose {
             Purpose::Fill(gap) => State::fills(gap, pair),
-            Purpose::Replace(write) => State::Putting(Put { write, pair }),
+            Purpose::Replace(write) | Purpose::Again(write) => State::Putting(Put { write, pair }),
         }
     }
 }

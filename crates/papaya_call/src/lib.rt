@@ -9,6 +9,7 @@ pub use papaya_ask::{ask, call, search};
 pub mod answers;
 pub mod compute;
 pub mod machine;
+pub mod made;
 pub mod need;
 pub mod remove;
 pub mod write;

@@ -5,13 +5,14 @@ ghost use Rattle.papaya_ask.specs.declared.call.Task.{Task};
 ghost use Rattle.papaya_call.specs.Compute.{IsGap};
 ghost use Rattle.papaya_words.specs.Mode.{IsChunked};
 ghost use Rattle.papaya_call.specs.Machine.{IsFit, IsFitAsk, IsStanding, IsStandingState, IsLookup, MayInsert, IsComputer, started, ask_of};
-ghost use Rattle.papaya_call.specs.Machine.{kind_of_ask, after, absent, at_root, goes, found, passes, left, beaten, written, at_word};
-ghost use Rattle.papaya_call.specs.Machine.{at_exchanged, at_found, at_yes, at_op, state_op, at_size, state_made, at_ok, at_refused};
+ghost use Rattle.papaya_call.specs.Machine.{kind_of_ask, after, absent, at_root, goes, found, passes, left, beaten, written};
+ghost use Rattle.papaya_call.specs.Machine.{at_yes, state_op, state_told, at_size, state_made, at_ok, at_refused};
 
 use crate::compute::{Gap, Purpose, Put, Remembered};
+use crate::made::{Grown, Made};
 use crate::need::Need;
 use crate::remove::Removal;
-use crate::write::{Claimed, Made, Write};
+use crate::write::{Claimed, Write};
 use papaya_ask::ask::{Answer, Ask, At, OpKind, StepKind};
 use papaya_ask::call::{Reply, Task};
 use papaya_ask::search::{Place, Search, Seen};
@@ -30,7 +31,7 @@ pub enum State {
     Opening(u64),
     /// It searches a table.
     Searching(Search),
-    /// It writes its pair.
+    /// It makes its pair, and writes it.
     Writing(Write),
     /// It shows its closure that its key is absent.
     Offering(Gap),
@@ -73,13 +74,20 @@ pub struct Machine {
 }
 
 impl Machine {
-    /// A call that begins.
+    /// A call that begins. It logs no pair where so many were logged as the limit says, if there is
+    /// one.
     ///
     /// It stands for the whole of a call of 0.2.5, whose steps run one after another there.
     #[inline(always)]
-    pub fn new(task: Task, hash: u64, mode: ResizeMode, initial: usize) -> Machine
+    pub fn new(
+        task: Task,
+        hash: u64,
+        mode: ResizeMode,
+        initial: usize,
+        limit: Option<u64>,
+    ) -> Machine
         requires { IsChunked mode }
-        ensures value { result ≡ started task hash mode initial }
+        ensures value { result ≡ started task hash mode initial limit }
         ensures standing { IsStanding result }
     {
         Machine {
@@ -87,7 +95,7 @@ impl Machine {
             hash,
             mode,
             initial,
-            made: Made::Nothing,
+            made: Made::nothing(limit),
             remembered: Remembered::nothing(),
             state: State::AtRoot,
         }
@@ -113,8 +121,8 @@ impl Machine {
             State::Writing(write) => write.ask(self.made),
             State::Offering(_) => Ask::ShowNone,
             State::Showing(removal) => removal.show(),
-            State::Pairing(_) => self.made.pairing_ask(),
-            State::Putting(put) => put.write.ask(Made::Pair(put.pair)),
+            State::Pairing(purpose) => self.made.ask(purpose.in_place_of()),
+            State::Putting(put) => put.write.put(put.pair),
             State::Burying(removal) => removal.ask(),
             State::Counting(_) => Ask::AddToShard(1),
             State::Noting(claimed) => claimed.note(self.hash),
@@ -133,10 +141,11 @@ impl Machine {
     {
         match self.state {
             State::Opening(_) => Some(StepKind::Open),
-            State::Writing(write) => match self.made {
-                Made::Pair(_) => Some(write.kind()),
-                _ => None,
+            State::Writing(write) => match write.served(self.made) {
+                Some(_) => Some(write.kind()),
+                None => self.made.kind(),
             },
+            State::Pairing(_) => self.made.kind(),
             State::Putting(put) => Some(put.write.kind()),
             State::Burying(_) => Some(StepKind::Bury),
             _ => None,
@@ -152,9 +161,9 @@ impl Machine {
         ensures standing { IsStanding self.new }
     {
         match answer {
-            Answer::Word(word) => self.state = self.at_word(word),
-            Answer::Exchanged => self.state = self.at_exchanged(),
-            Answer::Found(word) => self.state = self.at_found(word),
+            Answer::Word(word) => self.at_word(word),
+            Answer::Exchanged => self.at_exchanged(),
+            Answer::Found(word) => self.at_found(word),
             Answer::Yes(yes) => self.state = self.at_yes(yes),
             Answer::Op(kind) => self.at_op(kind),
             Answer::Size { len, limit } => self.state = self.at_size(len, limit),
@@ -167,35 +176,57 @@ impl Machine {
 
 impl Machine {
     #[inline(always)]
-    fn at_word(&self, word: u64) -> State
-        requires { IsStanding self.now }
-        ensures value { result ≡ at_word self.now word self.now.state }
-        ensures standing { IsStandingState self.now.task result }
+    fn at_word(&mut self, word: u64)
+        requires { IsStanding self.old }
+        ensures after { self.new ≡ after self.old (Answer.Word word) }
+        ensures standing { IsStanding self.new }
     {
         match self.state {
-            State::AtRoot => self.at_root(word),
-            State::Searching(search) => self.goes(search.at_word(self.hash, word)),
-            State::Leaving(table) => self.left(table, word),
-            State::Growing(_) => State::Ended(Reply::Refused(Refused::Capacity)),
-            state => state,
+            State::AtRoot => self.state = self.at_root(word),
+            State::Searching(search) => {
+                self.state = self.goes(search.at_word(self.hash, word));
+            }
+            State::Leaving(table) => self.state = self.left(table, word),
+            State::Growing(_) => self.state = State::Ended(Reply::Refused(Refused::Capacity)),
+            State::Writing(write) => {
+                if write.served(self.made).is_none() {
+                    self.told(word);
+                }
+            }
+            State::Pairing(_) => self.told(word),
+            _ => {}
         }
     }
 
     #[inline(always)]
-    fn at_exchanged(&self) -> State
-        requires { IsStanding self.now }
-        ensures value { result ≡ at_exchanged self.now.made self.now.state }
-        ensures standing { IsStandingState self.now.task result }
+    fn at_exchanged(&mut self)
+        requires { IsStanding self.old }
+        ensures after { self.new ≡ after self.old Answer.Exchanged }
+        ensures standing { IsStanding self.new }
     {
         match self.state {
-            State::Opening(table) => State::Searching(Search::Sizing(table)),
-            State::Writing(write) => match self.made {
-                Made::Pair(pair) => self.written(write, pair),
-                _ => State::Writing(write),
+            State::Opening(table) => self.state = State::Searching(Search::Sizing(table)),
+            State::Writing(write) => match write.served(self.made) {
+                Some(pair) => self.state = self.written(write, pair),
+                None => self.made = self.made.taken(),
             },
-            State::Putting(put) => self.written(put.write, put.pair),
-            State::Burying(removal) => State::Uncounting(removal.pair()),
-            state => state,
+            State::Pairing(_) => self.made = self.made.taken(),
+            State::Putting(put) => self.state = self.written(put.write, put.pair),
+            State::Burying(removal) => self.state = State::Uncounting(removal.pair()),
+            _ => {}
+        }
+    }
+
+    /// So many numbers were taken for pairs. Where that is the limit the call ends.
+    #[inline]
+    fn told(&mut self, count: u64)
+        requires { IsStanding self.old }
+        ensures after { self.new ≡ state_told self.old count }
+        ensures standing { IsStanding self.new }
+    {
+        match self.made.told(count) {
+            Some(made) => self.made = made,
+            None => self.state = State::Ended(Reply::Refused(Refused::Limit)),
         }
     }
 
@@ -220,17 +251,21 @@ impl Machine {
     }
 
     #[inline(always)]
-    fn at_found(&self, word: u64) -> State
-        requires { IsStanding self.now }
-        ensures value { result ≡ at_found self.now word self.now.state }
-        ensures standing { IsStandingState self.now.task result }
+    fn at_found(&mut self, word: u64)
+        requires { IsStanding self.old }
+        ensures after { self.new ≡ after self.old (Answer.Found word) }
+        ensures standing { IsStanding self.new }
     {
         match self.state {
-            State::Opening(_) => State::Searching(Search::Sizing(word)),
-            State::Writing(write) => self.goes(write.place.look(word)),
-            State::Putting(put) => self.goes(put.write.place.look(word)),
-            State::Burying(removal) => self.beaten(removal, word),
-            state => state,
+            State::Opening(_) => self.state = State::Searching(Search::Sizing(word)),
+            State::Writing(write) => match write.served(self.made) {
+                Some(_) => self.state = self.goes(write.place.look(word)),
+                None => self.told(word),
+            },
+            State::Pairing(_) => self.told(word),
+            State::Putting(put) => self.state = self.goes(put.write.place.look(word)),
+            State::Burying(removal) => self.state = self.beaten(removal, word),
+            _ => {}
         }
     }
 
@@ -275,9 +310,13 @@ impl Machine {
         ensures standing { IsStanding self.new }
     {
         match self.state {
-            State::Offering(gap) => self.state = State::offered(gap, kind),
+            State::Offering(gap) => {
+                self.state = State::offered(gap, kind);
+                self.made = self.made.answered(kind);
+            }
             State::Showing(shown) if self.task == Task::Compute => {
                 self.state = State::chosen(shown, kind);
+                self.made = self.made.answered(kind);
                 self.remembered = self.remembered.with_choice(shown, kind);
             }
             _ => {}
@@ -306,14 +345,11 @@ impl Machine {
     {
         match self.state {
             State::Making => self.state = State::Opening(number),
-            State::Writing(_) => match self.made {
-                Made::Nothing => self.made = Made::Key,
-                Made::Key => self.made = Made::Pair(number),
-                Made::Pair(_) => {}
-            },
-            State::Pairing(purpose) => match self.made {
-                Made::Nothing => self.made = Made::Key,
-                _ => {
+            State::Writing(write) => self.made = write.grown(self.made, number),
+            State::Pairing(purpose) => match self.made.grown(purpose.in_place_of()) {
+                Grown::On(made) => self.made = made,
+                Grown::Pair(made) => {
+                    self.made = made;
                     self.state = State::provides(purpose, number);
                     self.remembered = self.remembered.with_pair(purpose, number);
                 }
@@ -345,9 +381,9 @@ impl Machine {
     {
         match self.state {
             State::Making => State::Ended(Reply::Refused(refused)),
-            State::Writing(write) => match self.made {
-                Made::Pair(_) => State::Writing(write),
-                _ => State::Ended(Reply::Refused(refused)),
+            State::Writing(write) => match write.served(self.made) {
+                Some(_) => State::Writing(write),
+                None => State::Ended(Reply::Refused(refused)),
             },
             State::Pairing(_) => State::Ended(Reply::Refused(refused)),
             state => state,

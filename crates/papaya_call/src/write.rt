@@ -1,36 +1,12 @@
 //! The write of an insertion at one place.
-ghost use Rattle.std.specs.Prelude.{◌≡◌};
-ghost use Rattle.papaya_call.specs.Machine.{pairing_ask};
-ghost use Rattle.papaya_call.specs.Write.{IsMade, note_ask, write_ask, write_kind};
+ghost use Rattle.std.specs.Prelude.{◌≡◌, ◌<◌, ◌^◌};
+ghost use Rattle.papaya_call.specs.Made.{IsMade, IsOwn};
+ghost use Rattle.papaya_call.specs.Write.{made_of, note_ask, put_ask, serves, with_pair_at, write_ask, write_grown, write_kind};
 
+use crate::made::{Grown, Made, Of};
 use papaya_ask::ask::{Ask, At, StepKind};
 use papaya_ask::search::Place;
 use papaya_words::word::{Word, hint};
-
-/// What a call has made so far. A key and a pair are made once a call, before the first word that
-/// names the pair, and serve each exchange that it tries.
-#[derive(Clone, Copy)]
-pub enum Made {
-    /// Neither a key nor a pair.
-    Nothing,
-    /// The key is logged.
-    Key,
-    /// The pair of this number is logged.
-    Pair(u64),
-}
-
-impl Made {
-    /// What is asked next for a pair of a value that a closure answered: the key, then the pair.
-    #[inline]
-    pub fn pairing_ask(self) -> Ask
-        ensures { result ≡ pairing_ask self }
-    {
-        match self {
-            Made::Nothing => Ask::MakeKey,
-            Made::Key | Made::Pair(_) => Ask::MakePair,
-        }
-    }
-}
 
 /// A pair is to stand at this place, in place of the word that was found there.
 #[derive(Clone, Copy)]
@@ -42,20 +18,93 @@ pub struct Write {
 }
 
 impl Write {
-    /// What is asked next: a key, then a pair, then the exchange.
+    /// The pair that an insertion made and that may stand here, if there is one: of the call's own
+    /// key where the place is empty, and else of the key that is there.
+    #[inline(always)]
+    pub fn served(self, made: Made) -> Option<u64>
+        ensures value { result ≡ serves made self }
+        ensures served { IsMade made → IsOwn result }
+    {
+        if self.old == 0 {
+            return made.own;
+        }
+        match made.of {
+            Some(of) if of.serves(self.place) => Some(of.pair),
+            _ => None,
+        }
+    }
+
+    /// The exchange by which the pair of this number comes to stand here.
+    #[inline(always)]
+    pub fn put(self, pair: u64) -> Ask
+        requires { pair < 2 ^ 48 }
+        ensures { result ≡ put_ask self pair }
+    {
+        Ask::Exchange(
+            At::Slot(self.place.table, self.place.probe.i),
+            self.old,
+            Word::live(pair).0,
+        )
+    }
+
+    /// What an insertion asks next: what its pair still needs, then the exchange.
     #[inline(always)]
     pub fn ask(self, made: Made) -> Ask
         requires { IsMade made }
         ensures { result ≡ write_ask self made }
     {
-        match made {
-            Made::Nothing => Ask::MakeKey,
-            Made::Key => Ask::MakePair,
-            Made::Pair(pair) => Ask::Exchange(
-                At::Slot(self.place.table, self.place.probe.i),
-                self.old,
-                Word::live(pair).0,
-            ),
+        match self.served(made) {
+            None => made.ask(self.old),
+            Some(pair) => self.put(pair),
+        }
+    }
+
+    /// The pair of this number was made for this place.
+    #[inline(always)]
+    pub fn with_pair(self, made: Made, pair: u64) -> Made
+        requires made { IsMade made }
+        requires pair { pair < 2 ^ 48 }
+        ensures value { result ≡ with_pair_at made self pair }
+        ensures made { IsMade result }
+    {
+        if self.old == 0 {
+            return Made {
+                own: Some(pair),
+                ..made
+            };
+        }
+        Made {
+            of: Some(self.of(pair)),
+            ..made
+        }
+    }
+
+    /// The pair of this number was made with the key that is here.
+    #[inline]
+    pub fn of(self, pair: u64) -> Of
+        ensures { result ≡ made_of self pair }
+    {
+        Of {
+            pair,
+            table: self.place.table,
+            index: self.place.probe.i,
+        }
+    }
+
+    /// What an insertion asked for was logged: the number is that of its pair, if this was it.
+    #[inline]
+    pub fn grown(self, made: Made, number: u64) -> Made
+        requires made { IsMade made }
+        requires number { number < 2 ^ 48 }
+        ensures value { result ≡ write_grown (serves made self) made self number }
+        ensures made { IsMade result }
+    {
+        if self.served(made).is_some() {
+            return made;
+        }
+        match made.grown(self.old) {
+            Grown::On(made) => made,
+            Grown::Pair(made) => self.with_pair(made, number),
         }
     }
 

@@ -98,7 +98,7 @@ impl<S: BuildHasher> Calls for HashMap<u64, u64, S> {
 fn cases<S: BuildHasher + Copy>(rt: &impl Abort, alloc: Global, hasher: S) -> Result<(), Fail> {
     for mode in MODES {
         for (at, case) in CASES.iter().enumerate() {
-            let mut map = HashMap::with_parts(alloc, mode, 0, 1, hasher)?;
+            let mut map = HashMap::with_parts(alloc, mode, 0, 1, hasher, None)?;
             goes(rt, at, case, &mut map);
         }
     }

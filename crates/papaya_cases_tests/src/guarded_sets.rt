@@ -114,7 +114,7 @@ fn cases_of_sets_with_a_guard(rt: HostRuntime) -> Result<(), Fail> {
             Holder::OtherOwned,
         ] {
             for (at, case) in CASES.iter().enumerate() {
-                let set = HashSet::with_parts(&rt, rt.alloc(), mode, 0, 4, FIRST)?;
+                let set = HashSet::with_parts(&rt, rt.alloc(), mode, 0, 4, FIRST, None)?;
                 held(&rt, at, case, &set, holder);
             }
         }
@@ -157,7 +157,7 @@ fn refuses<R: Wait + Abort, G: Guard>(rt: &R, set: &Keys, guard: &G) {
 fn a_guard_of_another_collector_is_refused_by_sets(rt: HostRuntime) -> Result<(), Fail> {
     let other = Collector::new(7);
     for mode in MODES {
-        let set = HashSet::with_parts(&rt, rt.alloc(), mode, 0, 4, FIRST)?;
+        let set = HashSet::with_parts(&rt, rt.alloc(), mode, 0, 4, FIRST, None)?;
         is(&rt, set.pin().insert(&rt, 42), Ok(true));
         refuses(&rt, &set, &other.enter());
         refuses(&rt, &set, &other.enter_owned());

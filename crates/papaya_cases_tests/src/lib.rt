@@ -14,7 +14,13 @@ mod expect;
 #[cfg(test)]
 mod guarded_sets;
 #[cfg(test)]
+mod kept_keys;
+#[cfg(test)]
+mod kept_set_keys;
+#[cfg(test)]
 mod key_steps;
+#[cfg(test)]
+mod labels;
 #[cfg(test)]
 mod maps;
 #[cfg(test)]

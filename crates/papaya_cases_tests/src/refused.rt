@@ -137,7 +137,7 @@ struct Alone {
 impl Trial for Alone {
     fn with_refused(&self, number: usize) -> Result<Outcome, Refused> {
         let Start { mode, keys } = self.start;
-        let mut map = seq::HashMap::with_parts(self.alloc, mode, 0, 1, FIRST)?;
+        let mut map = seq::HashMap::with_parts(self.alloc, mode, 0, 1, FIRST, None)?;
         Ok(tries_on(self.alloc, &mut map, keys, self.row, number))
     }
 }
@@ -154,7 +154,7 @@ struct Together<'r, R> {
 impl<R: Wait> Trial for Together<'_, R> {
     fn with_refused(&self, number: usize) -> Result<Outcome, Refused> {
         let Start { mode, keys } = self.start;
-        let map = map::HashMap::with_parts(self.rt, self.alloc, mode, 0, 4, FIRST)?;
+        let map = map::HashMap::with_parts(self.rt, self.alloc, mode, 0, 4, FIRST, None)?;
         let mut shared = Shared {
             rt: self.rt,
             map: &map,
@@ -248,7 +248,7 @@ struct Long {
 impl Trial for Long {
     fn with_refused(&self, number: usize) -> Result<Outcome, Refused> {
         let (mode, capacity, keys, slots) = self.length;
-        let mut map = seq::HashMap::with_parts(self.alloc, mode, capacity, 1, FIRST)?;
+        let mut map = seq::HashMap::with_parts(self.alloc, mode, capacity, 1, FIRST, None)?;
         let [insertion, ..] = AT_NEW;
         let outcome = tries_on(self.alloc, &mut map, keys, insertion, number);
         Ok(if map.slots() == slots {

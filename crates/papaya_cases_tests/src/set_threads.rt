@@ -39,7 +39,7 @@ fn finds_beside<R: Threads + Wait + Sync + Abort>(rt: &R, set: &HashSet<u64>) {
 fn a_reader_finds_all_keys_of_a_set_while_room_is_made(rt: HostRuntime) -> Result<(), Fail> {
     for mode in MODES {
         let hasher = BuildHasherDefault::new();
-        let set = HashSet::with_parts(&rt, rt.alloc(), mode, 0, 4, hasher)?;
+        let set = HashSet::with_parts(&rt, rt.alloc(), mode, 0, 4, hasher, None)?;
         finds_beside(&rt, &set);
     }
     Ok(())

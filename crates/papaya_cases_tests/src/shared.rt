@@ -126,7 +126,7 @@ fn cases<R: Wait + Abort, S: BuildHasher + Copy>(
 ) -> Result<(), Fail> {
     for mode in MODES {
         for (at, case) in CASES.iter().enumerate() {
-            let map = HashMap::with_parts(rt, alloc, mode, 0, 4, hasher)?;
+            let map = HashMap::with_parts(rt, alloc, mode, 0, 4, hasher, None)?;
             goes(rt, at, case, &mut Shared { rt, map: &map });
         }
     }

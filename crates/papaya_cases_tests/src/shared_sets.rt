@@ -77,7 +77,7 @@ fn cases<R: Wait + Abort, S: BuildHasher + Copy>(
 ) -> Result<(), Fail> {
     for mode in MODES {
         for (at, case) in CASES.iter().enumerate() {
-            let set = HashSet::with_parts(rt, alloc, mode, 0, 4, hasher)?;
+            let set = HashSet::with_parts(rt, alloc, mode, 0, 4, hasher, None)?;
             goes(rt, at, case, &mut Shared { rt, set: &set });
         }
     }

@@ -43,7 +43,7 @@ fn one_thread_removes_each_key(rt: HostRuntime) -> Result<(), Fail> {
     for mode in MODES {
         for _ in 0..40u64 {
             let hasher = BuildHasherDefault::new();
-            let map = HashMap::with_parts(&rt, rt.alloc(), mode, 0, 4, hasher)?;
+            let map = HashMap::with_parts(&rt, rt.alloc(), mode, 0, 4, hasher, None)?;
             removes(&rt, &map);
         }
     }

@@ -52,7 +52,7 @@ fn maps_are_made_of_pairs(rt: HostRuntime) -> Result<(), Fail> {
 
 /// A map of these pairs.
 fn made(alloc: Global, mode: ResizeMode, pairs: &[(u64, u64)]) -> Result<Numbers, Fail> {
-    let mut map = HashMap::with_parts(alloc, mode, 0, 1, BuildHasherDefault::new())?;
+    let mut map = HashMap::with_parts(alloc, mode, 0, 1, BuildHasherDefault::new(), None)?;
     map.extend(pairs.iter().copied())?;
     Ok(map)
 }

@@ -44,9 +44,10 @@ use Rattle.papaya_chain.specs.declared.machine.Phase.{Phase}
 use Rattle.papaya_chain.specs.declared.machine.Phase.TheVariants.{Calling, Linking, Copying as Copying_root}
 
 -- a call that begins
-abbrev pub started : Task → (hash : ℕ) → ResizeMode → (initial number : ℕ) → Machine
-started task hash mode initial number = record {
-  call = calls.started task hash mode initial;
+abbrev pub started : Task → (hash : ℕ) → ResizeMode → (initial number : ℕ) → (limit : Option ℕ)
+    → Machine
+started task hash mode initial number limit = record {
+  call = calls.started task hash mode initial limit;
   number = number;
   helped = false;
   phase = Calling;

@@ -101,16 +101,24 @@ pub struct Machine {
 }
 
 impl Machine {
-    /// A call that begins. Calls with different numbers copy a table from different chunks on.
+    /// A call that begins. Calls with different numbers copy a table from different chunks on. It
+    /// logs no pair where so many were logged as the limit says, if there is one.
     #[inline(always)]
-    pub fn new(task: Task, hash: u64, mode: ResizeMode, initial: usize, number: u64) -> Machine
+    pub fn new(
+        task: Task,
+        hash: u64,
+        mode: ResizeMode,
+        initial: usize,
+        number: u64,
+        limit: Option<u64>,
+    ) -> Machine
         requires chunked { IsChunked mode }
         requires initial { IsPowerOfTwo initial }
-        ensures value { result ≡ started task hash mode initial number }
+        ensures value { result ≡ started task hash mode initial number limit }
         ensures standing { IsStanding result }
     {
         Machine {
-            call: CallMachine::new(task, hash, mode, initial),
+            call: CallMachine::new(task, hash, mode, initial, limit),
             number,
             helped: false,
             phase: Phase::Calling,

@@ -1,14 +1,15 @@
 -- Why a call over a chain is refused.
-use Rattle.std.proofs.Common.{◌≡◌, ◌⊎◌, inl, inr, ⊎_elim, ℕ, ◌==◌, Bool, true, false, cond, Option, None, Some, List, [], ◌∷◌, refl, sym, ap, ◌∙◌, subst}
+use Rattle.std.proofs.Common.{◌≡◌, ◌⊎◌, inl, inr, ⊎_elim, ℕ, ◌+◌, ◌==◌, Bool, true, false, cond, Option, None, Some, List, [], ◌∷◌, refl, sym, ap, ◌∙◌, subst}
 use Rattle.std.proofs.lemmas.Bool.{cond_both}
 use Rattle.papaya_words.specs.declared.probe.Refused.{Refused}
 use Rattle.papaya_words.specs.declared.probe.ResizeMode.{ResizeMode}
 use Rattle.papaya_words.specs.declared.probe.ResizeMode.TheVariants.{Incremental, Blocking}
 use Rattle.papaya_ask.specs.declared.ask.Answer.{Answer as Call_answer}
 use Rattle.papaya_ask.specs.declared.ask.Answer.TheVariants.{Word as Word_read, Exchanged, Found as Found_instead, Refused as Was_refused}
-use Rattle.papaya_ask.specs.declared.ask.Ask.TheVariants.{Done as Ask_done}
+use Rattle.papaya_ask.specs.declared.ask.Ask.{Ask as Call_ask}
+use Rattle.papaya_ask.specs.declared.ask.Ask.TheVariants.{Exchange, Done as Ask_done}
 use Rattle.papaya_ask.specs.declared.ask.At.{At}
-use Rattle.papaya_ask.specs.declared.ask.At.TheVariants.{Slot}
+use Rattle.papaya_ask.specs.declared.ask.At.TheVariants.{Slot, Made as Made_word}
 use Rattle.papaya_ask.specs.declared.ask.StepKind.{StepKind}
 use Rattle.papaya_ask.specs.declared.call.Reply.{Reply}
 use Rattle.papaya_ask.specs.declared.call.Reply.TheVariants.{Refused as Reply_refused}
@@ -18,8 +19,8 @@ use Rattle.papaya_call.specs.declared.machine.Machine.{Machine as Call_machine}
 use Rattle.papaya_call.specs.declared.machine.State.{State as Stage}
 use Rattle.papaya_call.specs.declared.machine.State.TheVariants.{Making, Writing, Pairing, Leaving, Growing}
 use Rattle.papaya_call.specs.declared.need.Need.{Need}
-use Rattle.papaya_call.specs.declared.write.Made.{Made}
-use Rattle.papaya_call.specs.declared.write.Made.TheVariants.{Nothing, Key, Pair}
+use Rattle.papaya_call.specs.declared.made.Made.{Made}
+use Rattle.papaya_call.specs.Compute.{in_place_of}
 use Rattle.papaya_call.specs.Machine.{asks, needed}
 use Rattle.papaya_call.specs.Machine as call_machine
 use Rattle.papaya_copy.specs.declared.copying.Aim.{Aim}
@@ -41,10 +42,11 @@ use Rattle.papaya_chain.specs.declared.machine.Phase.{Phase}
 use Rattle.papaya_chain.specs.declared.machine.Phase.TheVariants.{Calling, Linking, Copying as Copying_root}
 use Rattle.papaya_chain.specs.Machine.{after, after_copied, after_in, after_linked, aim_for, answered, ask_of, asks_in, called, copying_after, follows_of, goes_on, grows_as, kind_in, kind_of_ask, leaves, link_after, onward, stepped, told_next}
 use Rattle.papaya_rests.proofs.RestsReplyRefused.{IsMaking, IsReason, machine_reason}
+use Rattle.papaya_rests.proofs.Makings.{HoldsOfPairAsks, pair_holds, write_holds}
 use Rattle.papaya_rests.specs.Told as call_told
 use Rattle.papaya_rests.proofs.RestsLearn.{by_test}
 use Rattle.papaya_law.specs.Code.{Coding}
-use Rattle.papaya_law.specs.Exchange.{Setting, State, Exchange}
+use Rattle.papaya_law.specs.Exchange.{Setting, State, Exchange as Exchange_made}
 use Rattle.papaya_rests.specs.Copier.{link_in_copying}
 use Rattle.papaya_chain_rests.specs.Goes.{IsCause, IsInOrder, IsOwnRefusal, IsOwnStep, IsToMake, WasNotMade, WouldBeTooLong, link_in}
 use Rattle.papaya_chain_rests.specs.Rests.{left_by}
@@ -157,10 +159,11 @@ module _ (m : Machine) (answer : Answer) (refused : Refused) where
         step : IsOwnStep m answer
         step = record { told = told; phase = phase; is = is; call = ap (λ (y : Machine). y.call) same; goes_on = ap (λ (y : Machine). y.phase) same ∙ phase }
 
-        by_reason : IsReason m.call refused m.call.state told → IsOwnRefusal m answer refused
+        by_reason : IsReason m.call refused m.call.made m.call.state told → IsOwnRefusal m answer refused
         by_reason (inl made) = record { own = step; why = inl (makes told phase is made.0 made.1, made.0) }
         by_reason (inr (inl (full, (need, grows)))) = let by_word = growing_word m.call need refused told grows then in absurd (no_table need by_word.0 grows by_word.1)
-        by_reason (inr (inr (none, (gap, offers), removes))) = record { own = step; why = inr (none, ap (asks_in m.call) phase ∙ ap (λ stage. asked.Call (asks m.call.made m.call.hash stage)) offers, removes) }
+        by_reason (inr (inr (inl (full, over, making)))) = record { own = step; why = inr (inl (full, over)) }
+        by_reason (inr (inr (inr (none, (gap, offers), removes)))) = record { own = step; why = inr (inr (none, ap (asks_in m.call) phase ∙ ap (λ stage. asked.Call (asks m.call.made m.call.hash stage)) offers, removes)) }
 
     called_why : (told : Call_answer) → m.phase ≡ Calling → answer ≡ answers.Call told → IsStep m told (called m told) → IsOwnRefusal m answer refused
     called_why told phase is (inl (same, no_table)) = own_why told phase is (ap (after_in m answer) phase ∙ ap (answered m) is ∙ same) no_table
@@ -184,22 +187,34 @@ module _ (m : Machine) (answer : Answer) (refused : Refused) where
     machine_why : IsInOrder m answer m.phase → IsCause m answer refused
     machine_why order = phase_why m.phase refl order
 
-module _ {K P : Type 0} (g : Setting K P) (c : Coding K P) (k : K) (s : State P) (m : Machine) (answer : Answer) (refused : Refused) (hands : Hands P) (es : List (Exchange P)) (hands' : Hands P)
+module _ {K P : Type 0} (g : Setting K P) (c : Coding K P) (k : K) (s : State P) (m : Machine) (answer : Answer) (refused : Refused) (hands : Hands P) (es : List (Exchange_made P)) (hands' : Hands P)
     (tells : IsTold g c k s (kind_of_ask m) (follows_of m) hands (ask_of m) answer es hands') where
+  -- what is refused was to be made
+  abbrev IsMadeAsk : Call_ask → Type 0
+  IsMadeAsk ask = (kind : Option StepKind) (call' : call_told.Hands P) → call_told.IsTold g c k s kind hands.call ask (Was_refused refused) es call' → IsToMake ask
+
   -- no exchange is refused
-  making_told : (made : Made) (hash : ℕ) (kind : Option StepKind) (call' : call_told.Hands P) (stage : Stage) → IsMaking stage → call_told.IsTold g c k s kind hands.call (asks made hash stage) (Was_refused refused) es call' → IsToMake (asks made hash stage)
-  making_told made hash kind call' Making makes h = tt
-  making_told Nothing hash kind call' (Writing write) makes h = tt
-  making_told Key hash kind call' (Writing write) makes h = tt
-  making_told (Pair n) hash kind call' (Writing write) makes h =
-      let at : At = Slot write.place.table write.place.probe.i in
-      by_test (call_told.word_of g c s at == write.old)
-      ((Was_refused refused ≡ Exchanged) × ((e : Exchange P) × call_told.IsAsked c kind at (live_word n) s hands.call e × (es ≡ e ∷ [])) × (call' ≡ hands.call))
+  exchange_told : (at : At) (old new : ℕ) → IsMadeAsk (Exchange at old new)
+  exchange_told at old new kind call' h =
+      by_test (call_told.word_of g c s at == old)
+      ((Was_refused refused ≡ Exchanged) × ((e : Exchange_made P) × call_told.IsAsked g c k kind at new s hands.call e × (es ≡ e ∷ [])) × (call' ≡ hands.call))
       ((Was_refused refused ≡ Found_instead (call_told.word_of g c s at)) × (es ≡ []) × (call' ≡ call_told.told_of s at hands.call))
       ⊥ h (λ stands told. absurd (cc told.0)) (λ other told. absurd (cc told.0))
-  making_told Nothing hash kind call' (Pairing purpose) makes h = tt
-  making_told Key hash kind call' (Pairing purpose) makes h = tt
-  making_told (Pair n) hash kind call' (Pairing purpose) makes h = tt
+
+  each_told : HoldsOfPairAsks IsMadeAsk
+  each_told = record {
+    loads = λ kind call' h. absurd (let none = h.0 in cc none);
+    takes = λ count. exchange_told Made_word count (count + 1);
+    key = λ kind call' h. tt;
+    value = λ kind call' h. tt;
+    pair = λ kind call' h. tt;
+    pair_of = λ n kind call' h. tt;
+  }
+
+  making_told : (made : Made) (hash : ℕ) (kind : Option StepKind) (call' : call_told.Hands P) (stage : Stage) → IsMaking stage → call_told.IsTold g c k s kind hands.call (asks made hash stage) (Was_refused refused) es call' → IsToMake (asks made hash stage)
+  making_told made hash kind call' Making makes h = tt
+  making_told made hash kind call' (Writing write) makes h = write_holds IsMadeAsk each_told write (λ n. exchange_told (Slot write.place.table write.place.probe.i) write.old (live_word n)) made kind call' h
+  making_told made hash kind call' (Pairing purpose) makes h = pair_holds IsMadeAsk each_told made (in_place_of purpose) kind call' h
   making_told made hash kind call' stage makes h = absurd makes
 
   makes_told : Makes m answer refused

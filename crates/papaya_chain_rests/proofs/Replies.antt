@@ -14,7 +14,7 @@ use Rattle.papaya_call.specs.declared.machine.State.{State as Stage}
 use Rattle.papaya_call.specs.declared.machine.State.TheVariants.{AtRoot, Making, Searching, Offering, Leaving, Growing, Ended}
 use Rattle.papaya_call.specs.declared.compute.Gap.TheVariants.{NoRoot}
 use Rattle.papaya_call.specs.declared.compute.Remembered.{Remembered}
-use Rattle.papaya_call.specs.declared.write.Made.{Made}
+use Rattle.papaya_call.specs.declared.made.Made.{Made}
 use Rattle.papaya_call.specs.Machine.{IsStanding, asks, at_root, needed}
 use Rattle.papaya_call.specs.Machine as call_machine
 use Rattle.papaya_chain.specs.declared.ask.Ask.TheVariants as asked
@@ -28,7 +28,7 @@ use Rattle.papaya_law.specs.Code.{Coding, IsHashed}
 use Rattle.papaya_law.specs.Exchange.{Setting, State, Exchange}
 use Rattle.papaya_rests.specs.Owed.{grows_by, owed_by}
 use Rattle.papaya_rests.specs.Rests.{change_after, change_in}
-use Rattle.papaya_rests.specs.Says.{IsSaidBy, Said, ShowsPairs, StandsOn, said_in, said_to_choose, said_to_fill}
+use Rattle.papaya_rests.specs.Says.{IsSaidBy, Said, ShowsIn, ShowsPairs, StandsOn, said_in, said_to_choose, said_to_fill}
 use Rattle.papaya_rests.specs.Told as call_told
 use Rattle.papaya_rests.proofs.RestsCount.{machine_owes}
 use Rattle.papaya_rests.proofs.RestsReply.{machine_changes}
@@ -121,7 +121,7 @@ module _ (m : Machine) (answer : Answer) (t : ℕ) (left : left_by m.call.state 
 
 module _ {K P : Type 0} (g : Setting K P) (c : Coding K P) (k : K) (s : State P) (m : Machine) (hands : Hands P) (answer : Answer) (es : List (Exchange P)) (hands' : Hands P) (order : IsInOrder m answer m.phase) (tells : IsTold g c k s (kind_of_ask m) (follows_of m) hands (ask_of m) answer es hands') where
   -- what the call itself was told
-  own_told : (own : IsOwnStep m answer) → (call' : call_told.Hands P) × call_told.IsTold g c k s (call_machine.kind_of_ask m.call) hands.call (call_machine.ask_of m.call) own.told es call'
+  pub own_told : (own : IsOwnStep m answer) → (call' : call_told.Hands P) × call_told.IsTold g c k s (call_machine.kind_of_ask m.call) hands.call (call_machine.ask_of m.call) own.told es call'
   own_told own =
       let h = subst (λ phase. IsTold g c k s (kind_in m.call phase) (follows_of m) hands (asks_in m.call phase) answer es hands') own.phase tells in
       let same : own.told ≡ h.told = cc (own.is, h.is) in
@@ -173,13 +173,13 @@ module _ (m : Machine) (answer : Answer) (order : IsInOrder m answer m.phase) wh
   ]
 
   -- a call that showed pairs that are there shows such pairs
-  pub chain_shows : ShowsPairs m.call.state → ShowsPairs (after m answer).call.state
+  pub chain_shows : ShowsPairs m.call → ShowsPairs (after m answer).call
   chain_shows shows = elim (machine_goes m answer order) [
-    | inl waits ↦ subst (λ (d : Call_machine). ShowsPairs d.state) (sym waits.call) shows
-    | inr (inl own) ↦ subst (λ (d : Call_machine). ShowsPairs d.state) (sym own.call) (machine_shows m.call own.told shows)
-    | inr (inr (inl enters)) ↦ subst (λ (d : Call_machine). ShowsPairs d.state) (sym enters.call) tt
-    | inr (inr (inr (inl begins))) ↦ subst (λ (d : Call_machine). ShowsPairs d.state) (sym begins.call) (anew ShowsPairs tt tt tt (λ _. tt) m.call.task m.call.remembered.fill begins.root)
-    | inr (inr (inr (inr ends))) ↦ subst (λ (d : Call_machine). ShowsPairs d.state) (sym ends.call) tt
+    | inl waits ↦ subst ShowsPairs (sym waits.call) shows
+    | inr (inl own) ↦ subst ShowsPairs (sym own.call) (machine_shows m.call own.told shows)
+    | inr (inr (inl enters)) ↦ subst ShowsPairs (sym enters.call) tt
+    | inr (inr (inr (inl begins))) ↦ subst ShowsPairs (sym begins.call) (anew (ShowsIn m.call.remembered.choice) tt tt tt (λ _. tt) m.call.task m.call.remembered.fill begins.root)
+    | inr (inr (inr (inr ends))) ↦ subst ShowsPairs (sym ends.call) tt
   ]
 
   -- a call that was set aside stands on what it remembers, and says nothing new
@@ -192,7 +192,7 @@ module _ (m : Machine) (answer : Answer) (order : IsInOrder m answer m.phase) wh
       remembers (inr (inr e)) = inr (inr (ap (λ (h : Remembered). said_to_choose h.choice) (sym same) ∙ e))
 
   -- the call stands on what it stood on, or on what its closure says with this answer
-  pub chain_said : IsStanding m.call → ShowsPairs m.call.state → (said : Said) → StandsOn (after m answer).call said → StandsOn m.call said ⊎ ((own : IsOwnStep m answer) × IsSaidBy m.call own.told said)
+  pub chain_said : IsStanding m.call → ShowsPairs m.call → (said : Said) → StandsOn (after m answer).call said → StandsOn m.call said ⊎ ((own : IsOwnStep m answer) × IsSaidBy m.call own.told said)
   chain_said standing shows said stands = elim (machine_goes m answer order) [
     | inl waits ↦ inl (subst (λ d. StandsOn d said) waits.call stands)
     | inr (inl own) ↦ ⊎_elim (λ before. inl before) (λ says. inr (own, says)) (machine_said m.call own.told said standing shows (subst (λ d. StandsOn d said) own.call stands))

@@ -1,5 +1,5 @@
 -- A machine over a chain that stands within its tables does so after each answer within the limits, and asks for tables of sizes of tables.
-use Rattle.std.proofs.Common.{ℕ, ◌==◌, Bool, true, false, sym, subst}
+use Rattle.std.proofs.Common.{ℕ, ◌==◌, Bool, true, false, Option, None, Some, sym, subst}
 use Rattle.std.proofs.lemmas.Bool.{cond_both}
 use Rattle.std.specs.Int.{IsPowerOfTwo}
 use Rattle.papaya_words.specs.Mode.{IsChunked}
@@ -29,6 +29,7 @@ use Rattle.papaya_chain.specs.declared.ask.Answer.TheVariants as answers
 use Rattle.papaya_chain.specs.declared.machine.Machine.{Machine}
 use Rattle.papaya_chain.specs.declared.machine.Phase.{Phase}
 use Rattle.papaya_chain.specs.declared.machine.Phase.TheVariants.{Calling, Linking, Copying as Copying_root}
+use Rattle.papaya_call.specs.Made.{IsLimit, IsNumber, wanted}
 use Rattle.papaya_chain.specs.Machine.{IsFit, IsFitAsk, IsStanding, IsStandingPhase, after, after_copied, after_in, after_linked, aim_for, ask_of, asks_in, begins_anew, called, copying_after, enters, goes_on, grows_as, leaves, link_after, onward, refuses, started, stepped, told_next}
 use Rattle.papaya_chain.proofs.Settings.{settings_stay}
 use Rattle.papaya_rests.proofs.Standing.{machine_ask_fits, machine_stands}
@@ -116,6 +117,11 @@ module _ (m : Machine) (stands : IsStanding m) where
   pub chain_ask_fits : IsFitAsk (ask_of m)
   chain_ask_fits = fits_in m.phase stands.phase
 
+-- a number that is yet to be taken fits
+wanted_stands : (limit : Option ℕ) → IsNumber (wanted limit)
+wanted_stands None = tt
+wanted_stands (Some most) = tt
+
 -- a call that begins stands
-pub started_stands : (task : Task) (hash : ℕ) (mode : ResizeMode) (initial number : ℕ) → IsChunked mode → IsPowerOfTwo initial → IsStanding (started task hash mode initial number)
-started_stands task hash mode initial number chunked power = record { call = record { made = tt; remembered = record { fill = tt; choice = tt }; state = tt }; chunked = chunked; initial = power; phase = tt }
+pub started_stands : (task : Task) (hash : ℕ) (mode : ResizeMode) (initial number : ℕ) (limit : Option ℕ) → IsLimit limit → IsChunked mode → IsPowerOfTwo initial → IsStanding (started task hash mode initial number limit)
+started_stands task hash mode initial number limit fits chunked power = record { call = record { made = record { limit = fits; number = wanted_stands limit; own = tt; of = tt }; remembered = record { fill = tt; choice = tt }; state = tt }; chunked = chunked; initial = power; phase = tt }

@@ -5,7 +5,7 @@ use Rattle.papaya_law.specs.Allows.{AllAllowed}
 use Rattle.papaya_law.specs.Class.{IsOn, IsOwner, IsTied}
 use Rattle.papaya_law.specs.ClassBlocking.{IsRootOwner, IsRootTied}
 use Rattle.papaya_law.specs.Code.{Coding}
-use Rattle.papaya_law.specs.Exchange.{Setting, State as Words, Exchange, Open, Claim, Replace, Bury, Link, Mark, Close, Place, Finish, Advance, Promote, Abort, after, run}
+use Rattle.papaya_law.specs.Exchange.{Setting, State as Words, Exchange, Open, Claim, Replace, Bury, Link, Mark, Close, Place, Finish, Advance, Promote, Abort, Take, after, run}
 use Rattle.papaya_law.specs.Invariant.{IsKeeping}
 use Rattle.papaya_law.specs.Meaning.{IsLawful, IsLegal, map_after, map_of}
 use Rattle.papaya_law.specs.View.{View, held, look}
@@ -72,6 +72,7 @@ module _ {K P : Type 0} (g : Setting K P) (law : IsLawful g) where
   one_leaves s m keeps (Advance n chunk) legal k = inr (inr refl)
   one_leaves s m keeps (Promote t n) legal k = inr (inr refl)
   one_leaves s m keeps (Abort n) legal k = inr (inr refl)
+  one_leaves s m keeps (Take n) legal k = inr (inr refl)
 
   -- where the map had a pair of the key, it was taken out, or it is there still
   pub all_leave : (es : List (Exchange P)) (s : Words P) (m : K → Option P) → IsKeeping g s m → AllAllowed g s es → (k : K) → (m k ≡ None) ⊎ IsTakenOut g es k ⊎ (map_of g m es k ≡ m k)

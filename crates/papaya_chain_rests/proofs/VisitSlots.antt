@@ -134,6 +134,10 @@ module _ {K P : Type 0} (g : Setting K P) (law : IsLawful g) (s : Words P) (m : 
         let (p, h, same) = held_word g k (s.slot table (g.place k table r.at)) (look g s k table r.at) refl r.has in
         (p, subst (λ x. Holds (s.slot table x) p) r.is h, same)
 
+    -- a pair with that pair's key has it too
+    still : (p q : P) → g.same k (g.key p) ≡ true → g.key q ≡ g.key p → g.same k (g.key q) ≡ true
+    still p q same kept = subst (λ l. g.same k l ≡ true) (sym kept) same
+
     -- what the slot has now names a pair of the key
     pub names_same : (w : Word P) → now.slot table slot ≡ w → (q : P) × (named w ≡ Some q) × (g.same k (g.key q) ≡ true)
     names_same w e = by_old was_held.0 was_held.2 was_held.1 w e
@@ -141,10 +145,10 @@ module _ {K P : Type 0} (g : Setting K P) (law : IsLawful g) (s : Words P) (m : 
         by_old : (p : P) → g.same k (g.key p) ≡ true → Holds (s.slot table slot) p → (w : Word P) → now.slot table slot ≡ w → (q : P) × (named w ≡ Some q) × (g.same k (g.key q) ≡ true)
         by_old p same (inl h) Empty e = absurd (became slot (Live p) Empty h e)
         by_old p same (inl h) Closed e = absurd (became slot (Live p) Closed h e)
-        by_old p same (inl h) (Live q) e = (q, refl, law.through k (g.key p) (g.key q) same (became slot (Live p) (Live q) h e))
-        by_old p same (inl h) (Marked q) e = (q, refl, law.through k (g.key p) (g.key q) same (became slot (Live p) (Marked q) h e))
-        by_old p same (inl h) (Copied q) e = (q, refl, law.through k (g.key p) (g.key q) same (became slot (Live p) (Copied q) h e))
-        by_old p same (inl h) (Buried q) e = (q, refl, law.through k (g.key p) (g.key q) same (became slot (Live p) (Buried q) h e))
+        by_old p same (inl h) (Live q) e = (q, refl, still p q same (became slot (Live p) (Live q) h e))
+        by_old p same (inl h) (Marked q) e = (q, refl, still p q same (became slot (Live p) (Marked q) h e))
+        by_old p same (inl h) (Copied q) e = (q, refl, still p q same (became slot (Live p) (Copied q) h e))
+        by_old p same (inl h) (Buried q) e = (q, refl, still p q same (became slot (Live p) (Buried q) h e))
         by_old p same (inr h) w e = (p, ⊎_elim (λ a. ap named a) (λ a. ap named a) (became slot (Marked p) w h e), same)
 
     -- where it was buried since, its pair was taken out

@@ -5,7 +5,7 @@ use Rattle.papaya_chain.specs.declared.resizer.State.TheVariants as stages
 use Rattle.papaya_law.specs.Allows.{AllAllowed}
 use Rattle.papaya_law.specs.Class.{IsOn}
 use Rattle.papaya_law.specs.Code.{Coding, IsHashed}
-use Rattle.papaya_law.specs.Exchange.{Setting, State as Words, Exchange, Open, Claim, Replace, Bury, Link, Mark, Close, Place, Finish, Advance, Promote, Abort, run}
+use Rattle.papaya_law.specs.Exchange.{Setting, State as Words, Exchange, Open, Claim, Replace, Bury, Link, Mark, Close, Place, Finish, Advance, Promote, Abort, Take, run}
 use Rattle.papaya_law.specs.Grows.{Agrees}
 use Rattle.papaya_law.specs.Invariant.{IsKeeping}
 use Rattle.papaya_law.specs.Meaning.{IsAtMoment, map_of}
@@ -43,6 +43,7 @@ module _ {K P : Type 0} (g g' : Setting K P) (On : ℕ → Type 0) (agrees : Agr
   takes_carries (Advance n chunk) k = refl
   takes_carries (Promote t n) k = refl
   takes_carries (Abort n) k = refl
+  takes_carries (Take m) k = refl
 
   taken_carries : (fs : List (Exchange P)) (k : K) → IsTakenOut g fs k → IsTakenOut g' fs k
   taken_carries fs k r = record { so_far = r.so_far; by = r.by; rest = r.rest; is = r.is; out = takes_carries r.by k ∙ r.out }

@@ -1,7 +1,7 @@
 -- A slot that had a key's pair Live has it still, or some exchange took it out.
 use Rattle.std.proofs.Common.{◌≡◌, ◌⊎◌, inl, inr, ⊎_elim, ℕ, true, List, [], ◌∷◌, ◌++◌, append_assoc, refl, sym, ap, ◌∙◌, subst}
 use Rattle.papaya_law.specs.Allows.{Allows, AllAllowed}
-use Rattle.papaya_law.specs.Exchange.{Live, Marked, Copied, Buried, Closed, Setting, State, Exchange, Open, Claim, Replace, Bury, Link, Mark, Close, Place, Finish, Advance, Promote, Abort, after, run}
+use Rattle.papaya_law.specs.Exchange.{Live, Marked, Copied, Buried, Closed, Setting, State, Exchange, Open, Claim, Replace, Bury, Link, Mark, Close, Place, Finish, Advance, Promote, Abort, Take, after, run}
 use Rattle.papaya_law.specs.Later.{Becomes}
 use Rattle.papaya_law.specs.Meaning.{IsLawful}
 use Rattle.papaya_law.proofs.Later.{later_run}
@@ -44,6 +44,7 @@ module _ {K P : Type 0} (g : Setting K P) (law : IsLawful g) where
   takes_same k l h (Advance n chunk) out = absurd cc
   takes_same k l h (Promote t n) out = absurd cc
   takes_same k l h (Abort n) out = absurd cc
+  takes_same k l h (Take m) out = absurd cc
 
   pub taken_same : (fs : List (Exchange P)) (k l : K) → g.same k l ≡ true → IsTakenOut g fs l → IsTakenOut g fs k
   taken_same fs k l h r = record { so_far = r.so_far; by = r.by; rest = r.rest; is = r.is; out = takes_same k l h r.by r.out }
@@ -55,6 +56,7 @@ module _ {K P : Type 0} (g : Setting K P) (law : IsLawful g) where
   one s t x p (Advance n chunk) may live = inl live
   one s t x p (Promote u n) may live = inl live
   one s t x p (Abort n) may live = inl live
+  one s t x p (Take m) may live = inl live
   one s t x p (Claim u y q) may live = ⊎_elim (λ h. inl (h.0 ∙ live)) (λ h. absurd (let a = h.0 in let b = h.1 in let m = may.empty in cc (a, b, m, live))) (slot_cases s u y (Live q) t x)
   one s t x p (Close u y) may live = ⊎_elim (λ h. inl (h.0 ∙ live)) (λ h. absurd (let a = h.0 in let b = h.1 in let m = may.empty in cc (a, b, m, live))) (slot_cases s u y Closed t x)
   one s t x p (Place u y q) may live = ⊎_elim (λ h. inl (h.0 ∙ live)) (λ h. absurd (let a = h.0 in let b = h.1 in let m = may.empty in cc (a, b, m, live))) (slot_cases s u y (Live q) t x)

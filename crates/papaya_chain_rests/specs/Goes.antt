@@ -2,11 +2,11 @@
 use Rattle.std.specs.Prelude.{◌≡◌, ◌⊎◌, ℕ, ℤ, pos, ◌<◌, ◌^◌, Bool, Option, None, Some}
 use Rattle.papaya_words.specs.Table.{length_after}
 use Rattle.papaya_words.specs.declared.probe.Refused.{Refused}
-use Rattle.papaya_words.specs.declared.probe.Refused.TheVariants.{Capacity, RemoveNothing}
+use Rattle.papaya_words.specs.declared.probe.Refused.TheVariants.{Capacity, Limit, RemoveNothing}
 use Rattle.papaya_ask.specs.declared.ask.Answer.{Answer as Call_answer}
 use Rattle.papaya_ask.specs.declared.ask.Answer.TheVariants.{Word as Word_read, Op, Refused as Was_refused}
 use Rattle.papaya_ask.specs.declared.ask.Ask.{Ask as Call_ask}
-use Rattle.papaya_ask.specs.declared.ask.Ask.TheVariants.{ShowNone, MakeKey, MakePair, MakeTable as Make_table}
+use Rattle.papaya_ask.specs.declared.ask.Ask.TheVariants.{ShowNone, MakeKey, MakeValue, MakePair, MakePairOf, MakeTable as Make_table}
 use Rattle.papaya_ask.specs.declared.ask.OpKind.TheVariants.{Remove}
 use Rattle.papaya_ask.specs.declared.ask.StepKind.{StepKind}
 use Rattle.papaya_ask.specs.declared.call.Reply.TheVariants.{Refused as Reply_refused}
@@ -26,7 +26,7 @@ use Rattle.papaya_chain.specs.declared.machine.Phase.TheVariants.{Calling, Linki
 use Rattle.papaya_chain.specs.Machine.{after, ask_of}
 use Rattle.papaya_rests.specs.Copier.{link_in_copying}
 use Rattle.papaya_rests.specs.Owed.{grows_by, owed_by}
-use Rattle.papaya_rests.specs.Rests.{Change, change_after}
+use Rattle.papaya_rests.specs.Rests.{Change, IsAtLimit, change_after}
 use Rattle.papaya_chain_rests.specs.Rests.{left_by}
 
 -- a call that asks for itself is answered as calls are, and one that doesn't was set aside
@@ -97,18 +97,21 @@ link_in Calling = None
 link_in (Linking link) = Some link
 link_in (Copying_root copying) = link_in_copying copying
 
--- a call asks for a key, a pair or a table to be made
+-- a call asks for a key, a value, a pair or a table to be made
 abbrev pub IsToMake : Call_ask → Type 0
 IsToMake MakeKey = Unit {0}
+IsToMake MakeValue = Unit {0}
 IsToMake MakePair = Unit {0}
+IsToMake (MakePairOf n) = Unit {0}
 IsToMake (Make_table slots limit chunks) = Unit {0}
 IsToMake _ = ⊥
 
--- the answer is the call's own refusal: what it asked to be made was refused so, or its closure
--- would remove a pair where there is none
+-- the answer is the call's own refusal: what it asked to be made was refused so, no number was left
+-- for a pair, or its closure would remove a pair where there is none
 pub record IsOwnRefusal (m : Machine) (answer : Answer) (refused : Refused) : Type 0 where
   pub own : IsOwnStep m answer
   pub why : (IsToMake (call_machine.ask_of m.call) × (own.told ≡ Was_refused refused))
+      ⊎ ((refused ≡ Limit) × IsAtLimit m.call own.told)
       ⊎ ((refused ≡ RemoveNothing) × (ask_of m ≡ asks.Call ShowNone) × (own.told ≡ Op Remove))
 
 -- a next table was to be made, of these sizes, and was refused so

@@ -1,6 +1,6 @@
 -- Which exchanges take a key's pair out of the map.
 use Rattle.std.specs.Prelude.{◌≡◌, ◌++◌, Bool, true, false, List, ◌∷◌}
-use Rattle.papaya_law.specs.Exchange.{Setting, Exchange, Open, Claim, Replace, Bury, Link, Mark, Close, Place, Finish, Advance, Promote, Abort}
+use Rattle.papaya_law.specs.Exchange.{Setting, Exchange, Open, Claim, Replace, Bury, Link, Mark, Close, Place, Finish, Advance, Promote, Abort, Take}
 
 -- the exchange takes out the key's pair
 abbrev pub takes_out : {K P : Type 0} → Setting K P → Exchange P → K → Bool
@@ -16,6 +16,7 @@ takes_out g (Finish t x p) k = false
 takes_out g (Advance n chunk) k = false
 takes_out g (Promote t n) k = false
 takes_out g (Abort n) k = false
+takes_out g (Take m) k = false
 
 -- some exchange of fs takes out the key's pair
 pub record IsTakenOut {K P : Type 0} (g : Setting K P) (fs : List (Exchange P))

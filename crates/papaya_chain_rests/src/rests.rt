@@ -31,8 +31,9 @@ use papaya_words::probe::Refused;
 pub fn begins<K, P>()
     ensures { (g : Setting K P) (c : Coding K P)
         → (begun : List (Exchange P)) (k : K) (task : Task) (mode : ResizeMode)
-        (initial number : ℕ) → IsModeOf mode g.blocking → IsCutAs mode g.chunk_of
-        → Rests g c begun [] k (started task (c.hash k) mode initial number) no_hands }
+        (initial number : ℕ) (limit : Option ℕ) → IsModeOf mode g.blocking → limit ≡ g.most
+        → IsCutAs mode g.chunk_of
+        → Rests g c begun [] k (started task (c.hash k) mode initial number limit) no_hands }
 {}
 
 /// What a call rests on stays so, whatever others exchange and whichever tables are made.
@@ -128,12 +129,12 @@ pub fn goes<K, P>()
         (m : Machine) (hands : Hands P) → Rests g c begun since k m hands → (answer : Answer)
         (es : List (Exchange P)) (hands' : Hands P) → IsTold g c k (run (begun ++ since) start)
         (kind_of_ask m) (follows_of m) hands (ask_of m) answer es hands'
-        → ShowsPairs m.call.state → ShowsPairs (after m answer).call.state }
+        → ShowsPairs m.call → ShowsPairs (after m answer).call }
     ensures says { (g : Setting K P) (c : Coding K P) (begun since : List (Exchange P)) (k : K)
         (m : Machine) (hands : Hands P) → Rests g c begun since k m hands → (answer : Answer)
         (es : List (Exchange P)) (hands' : Hands P) → IsTold g c k (run (begun ++ since) start)
         (kind_of_ask m) (follows_of m) hands (ask_of m) answer es hands' → IsStanding m.call
-        → ShowsPairs m.call.state → (said : Said) → StandsOn (after m answer).call said
+        → ShowsPairs m.call → (said : Said) → StandsOn (after m answer).call said
         → StandsOn m.call said ⊎ ((own : IsOwnStep m answer) × IsSaidBy m.call own.told said) }
 {}
 
@@ -152,9 +153,9 @@ pub fn once<K, P>()
         (after m (Answer.Call (CallAnswer.Op kind))).call.state }
 {}
 
-/// A call is refused for one of four reasons. What it asked to be made was refused, or its closure
-/// would remove a pair where there is none. Or, when it was set aside, the next table was refused,
-/// or would be longer than a table may be.
+/// A call is refused for one of five reasons. What it asked to be made was refused, as many pairs
+/// were logged as the limit says, or its closure would remove a pair where there is none. Or, when
+/// it was set aside, the next table was refused, or would be longer than a table may be.
 pub fn refusals<K, P>()
     ensures { (g : Setting K P) (c : Coding K P) (begun since : List (Exchange P)) (k : K)
         (m : Machine) (hands : Hands P) → Rests g c begun since k m hands → (answer : Answer)

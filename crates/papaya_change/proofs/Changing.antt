@@ -8,7 +8,7 @@ use Rattle.logbook.specs.Pages.{Book}
 use Rattle.logbook.specs.declared.tokens.Pen.{Pen}
 use Rattle.boxcar.specs.Table.{Where}
 use Rattle.papaya_ask.specs.declared.ask.At.{At}
-use Rattle.papaya_ask.specs.declared.ask.At.TheVariants.{Root, Next, Aborted, Done, Slot}
+use Rattle.papaya_ask.specs.declared.ask.At.TheVariants.{Root, Next, Aborted, Done, Slot, Made as Made_word}
 use Rattle.papaya_ask.specs.declared.ask.Ask.{Ask}
 use Rattle.papaya_ask.specs.declared.ask.Ask.TheVariants.{Load, LoadHint, WriteHint, SizeOf, SameKey, AddToShard}
 use Rattle.papaya_ask.specs.declared.ask.Answer.{Answer}
@@ -37,6 +37,7 @@ use Rattle.papaya_rests.specs.Told.{IsOneOf, IsTold, or_last, told_of, word_of}
 use Rattle.papaya_rests.specs.Told as told_calls
 use Rattle.papaya_rests.proofs.Followed.{counts_after, table_named}
 use Rattle.papaya_rests.proofs.RestsHints.{machine_may_hint}
+use Rattle.papaya_rests.proofs.RestsLearnPairs.{wanted_rests}
 use Rattle.papaya_rests.proofs.RestsNames.{IsNamed, ask_named, hint_named, slot_named}
 use Rattle.papaya_book.specs.Sheets.{Sheet}
 use Rattle.papaya_book.specs.declared.rule.entry.Begun.{Begun}
@@ -48,7 +49,7 @@ use Rattle.papaya_book.specs.Hashes.{hash_of}
 use Rattle.papaya_book.specs.Hinted.{IsSlotHint}
 use Rattle.papaya_book.specs.Limits.{tables_of}
 use Rattle.papaya_book.specs.Logs.{Stored, coding_of, exchanges_of, is_blocking, pair_named, setting_of, state_of, steps_of}
-use Rattle.papaya_lookup.specs.Lookups.{coding_for}
+use Rattle.papaya_lookup.specs.Lookups.{coding_for, setting_for}
 use Rattle.papaya_book.specs.Rule.{IsLawfulLog, IsPlaced}
 use Rattle.papaya_lookup.proofs.Driving.{IsResting, word_wide}
 use Rattle.papaya_change.proofs.OwnSteps.{IsBarren, own_at, own_barren, own_changes, own_counts, own_links, own_told}
@@ -97,9 +98,10 @@ module _ {K V S : Type 0} (eq : K → K → Bool) (hash : S → K → ℕ) (b : 
   loaded_lawful log (Slot t i) word table table' last last' is = is.1.lawful
   loaded_lawful log (Aborted t) word table table' last last' is = absurd is
   loaded_lawful log (Done t c) word table table' last last' is = absurd is
+  loaded_lawful log Made_word word table table' last last' is = is.0.lawful
 
   -- a call that begins
-  pub begins : (matches : K → Bool) (by : ℕ) (k : Option K) → by ≡ (coding_for {V = V} hash b.hasher by).hash k → (log : List (Event K V S)) → IsLawfulLog eq hash b log → (task : Task) (initial : ℕ) → IsCalling eq hash b name matches by k log log (started task by b.mode initial 0) None None None [] None None None
+  pub begins : (matches : K → Bool) (by : ℕ) (k : Option K) → by ≡ (coding_for {V = V} hash b.hasher by).hash k → (log : List (Event K V S)) → IsLawfulLog eq hash b log → (task : Task) (initial : ℕ) → IsCalling eq hash b name matches by k log log (started task by b.mode initial 0 b.limit) None None None [] None None None
   begins matches by k hash_is log l task initial = record {
     lawful = l;
     seen = ([], append-nil log);
@@ -107,7 +109,7 @@ module _ {K V S : Type 0} (eq : K → K → Bool) (hash : S → K → ℕ) (b : 
     is = append-nil (exchanges_of log);
     rests = record {
       cut = λ x. refl;
-      call = record { hash = hash_is; mode = mode_is b.mode; made = record { keys = λ q none. absurd none; made_is = tt; fill_is = tt; choice_is = tt }; stage = tt };
+      call = record { hash = hash_is; mode = mode_is b.mode; made = record { keys = λ q none. absurd none; limit = refl; number_is = wanted_rests (setting_for eq hash b matches by log) (coding_for hash b.hasher by) (exchanges_of log) [] k b.limit; own_is = tt; of_is = tt; fill_is = tt; choice_is = tt }; stage = tt };
       phase = tt;
     };
     number = 0;
@@ -217,7 +219,7 @@ module _ {K V S H : Type 0} (eq : K → K → Bool) (input : K → List (List �
     hint_may t x n e =
         let wide = machine_may_hint (Wide log) Coded (exchanges_of begun) r.since k m.call (call_hands last made) r.rests.call t x n (call_asks m (WriteHint t x n) e).1 in
         let here : IsHint (Wide log) Coded (state_of log) t x n = subst (λ (es : List _). IsHint (Wide log) Coded (run es start) t x n) r.is wide in
-        record { lawful = r.lawful; is = hint_without (setting_of eq (hash b.hasher) b.mode log) (coding_of (hash b.hasher)) matches by ((state_of log).slot t x) n here }
+        record { lawful = r.lawful; is = hint_without (setting_of eq (hash b.hasher) b.mode b.limit log) (coding_of (hash b.hasher)) matches by ((state_of log).slot t x) n here }
 
     -- where a load names a place that calls load
     pub load_table : (at : At) → ask_of m ≡ Call (Load at) → Rattle.papaya_rests.specs.Followed.MayAsk m.call.task (calls.kind_of_ask m.call) (Load at) → IsHeldAt at log table
@@ -226,6 +228,7 @@ module _ {K V S H : Type 0} (eq : K → K → Bool) (input : K → List (List �
     load_table (Slot t x) e asks = slot_table t x (inl e)
     load_table (Aborted t) e asks = asks
     load_table (Done t c) e asks = asks
+    load_table Made_word e asks = tt
 
   -- A call was told of the words after this log, with which the log grew to the other.
   module _ (v before log : List (Event K V S)) (lb : IsLawfulLog eq hash b before) (l : IsLawfulLog eq hash b log) (pre : IsPrefix v before) (more : IsPrefix before log) (m : Machine) (table : Option (Bor Sheet)) (last kept : Option (Stored K V)) (made : List (Stored K V)) (taken put : Option (Stored K V)) (fresh : Option (Where Sheet × Pen)) (r : Calling v m table last kept made taken put fresh) (ask : Ask) (asks : ask_of m ≡ Call ask) (answer : Answer) where
@@ -250,7 +253,7 @@ module _ {K V S H : Type 0} (eq : K → K → Bool) (input : K → List (List �
       -- and is under way with what it holds then
       pub answered : (table' : Option (Bor Sheet)) (taken' put' : Option (Stored K V)) (fresh' : Option (Where Sheet × Pen)) → MatchOption table' (told_table ask answer r.number ≡ 0) (λ t. IsTable log (told_table ask answer r.number) t.now)
           → IsPlaced b (Some name) (pair_named last') → ((q : Stored K V) → IsOneOf made' q → IsPlaced b (Some name) (pair_named (Some q))) → IsPlaced b (Some name) (pair_named taken')
-          → ((change : Option ℕ × Option ℕ) → change_after (kind_of_ask m) ask answer (change_in m.call.state) ≡ Some change → HasChanged eq begun log taken' put' change)
+          → ((change : Option ℕ × Option ℕ) → change_after (kind_of_ask m) ask answer (change_in m.call.state) ≡ Some change → HasChanged eq k begun log taken' put' change)
           → ((n : ℕ) → IsBringing (ask_of (after m (answers.Call answer))) n → IsFresh b name log n fresh') → Calling log (after m (answers.Call answer)) table' last' kept made' taken' put' fresh'
       answered table' taken' put' fresh' holds placed placed' placed'' changed brings = record {
         lawful = l;
@@ -312,11 +315,15 @@ module _ {K V S H : Type 0} (eq : K → K → Bool) (input : K → List (List �
         (subst (λ (z : Option (Stored K V)). IsPlaced b (Some name) (pair_named z)) (sym same) (placed_last b name pair last is.placed r.last_placed)) r.made_placed
     loads (Aborted t) word table' last' asks h = absurd h
     loads (Done t c) word table' last' asks h = absurd h
+    loads Made_word word table' last' asks (is, table_is, same) =
+        let w : word_of (Wide log') Coded (state_of log') Made_word ≡ word = word_wide eq input build write finish classes respects b matches query lawful k (exchanges_of begun) log' log' Made_word ∙ is.is in
+        quiet (Load Made_word) asks (Word_read word) last' made table' fresh (record { told = (ap Word_read (sym w), refl, ap (λ (z : Option (Stored K V)). call_hands z made) same); same = refl; busy = λ z. z; brings = barren (Load Made_word) asks tt (Word_read word) fresh })
+        (subst (λ (z : Option (Bor Sheet)). MatchOption z (r.number ≡ 0) (λ t. IsTable log' r.number t.now)) (sym table_is) still) (subst (λ (z : Option (Stored K V)). IsPlaced b (Some name) (pair_named z)) (sym same) r.last_placed) r.made_placed
 
     -- a hint was loaded
     pub hinted : (t x n : ℕ) → ask_of m ≡ Call (LoadHint t x) → IsSlotHint eq hash b t x n log' → Calling log' (after m (answers.Call (Word_read n))) table last kept made taken put fresh
     hinted t x n asks is =
-        let hint : IsHint (Wide log') Coded (state_of log') t x n = hint_with (setting_of eq (hash b.hasher) b.mode log') (coding_of (hash b.hasher)) matches by ((state_of log').slot t x) n is.is in
+        let hint : IsHint (Wide log') Coded (state_of log') t x n = hint_with (setting_of eq (hash b.hasher) b.mode b.limit log') (coding_of (hash b.hasher)) matches by ((state_of log').slot t x) n is.is in
         quiet (LoadHint t x) asks (Word_read n) last made table fresh (record { told = ((n, hint, refl), (refl, refl)); same = refl; busy = λ z. z; brings = barren (LoadHint t x) asks tt (Word_read n) fresh }) still r.last_placed r.made_placed
 
   module _ (log : List (Event K V S)) (m : Machine) (table : Option (Bor Sheet)) (last kept : Option (Stored K V)) (made : List (Stored K V)) (taken put : Option (Stored K V)) (fresh : Option (Where Sheet × Pen)) (r : Calling log m table last kept made taken put fresh) where

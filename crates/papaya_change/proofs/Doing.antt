@@ -4,8 +4,8 @@ use Rattle.std.proofs.lemmas.List.{map-append}
 use Rattle.papaya_ask.specs.declared.ask.Answer.{Answer}
 use Rattle.papaya_ask.specs.declared.ask.Answer.TheVariants.{Word as Word_read, Exchanged, Found as Found_instead, Yes, Op, Made as Made_number, Ok as Ok_done}
 use Rattle.papaya_ask.specs.declared.ask.Ask.{Ask}
-use Rattle.papaya_ask.specs.declared.ask.Ask.TheVariants.{Load, Exchange, LoadHint, WriteHint, SameKey, ShowNone, ShowPair, SizeOf, MakeKey, MakePair, MakeTable, AddToShard, Done}
-use Rattle.papaya_ask.specs.declared.ask.At.TheVariants.{Root, Next, Aborted, Done as Done_word, Slot}
+use Rattle.papaya_ask.specs.declared.ask.Ask.TheVariants.{Load, Exchange, LoadHint, WriteHint, SameKey, ShowNone, ShowPair, SizeOf, MakeKey, MakeValue, MakePair, MakePairOf, MakeTable, AddToShard, Done}
+use Rattle.papaya_ask.specs.declared.ask.At.TheVariants.{Root, Next, Aborted, Done as Done_word, Slot, Made as Made_word}
 use Rattle.papaya_ask.specs.declared.ask.OpKind.{OpKind}
 use Rattle.papaya_ask.specs.declared.ask.OpKind.TheVariants as ops
 use Rattle.papaya_ask.specs.declared.call.Reply.{Reply}
@@ -16,8 +16,8 @@ use Rattle.papaya_call.specs.declared.compute.Gap.{Gap}
 use Rattle.papaya_call.specs.declared.remove.Removal.{Removal}
 use Rattle.papaya_ask.specs.declared.search.Search.TheVariants.{Sizing, Looking, Reading, Comparing}
 use Rattle.papaya_call.specs.declared.write.Claimed.{Claimed}
-use Rattle.papaya_call.specs.declared.write.Made.{Made}
-use Rattle.papaya_call.specs.declared.write.Made.TheVariants.{Nothing, Key, Pair}
+use Rattle.papaya_call.specs.declared.made.Made.{Made}
+use Rattle.papaya_call.specs.declared.write.Write.{Write}
 use Rattle.papaya_call.specs.declared.machine.Machine.{Machine}
 use Rattle.papaya_chain.specs.declared.ask.Answer.TheVariants as answers
 use Rattle.papaya_chain.specs.declared.ask.Ask.TheVariants as asked
@@ -29,15 +29,17 @@ use Rattle.papaya_chain_rests.proofs.Names.{call_asks}
 use Rattle.papaya_chain_rests.proofs.Replies.{aside_asks}
 use Rattle.papaya_call.specs.declared.machine.State.{State}
 use Rattle.papaya_call.specs.declared.machine.State.TheVariants.{AtRoot, Making, Opening, Searching, Writing, Offering, Showing, Pairing, Putting, Burying, Counting, Noting, Uncounting, Leaving, Growing, Ended}
-use Rattle.papaya_call.specs.Compute.{offered}
+use Rattle.papaya_call.specs.declared.compute.Purpose.{Purpose}
+use Rattle.papaya_call.specs.Compute.{in_place_of, offered}
 use Rattle.papaya_call.specs.Machine.{after, ask_of, asks, decided, judged}
-use Rattle.papaya_call.specs.Write.{claimed_by}
+use Rattle.papaya_call.specs.Write.{claimed_by, served_ask, serves}
 use Rattle.papaya_ask.specs.Search.{look as look_seen, at_word as search_loaded, at_yes as search_compared}
 use Rattle.papaya_law.specs.Exchange.{Exchange as Law_exchange}
 use Rattle.papaya_law.specs.Grows.{exchanges}
 use Rattle.papaya_rests.specs.Followed.{IsCounting}
 use Rattle.papaya_rests.specs.Rests.{change_in, change_of_reply}
 use Rattle.papaya_rests.proofs.Followed.{counts_after}
+use Rattle.papaya_rests.proofs.Makings.{HoldsOfPairAsks, IsPairAsk, IsWriteAsk, pair_holds, pairing_asks, pairing_leads, unserved_leads, write_asks, write_then, write_then_is}
 use Rattle.papaya_rests.proofs.Leads.{HoldsOfLeads, beaten_leads, goes_leads, left_leads, provides_leads, root_leads}
 use Rattle.papaya_book.specs.declared.keyed.Keyed as keyed
 use Rattle.papaya_book.specs.declared.rule.entry.Event.{Event}
@@ -67,6 +69,7 @@ leads_unchanged = record {
   writing = λ write. refl;
   offering = λ gap. refl;
   showing = λ removal. refl;
+  pairing = λ purpose. refl;
   putting = λ put. refl;
   burying = λ removal. refl;
   leaving = λ t. refl;
@@ -106,6 +109,32 @@ module _ (m : Machine) where
   abbrev Step_by : Made → State → Answer → Type 0
   Step_by made s answer = Moves (exchanged (asks made m.hash s) (Some answer)) (is_some (change_in s)) (is_some (change_in (after (record m { made = made; state = s }) answer).state))
 
+  -- what is asked for a pair exchanges no slot
+  none_exchanged : (answer : Answer) → HoldsOfPairAsks (λ ask. exchanged ask (Some answer) ≡ false)
+  none_exchanged answer = record { loads = refl; takes = λ count. refl; key = refl; value = refl; pair = refl; pair_of = λ n. refl }
+
+  -- an insertion that writes, by the pair that serves
+  abbrev Writes_by : Option ℕ → Made → Write → Answer → Type 0
+  Writes_by served made write answer = Moves (exchanged (served_ask served write made) (Some answer)) false (is_some (change_in (write_then m served made write answer)))
+
+  writing_by : (served : Option ℕ) (made : Made) (write : Write) (answer : Answer) → Writes_by served made write answer
+  writing_by None made write answer =
+      subst (λ (b : Bool). Moves b false (is_some (change_in (write_then m None made write answer)))) (sym (pair_holds (λ ask. exchanged ask (Some answer) ≡ false) (none_exchanged answer) made write.old))
+      (unserved_leads m IsUnchanged (λ refused. refl) made write refl answer)
+  writing_by (Some n) made write (Found_instead word) = goes_leads IsUnchanged leads_unchanged m.task m.mode m.remembered (look_seen write.place word)
+  writing_by (Some n) made write Exchanged = (refl, written_changed (write.old == 0) (claimed_by write n) (Rattle.papaya_words.specs.Word.pair_of write.old) n)
+  writing_by (Some n) made write answer = refl
+
+  writing_step : (made : Made) (write : Write) (answer : Answer) → Step_by made (Writing write) answer
+  writing_step made write answer =
+      subst (λ (s : State). Moves (exchanged (asks made m.hash (Writing write)) (Some answer)) false (is_some (change_in s))) (sym (write_then_is m made write answer)) (writing_by (serves made write) made write answer)
+
+  -- a compute that makes a pair
+  pairing_step : (made : Made) (purpose : Purpose) (answer : Answer) → Step_by made (Pairing purpose) answer
+  pairing_step made purpose answer =
+      subst (λ (b : Bool). Moves b false (is_some (change_in (after (record m { made = made; state = Pairing purpose }) answer).state))) (sym (pair_holds (λ ask. exchanged ask (Some answer) ≡ false) (none_exchanged answer) made (in_place_of purpose)))
+      (pairing_leads m IsUnchanged (λ refused. refl) made purpose refl (λ n. provides_leads IsUnchanged leads_unchanged purpose n) answer)
+
   step : (made : Made) (s : State) (answer : Answer) → Step_by made s answer
   step made AtRoot (Word_read word) = root_leads IsUnchanged leads_unchanged m.task m.remembered.fill word
   step made AtRoot answer = refl
@@ -125,24 +154,13 @@ module _ (m : Machine) where
   step made (Searching (Comparing at by)) (Word_read word) = goes_leads IsUnchanged leads_unchanged m.task m.mode m.remembered (search_loaded (Comparing at by) m.hash word)
   step made (Searching (Comparing at by)) (Yes same) = goes_leads IsUnchanged leads_unchanged m.task m.mode m.remembered (search_compared (Comparing at by) same)
   step made (Searching (Comparing at by)) answer = refl
-  step Nothing (Writing write) (Found_instead word) = goes_leads IsUnchanged leads_unchanged m.task m.mode m.remembered (look_seen write.place word)
-  step Nothing (Writing write) answer = refl
-  step Key (Writing write) (Found_instead word) = goes_leads IsUnchanged leads_unchanged m.task m.mode m.remembered (look_seen write.place word)
-  step Key (Writing write) answer = refl
-  step (Pair n) (Writing write) (Found_instead word) = goes_leads IsUnchanged leads_unchanged m.task m.mode m.remembered (look_seen write.place word)
-  step (Pair n) (Writing write) Exchanged = (refl, written_changed (write.old == 0) (claimed_by write n) (Rattle.papaya_words.specs.Word.pair_of write.old) n)
-  step (Pair n) (Writing write) answer = refl
+  step made (Writing write) answer = writing_step made write answer
   step made (Offering gap) (Op kind) = offered_unchanged gap kind
   step made (Offering gap) answer = refl
   step made (Showing removal) (Yes agrees) = judged_unchanged m.task removal agrees
   step made (Showing removal) (Op kind) = decided_unchanged m.task removal kind
   step made (Showing removal) answer = refl
-  step Nothing (Pairing purpose) (Made_number n) = refl
-  step Nothing (Pairing purpose) answer = refl
-  step Key (Pairing purpose) (Made_number n) = provides_leads IsUnchanged leads_unchanged purpose n
-  step Key (Pairing purpose) answer = refl
-  step (Pair i) (Pairing purpose) (Made_number n) = provides_leads IsUnchanged leads_unchanged purpose n
-  step (Pair i) (Pairing purpose) answer = refl
+  step made (Pairing purpose) answer = pairing_step made purpose answer
   step made (Putting put) (Found_instead word) = goes_leads IsUnchanged leads_unchanged m.task m.mode m.remembered (look_seen put.write.place word)
   step made (Putting put) Exchanged = (refl, written_changed (put.write.old == 0) (claimed_by put.write put.pair) (Rattle.papaya_words.specs.Word.pair_of put.write.old) put.pair)
   step made (Putting put) answer = refl
@@ -219,6 +237,7 @@ idle_made (Exchange (Next t) old new) i answer = refl
 idle_made (Exchange (Aborted t) old new) i answer = refl
 idle_made (Exchange (Done_word t c) old new) i answer = refl
 idle_made (Exchange (Slot t x) old new) i answer = absurd i
+idle_made (Exchange Made_word old new) i answer = refl
 idle_made (LoadHint t x) i answer = refl
 idle_made (WriteHint t x hint) i answer = absurd i
 idle_made (SameKey n) i answer = refl
@@ -226,7 +245,9 @@ idle_made ShowNone i answer = refl
 idle_made (ShowPair n) i answer = refl
 idle_made (SizeOf t) i answer = refl
 idle_made MakeKey i answer = refl
+idle_made MakeValue i answer = refl
 idle_made MakePair i answer = refl
+idle_made (MakePairOf n) i answer = refl
 idle_made (MakeTable slots limit chunks) i answer = refl
 idle_made (AddToShard by) i answer = absurd i
 idle_made (Done reply) i answer = absurd i
@@ -241,17 +262,21 @@ idle_busy (Exchange (Next t) old new) i counts = counts
 idle_busy (Exchange (Aborted t) old new) i counts = counts
 idle_busy (Exchange (Done_word t c) old new) i counts = counts
 idle_busy (Exchange (Slot t x) old new) i counts = counts
+idle_busy (Exchange Made_word old new) i counts = counts
 idle_busy (LoadHint t x) i counts = counts
 idle_busy (SameKey n) i counts = counts
 idle_busy ShowNone i counts = counts
 idle_busy (ShowPair n) i counts = counts
 idle_busy (SizeOf t) i counts = counts
 idle_busy MakeKey i counts = counts
+idle_busy MakeValue i counts = counts
 idle_busy MakePair i counts = counts
+idle_busy (MakePairOf n) i counts = counts
 idle_busy (MakeTable slots limit chunks) i counts = counts
 
 unanswered : (ask : Ask) → exchanged ask None ≡ false
 unanswered (Exchange (Slot t x) old new) = refl
+unanswered (Exchange Made_word old new) = refl
 unanswered (Exchange Root old new) = refl
 unanswered (Exchange (Next t) old new) = refl
 unanswered (Exchange (Aborted t) old new) = refl
@@ -264,7 +289,9 @@ unanswered ShowNone = refl
 unanswered (ShowPair n) = refl
 unanswered (SizeOf t) = refl
 unanswered MakeKey = refl
+unanswered MakeValue = refl
 unanswered MakePair = refl
+unanswered (MakePairOf n) = refl
 unanswered (MakeTable slots limit chunks) = refl
 unanswered (AddToShard by) = refl
 unanswered (Done reply) = refl
@@ -306,7 +333,7 @@ exchanges_are : {K V : Type 0} (es : List (Step K V)) → exchanges (map entry_o
 exchanges_are [] = refl
 exchanges_are (e ∷ es) = ap (λ (xs : List (Law_exchange (Stored _ _))). exchange_of e ∷ xs) (exchanges_are es)
 
-module _ {K V S : Type 0} (eq : K → K → Bool) (begun log : List (Event K V S)) (taken put : Option (Stored K V)) (change : Option ℕ × Option ℕ) (h : HasChanged eq begun log taken put change) where
+module _ {K V S : Type 0} (eq : K → K → Bool) (k : Option K) (begun log : List (Event K V S)) (taken put : Option (Stored K V)) (change : Option ℕ × Option ℕ) (h : HasChanged eq k begun log taken put change) where
   abbrev made : Change K (Stored K V)
   made = record { class = h.class; taken = taken; put = put }
 
@@ -327,13 +354,13 @@ module _ {K V S : Type 0} (eq : K → K → Bool) (begun log : List (Event K V S
 changes_split : {K V : Type 0} (xs ys : List (Step K V)) → changes_by (xs ++ ys) ≡ changes_by xs ++ changes_by ys
 changes_split xs ys = ap (changes_of key_of) (map-append exchange_of xs ys) ∙ changes-append key_of (map exchange_of xs) (map exchange_of ys)
 
-module _ {K V S H : Type 0} {d : keyed.Ghosts S K H} (eq : K → K → Bool) (begun : List (Event K V S)) (taken put : Option (Stored K V)) where
-  makes_as : (o : Option (Option ℕ × Option ℕ)) (a w : Window K V S H d) → ((change : Option ℕ × Option ℕ) → o ≡ Some change → HasChanged eq begun w.sight.log taken put change) → Does (is_some o) a w → Makes (is_some o) (own a) (own w) (past w)
+module _ {K V S H : Type 0} {d : keyed.Ghosts S K H} (eq : K → K → Bool) (k : Option K) (begun : List (Event K V S)) (taken put : Option (Stored K V)) where
+  makes_as : (o : Option (Option ℕ × Option ℕ)) (a w : Window K V S H d) → ((change : Option ℕ × Option ℕ) → o ≡ Some change → HasChanged eq k begun w.sight.log taken put change) → Does (is_some o) a w → Makes (is_some o) (own a) (own w) (past w)
   makes_as None a w h does = ap changes_by does ∙ changes_split a.own.done []
-  makes_as (Some change) a w h does = ap changes_by does ∙ (changes_split a.own.done (last_in (steps_of w.sight.log)) ∙ ap (λ (cs : List (Change K (Stored K V))). own a ++ cs) (same_last eq begun w.sight.log taken put change (h change refl)))
+  makes_as (Some change) a w h does = ap changes_by does ∙ (changes_split a.own.done (last_in (steps_of w.sight.log)) ∙ ap (λ (cs : List (Change K (Stored K V))). own a ++ cs) (same_last eq k begun w.sight.log taken put change (h change refl)))
 
   -- what it did is its change
-  pub makes : (m : Chain) (a w : Window K V S H d) → ((change : Option ℕ × Option ℕ) → change_in m.call.state ≡ Some change → HasChanged eq begun w.sight.log taken put change) → Does (has_changed m) a w → Makes (has_changed m) (own a) (own w) (past w)
+  pub makes : (m : Chain) (a w : Window K V S H d) → ((change : Option ℕ × Option ℕ) → change_in m.call.state ≡ Some change → HasChanged eq k begun w.sight.log taken put change) → Does (has_changed m) a w → Makes (has_changed m) (own a) (own w) (past w)
   makes m a w h does = makes_as (change_in m.call.state) a w h does
 
 -- what a call with this reply has changed
@@ -345,14 +372,10 @@ replied_in made hash (Searching (Sizing t)) reply e = absurd (cc e)
 replied_in made hash (Searching (Looking at)) reply e = absurd (cc e)
 replied_in made hash (Searching (Reading at)) reply e = absurd (cc e)
 replied_in made hash (Searching (Comparing at word)) reply e = absurd (cc e)
-replied_in Nothing hash (Writing write) reply e = absurd (cc e)
-replied_in Key hash (Writing write) reply e = absurd (cc e)
-replied_in (Pair n) hash (Writing write) reply e = absurd (cc e)
+replied_in made hash (Writing write) reply e = absurd (subst IsWriteAsk e (write_asks made write))
 replied_in made hash (Offering gap) reply e = absurd (cc e)
 replied_in made hash (Showing removal) reply e = absurd (cc e)
-replied_in Nothing hash (Pairing purpose) reply e = absurd (cc e)
-replied_in Key hash (Pairing purpose) reply e = absurd (cc e)
-replied_in (Pair n) hash (Pairing purpose) reply e = absurd (cc e)
+replied_in made hash (Pairing purpose) reply e = absurd (subst IsPairAsk e (pairing_asks made purpose))
 replied_in made hash (Putting put) reply e = absurd (cc e)
 replied_in made hash (Burying removal) reply e = absurd (cc e)
 replied_in made hash (Counting n) reply e = absurd (cc e)

@@ -22,6 +22,7 @@ use Rattle.papaya_chain_rests.proofs.Names.{call_asks}
 use Rattle.papaya_law.specs.Allows.{AllAllowed, Allows}
 use Rattle.papaya_law.specs.Code.{Coding, code}
 use Rattle.papaya_law.specs.Exchange.{Exchange, Setting, Word, Live, Bury, start}
+use Rattle.papaya_law.specs.Further.{same_with}
 use Rattle.papaya_law.specs.Invariant.{named}
 use Rattle.papaya_rests.specs.Rests.{change_of_kind}
 use Rattle.papaya_rests.specs.Told.{Hands, IsAsked, IsOneOf, IsTold, or_last, told_of, word_of}
@@ -35,11 +36,11 @@ use Rattle.papaya_book.specs.declared.rule.entry.Named.TheVariants as names
 use Rattle.papaya_book.specs.declared.rule.entry.Step.{Step}
 use Rattle.papaya_book.specs.declared.rule.entry.Step.TheVariants as steps
 use Rattle.papaya_book.specs.Calls.{IsSlotTried}
-use Rattle.papaya_change.specs.Changing.{HasChanged}
+use Rattle.papaya_change.specs.Changing.{HasChanged, HasItsKey, IsOfCall}
 use Rattle.papaya_book.specs.Hashes.{hash_of}
 use Rattle.papaya_lookup.specs.History.{change_of, key_of}
 use Rattle.papaya_book.specs.Logs.{Stored, coding_of, comes, exchange_of, exchanges_of, pair_named, setting_of, state_of}
-use Rattle.papaya_book.specs.Plays.{IsMeant, Numbered, hands_of}
+use Rattle.papaya_book.specs.Plays.{IsCallAsked, IsMeant, hands_of}
 use Rattle.papaya_book.specs.Rule.{IsLawfulLog, word_in}
 use Rattle.papaya_change.proofs.Changing.{Calling, Coded, Wide, answered, barren, call_hands, held_later, placed_last, quiet}
 use Rattle.papaya_change.proofs.OwnSteps.{asked_by_call, own_kind_is}
@@ -62,6 +63,7 @@ nothing_comes (steps.Finish u y q) t x p is = refl
 nothing_comes (steps.Advance u y) t x p is = refl
 nothing_comes (steps.Promote u n) t x p is = refl
 nothing_comes (steps.Abort u) t x p is = refl
+nothing_comes (steps.Take n) t x p is = refl
 
 -- a pair that was handed over comes
 none_handed : {K V : Type 0} (put : Option (Stored K V)) → pair_named put ≡ names.Nothing → put ≡ None
@@ -74,12 +76,12 @@ module _ {K V S H : Type 0} (eq : K → K → Bool) (input : K → List (List �
   hash = hash_of input build write finish
 
   abbrev plain : List (Event K V S) → Setting K (Stored K V)
-  plain log = setting_of eq (hash b.hasher) b.mode log
+  plain log = setting_of eq (hash b.hasher) b.mode b.limit log
 
   abbrev c : Coding K (Stored K V)
   c = coding_of (hash b.hasher)
 
-  module _ (begun before log : List (Event K V S)) (since : IsPrefix begun before) (l : IsLawfulLog eq hash b before) (l' : IsLawfulLog eq hash b log) (by : Step K V) (grown : exchanges_of log ≡ exchanges_of before ++ exchange_of by ∷ [])
+  module _ (k : Option K) (begun before log : List (Event K V S)) (since : IsPrefix begun before) (l : IsLawfulLog eq hash b before) (l' : IsLawfulLog eq hash b log) (by : Step K V) (grown : exchanges_of log ≡ exchanges_of before ++ exchange_of by ∷ [])
       (t x old new : ℕ) (stood : word_in eq hash b before (Slot t x) ≡ old) (put pair : Option (Stored K V)) (handed : comes by ≡ pair_named put) (names : named ((state_of before).slot t x) ≡ pair) where
     abbrev e : Exchange (Stored K V)
     e = exchange_of by
@@ -101,15 +103,18 @@ module _ {K V S H : Type 0} (eq : K → K → Bool) (input : K → List (List �
     none_taken : (change : Option ℕ × Option ℕ) (class : K) → pair ≡ None → change.0 ≡ None → MatchOption pair (change.0 ≡ None) (λ p. (change.0 ≡ Some p.index) × (class ≡ key_of p))
     none_taken change class is none = subst (λ (o : Option (Stored K V)). MatchOption o (change.0 ≡ None) (λ p. (change.0 ≡ Some p.index) × (class ≡ key_of p))) (sym is) none
 
-    put_of : (change : Option ℕ × Option ℕ) (class : K) (q : Stored K V) → put ≡ Some q → change.1 ≡ Some q.index → eq class (key_of q) ≡ true → MatchOption put (change.1 ≡ None) (λ q. (change.1 ≡ Some q.index) × (eq class (key_of q) ≡ true))
-    put_of change class q is number of = subst (λ (o : Option (Stored K V)). MatchOption o (change.1 ≡ None) (λ q. (change.1 ≡ Some q.index) × (eq class (key_of q) ≡ true))) (sym is) (number, of)
+    abbrev IsPutAs : (change : Option ℕ × Option ℕ) (class : K) → Option (Stored K V) → Type 0
+    IsPutAs change class o = MatchOption o (change.1 ≡ None) (λ q. (change.1 ≡ Some q.index) × (eq class (key_of q) ≡ true) × HasItsKey eq k pair q)
 
-    none_put : (change : Option ℕ × Option ℕ) (class : K) → put ≡ None → change.1 ≡ None → MatchOption put (change.1 ≡ None) (λ q. (change.1 ≡ Some q.index) × (eq class (key_of q) ≡ true))
-    none_put change class is none = subst (λ (o : Option (Stored K V)). MatchOption o (change.1 ≡ None) (λ q. (change.1 ≡ Some q.index) × (eq class (key_of q) ≡ true))) (sym is) none
+    put_of : (change : Option ℕ × Option ℕ) (class : K) (q : Stored K V) → put ≡ Some q → change.1 ≡ Some q.index → eq class (key_of q) ≡ true → HasItsKey eq k pair q → IsPutAs change class put
+    put_of change class q is number of key = subst (IsPutAs change class) (sym is) (number, of, key)
+
+    none_put : (change : Option ℕ × Option ℕ) (class : K) → put ≡ None → change.1 ≡ None → IsPutAs change class put
+    none_put change class is none = subst (IsPutAs change class) (sym is) none
 
     -- an exchange that was asked for as a change of this kind is one, and puts in what was handed over
-    pub changes : (kind : Option StepKind) → IsAsked Numbered kind (Slot t x) new (state_of before) (hands_of put) e → (change : Option ℕ × Option ℕ) → change_of_kind kind old new ≡ Some change → HasChanged eq begun log pair put change
-    changes (Some kinds.Claim) (q, own, is) change said =
+    pub changes : (kind : Option StepKind) → IsCallAsked kind (Slot t x) new (state_of before) (hands_of put) e → (kind ≡ Some kinds.Claim → (q : Stored K V) → put ≡ Some q → Some (key_of q) ≡ k) → ((q : Stored K V) → put ≡ Some q → IsOfCall eq k (key_of q)) → (change : Option ℕ × Option ℕ) → change_of_kind kind old new ≡ Some change → HasChanged eq k begun log pair put change
+    changes (Some kinds.Claim) (q, own, is) claims class change said =
         let has : put ≡ Some q = one_made put q own.made in
         let may = subst (Allows (plain log) (state_of before)) is allowed in
         let none : pair ≡ None = sym names ∙ ap named may.empty in
@@ -121,9 +126,9 @@ module _ {K V S H : Type 0} (eq : K → K → Bool) (input : K → List (List �
           class = key_of q;
           change_is = subst (λ (z : Exchange (Stored K V)). change_of key_of z ≡ record { class = key_of q; taken = pair; put = put } ∷ []) (sym is) (λ i. record { class = key_of q; taken = sym none i; put = sym has i } ∷ []);
           taken_is = none_taken change (key_of q) none (sym (ap (λ (z : Option ℕ × Option ℕ). z.0) two));
-          put_is = put_of change (key_of q) q has (sym (ap (λ (z : Option ℕ × Option ℕ). z.1) two) ∙ ap (λ n. Some n) (sym own.named)) (classes.refl (key_of q));
+          put_is = put_of change (key_of q) q has (sym (ap (λ (z : Option ℕ × Option ℕ). z.1) two) ∙ ap (λ n. Some n) (sym own.named)) (classes.refl (key_of q)) (record { is = subst (λ (o : Option (Stored K V)). MatchOption o (Some (key_of q) ≡ k) (λ p. key_of q ≡ key_of p)) (sym none) (claims refl q has); same = class q has });
         }
-    changes (Some kinds.Replace) (p, q, live, own, is) change said =
+    changes (Some kinds.Replace) (p, q, live, own, kept, is) claims class change said =
         let has : put ≡ Some q = one_made put q own.made in
         let may = subst (Allows (plain log) (state_of before)) is allowed in
         let some : pair ≡ Some p = sym names ∙ ap named live in
@@ -135,9 +140,9 @@ module _ {K V S H : Type 0} (eq : K → K → Bool) (input : K → List (List �
           class = key_of p;
           change_is = subst (λ (z : Exchange (Stored K V)). change_of key_of z ≡ record { class = key_of p; taken = pair; put = put } ∷ []) (sym is) (λ i. record { class = key_of p; taken = sym some i; put = sym has i } ∷ []);
           taken_is = taken_of change (key_of p) p some (sym (ap (λ (z : Option ℕ × Option ℕ). z.0) two) ∙ ap (λ n. Some n) (numbered (Live p) live p refl)) refl;
-          put_is = put_of change (key_of p) q has (sym (ap (λ (z : Option ℕ × Option ℕ). z.1) two) ∙ ap (λ n. Some n) (sym own.named)) may.same;
+          put_is = put_of change (key_of p) q has (sym (ap (λ (z : Option ℕ × Option ℕ). z.1) two) ∙ ap (λ n. Some n) (sym own.named)) may.same (record { is = subst (λ (o : Option (Stored K V)). MatchOption o (Some (key_of q) ≡ k) (λ p. key_of q ≡ key_of p)) (sym some) kept; same = class q has });
         }
-    changes (Some kinds.Bury) (p, live, is) change said =
+    changes (Some kinds.Bury) (p, live, is) claims class change said =
         let some : pair ≡ Some p = sym names ∙ ap named live in
         let no_put : put ≡ None = none_handed put (sym handed ∙ nothing_comes by t x p is) in
         let two : (Some (pair_of old), None) ≡ change = cc said in record {
@@ -150,16 +155,17 @@ module _ {K V S H : Type 0} (eq : K → K → Bool) (input : K → List (List �
           taken_is = taken_of change (key_of p) p some (sym (ap (λ (z : Option ℕ × Option ℕ). z.0) two) ∙ ap (λ n. Some n) (numbered (Live p) live p refl)) refl;
           put_is = none_put change (key_of p) no_put (sym (ap (λ (z : Option ℕ × Option ℕ). z.1) two));
         }
-    changes None asked change said = absurd asked
-    changes (Some kinds.Open) asked change said = absurd asked
-    changes (Some kinds.Link) asked change said = absurd asked
-    changes (Some kinds.Mark) asked change said = absurd asked
-    changes (Some kinds.Close) asked change said = absurd asked
-    changes (Some kinds.Place) asked change said = absurd asked
-    changes (Some kinds.Finish) asked change said = absurd asked
-    changes (Some kinds.Advance) asked change said = absurd asked
-    changes (Some kinds.Promote) asked change said = absurd asked
-    changes (Some kinds.Abort) asked change said = absurd asked
+    changes None asked claims class change said = absurd asked
+    changes (Some kinds.Open) asked claims class change said = absurd asked
+    changes (Some kinds.Link) asked claims class change said = absurd asked
+    changes (Some kinds.Mark) asked claims class change said = absurd asked
+    changes (Some kinds.Close) asked claims class change said = absurd asked
+    changes (Some kinds.Place) asked claims class change said = absurd asked
+    changes (Some kinds.Finish) asked claims class change said = absurd asked
+    changes (Some kinds.Advance) asked claims class change said = absurd asked
+    changes (Some kinds.Promote) asked claims class change said = absurd asked
+    changes (Some kinds.Abort) asked claims class change said = absurd asked
+    changes (Some kinds.Take) asked claims class change said = absurd asked
 
 module _ {K V S H : Type 0} (eq : K → K → Bool) (input : K → List (List ℕ)) (build : S → H) (write : H → List ℕ → H) (finish : H → ℕ) (classes : IsEquivalence eq) (respects : (x y : K) → eq x y ≡ true → input x ≡ input y)
     (b : Begun K V S) (matches : K → Bool) (query : List (List ℕ)) (lawful : IsQuery eq input matches query) (k : Option K) (name : Book) (begun : List (Event K V S)) where
@@ -178,6 +184,11 @@ module _ {K V S H : Type 0} (eq : K → K → Bool) (input : K → List (List �
   abbrev hands : (last : Option (Stored K V)) → List (Stored K V) → Hands (Stored K V)
   hands last made = call_hands eq input build write finish classes respects b matches query lawful k name begun last made
 
+  -- a pair that the call made is of its class
+  of_call : (own : Option K) (q : Stored K V) → same_with eq matches own (Some (key_of q)) ≡ true → IsOfCall eq own (key_of q)
+  of_call None q same = tt
+  of_call (Some key) q same = same
+
   -- the word there, in the wide setting
   word_there : (log log' : List (Event K V S)) (at : At) → word_of (G log') C (state_of log) at ≡ word_in eq hash' b log at
   word_there log log' at = word_wide eq input build write finish classes respects b matches query lawful k (exchanges_of begun) log log' at
@@ -189,8 +200,8 @@ module _ {K V S H : Type 0} (eq : K → K → Bool) (input : K → List (List �
     After z = MatchBool z ((e : Step K V) × IsMeant eq hash' (Slot t x) (kind_of_ask m) new put' (pair_named put') s.tried.before e × (log ≡ s.tried.before ++ Stepped e ∷ [])) (log ≡ s.tried.before)
 
     -- it was made
-    pub exchanged : ((q : Stored K V) → put' ≡ Some q → IsOneOf made q) → (found == old) ≡ true → Under log (after m (answers.Call Exchanged)) table last kept made pair put' fresh
-    exchanged own is =
+    pub exchanged : ((q : Stored K V) → put' ≡ Some q → IsOneOf made q) → (kind_of_ask m ≡ Some kinds.Claim → (q : Stored K V) → put' ≡ Some q → Some (key_of q) ≡ k) → (found == old) ≡ true → Under log (after m (answers.Call Exchanged)) table last kept made pair put' fresh
+    exchanged own claims is =
         let done = subst After is s.tried.after in
         let e = exchange_of done.0 in
         let before = s.tried.before in
@@ -200,12 +211,13 @@ module _ {K V S H : Type 0} (eq : K → K → Bool) (input : K → List (List �
         let here : (word_of (G log) C (state_of before) (Slot t x) == old) ≡ true = ap (λ (n : ℕ). n == old) (word_there before log (Slot t x) ∙ s.tried.is) ∙ is in
         let kind = kind_of_ask m in
         let plainly = asked_by_call kind (own_kind_is m (call_asks m (Ask_exchange (Slot t x) old new) asks).0) (Slot t x) new (state_of before) put' e done.1.asked in
-        let asked : IsAsked C kind (Slot t x) new (state_of before) (hands last made) e = asked_by_made Numbered C (λ p. refl) (hands_of put') (hands last made) (λ q one. own q (one_made put' q one)) kind (Slot t x) new (state_of before) e plainly in
+        let asked : IsAsked (G log) C k kind (Slot t x) new (state_of before) (hands last made) e =
+        asked_by_made (G log) C k (λ p. refl) (λ p q same. ap (λ z. Some z) same) (hands_of put') (hands last made) (λ q one. own q (one_made put' q one)) kind (Slot t x) new (state_of before) e (λ claim q one. claims claim q (one_made put' q one)) plainly in
         let told : IsTold (G log) C k (state_of before) kind (hands last made) (Ask_exchange (Slot t x) old new) Exchanged (e ∷ []) (hands last made) = rw here (refl, (e, asked, refl), refl) in
         let since = prefix_trans v before log s.tried.since more in
         answered eq input build write finish classes respects b matches query lawful k name begun v before log s.tried.lawful s.tried.now s.tried.since more m table last kept made taken put fresh r (Ask_exchange (Slot t x) old new) asks Exchanged last made told table pair put' fresh
         (held_later v log since r.number table r.holds_table) r.last_placed r.made_placed s.placed
-        (λ change f. changes eq input build write finish classes respects b begun before log (prefix_trans begun v before r.seen s.tried.since) s.tried.lawful s.tried.now done.0 grown t x old new (s.tried.is ∙ found_is) put' pair done.1.with_it s.names kind plainly change f)
+        (λ change f. changes eq input build write finish classes respects b k begun before log (prefix_trans begun v before r.seen s.tried.since) s.tried.lawful s.tried.now done.0 grown t x old new (s.tried.is ∙ found_is) put' pair done.1.with_it s.names kind plainly claims (λ q has. of_call k q (r.rests.call.made.keys q (own q has))) change f)
         (barren eq input build write finish classes respects b matches query lawful k name begun v log since s.tried.now m table last kept made taken put fresh r (Ask_exchange (Slot t x) old new) asks tt Exchanged fresh)
 
     -- it was lost

@@ -1,7 +1,7 @@
 -- What a call keeps while it is set aside: its task, its pair, what it has changed and said; and why it may end refused.
 use Rattle.std.proofs.Common.{◌≡◌, ◌⊎◌, inl, inr, ⊎_elim, ℕ, Bool, false, is_some, None, Some, List, refl, sym, ap, ◌∙◌, subst}
 use Rattle.papaya_words.specs.declared.probe.Refused.{Refused as Cause}
-use Rattle.papaya_words.specs.declared.probe.Refused.TheVariants.{Capacity, Memory}
+use Rattle.papaya_words.specs.declared.probe.Refused.TheVariants.{Capacity, Limit, Memory}
 use mathlib.Core.List.{IsPrefix}
 use Rattle.papaya_ask.specs.declared.ask.Answer.TheVariants.{Word as Word_read}
 use Rattle.papaya_ask.specs.declared.ask.Ask.TheVariants.{Done}
@@ -12,7 +12,8 @@ use Rattle.papaya_ask.specs.declared.call.Task.TheVariants.{Get, Insert, RemoveI
 use Rattle.papaya_ask.specs.declared.search.Search.TheVariants.{Sizing}
 use Rattle.papaya_call.specs.declared.compute.Remembered.{Remembered}
 use Rattle.papaya_call.specs.declared.machine.Machine.{Machine as Call_machine}
-use Rattle.papaya_call.specs.declared.machine.State.TheVariants.{AtRoot, Searching, Growing, Ended}
+use Rattle.papaya_call.specs.declared.machine.State.{State}
+use Rattle.papaya_call.specs.declared.machine.State.TheVariants.{AtRoot, Searching, Leaving, Growing, Ended}
 use Rattle.papaya_call.specs.declared.need.Need.{Need}
 use Rattle.papaya_call.specs.Machine as calls
 use Rattle.papaya_chain.specs.declared.ask.Ask.TheVariants.{Call}
@@ -21,8 +22,9 @@ use Rattle.papaya_chain.specs.declared.machine.Phase.TheVariants.{Calling}
 use Rattle.papaya_chain.specs.Machine.{ask_of}
 use Rattle.papaya_chain_rests.proofs.Names.{call_asks}
 use Rattle.papaya_chain_rests.proofs.Replies.{anew}
+use Rattle.papaya_chain_rests.specs.Rests.{left_by}
 use Rattle.papaya_rests.specs.Rests.{change_in}
-use Rattle.papaya_rests.specs.Says.{Said, ShowsPairs, StandsOn, said_in, said_to_choose, said_to_fill}
+use Rattle.papaya_rests.specs.Says.{HasValue, IsAnswered, Said, ShowsIn, ShowsPairs, StandsOn, said_in, said_to_choose, said_to_fill}
 use Rattle.papaya_rests.proofs.RestsReplyRefused.{machine_reason}
 use Rattle.papaya_book.specs.declared.rule.own.Given.{Given}
 use Rattle.papaya_book.specs.Limits.{HasNoRoom}
@@ -33,7 +35,7 @@ use Rattle.papaya_book.proofs.Lengths.{room_since}
 use Rattle.papaya_change.specs.declared.driver.Driver.{Driver}
 use Rattle.papaya_change.specs.Doing.{has_changed}
 use Rattle.papaya_change.specs.Helping.{HasBegunAnew, HasGoneOn, HasHelped, WasRefused}
-use Rattle.papaya_change.specs.Writing.{IsMemoryOrCapacity}
+use Rattle.papaya_change.specs.Writing.{IsMemoryCapacityOrLimit, IsMemoryOrCapacity}
 use Rattle.papaya_change.proofs.Doing.{left_unchanged}
 
 -- why a copy ended a call: there was no memory, or no room
@@ -46,7 +48,8 @@ pub record IsKept (m m' : Machine) (tables : List ℕ) (given : List Given) : Ty
   pub made : m'.call.made ≡ m.call.made
   pub initial : m'.call.initial ≡ m.call.initial
   pub changed : has_changed m' ≡ has_changed m
-  pub shows : ShowsPairs m.call.state → ShowsPairs m'.call.state
+  pub shows : ShowsPairs m.call → ShowsPairs m'.call
+  pub values : HasValue m.call → HasValue m'.call
   pub stands : (said : Said) → StandsOn m'.call said → StandsOn m.call said
   pub ends : (cause : Cause) → ask_of m' ≡ Call (Done (Refused cause)) → (m' ≡ m) ⊎ IsCopyEnd m'.call.initial tables given cause
 
@@ -55,6 +58,16 @@ pub stands_before : (call call' : Call_machine) → call'.remembered ≡ call.re
 stands_before call call' same silent said (inl e) = absurd (cc (silent, e))
 stands_before call call' same silent said (inr (inl e)) = inr (inl (ap (λ (h : Remembered). said_to_fill h.fill) (sym same) ∙ e))
 stands_before call call' same silent said (inr (inr e)) = inr (inr (ap (λ (h : Remembered). said_to_choose h.choice) (sym same) ∙ e))
+
+-- a call that is set aside has the value of the pair that it remembers
+unanswered : (s : State) (t : ℕ) → left_by s ≡ Some t → IsAnswered s → ⊥
+unanswered (Leaving u) t e a = a
+unanswered (Growing need) t e a = a
+unanswered s t e a = absurd cc
+
+-- and so it has wherever it goes on
+pub values_left : (call : Call_machine) (t : ℕ) → left_by call.state ≡ Some t → (s : State) → HasValue call → HasValue (record call { state = s })
+values_left call t left s has old new is = ⊎_elim (λ valued. inl valued) (λ waits. absurd (unanswered call.state t left waits)) (has old new is)
 
 -- what a call says that ended so
 absent_silent : (task : Task) → said_in task (Ended Rattle.papaya_ask.specs.declared.call.Reply.TheVariants.Absent) ≡ None
@@ -69,17 +82,18 @@ refused_silent (Insert replace) refused = refl
 refused_silent RemoveIf refused = refl
 refused_silent Compute refused = refl
 
-module _ (m m' : Machine) (tables : List ℕ) (given : List Given) (t : ℕ) (left : Rattle.papaya_chain_rests.specs.Rests.left_by m.call.state ≡ Some t) (call : Call_machine) (is : m'.call ≡ call) where
+module _ (m m' : Machine) (tables : List ℕ) (given : List Given) (t : ℕ) (left : left_by m.call.state ≡ Some t) (call : Call_machine) (is : m'.call ≡ call) where
   -- a call that was set aside, where it is this one now
-  kept_by : call.task ≡ m.call.task → call.made ≡ m.call.made → call.initial ≡ m.call.initial → call.remembered ≡ m.call.remembered → change_in call.state ≡ None → ShowsPairs call.state → said_in call.task call.state ≡ None
+  kept_by : call.task ≡ m.call.task → call.made ≡ m.call.made → call.initial ≡ m.call.initial → call.remembered ≡ m.call.remembered → change_in call.state ≡ None → ShowsPairs call → (HasValue m.call → HasValue call) → said_in call.task call.state ≡ None
       → ((cause : Cause) → calls.ask_of call ≡ Done (Refused cause) → IsCopyEnd m.call.initial tables given cause) → IsKept m m' tables given
-  kept_by task made initial remembered none shows silent ends =
+  kept_by task made initial remembered none shows values silent ends =
       let same_initial : m'.call.initial ≡ m.call.initial = ap (λ (z : Call_machine). z.initial) is ∙ initial in record {
         task = ap (λ (z : Call_machine). z.task) is ∙ task;
         made = ap (λ (z : Call_machine). z.made) is ∙ made;
         initial = same_initial;
         changed = ap (λ (z : Call_machine). is_some (change_in z.state)) is ∙ (ap is_some none ∙ sym (left_unchanged m.call.state t left));
-        shows = λ _. subst (λ (z : Call_machine). ShowsPairs z.state) (sym is) shows;
+        shows = λ _. subst ShowsPairs (sym is) shows;
+        values = λ has. subst HasValue (sym is) (values has);
         stands = λ said stands. stands_before m.call call remembered silent said (subst (λ z. StandsOn z said) is stands);
         ends = λ cause e. inr (subst (λ n. IsCopyEnd n tables given cause) (sym same_initial) (ends cause (ap (λ (z : Call_machine). calls.ask_of z) (sym is) ∙ (call_asks m' (Done (Refused cause)) e).1)));
       }
@@ -88,25 +102,26 @@ module _ (m m' : Machine) (tables : List ℕ) (given : List Given) (t : ℕ) (le
 anew_unrefused : (call : Call_machine) (root : ℕ) (cause : Cause) → calls.ask_of (calls.after (record call { state = AtRoot }) (Word_read root)) ≡ Done (Refused cause) → ⊥
 anew_unrefused call root cause e =
     ⊎_elim (λ made. let f = made.0 in cc f)
-    (λ rest. ⊎_elim (λ (full : (cause ≡ Capacity) × ((need : Need) × (AtRoot ≡ Growing need))). let f = full.1.1 in cc f) (λ none. let f = none.1.1 in cc f) rest)
+    (λ rest. ⊎_elim (λ (full : (cause ≡ Capacity) × ((need : Need) × (AtRoot ≡ Growing need))). let f = full.1.1 in cc f) (λ others. ⊎_elim (λ over. over.2) (λ none. let f = none.1.1 in cc f) others) rest)
     (machine_reason (record call { state = AtRoot }) cause (Word_read root) (λ reply f. cc f) e)
 
 module _ (m m' : Machine) (tables : List ℕ) (given : List Given) where
   kept_on : HasGoneOn m m' → IsKept m m' tables given
-  kept_on h = kept_by m m' tables given h.from h.left (record m.call { state = Searching (Sizing h.table) }) h.call refl refl refl refl refl tt refl (λ cause e. absurd (cc e))
+  kept_on h = kept_by m m' tables given h.from h.left (record m.call { state = Searching (Sizing h.table) }) h.call refl refl refl refl refl tt (values_left m.call h.from h.left (Searching (Sizing h.table))) refl (λ cause e. absurd (cc e))
 
   kept_anew : HasBegunAnew m m' → IsKept m m' tables given
   kept_anew h =
       let call : Call_machine = calls.after (record m.call { state = AtRoot }) (Word_read h.root) in
       kept_by m m' tables given h.from h.left call h.call refl refl refl refl
       (anew (λ s. change_in s ≡ None) refl refl refl (λ _. refl) m.call.task m.call.remembered.fill h.root)
-      (anew ShowsPairs tt tt tt (λ _. tt) m.call.task m.call.remembered.fill h.root)
+      (anew (ShowsIn m.call.remembered.choice) tt tt tt (λ _. tt) m.call.task m.call.remembered.fill h.root)
+      (values_left m.call h.from h.left call.state)
       (anew (λ s. said_in m.call.task s ≡ None) (absent_silent m.call.task) refl refl (λ _. refl) m.call.task m.call.remembered.fill h.root)
       (λ cause e. absurd (anew_unrefused m.call h.root cause e))
 
   kept_refused : WasRefused m m' tables given → IsKept m m' tables given
   kept_refused h =
-      kept_by m m' tables given h.from h.left (record m.call { state = Ended (Refused h.refused) }) h.call refl refl refl refl refl tt (refused_silent m.call.task h.refused)
+      kept_by m m' tables given h.from h.left (record m.call { state = Ended (Refused h.refused) }) h.call refl refl refl refl refl tt (values_left m.call h.from h.left (Ended (Refused h.refused))) (refused_silent m.call.task h.refused)
       (λ cause e. let same : h.refused ≡ cause = cc e in subst (IsCopyEnd m.call.initial tables given) same h.cause)
 
   -- a call keeps all this while it is set aside
@@ -116,7 +131,8 @@ module _ (m m' : Machine) (tables : List ℕ) (given : List Given) where
     made = ap (λ (z : Machine). z.call.made) same;
     initial = ap (λ (z : Machine). z.call.initial) same;
     changed = ap has_changed same;
-    shows = λ shows. subst (λ (z : Machine). ShowsPairs z.call.state) (sym same) shows;
+    shows = λ shows. subst (λ (z : Machine). ShowsPairs z.call) (sym same) shows;
+    values = λ has. subst (λ (z : Machine). HasValue z.call) (sym same) has;
     stands = λ said stands. subst (λ (z : Machine). StandsOn z.call said) same stands;
     ends = λ cause e. inl same;
   }
@@ -136,6 +152,13 @@ module _ {K V S H : Type 0} (c c' : Driver K V S H) (tables : List ℕ) (calling
 
   pub refuses_kept : ((cause : Cause) → ask_of c.machine ≡ Call (Done (Refused cause)) → IsMemoryOrCapacity cause) → (cause : Cause) → ask_of c'.machine ≡ Call (Done (Refused cause)) → IsMemoryOrCapacity cause
   refuses_kept before cause e = ends_so (λ _. IsMemoryOrCapacity cause) cause (before cause) (λ h. ⊎_elim (λ memory. inl memory) (λ full. inr full.0) h) e
+
+  -- by its copy it was not refused for the limit
+  pub limit_kept : ((cause : Cause) → ask_of c.machine ≡ Call (Done (Refused cause)) → IsMemoryCapacityOrLimit cause) → (cause : Cause) → ask_of c'.machine ≡ Call (Done (Refused cause)) → IsMemoryCapacityOrLimit cause
+  limit_kept before cause e = ends_so (λ _. IsMemoryCapacityOrLimit cause) cause (before cause) (λ h. ⊎_elim (λ memory. inl (inl memory)) (λ full. inl (inr full.0)) h) e
+
+  pub spent_kept : (Holds : Type 0) → (ask_of c.machine ≡ Call (Done (Refused Limit)) → Holds) → ask_of c'.machine ≡ Call (Done (Refused Limit)) → Holds
+  spent_kept Holds was e = ends_so (λ d. Holds) Limit was (λ h. ⊎_elim (λ memory. absurd (cc memory)) (λ full. absurd (let f = full.0 in cc f)) h) e
 
   pub room_kept : (before : List ℕ) → IsPrefix before tables → (ask_of c.machine ≡ Call (Done (Refused Capacity)) → HasNoRoom c.machine.call.initial before c.given.done) → ask_of c'.machine ≡ Call (Done (Refused Capacity)) → HasNoRoom c'.machine.call.initial tables c'.given.done
   room_kept before pre was e = ends_so (λ d. HasNoRoom d.machine.call.initial tables d.given.done) Capacity (λ h. room_since c.machine.call.initial before tables c.given.done pre (was h)) (λ h. ⊎_elim (λ memory. absurd (cc memory)) (λ full. full.1) h) e

@@ -225,7 +225,7 @@ module _ {K V S H : Type 0} (eq : K → K → Bool) (input : K → List (List �
   -- a hint was loaded
   pub hinted : (t x : ℕ) → ask_of c.machine ≡ asks.Copy (copies.LoadHint t x) → (log : List (Event K V S)) → IsPrefix v log → (hint : ℕ) → IsSlotHint eq hashes b t x hint log → (c' : Driver K V S H) → c' ≡ c → Leaves log c' (answers.Call (Word_read hint))
   hinted t x asked log pre hint is c' same =
-      let there : IsHint (Gs log) Cs (state_of log) t x hint = hint_with (setting_of eq (hashes b.hasher) b.mode log) (coding_of (hashes b.hasher)) matches fed ((state_of log).slot t x) hint is.is in
+      let there : IsHint (Gs log) Cs (state_of log) t x hint = hint_with (setting_of eq (hashes b.hasher) b.mode b.limit log) (coding_of (hashes b.hasher)) matches fed ((state_of log).slot t x) hint is.is in
       quiet_still (copies.LoadHint t x) asked log is.lawful pre (answers.Call (Word_read hint)) tt ((hint, there, refl), (refl, refl)) (λ e. cc e) (λ n e. cc e) (λ slots limit e. absurd (cc e)) c' same
 
   -- and one was written

@@ -158,11 +158,11 @@ module _ (first m m' : Machine) (tables : List ℕ) (given : List Given) (same :
   further (inl aside) = inr (inl (aside_further aside))
   further (inr led) = inr (inr (led_further led))
 
--- after each answer
-pub reached_on : (first m m' : Machine) (tables tables' : List ℕ) (given given' : List Given) → HasReached first m tables given → (m.phase ≡ Calling → ⊥) → IsAside m m' ⊎ IsLed m m' tables' given' → HasReached first m' tables' given'
-reached_on first m m' tables tables' given given' (inl same) busy leads = further first m m' tables' given' (ap (λ (d : Machine). d.call) same) leads
-reached_on first m m' tables tables' given given' (inr (inl aside)) busy leads = further first m m' tables' given' aside.call leads
-reached_on first m m' tables tables' given given' (inr (inr led)) busy leads = absurd (busy led.calling)
+-- after each answer, to a machine whose call is where it was
+pub reached_past : (first m mid m' : Machine) (tables tables' : List ℕ) (given given' : List Given) → HasReached first m tables given → (m.phase ≡ Calling → ⊥) → mid.call ≡ m.call → IsAside mid m' ⊎ IsLed mid m' tables' given' → HasReached first m' tables' given'
+reached_past first m mid m' tables tables' given given' (inl same) busy call leads = further first mid m' tables' given' (call ∙ ap (λ (d : Machine). d.call) same) leads
+reached_past first m mid m' tables tables' given given' (inr (inl aside)) busy call leads = further first mid m' tables' given' (call ∙ aside.call) leads
+reached_past first m mid m' tables tables' given given' (inr (inr led)) busy call leads = absurd (busy led.calling)
 
 -- it is there still when more tables have come
 module _ (m m' : Machine) (tables tables' : List ℕ) (given : List Given) (pre : IsPrefix tables tables') where

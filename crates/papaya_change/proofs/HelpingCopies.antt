@@ -6,7 +6,7 @@ use Rattle.logbook.specs.Pages.{Book}
 use Rattle.papaya_words.specs.declared.probe.Refused.{Refused}
 use Rattle.papaya_words.specs.declared.probe.Refused.TheVariants.{Capacity, Memory}
 use Rattle.papaya_ask.specs.declared.ask.At.{At}
-use Rattle.papaya_ask.specs.declared.ask.At.TheVariants.{Root, Next, Aborted, Done, Slot}
+use Rattle.papaya_ask.specs.declared.ask.At.TheVariants.{Root, Next, Aborted, Done, Slot, Made as Made_word}
 use Rattle.papaya_ask.specs.declared.ask.Answer.{Answer as Call_answer}
 use Rattle.papaya_ask.specs.declared.ask.Answer.TheVariants.{Exchanged, Found as Found_instead, Made as Made_number, Refused as Was_refused, Yes}
 use Rattle.papaya_ask.specs.declared.copy_ask.CopyAsk.{CopyAsk}
@@ -56,6 +56,7 @@ module _ {K V S H : Type 0} (eq : K → K → Bool) (input : K → List (List �
   reached (Slot t x) is =
       let came = chain_came v t is.0 in
       (came.0, came.1, subst (λ (n : ℕ). x < n) (sizes (steps_of v) t came.0 came.1).0 is.1)
+  reached Made_word is = absurd is
 
   abbrev Can : CopyAsk → Type 0
   Can ask = CanAnswerTo eq hash b name ask (kind_of_ask c.machine) (follows_of c.machine) v (copier_of c)
@@ -77,6 +78,7 @@ module _ {K V S H : Type 0} (eq : K → K → Bool) (input : K → List (List �
   can_exchange (Aborted t) old new asked = (reached (Aborted t) (there (copies.Exchange (Aborted t) old new) asked), may_try eq input build write finish classes respects b name matches fed form k begun made v c r (Aborted t) old new asked (λ t e. cc e) v ([], append-nil v))
   can_exchange (Done t i) old new asked = (reached (Done t i) (there (copies.Exchange (Done t i) old new) asked), may_try eq input build write finish classes respects b name matches fed form k begun made v c r (Done t i) old new asked (λ t e. cc e) v ([], append-nil v))
   can_exchange (Slot t x) old new asked = (reached (Slot t x) (there (copies.Exchange (Slot t x) old new) asked), may_try eq input build write finish classes respects b name matches fed form k begun made v c r (Slot t x) old new asked (λ t e. cc e) v ([], append-nil v))
+  can_exchange Made_word old new asked = absurd (there (copies.Exchange Made_word old new) asked)
 
   pub can_answer : (ask : CopyAsk) → ask_of c.machine ≡ asks.Copy ask → IsFitCopyAsk ask → Can ask
   can_answer (copies.Load at) asked fit = reached at (there (copies.Load at) asked)
@@ -115,6 +117,7 @@ module _ {K V S H : Type 0} (eq : K → K → Bool) (input : K → List (List �
       hand (Aborted i) e left told is = stays told is left
       hand (Done i j) e left told is = stays told is left
       hand (Slot i x) e left told is = stays told is left
+      hand Made_word e left told is = stays told is left
 
       ended : (z : Bool) → (found == old) ≡ z → h.kept ≡ c.kept → MatchBool z (h.last ≡ marked_or (kind_of_ask c.machine) pair c.last) (h.last ≡ or_last pair c.last) → IsHandLeft at c.fresh h.fresh → Leaves log (if z then answers.Call Exchanged else answers.Call (Found_instead found))
       ended true is kept last left = exchanged eq input build write finish classes respects b name matches fed form k begun made v c r standing at old new asked found log pair t c' is refl refl kept last (hand at refl left Exchanged (inl refl))

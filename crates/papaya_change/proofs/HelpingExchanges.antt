@@ -1,5 +1,5 @@
 -- What a copy for a call exchanges may be exchanged in the book, and what was exchanged is what the copy's machine is told of.
-use Rattle.std.proofs.Common.{◌≡◌, ◌⊎◌, inl, inr, ⊎_elim, ℕ, ◌+◌, ◌<◌, ◌≤◌, ◌==◌, Bool, true, false, cond, MatchBool, Option, None, Some, List, [], ◌∷◌, ◌++◌, length, append-nil, refl, sym, ap, ◌∙◌, subst, arith}
+use Rattle.std.proofs.Common.{◌≡◌, ◌⊎◌, inl, inr, ⊎_elim, ℕ, ◌+◌, ◌<◌, ◌≤◌, ◌==◌, Bool, true, false, MatchBool, Option, None, Some, List, [], ◌∷◌, ◌++◌, length, append-nil, refl, sym, ap, ◌∙◌, subst, arith}
 use Rattle.std.proofs.lemmas.Bool.{eqb-true}
 use Rattle.std.specs.Cmp.{IsEquivalence}
 use mathlib.Core.List.{IsPrefix}
@@ -8,7 +8,7 @@ use Rattle.boxcar.specs.Table.{Where}
 use Rattle.logbook.specs.Pages.{Book}
 use Rattle.logbook.specs.declared.tokens.Pen.{Pen}
 use Rattle.papaya_ask.specs.declared.ask.At.{At}
-use Rattle.papaya_ask.specs.declared.ask.At.TheVariants.{Root, Next, Aborted, Done, Slot}
+use Rattle.papaya_ask.specs.declared.ask.At.TheVariants.{Root, Next, Aborted, Done, Slot, Made as Made_word}
 use Rattle.papaya_ask.specs.declared.ask.Answer.TheVariants.{Exchanged, Found as Found_instead}
 use Rattle.papaya_ask.specs.declared.ask.StepKind.{StepKind}
 use Rattle.papaya_ask.specs.declared.ask.StepKind.TheVariants as kinds
@@ -73,6 +73,7 @@ told_pair s (Next t) last = refl
 told_pair s (Aborted t) last = refl
 told_pair s (Done t c) last = refl
 told_pair s (Slot t x) last = refl
+told_pair s Made_word last = refl
 
 module _ {K P : Type 0} (c : Coding K P) (new : ℕ) (s : State P) (kept : Option P) (e : Exchange P) where
   -- an exchange of a copy is of a copy's kind
@@ -183,6 +184,7 @@ next_or (Next t) = inl (t, refl)
 next_or (Aborted t) = inr (λ u e. cc e)
 next_or (Done t c) = inr (λ u e. cc e)
 next_or (Slot t x) = inr (λ u e. cc e)
+next_or Made_word = inr (λ u e. cc e)
 
 -- a setting has the words that were asked for where it has those of the table that is about to be linked
 pub words_where : {K P : Type 0} (g : Setting K P) (o : Option Link) → ((behind n chunks : ℕ) → o ≡ Some (links.Linking behind n chunks) → chunks ≤ g.chunks n) → HasWords g o
@@ -210,7 +212,7 @@ module _ {K V S H : Type 0} (eq : K → K → Bool) (input : K → List (List �
   hash = hash_of input build write finish
 
   abbrev plain : List (Event K V S) → Setting K (Stored K V)
-  plain log = setting_of eq (hash b.hasher) b.mode log
+  plain log = setting_of eq (hash b.hasher) b.mode b.limit log
 
   abbrev p : Coding K (Stored K V)
   p = coding_of (hash b.hasher)

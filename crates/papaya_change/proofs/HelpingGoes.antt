@@ -13,6 +13,7 @@ use Rattle.papaya_chain.specs.declared.machine.Phase.TheVariants.{Calling, Linki
 use Rattle.papaya_chain.specs.Machine.{after, ask_of, asks_in}
 use Rattle.papaya_book.specs.declared.rule.entry.Begun.{Begun}
 use Rattle.papaya_book.specs.declared.rule.entry.Event.{Event}
+use Rattle.papaya_book.specs.declared.rule.own.Given.{Given}
 use Rattle.papaya_book.specs.Calls.{HasCome, IsTable}
 use Rattle.papaya_book.specs.Hashes.{hash_of}
 use Rattle.papaya_book.specs.Limits.{tables_of}
@@ -21,7 +22,7 @@ use Rattle.papaya_book.proofs.Lengths.{tables_since}
 use Rattle.papaya_change.specs.declared.driver.Driver.{Driver}
 use Rattle.papaya_change.specs.Changing.{CanGoOn, GoesOn, IsDriven}
 use Rattle.papaya_change.specs.Helping.{Copies, HasCopied, IsEntering}
-use Rattle.papaya_change.proofs.HelpingArrives.{HasReached, arrived, entering_came, reached_on, reached_since}
+use Rattle.papaya_change.proofs.HelpingArrives.{HasReached, arrived, entering_came, reached_past, reached_since}
 use Rattle.papaya_change.proofs.HelpingLeads.{busy}
 
 module _ {K V S H : Type 0} (eq : K → K → Bool) (input : K → List (List ℕ)) (build : S → H) (write : H → List ℕ → H) (finish : H → ℕ) (classes : IsEquivalence eq) (respects : (x y : K) → eq x y ≡ true → input x ≡ input y)
@@ -61,12 +62,12 @@ module _ {K V S H : Type 0} (eq : K → K → Bool) (input : K → List (List �
     -- then it may have entered a table
     module _ (c₂ : Driver K V S H) (is : c₂ ≡ record c₁ { machine = m; table = c₂.table }) where
       -- it is one answer further
-      pub reached_now : HasReached c₀.machine c.machine (tables_of v) c.given.done → (ask : CopyAsk) → ask_of c.machine ≡ Copy ask → (log' : List (Event K V S)) → IsPrefix log log' → HasReached c₀.machine c₂.machine (tables_of log') c₂.given.done
-      reached_now reached ask asked log' pre' =
+      pub reached_now : (was : Machine) (tables : List ℕ) (given : List Given) → HasReached c₀.machine was tables given → (ask : CopyAsk) → ask_of was ≡ Copy ask → c.machine.call ≡ was.call → (log' : List (Event K V S)) → IsPrefix log log' → HasReached c₀.machine c₂.machine (tables_of log') c₂.given.done
+      reached_now was tables given reached ask asked same log' pre' =
           subst (λ (z : Driver K V S H). HasReached c₀.machine z.machine (tables_of log') z.given.done) (sym is)
           (subst (λ (z : Machine). HasReached c₀.machine z (tables_of log') c₁.given.done) (sym goes_to)
           (reached_since c₀.machine (after c.machine answer) (tables_of log) (tables_of log') c₁.given.done (tables_since log log' pre')
-          (reached_on c₀.machine c.machine (after c.machine answer) (tables_of v) (tables_of log) c.given.done c₁.given.done reached (busy c.machine ask asked) copied_now.leads)))
+          (reached_past c₀.machine was c.machine (after c.machine answer) tables (tables_of log) given c₁.given.done reached (busy was ask asked) same copied_now.leads)))
 
       -- and holds that table
       pub goes_further : (log' : List (Event K V S)) → IsPrefix v log → IsPrefix log log' → IsLawfulLog eq hash b log' → c₁.table ≡ c.table → ((n : ℕ) → IsEntering m n → MatchOption c₂.table ⊥ (λ z. IsTable log' n z.now)) → (((n : ℕ) → IsEntering m n → ⊥) → c₂.table ≡ c₁.table)

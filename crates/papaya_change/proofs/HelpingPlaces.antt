@@ -7,7 +7,7 @@ use Rattle.boxcar.specs.Table.{Where}
 use Rattle.logbook.specs.Pages.{Book}
 use Rattle.logbook.specs.declared.tokens.Pen.{Pen}
 use Rattle.papaya_ask.specs.declared.ask.At.{At}
-use Rattle.papaya_ask.specs.declared.ask.At.TheVariants.{Root, Next, Aborted, Done, Slot}
+use Rattle.papaya_ask.specs.declared.ask.At.TheVariants.{Root, Next, Aborted, Done, Slot, Made as Made_word}
 use Rattle.papaya_ask.specs.declared.copy_ask.CopyAsk.{CopyAsk}
 use Rattle.papaya_ask.specs.declared.copy_ask.CopyAsk.TheVariants as copies
 use Rattle.papaya_chain.specs.declared.ask.Ask.TheVariants as asks
@@ -68,7 +68,7 @@ module _ {K V S H : Type 0} (eq : K → K → Bool) (input : K → List (List �
       let wide_hint = copies_may_hint g c (hashed_in eq input build write finish classes respects b matches fed form k (exchanges_of begun) log r.lawful) (exchanges_of begun) r.since
       (resting_may eq input build write finish classes respects b matches fed form k (exchanges_of begun) log r.lawful m (hands_with last kept made) resting) k m (hands_with last kept made) r.rests t x n e in
       let here : IsHint g c (state_of log) t x n = subst (λ (z : List (Exchange (Stored K V))). IsHint g c (run z start) t x n) r.is wide_hint in
-      record { lawful = r.lawful; is = hint_without (setting_of eq hash b.mode log) (coding_of hash) matches fed ((state_of log).slot t x) n here }
+      record { lawful = r.lawful; is = hint_without (setting_of eq hash b.mode b.limit log) (coding_of hash) matches fed ((state_of log).slot t x) n here }
 
   -- where a word is named, its table has come
   abbrev pub HasComeFor : At → Type 0
@@ -77,6 +77,7 @@ module _ {K V S H : Type 0} (eq : K → K → Bool) (input : K → List (List �
   HasComeFor (Aborted t) = HasCome log t
   HasComeFor (Done t c) = HasCome log t
   HasComeFor (Slot t x) = HasCome log t
+  HasComeFor Made_word = Unit {0}
 
   pub came_for : (at : At) → IsThere g c (state_of log) last kept at → HasComeFor at
   came_for Root there = tt
@@ -84,6 +85,7 @@ module _ {K V S H : Type 0} (eq : K → K → Bool) (input : K → List (List �
   came_for (Aborted t) there = chain_came log t there
   came_for (Done t c) there = chain_came log t there.0
   came_for (Slot t x) there = chain_came log t there.0
+  came_for Made_word there = tt
 
   -- and has the slot, later too
   pub slot_within : (t x : ℕ) → IsThere g c (state_of log) last kept (Slot t x) → (log' : List (Event K V S)) → IsPrefix log log' → (sheet : Sheet) → IsTable log' t sheet → x < length sheet.slots

@@ -18,18 +18,23 @@ use Rattle.papaya_rests.proofs.RestsHeld.{machine_replies}
 use Rattle.papaya_book.specs.declared.rule.entry.Begun.{Begun}
 use Rattle.papaya_book.specs.declared.rule.entry.Event.{Event}
 use Rattle.papaya_change.specs.declared.insertion.Insertion.{Insertion}
-use Rattle.papaya_change.specs.Changes.{IsPut}
+use Rattle.papaya_change.specs.Changes.{IsPut, key_kept}
+use Rattle.papaya_change.specs.Changing.{HasItsKey}
 use Rattle.papaya_change.specs.Doing.{has_changed}
 use Rattle.papaya_book.specs.Hashes.{hash_of}
 use Rattle.papaya_lookup.specs.History.{Change, changes_of, history_of, key_of}
 use Rattle.papaya_change.specs.Inserting.{IsInserting}
 use Rattle.papaya_book.specs.Logs.{Stored, exchanges_of}
-use Rattle.papaya_book.specs.Plays.{made_list}
 use Rattle.papaya_change.proofs.Changing.{Coded, Wide}
 use Rattle.papaya_lookup.proofs.Histories.{changes-append, history_since}
 use Rattle.papaya_change.proofs.Written.{own_query}
 use Rattle.papaya_book.proofs.Logs.{prefix_trans}
 use Rattle.papaya_lookup.proofs.Readings.{IsQuery}
+
+-- the key that a pair has that comes
+pub its_key : {K V : Type 0} (key : K) (taken : Option (Stored K V)) (q : Stored K V) → MatchOption taken (Some (key_of q) ≡ Some key) (λ p. key_of q ≡ key_of p) → key_of q ≡ key_kept taken key
+its_key key None q is = cc is
+its_key key (Some p) q is = is
 
 module _ {K V S H : Type 0} (eq : K → K → Bool) (input : K → List (List ℕ)) (build : S → H) (write : H → List ℕ → H) (finish : H → ℕ) (classes : IsEquivalence eq) (respects : (x y : K) → eq x y ≡ true → input x ≡ input y)
     (b : Begun K V S) (name : Book) (key : K) (value : V) (begun : List (Event K V S)) where
@@ -42,29 +47,32 @@ module _ {K V S H : Type 0} (eq : K → K → Bool) (input : K → List (List �
   abbrev query : IsQuery eq input (eq key) (input key)
   query = own_query eq input build write finish classes respects b name key
 
+  -- a class with a key of the call's class is that
+  its_class : (class other : K) → eq class other ≡ true → eq key other ≡ true → eq class key ≡ true
+  its_class class other of_class same = classes.congr class other key of_class ∙ (classes.symm other key ∙ same)
+
   module _ (log : List (Event K V S)) (x : Insertion K V S H) (r : Ins log x) where
     abbrev hands : Hands (Stored K V)
-    hands = record { last = x.writer.call.last; made = made_list x.made }
+    hands = record { last = x.writer.call.last; made = r.made }
 
     -- a change that puts in a number puts in a pair
-    some_put : (class : K) (change : Option ℕ × Option ℕ) (n : ℕ) → change.1 ≡ Some n → (put : Option (Stored K V)) → MatchOption put (change.1 ≡ None) (λ q. (change.1 ≡ Some q.index) × (eq class (key_of q) ≡ true)) → (q : Stored K V) × (put ≡ Some q) × (eq class (key_of q) ≡ true)
+    some_put : (class : K) (change : Option ℕ × Option ℕ) (n : ℕ) → change.1 ≡ Some n → (put : Option (Stored K V)) → MatchOption put (change.1 ≡ None) (λ q. (change.1 ≡ Some q.index) × (eq class (key_of q) ≡ true) × HasItsKey eq (Some key) x.writer.call.taken q) → (q : Stored K V) × (put ≡ Some q) × (eq class (key_of q) ≡ true) × HasItsKey eq (Some key) x.writer.call.taken q
     some_put class change n puts None is = let none : Some n ≡ None = sym puts ∙ is in absurd (cc none)
-    some_put class change n puts (Some q) is = (q, refl, is.1)
+    some_put class change n puts (Some q) is = (q, refl, is.1, is.2)
 
     -- its change, with the value of the pair that went
     put_changed : (change : Option ℕ × Option ℕ) (n : ℕ) → change.1 ≡ Some n → change_in x.writer.call.machine.call.state ≡ Some change → (answer : Option (Bor V)) → MatchOption answer (x.writer.call.taken ≡ None) (λ v. (p : Stored K V) × (x.writer.call.taken ≡ Some p) × (v.now ≡ p.value.value)) → IsPut eq key value (history_of begun) (history_of log) answer
     put_changed change n puts e answer taken =
         let h = r.writing.calling.changed change e in
         let q = some_put h.class change n puts x.writer.call.put h.put_is in
-        let own = r.put_is q.0 q.1 in
         let is : history_of log ≡ history_of h.before ++ record { class = h.class; taken = x.writer.call.taken; put = x.writer.call.put } ∷ [] =
         ap (changes_of key_of) h.is ∙ (changes-append key_of (exchanges_of h.before) (h.by ∷ []) ∙ ap (λ (cs : List (Change K (Stored K V))). history_of h.before ++ cs) (Rattle.std.proofs.lemmas.List.append-nil _ ∙ h.change_is)) in record {
           before = history_of h.before;
           change = record { class = h.class; taken = x.writer.call.taken; put = x.writer.call.put };
           since = history_since begun h.before h.since;
           is = is;
-          class_is = subst (λ (z : K). eq h.class z ≡ true) own.0 q.2;
-          put_is = (q.0, q.1, own.0, own.1);
+          class_is = its_class h.class (key_of q.0) q.2 q.3.same;
+          put_is = (q.0, q.1, its_key key x.writer.call.taken q.0 q.3.is, r.put_is q.0 q.1);
           taken_is = taken;
         }
 

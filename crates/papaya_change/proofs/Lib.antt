@@ -5,8 +5,10 @@ pub mod Changing
 pub mod Doing
 pub mod Exchanging
 pub mod Opens
-pub mod OnePair
-pub mod OwnKeys
+pub mod Taking
+pub mod MadeStays
+pub mod Spent
+pub mod OwnParts
 pub mod Written
 pub mod WritingSteps
 pub mod Refusals
@@ -17,6 +19,8 @@ pub mod InsertingReplies
 pub mod InsertingHelped
 -- insertions at once
 pub mod Seeking
+pub mod Claiming
+pub mod Replacing
 pub mod Logged
 -- what closures are shown
 pub mod Showings
@@ -46,3 +50,8 @@ pub mod ResizingRooms
 pub mod ResizingRests
 pub mod ResizingAnswers
 pub mod ResizingOpens
+-- slots that are copied one after another
+pub mod SettlingTurns
+pub mod SettlingSeen
+pub mod HelpingSettling
+pub mod ResizingSettling

@@ -1,12 +1,18 @@
--- An insertion that begins with its pair in the log; and one that went on where another one left the map as it was.
-use Rattle.std.proofs.Common.{◌≡◌, inl, ⊎_elim, ℕ, Bool, true, false, None, Some, List, [], ◌∷◌, append-nil, refl, sym, ap, ◌∙◌, subst}
+-- An insertion that begins with a pair in the log, of its own key or of one that it met; and one that went on where another one left the map as it was.
+use Rattle.std.proofs.Common.{◌≡◌, inl, ⊎_elim, ℕ, Bool, true, false, Option, None, Some, List, [], ◌∷◌, append-nil, refl, sym, ap, ◌∙◌, subst}
 use Rattle.logbook.specs.Pages.{Book}
 use Rattle.papaya_ask.specs.declared.call.Task.TheVariants.{Insert}
 use Rattle.papaya_call.specs.declared.machine.State.TheVariants.{AtRoot}
-use Rattle.papaya_call.specs.declared.write.Made.TheVariants.{Pair}
+use Rattle.papaya_call.specs.declared.made.Made.{Made}
+use Rattle.papaya_call.specs.declared.made.Of.{Of}
+use Rattle.papaya_call.specs.Made.{nothing_made}
 use Rattle.papaya_chain.specs.declared.machine.Machine.{Machine}
 use Rattle.papaya_chain.specs.Machine.{ask_of}
-use Rattle.papaya_rests.specs.Told.{IsOneOf}
+use Rattle.papaya_law.specs.Code.{Coding}
+use Rattle.papaya_law.specs.Exchange.{Exchange, Setting, run, start}
+use Rattle.papaya_law.specs.Later.{IsOfKey}
+use Rattle.papaya_rests.specs.Rests.{RestsFill, RestsOf}
+use Rattle.papaya_rests.specs.Told.{Hands, IsOneOf}
 use Rattle.papaya_book.specs.declared.keyed.Keyed as keyed
 use Rattle.papaya_book.specs.declared.rule.entry.Begun.{Begun}
 use Rattle.papaya_book.specs.declared.rule.entry.Event.{Event}
@@ -17,19 +23,35 @@ use Rattle.papaya_book.specs.Rule.{IsLawfulLog, IsPlaced}
 use Rattle.papaya_book.specs.Windows.{Does}
 use Rattle.papaya_lookup.specs.Drivers.{own, past}
 use Rattle.papaya_lookup.specs.History.{Makes, changes_by, key_of}
+use Rattle.papaya_lookup.specs.Lookups.{coding_for, setting_for}
 use Rattle.papaya_change.specs.declared.insertion.Insertion.{Insertion}
 use Rattle.papaya_change.specs.Changing.{IsCalling}
 use Rattle.papaya_change.specs.Inserting.{IsInserting}
 use Rattle.papaya_change.specs.Seeking.{insertion_at}
+use Rattle.papaya_change.specs.Writing.{HasKey, HasKeyAt, HasValue, held_value}
 use Rattle.papaya_change.proofs.Changing.{begins as begins_calling}
 
-module _ {K V S : Type 0} (eq : K → K → Bool) (hash : S → K → ℕ) (b : Begun K V S) (name : Book) (q : Stored K V) (placed : IsPlaced b (Some name) (names.Pair q)) (brings : q.value.key.at ≡ None) where
+module _ {K V S : Type 0} (eq : K → K → Bool) (hash : S → K → ℕ) (b : Begun K V S) (name : Book) (key : K) (q : Stored K V) (placed : IsPlaced b (Some name) (names.Pair q)) (class : eq key (key_of q) ≡ true) where
   own_pair : (p : Stored K V) → IsOneOf (q ∷ []) p → p ≡ q
   own_pair p one = ⊎_elim (λ is. is) (λ other. absurd other) one
 
+  -- nothing but this was made
+  abbrev pub made_with : Option ℕ → Option Of → Made
+  made_with own of = record (nothing_made b.limit) { own = own; of = of }
+
+  abbrev g : List (Event K V S) → Setting (Option K) (Stored K V)
+  g log = setting_for eq hash b (eq key) (hash b.hasher key) log
+
+  abbrev c : Coding (Option K) (Stored K V)
+  c = coding_for hash b.hasher (hash b.hasher key)
+
+  abbrev hands : Hands (Stored K V)
+  hands = record { last = None; made = q ∷ [] }
+
   -- its call, which has made the pair
-  calls : (log : List (Event K V S)) → IsLawfulLog eq hash b log → (initial : ℕ) → IsCalling eq hash b name (eq (key_of q)) (hash b.hasher (key_of q)) (Some (key_of q)) log log (insertion_at (hash b.hasher (key_of q)) b.mode initial (Pair q.index) AtRoot) None None None (q ∷ []) None None None
-  calls log l initial = let r = begins_calling eq hash b name (eq (key_of q)) (hash b.hasher (key_of q)) (Some (key_of q)) refl log l (Insert true) initial in record {
+  calls : (log : List (Event K V S)) → IsLawfulLog eq hash b log → (initial : ℕ) (own : Option ℕ) (of : Option Of) → RestsFill (g log) c (exchanges_of log) [] (Some key) hands own → RestsOf (g log) c (exchanges_of log) [] (Some key) hands of
+      → IsCalling eq hash b name (eq key) (hash b.hasher key) (Some key) log log (insertion_at (hash b.hasher key) b.mode initial (made_with own of) AtRoot) None None None (q ∷ []) None None None
+  calls log l initial own of own_is of_is = let r = begins_calling eq hash b name (eq key) (hash b.hasher key) (Some key) refl log l (Insert true) initial in record {
     lawful = l;
     seen = r.seen;
     since = [];
@@ -39,7 +61,15 @@ module _ {K V S : Type 0} (eq : K → K → Bool) (hash : S → K → ℕ) (b : 
       call = record {
         hash = refl;
         mode = r.rests.call.mode;
-        made = record { keys = λ p one. ap (λ (z : Stored K V). Some (key_of z)) (own_pair p one); made_is = (q, inl refl, refl); fill_is = tt; choice_is = tt };
+        made = record {
+          keys = λ p one. subst (λ (z : Stored K V). eq key (key_of z) ≡ true) (sym (own_pair p one)) class;
+          limit = refl;
+          number_is = r.rests.call.made.number_is;
+          own_is = own_is;
+          of_is = of_is;
+          fill_is = tt;
+          choice_is = tt;
+        };
         stage = tt;
       };
       phase = tt;
@@ -57,28 +87,58 @@ module _ {K V S : Type 0} (eq : K → K → Bool) (hash : S → K → ℕ) (b : 
     counts = tt;
   }
 
-  -- an insertion of the pair that begins
-  pub begins_logged : {H : Type 0} (log : List (Event K V S)) (x : Insertion K V S H) → IsLawfulLog eq hash b log → (initial : ℕ) → x.writer.call.machine ≡ insertion_at (hash b.hasher (key_of q)) b.mode initial (Pair q.index) AtRoot → (x.writer.call.table ≡ None) × (x.writer.call.fresh ≡ None)
-      → (x.writer.call.last ≡ None) × (x.writer.call.kept ≡ None) × (x.writer.call.taken ≡ None) × (x.writer.call.put ≡ None) → x.made ≡ Some q → x.writer.key ≡ None → x.writer.brought ≡ Some q → x.writer.value ≡ None → IsInserting eq hash b name (key_of q) q.value.value log log x
-  begins_logged log x l initial machine table pairs made none brought left = record {
-    writing = record {
-      calling = rw (made, machine, table.0, table.1, pairs.0, pairs.1, pairs.2, pairs.3) (calls log l initial);
-      keyed = record {
-        own_is = λ k e. let f = sym none ∙ e in absurd (cc f);
-        brought_is = λ p e. let f = sym brought ∙ e in let one : q ≡ p = cc f in subst (λ (z : Stored K V). (key_of z ≡ key_of q) × (z.value.key.at ≡ None)) one (refl, brings);
-        brought_placed = rw brought placed;
-        some = λ e. (q, brought);
+  module _ {H : Type 0} (log : List (Event K V S)) (x : Insertion K V S H) (l : IsLawfulLog eq hash b log) (initial : ℕ) (table : (x.writer.call.table ≡ None) × (x.writer.call.fresh ≡ None)) (pairs : (x.writer.call.last ≡ None) × (x.writer.call.kept ≡ None) × (x.writer.call.taken ≡ None) × (x.writer.call.put ≡ None))
+      (has_key : HasKey b name key x.writer.key) (has_value : HasValue b name x.writer.value) (value_is : held_value x.writer.value ≡ Some q.value.value) where
+    abbrev IsAt : Option ℕ → Option Of → Type 0
+    IsAt own of = x.writer.call.machine ≡ insertion_at (hash b.hasher key) b.mode initial (made_with own of) AtRoot
+
+    -- an insertion that has made the pair of its own key
+    pub begins_logged : key_of q ≡ key → IsAt (Some q.index) None → x.own ≡ Some q → x.of ≡ None → IsInserting eq hash b name key q.value.value log log x
+    begins_logged key_is machine own of = record {
+      made = q ∷ [];
+      writing = record {
+        calling = rw (machine, table.0, table.1, pairs.0, pairs.1, pairs.2, pairs.3) (calls log l initial (Some q.index) None (q, inl refl, refl, ap (λ z. Some z) key_is) tt);
+        keyed = has_key;
+        valued = has_value;
+        put_placed = rw pairs.3 tt;
       };
-      put_placed = rw pairs.3 tt;
-    };
-    task_is = ap (λ (z : Machine). z.call.task) machine;
-    left_is = λ v e. let f = sym left ∙ e in absurd (cc f);
-    made_is = λ p e. let f = sym made ∙ e in let one : q ≡ p = cc f in subst (λ (z : Stored K V). (key_of z ≡ key_of q) × (z.value.value ≡ q.value.value)) one (refl, refl);
-    put_is = λ p e. let f = sym pairs.3 ∙ e in absurd (cc f);
-    unmade = λ u. absurd (subst (λ (z : Machine). Rattle.papaya_change.specs.Inserting.IsUnpaired z.call.made) machine u);
-    refuses = λ cause e. let f = sym (ap ask_of machine) ∙ e in absurd (cc f);
-    crowded = λ e. let f = sym (ap ask_of machine) ∙ e in absurd (cc f);
-  }
+      task_is = ap (λ (z : Machine). z.call.task) machine;
+      value_is = λ v e. let f = sym value_is ∙ e in let one : q.value.value ≡ v = cc f in sym one;
+      own_is = record {
+        there = λ n e. let f = sym (ap (λ (z : Machine). z.call.made.own) machine) ∙ e in let one : q.index ≡ n = cc f in (q, own, one);
+        is = λ p e. let f = sym own ∙ e in let one : q ≡ p = cc f in subst (λ (z : Stored K V). IsOneOf (q ∷ []) z × (key_of z ≡ key) × (z.value.value ≡ q.value.value)) one (inl refl, key_is, refl);
+      };
+      of_is = record { there = λ new e. let f = sym (ap (λ (z : Machine). z.call.made.of) machine) ∙ e in absurd (cc f); is = λ p e. let f = sym of ∙ e in absurd (cc f) };
+      put_is = λ p e. let f = sym pairs.3 ∙ e in absurd (cc f);
+      refuses = λ cause e. let f = sym (ap ask_of machine) ∙ e in absurd (cc f);
+      crowded = λ e. let f = sym (ap ask_of machine) ∙ e in absurd (cc f);
+      spent = λ e. let f = sym (ap ask_of machine) ∙ e in absurd (cc f);
+    }
+
+    -- and one that has made it of the key that is in a slot
+    pub begins_met : (t i : ℕ) → HasKeyAt log t i (key_of q) → IsAt None (Some (record { pair = q.index; table = t; index = i })) → x.own ≡ None → x.of ≡ Some q → IsInserting eq hash b name key q.value.value log log x
+    begins_met t i met machine own of = record {
+      made = q ∷ [];
+      writing = record {
+        calling = rw (machine, table.0, table.1, pairs.0, pairs.1, pairs.2, pairs.3) (calls log l initial None (Some (record { pair = q.index; table = t; index = i })) tt (q, inl refl, refl, subst (λ (es : List (Exchange (Stored K V))). IsOfKey (g log) ((run es start).slot t i) (Some (key_of q))) (sym (append-nil (exchanges_of log))) (met.0, met.1, ap (λ z. Some z) met.2)));
+        keyed = has_key;
+        valued = has_value;
+        put_placed = rw pairs.3 tt;
+      };
+      task_is = ap (λ (z : Machine). z.call.task) machine;
+      value_is = λ v e. let f = sym value_is ∙ e in let one : q.value.value ≡ v = cc f in sym one;
+      own_is = record { there = λ n e. let f = sym (ap (λ (z : Machine). z.call.made.own) machine) ∙ e in absurd (cc f); is = λ p e. let f = sym own ∙ e in absurd (cc f) };
+      of_is = record {
+        there = λ new e.
+            let f = sym (ap (λ (z : Machine). z.call.made.of) machine) ∙ e in let one : record { pair = q.index; table = t; index = i } ≡ new = cc f in
+            (q, of, ap (λ (z : Of). z.pair) one, subst (λ (z : Of). HasKeyAt log z.table z.index (key_of q)) one met);
+        is = λ p e. let f = sym of ∙ e in let one : q ≡ p = cc f in subst (λ (z : Stored K V). IsOneOf (q ∷ []) z × (z.value.value ≡ q.value.value)) one (inl refl, refl);
+      };
+      put_is = λ p e. let f = sym pairs.3 ∙ e in absurd (cc f);
+      refuses = λ cause e. let f = sym (ap ask_of machine) ∙ e in absurd (cc f);
+      crowded = λ e. let f = sym (ap ask_of machine) ∙ e in absurd (cc f);
+      spent = λ e. let f = sym (ap ask_of machine) ∙ e in absurd (cc f);
+    }
 
 module _ {K V S H : Type 0} {d : keyed.Ghosts S K H} where
   -- what is made after nothing was done is all that is made

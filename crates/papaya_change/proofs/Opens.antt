@@ -68,7 +68,7 @@ module _ {K V S H : Type 0} (eq : K → K → Bool) (input : K → List (List �
         let grown : exchanges_of log ≡ exchanges_of before ++ e ∷ [] = ap exchanges_of done.2 ∙ exchanges_of-append before (Stepped done.0 ∷ []) in
         let more : IsPrefix before log = (Stepped done.0 ∷ [], sym done.2) in
         let here : (word_of G C (state_of before) Root == 0) ≡ true = ap (λ (i : ℕ). i == 0) (word_wide eq input build write finish classes respects b matches query lawful k (exchanges_of begun) before log Root ∙ t.is) ∙ is in
-        let asked : IsAsked C (kind_of_ask m) Root n (state_of before) hands e = subst (λ (z : Option StepKind). IsAsked C z Root n (state_of before) hands e) (sym kind) (asked_by_call (Some kinds.Open) tt Root n (state_of before) None e done.1.asked) in
+        let asked : IsAsked G C k (kind_of_ask m) Root n (state_of before) hands e = subst (λ (z : Option StepKind). IsAsked G C k z Root n (state_of before) hands e) (sym kind) (asked_by_call (Some kinds.Open) tt Root n (state_of before) None e done.1.asked) in
         let told : IsTold G C k (state_of before) (kind_of_ask m) hands (Ask_exchange Root 0 n) Exchanged (e ∷ []) hands = rw here (refl, (e, asked, refl), refl) in
         let since = prefix_trans v before log t.since more in
         answered eq input build write finish classes respects b matches query lawful k name begun v before log t.lawful t.now t.since more m table last kept made taken put fresh r (Ask_exchange Root 0 n) asks Exchanged last made told (Some lent) taken put fresh'

@@ -19,8 +19,13 @@ use Rattle.papaya_call.specs.declared.machine.Machine.{Machine as Call_machine}
 use Rattle.papaya_call.specs.declared.machine.State.{State}
 use Rattle.papaya_call.specs.declared.machine.State.TheVariants.{AtRoot, Making, Opening, Searching, Writing, Offering, Showing, Pairing, Putting, Burying, Counting, Noting, Uncounting, Leaving, Growing, Ended}
 use Rattle.papaya_call.specs.declared.need.Need.{Need}
-use Rattle.papaya_call.specs.declared.write.Made.{Made}
-use Rattle.papaya_call.specs.declared.write.Made.TheVariants.{Nothing, Key, Pair}
+use Rattle.papaya_call.specs.declared.made.Made.{Made}
+use Rattle.papaya_call.specs.declared.made.Number.{Number}
+use Rattle.papaya_call.specs.declared.made.Number.TheVariants.{Wanted, Free, Taken}
+use Rattle.papaya_call.specs.declared.write.Write.{Write}
+use Rattle.papaya_call.specs.Made.{number_kind}
+use Rattle.papaya_call.specs.Machine.{served_kind}
+use Rattle.papaya_call.specs.Write.{serves}
 use Rattle.papaya_call.specs.Machine as calls
 use Rattle.papaya_call.specs.Machine.{needed}
 use Rattle.papaya_copy.specs.declared.copying.Aim.{Aim}
@@ -50,7 +55,7 @@ use Rattle.papaya_chain_rests.specs.Told.{Hands, IsTold}
 use Rattle.papaya_chain_rests.proofs.Names.{call_asks}
 use Rattle.papaya_chain_rests.proofs.Replies.{aside_asks, chain_changes}
 use Rattle.papaya_book.specs.Logs.{Stored}
-use Rattle.papaya_book.specs.Plays.{IsWished, Numbered, hands_of}
+use Rattle.papaya_book.specs.Plays.{IsCallAsked, IsWished, hands_of}
 use Rattle.papaya_change.specs.Changing.{IsBringing, IsSizedBy}
 
 -- a call that asks for itself asks its call's ask, and for an exchange of that kind
@@ -70,19 +75,27 @@ IsCallKind (Some kinds.Open) = Unit {0}
 IsCallKind (Some kinds.Claim) = Unit {0}
 IsCallKind (Some kinds.Replace) = Unit {0}
 IsCallKind (Some kinds.Bury) = Unit {0}
+IsCallKind (Some kinds.Take) = Unit {0}
 IsCallKind _ = ⊥
+
+number_kind_is : (number : Number) → IsCallKind (number_kind number)
+number_kind_is Wanted = tt
+number_kind_is (Free count) = tt
+number_kind_is Taken = tt
+
+served_kind_is : (made : Made) (write : Write) (served : Option ℕ) → IsCallKind (served_kind served made write)
+served_kind_is made write None = number_kind_is made.number
+served_kind_is made write (Some n) = cond_both (write.old == 0) kinds.Claim kinds.Replace (λ z. IsCallKind (Some z)) (λ _. tt) (λ _. tt)
 
 kind_asked_is : (made : Made) (s : State) → IsCallKind (calls.kind_asked made s)
 kind_asked_is made AtRoot = tt
 kind_asked_is made Making = tt
 kind_asked_is made (Opening t) = tt
 kind_asked_is made (Searching search) = tt
-kind_asked_is Nothing (Writing write) = tt
-kind_asked_is Key (Writing write) = tt
-kind_asked_is (Pair n) (Writing write) = cond_both (write.old == 0) kinds.Claim kinds.Replace (λ z. IsCallKind (Some z)) (λ _. tt) (λ _. tt)
+kind_asked_is made (Writing write) = served_kind_is made write (serves made write)
 kind_asked_is made (Offering gap) = tt
 kind_asked_is made (Showing removal) = tt
-kind_asked_is made (Pairing purpose) = tt
+kind_asked_is made (Pairing purpose) = number_kind_is made.number
 kind_asked_is made (Putting put) = cond_both (put.write.old == 0) kinds.Claim kinds.Replace (λ z. IsCallKind (Some z)) (λ _. tt) (λ _. tt)
 kind_asked_is made (Burying removal) = tt
 kind_asked_is made (Counting n) = tt
@@ -97,13 +110,14 @@ pub own_kind_is : (m : Machine) → m.phase ≡ Calling → IsCallKind (kind_of_
 own_kind_is m e = subst IsCallKind (sym (own_kind m e)) (kind_asked_is m.call.made m.call.state)
 
 -- where such an exchange was asked for, it was the call's and no copy's
-pub asked_by_call : {K V : Type 0} (kind : Option StepKind) → IsCallKind kind → (at : At) (new : ℕ) (s : Words (Stored K V)) (made : Option (Stored K V)) (e : Law_exchange (Stored K V)) → IsWished kind at new s made e → told_calls.IsAsked Numbered kind at new s (hands_of made) e
+pub asked_by_call : {K V : Type 0} (kind : Option StepKind) → IsCallKind kind → (at : At) (new : ℕ) (s : Words (Stored K V)) (made : Option (Stored K V)) (e : Law_exchange (Stored K V)) → IsWished kind at new s made e → IsCallAsked kind at new s (hands_of made) e
 asked_by_call kind own at new s made e (inl asks) = asks
 asked_by_call None own at new s made e (inr copies) = absurd copies
 asked_by_call (Some kinds.Open) own at new s made e (inr copies) = absurd copies
 asked_by_call (Some kinds.Claim) own at new s made e (inr copies) = absurd copies
 asked_by_call (Some kinds.Replace) own at new s made e (inr copies) = absurd copies
 asked_by_call (Some kinds.Bury) own at new s made e (inr copies) = absurd copies
+asked_by_call (Some kinds.Take) own at new s made e (inr copies) = absurd copies
 asked_by_call (Some kinds.Link) own at new s made e (inr copies) = absurd own
 asked_by_call (Some kinds.Mark) own at new s made e (inr copies) = absurd own
 asked_by_call (Some kinds.Close) own at new s made e (inr copies) = absurd own

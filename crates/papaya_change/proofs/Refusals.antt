@@ -1,20 +1,23 @@
--- Why a call is refused by an answer of its own: by what its driver's answer says, or since its closure would remove a pair where there is none.
-use Rattle.std.proofs.Common.{◌≡◌, ◌⊎◌, inl, inr, ⊎_elim, ℕ, List, refl, sym, ap, ◌∙◌, subst}
+-- Why a call is refused by an answer of its own: by what its driver's answer says, since no number was left for a pair, or since its closure would remove a pair where there is none.
+use Rattle.std.proofs.Common.{◌≡◌, ◌⊎◌, inl, inr, ⊎_elim, ℕ, Option, List, refl, sym, ap, ◌∙◌, subst}
 use Rattle.papaya_words.specs.declared.probe.Refused.{Refused as Cause}
-use Rattle.papaya_words.specs.declared.probe.Refused.TheVariants.{Capacity, RemoveNothing}
+use Rattle.papaya_words.specs.declared.probe.Refused.TheVariants.{Capacity, Limit, RemoveNothing}
 use Rattle.papaya_ask.specs.declared.ask.Answer.{Answer}
 use Rattle.papaya_ask.specs.declared.ask.Answer.TheVariants.{Word as Word_read, Exchanged, Found as Found_instead, Yes, Op, Size, Made as Made_number, Ok as Ok_done, Refused as Was_refused}
 use Rattle.papaya_ask.specs.declared.ask.Ask.{Ask}
-use Rattle.papaya_ask.specs.declared.ask.Ask.TheVariants.{Done, ShowNone}
+use Rattle.papaya_ask.specs.declared.ask.Ask.TheVariants.{Load, Exchange, Done, ShowNone}
+use Rattle.papaya_ask.specs.declared.ask.At.TheVariants.{Made as Made_word}
 use Rattle.papaya_ask.specs.declared.ask.OpKind.TheVariants.{Remove}
+use Rattle.papaya_ask.specs.declared.ask.StepKind.{StepKind}
+use Rattle.papaya_ask.specs.declared.call.Task.{Task}
 use Rattle.papaya_ask.specs.declared.call.Reply.{Reply}
 use Rattle.papaya_ask.specs.declared.call.Reply.TheVariants.{Refused}
 use Rattle.papaya_call.specs.declared.machine.Machine.{Machine as Call_machine}
 use Rattle.papaya_call.specs.declared.machine.State.TheVariants.{Growing}
 use Rattle.papaya_call.specs.declared.need.Need.{Need}
-use Rattle.papaya_call.specs.declared.write.Made.{Made}
+use Rattle.papaya_call.specs.declared.made.Made.{Made}
 use Rattle.papaya_call.specs.Machine as calls
-use Rattle.papaya_call.specs.Machine.{IsComputer}
+use Rattle.papaya_call.specs.Machine.{IsComputer, MayInsert}
 use Rattle.papaya_chain.specs.declared.ask.Answer.TheVariants as answers
 use Rattle.papaya_chain.specs.declared.ask.Ask.TheVariants.{Call}
 use Rattle.papaya_chain.specs.declared.machine.Machine.{Machine}
@@ -22,6 +25,7 @@ use Rattle.papaya_chain.specs.declared.machine.Phase.TheVariants.{Calling}
 use Rattle.papaya_chain.specs.Machine.{IsStanding, after, ask_of}
 use Rattle.papaya_chain_rests.proofs.Names.{call_asks}
 use Rattle.papaya_rests.specs.Followed.{MayAsk}
+use Rattle.papaya_rests.specs.Rests.{IsAtLimit, IsNumberAsk}
 use Rattle.papaya_rests.proofs.Followed.{asked_of_task}
 use Rattle.papaya_rests.proofs.RestsReplyRefused.{machine_reason}
 use Rattle.papaya_book.specs.declared.rule.own.Given.{Given}
@@ -32,6 +36,15 @@ use Rattle.papaya_change.proofs.OwnSteps.{aside_asks_none, calling_asks, grown_l
 -- only a compute shows that there is none
 pub shows_none : (m : Machine) → IsStanding m → ask_of m ≡ Call ShowNone → IsComputer m.call.task
 shows_none m standing e = subst (λ (a : Ask). MayAsk m.call.task (calls.kind_of_ask m.call) a) (call_asks m ShowNone e).1 (asked_of_task m.call standing.call)
+
+-- only one that may insert asks how many numbers for pairs were taken
+number_inserts : (task : Task) (kind : Option StepKind) (ask : Ask) → IsNumberAsk ask → MayAsk task kind ask → MayInsert task
+number_inserts task kind (Load Made_word) number may = may
+number_inserts task kind (Exchange Made_word old new) number may = may.0
+number_inserts task kind _ number may = absurd number
+
+pub limit_inserts : (m : Machine) → IsStanding m → (answer : Answer) → IsAtLimit m.call answer → MayInsert m.call.task
+limit_inserts m standing answer over = number_inserts m.call.task (calls.kind_of_ask m.call) (calls.ask_of m.call) over.4 (asked_of_task m.call standing.call)
 
 -- a call that needs a further table is not ended by another answer than the number of one
 grown_stays : (m : Call_machine) (made : Made) (need : Need) (answer : Answer) (reply : Reply) → calls.ask_of (calls.after (record m { made = made; state = Growing need }) answer) ≡ Done reply → (word : ℕ) × (answer ≡ Word_read word)
@@ -61,9 +74,9 @@ module _ (m : Machine) (calling : m.phase ≡ Calling) (answer : Answer) where
         | inr h ↦ let asks = calling_asks then h.6 ∙ ap (λ (z : Call_machine). Call (calls.ask_of z)) h.5 in let f = sym asks ∙ e' in cc f
       ]
 
-  -- it was answered so, or it showed that its key is absent
+  -- it was answered so, it was told that no number is left, or it showed that its key is absent
   abbrev pub IsOwnEnd : Cause → Type 0
-  IsOwnEnd cause = (answer ≡ Was_refused cause) ⊎ ((cause ≡ RemoveNothing) × (ask_of m ≡ Call ShowNone) × (answer ≡ Op Remove))
+  IsOwnEnd cause = (answer ≡ Was_refused cause) ⊎ ((cause ≡ Limit) × IsAtLimit m.call answer) ⊎ ((cause ≡ RemoveNothing) × (ask_of m ≡ Call ShowNone) × (answer ≡ Op Remove))
 
   pub own_refused : ((reply : Reply) → ask_of m ≡ Call (Done reply) → ⊥) → (cause : Cause) → ask_of m' ≡ Call (Done (Refused cause)) → IsOwnEnd cause
   own_refused open_still cause e = elim (own_went m calling answer) [
@@ -73,15 +86,16 @@ module _ (m : Machine) (calling : m.phase ≡ Calling) (answer : Answer) where
         ⊎_elim (λ made. inl made.0)
         (λ rest. ⊎_elim
         (λ (full : (cause ≡ Capacity) × ((need : Need) × (m.call.state ≡ Growing need))). absurd (grown_goes full.1.0 full.1.1 (Refused cause) ended e))
-        (λ none. inr (none.0, calling_asks m calling ∙ ap (λ s. Call (calls.asks m.call.made m.call.hash s)) none.1.1, none.2)) rest)
+        (λ others. ⊎_elim (λ over. inr (inl (over.0, over.1))) (λ none. inr (inr (none.0, calling_asks m calling ∙ ap (λ s. Call (calls.asks m.call.made m.call.hash s)) none.1.1, none.2))) others) rest)
         (machine_reason m.call cause answer open_call ended)
     | inr (inl h) ↦ absurd (aside_asks_none m'.call m'.phase h.3 (Done (Refused cause)) e)
     | inr (inr h) ↦ let asks = calling_asks m' h.6 ∙ ap (λ (z : Call_machine). Call (calls.ask_of z)) h.5 in let f = sym asks ∙ e in absurd (cc f)
   ]
 
   -- what holds of what an answer says holds of why a call is refused after it that showed no absence
-  pub refused_for : (holds : Cause → Type 0) → (ask_of m ≡ Call ShowNone → ⊥) → ((reply : Reply) → ask_of m ≡ Call (Done reply) → ⊥) → ((cause : Cause) → answer ≡ Was_refused cause → holds cause) → (cause : Cause) → ask_of m' ≡ Call (Done (Refused cause)) → holds cause
-  refused_for holds never open_still told cause e = ⊎_elim (told cause) (λ none. absurd (never none.1)) (own_refused open_still cause e)
+  pub refused_for : (holds : Cause → Type 0) → (ask_of m ≡ Call ShowNone → ⊥) → ((reply : Reply) → ask_of m ≡ Call (Done reply) → ⊥) → ((cause : Cause) → answer ≡ Was_refused cause → holds cause) → (IsAtLimit m.call answer → holds Limit) → (cause : Cause) → ask_of m' ≡ Call (Done (Refused cause)) → holds cause
+  refused_for holds never open_still told spent cause e =
+      ⊎_elim (told cause) (λ others. ⊎_elim (λ over. subst holds (sym over.0) (spent over.1)) (λ none. absurd (never none.1)) others) (own_refused open_still cause e)
 
 -- where no closure had a part in it, there was no memory, or no number left
 pub unsaid_cause : (given : List Given) (answer : Answer) → IsUnsaid given answer → (cause : Cause) → answer ≡ Was_refused cause → IsMemoryOrCapacity cause

@@ -58,7 +58,8 @@ use Rattle.papaya_change.specs.Showings.{WasHeld}
 use Rattle.papaya_change.proofs.Changing.{Coded, Wide, barren, call_hands, call_rests, counted, compared, hint_table, hinted, load_table, loaded_lawful, loads, quiet, size_table, sized, slot_table}
 use Rattle.papaya_change.proofs.OwnSays.{own_said, own_shows, own_stood}
 use Rattle.papaya_change.proofs.OwnSteps.{own_kind, own_order}
-use Rattle.papaya_change.proofs.Refusals.{refused_for, shows_none}
+use Rattle.papaya_call.specs.Machine.{MayInsert}
+use Rattle.papaya_change.proofs.Refusals.{limit_inserts, refused_for, shows_none}
 use Rattle.papaya_rests.proofs.Silent.{IsSilent, not_done}
 use Rattle.papaya_lookup.proofs.Driving.{can_bury}
 use Rattle.papaya_change.proofs.Exchanging.{exchanged, lost}
@@ -99,7 +100,7 @@ module _ {K V S H F : Type 0} (eq : K → K → Bool) (input : K → List (List 
       -- no answer of its own has it refused: it asks for nothing to be made
       not_refused : (ask : Ask) → ask_of m ≡ Call ask → ((reply : Reply) → ask ≡ Done reply → ⊥) → (answer : Answer) → ((cause : Cause) → answer ≡ Was_refused cause → ⊥) → (cause : Cause) → ask_of (after m (answers.Call answer)) ≡ Call (Done (Refused cause)) → ⊥
       not_refused ask asks open_still answer unrefused cause e =
-          refused_for m (call_asks m ask asks).0 answer (λ _. ⊥) (λ none. subst IsComputer r.task_is (shows_none m standing none)) (λ reply done. open_still reply (let f = sym asks ∙ done in cc f)) unrefused cause e
+          refused_for m (call_asks m ask asks).0 answer (λ _. ⊥) (λ none. subst IsComputer r.task_is (shows_none m standing none)) (λ reply done. open_still reply (let f = sym asks ∙ done in cc f)) unrefused (λ over. subst MayInsert r.task_is (limit_inserts m standing answer over)) cause e
 
       -- it goes on after an answer that shows nothing
       pub goes_on : (log' : List (Event K V S)) → IsPrefix log log' → (y : Driver K V S H) (answer : Answer) → y.machine ≡ m → IsFit answer → ((cause : Cause) → answer ≡ Was_refused cause → ⊥) → (ask : Ask) → ask_of m ≡ Call ask → IsSilent ask
@@ -112,7 +113,7 @@ module _ {K V S H F : Type 0} (eq : K → K → Bool) (input : K → List (List 
             record {
               calling = subst (λ (z : Machine). IsDriven eq hash b name matches fed_to None begun log' [] (record y { machine = z })) same calling;
               task_is = ap (λ (z : Machine). z.call.task) (sym same) ∙ ((chain_task m (answers.Call answer) (own_order m own.0 answer)).0 ∙ r.task_is);
-              words = subst (λ (z : Machine). ShowsPairs z.call.state) same (own_shows m own.0 answer r.words);
+              words = subst (λ (z : Machine). ShowsPairs z.call) same (own_shows m own.0 answer r.words);
               shown_placed = r.shown_placed;
               said = r.said;
               has_said = r.has_said;
@@ -252,7 +253,7 @@ module _ {K V S H F : Type 0} (eq : K → K → Bool) (input : K → List (List 
           -- it was buried
           buried : (found == old) ≡ true → RemovingOn log' (record x { call = record x.call { taken = pair; put = None } }) f (Some Exchanged)
           buried is = goes_on log' pre (record x.call { taken = pair; put = None }) Exchanged refl tt (λ cause e. cc e) (Ask_exchange (Slot t i) old new) tries tt
-              (exchanged eq input build write finish classes respects b matches query lawful None name begun log log' m x.call.table x.call.last x.call.kept [] x.call.taken x.call.put x.call.fresh r.calling t i old new found None pair tries s (λ q none. absurd (cc none)) is)
+              (exchanged eq input build write finish classes respects b matches query lawful None name begun log log' m x.call.table x.call.last x.call.kept [] x.call.taken x.call.put x.call.fresh r.calling t i old new found None pair tries s (λ q none. absurd (cc none)) (λ claim q none. absurd (cc none)) is)
 
           -- it was not
           not_buried : (found == old) ≡ false → RemovingOn log' (record x { call = record x.call { last = or_last pair x.call.last } }) f (Some (Found_instead found))

@@ -44,19 +44,27 @@ use Rattle.papaya_change.specs.declared.removal.Removal.{Removal}
 use Rattle.papaya_change.specs.Changing.{HasChanged, IsCalling}
 use Rattle.papaya_change.specs.RemovalAnswers.{HasShown, IsJudged, IsRemovalBy}
 use Rattle.papaya_change.specs.Showings.{AllShown, AreOf, HasSaid, WasHeld}
+use Rattle.papaya_call.specs.Made.{IsLimit, IsNumber, wanted}
+use Rattle.papaya_rests.proofs.RestsLearnPairs.{wanted_rests}
+use Rattle.papaya_lookup.specs.Lookups.{coding_for, setting_for}
 use Rattle.papaya_change.proofs.Changing.{mode_is}
 use Rattle.papaya_change.proofs.Removing.{Removing, bury_can, bury_held, bury_on, counted_on, shown_on}
 use Rattle.papaya_change.proofs.RemovingReplies.{answered, removal_since}
 use Rattle.papaya_change.proofs.Showings.{all_shown, held_wider, shown_each}
 
 -- the machine of a removal that stands here
-abbrev pub removal_at : (hash : ℕ) → ResizeMode → State → Machine
-removal_at hash mode state = record {
-  call = record (started RemoveIf hash mode 1) { state = state };
+abbrev pub removal_at : (hash : ℕ) → ResizeMode → (limit : Option ℕ) → State → Machine
+removal_at hash mode limit state = record {
+  call = record (started RemoveIf hash mode 1 limit) { state = state };
   number = 0;
   helped = false;
   phase = Calling;
 }
+
+-- a number that is yet to be taken fits
+wanted_stands : (limit : Option ℕ) → IsNumber (wanted limit)
+wanted_stands None = tt
+wanted_stands (Some most) = tt
 
 -- it was given nothing
 abbrev nothing_given : Own Given
@@ -75,7 +83,7 @@ module _ {K V S H F : Type 0} (eq : K → K → Bool) (input : K → List (List 
   abbrev by : ℕ
   by = fed eq input build write finish classes respects b matches query lawful
 
-  module _ (seen : IsPrefix begun log) (chunked : IsChunked b.mode) (lent : Bor Sheet) (met : Met K V) (hit : HasHit eq hash b name matches by (exchanges_of begun) log lent.now met) (live : kind_of met.word ≡ Live) where
+  module _ (seen : IsPrefix begun log) (chunked : IsChunked b.mode) (limited : IsLimit b.limit) (lent : Bor Sheet) (met : Met K V) (hit : HasHit eq hash b name matches by (exchanges_of begun) log lent.now met) (live : kind_of met.word ≡ Live) where
     abbrev p : Stored K V
     p = met.stored
 
@@ -83,7 +91,7 @@ module _ {K V S H F : Type 0} (eq : K → K → Bool) (input : K → List (List 
     place = record { place = met.place; word = met.word }
 
     abbrev Under : State → Type 0
-    Under state = IsCalling eq hash b name matches by None begun log (removal_at by b.mode state) (Some lent) (Some p) None [] None None None
+    Under state = IsCalling eq hash b name matches by None begun log (removal_at by b.mode b.limit state) (Some lent) (Some p) None [] None None None
 
     -- it is to show the pair
     calling : Under (Showing place)
@@ -97,7 +105,7 @@ module _ {K V S H F : Type 0} (eq : K → K → Bool) (input : K → List (List 
         call = record {
           hash = refl;
           mode = mode_is b.mode;
-          made = record { keys = λ q none. absurd none; made_is = tt; fill_is = tt; choice_is = tt };
+          made = record { keys = λ q none. absurd none; limit = refl; number_is = wanted_rests (setting_for eq hash b matches by log) (coding_for hash b.hasher by) (exchanges_of begun) hit.since None b.limit; own_is = tt; of_is = tt; fill_is = tt; choice_is = tt };
           stage = (tt, record { pair = p; last = refl; met = hit.met; live = live; same = hit.same });
         };
         phase = tt;
@@ -123,7 +131,7 @@ module _ {K V S H F : Type 0} (eq : K → K → Bool) (input : K → List (List 
     }
 
     abbrev showing : Removal K V S H
-    showing = removal_with (removal_at by b.mode (Showing place)) None None
+    showing = removal_with (removal_at by b.mode b.limit (Showing place)) None None
 
     abbrev Goes : List (Event K V S) → Removal K V S H → F → Type 0
     Goes log' x f = Removing eq input build write finish classes respects b name matches query lawful judges first begun log' x f
@@ -147,9 +155,9 @@ module _ {K V S H F : Type 0} (eq : K → K → Bool) (input : K → List (List 
       crowded = λ e. absurd (cc e);
     }
 
-    standing : (state : State) → IsStandingState RemoveIf state → IsStanding (removal_at by b.mode state)
+    standing : (state : State) → IsStandingState RemoveIf state → IsStanding (removal_at by b.mode b.limit state)
     standing state stands = record {
-      call = record { made = tt; remembered = record { fill = tt; choice = tt }; state = stands };
+      call = record { made = record { limit = limited; number = wanted_stands b.limit; own = tt; of = tt }; remembered = record { fill = tt; choice = tt }; state = stands };
       chunked = chunked;
       initial = (0, refl);
       phase = tt;
@@ -158,7 +166,7 @@ module _ {K V S H F : Type 0} (eq : K → K → Bool) (input : K → List (List 
     -- the closure answered so of the pair
     module _ (agreed : Bool) (g : F) (judged : judges first p agreed g) where
       abbrev asked : Removal K V S H
-      asked = removal_with (after (removal_at by b.mode (Showing place)) (answers.Call (Yes agreed))) (Some p) None
+      asked = removal_with (after (removal_at by b.mode b.limit (Showing place)) (answers.Call (Yes agreed))) (Some p) None
 
       said : Goes log asked g
       said = (shown_on eq input build write finish classes respects b name matches query lawful judges first begun log showing first shows (standing (Showing place) (tt, hit.within)) (pair_of met.word) p agreed g refl judged refl).0
@@ -214,7 +222,7 @@ module _ {K V S H F : Type 0} (eq : K → K → Bool) (input : K → List (List 
         counted = (counted_on eq input build write finish classes respects b name matches query lawful judges first begun log' buried g went (standing (Uncounting (pair_of met.word)) tt) _ refl).0
 
         -- which is the call's change
-        pub hit_changed : (change : Option ℕ × Option ℕ) → change_in ended.call.machine.call.state ≡ Some change → HasChanged eq begun log' pair None change
+        pub hit_changed : (change : Option ℕ × Option ℕ) → change_in ended.call.machine.call.state ≡ Some change → HasChanged eq None begun log' pair None change
         hit_changed = counted.calling.changed
 
         -- the pair that went is the one that was met

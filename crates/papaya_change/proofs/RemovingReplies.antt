@@ -21,7 +21,7 @@ use Rattle.papaya_rests.proofs.RestsHeld.{ended_in, machine_replies}
 use Rattle.papaya_book.specs.declared.rule.entry.Begun.{Begun}
 use Rattle.papaya_book.specs.declared.rule.entry.Event.{Event}
 use Rattle.papaya_change.specs.declared.removal.Removal.{Removal}
-use Rattle.papaya_change.specs.Changing.{HasChanged}
+use Rattle.papaya_change.specs.Changing.{HasChanged, HasItsKey}
 use Rattle.papaya_lookup.specs.History.{Change, changes_of, history_of, key_of}
 use Rattle.papaya_book.specs.Logs.{Member, Stored, exchanges_of, pair_named}
 use Rattle.papaya_book.specs.declared.rule.entry.Named.TheVariants.{Pair}
@@ -126,7 +126,7 @@ module _ {K V S H F : Type 0} (eq : K → K → Bool) (input : K → List (List 
     abbrev change : Option ℕ × Option ℕ
     change = (Some n, None)
 
-    changed : HasChanged eq begun log x.call.taken x.call.put change
+    changed : HasChanged eq None begun log x.call.taken x.call.put change
     changed = r.calling.changed change (replies (Removed n) e).1
 
     -- the pair that went has the number of the one that was shown
@@ -138,7 +138,7 @@ module _ {K V S H F : Type 0} (eq : K → K → Bool) (input : K → List (List 
         let number : n ≡ taken.index = cc t in
         ap (λ (z : Stored K V). z.index) (sym one) ∙ (s.2 ∙ number)
 
-    none_put : (o : Option (Stored K V)) → MatchOption o (change.1 ≡ None) (λ q. (change.1 ≡ Some q.index) × (eq changed.class (key_of q) ≡ true)) → o ≡ None
+    none_put : (o : Option (Stored K V)) → MatchOption o (change.1 ≡ None) (λ q. (change.1 ≡ Some q.index) × (eq changed.class (key_of q) ≡ true) × HasItsKey eq None x.call.taken q) → o ≡ None
     none_put None h = refl
     none_put (Some q) h = let none = h.0 in absurd (cc none)
 
@@ -171,6 +171,7 @@ module _ {K V S H F : Type 0} (eq : K → K → Bool) (input : K → List (List 
           class_is = ap matches (class ∙ ap (λ z. z.key.value) (sym value)) ∙ held.is.0;
           taken_is = took;
           put_is = none_put x.call.put changed.put_is;
+          kept = λ p q e f. absurd (cc f);
         } in
         answers (Ok (Ok (Some entry))) (taken, taken_as, (shown, (same_number shown taken has took, value), there), are)
 
@@ -242,7 +243,7 @@ tells_no_other b name x (Refused cause) never t = never
 -- what was seen before a removal began was seen before its change, and before what its closure was shown
 module _ {K V : Type 0} (eq : K → K → Bool) (matches : K → Bool) (older old new : List (Change K (Stored K V))) (pre : IsPrefix older old) where
   taken_since : (p : Stored K V) → IsTaken eq matches old new p → IsTaken eq matches older new p
-  taken_since p t = record { before = t.before; change = t.change; since = prefix_trans older old t.before pre t.since; is = t.is; class_is = t.class_is; taken_is = t.taken_is; put_is = t.put_is }
+  taken_since p t = record { before = t.before; change = t.change; since = prefix_trans older old t.before pre t.since; is = t.is; class_is = t.class_is; taken_is = t.taken_is; put_is = t.put_is; kept = t.kept }
 
   wider : (held : Option (Stored K V)) → WasHeld eq matches old new held → WasHeld eq matches older new held
   wider held h = held_wider eq matches older old new new pre ([], append-nil new) held h
@@ -281,7 +282,7 @@ module _ {K V F : Type 0} (eq : K → K → Bool) (matches : K → Bool) (old ne
 
 -- a removal that begins
 pub begins : {K V S H F : Type 0} (eq : K → K → Bool) (hash : S → K → ℕ) (b : Begun K V S) (name : Book) (matches : K → Bool) (fed : ℕ) (judges : F → Stored K V → Bool → F → Type 0) (first : F) (log : List (Event K V S)) (x : Removal K V S H) → IsLawfulLog eq hash b log → (initial : ℕ)
-    → x.call.machine ≡ started RemoveIf fed b.mode initial 0 → (x.call.table ≡ None) × (x.call.fresh ≡ None) → (x.call.last ≡ None) × (x.call.kept ≡ None) × (x.call.taken ≡ None) × (x.call.put ≡ None) → x.shown ≡ None → IsRemoving eq hash b name matches fed judges first log log x first
+    → x.call.machine ≡ started RemoveIf fed b.mode initial 0 b.limit → (x.call.table ≡ None) × (x.call.fresh ≡ None) → (x.call.last ≡ None) × (x.call.kept ≡ None) × (x.call.taken ≡ None) × (x.call.put ≡ None) → x.shown ≡ None → IsRemoving eq hash b name matches fed judges first log log x first
 begins eq hash b name matches fed judges first log x l initial machine table pairs shown = record {
   calling = rw (machine, table.0, table.1, pairs.0, pairs.1, pairs.2, pairs.3) (begins_calling eq hash b name matches fed None refl log l RemoveIf initial);
   task_is = ap (λ (z : Machine). z.call.task) machine;
@@ -295,7 +296,7 @@ begins eq hash b name matches fed judges first log x l initial machine table pai
   crowded = λ e. let f = sym (ap ask_of machine) ∙ e in absurd (cc f);
 }
   where
-    nothing_said : {n : ℕ} {agrees : Bool} → StandsOn (started RemoveIf fed b.mode initial 0).call (Agrees n agrees) → ⊥
+    nothing_said : {n : ℕ} {agrees : Bool} → StandsOn (started RemoveIf fed b.mode initial 0 b.limit).call (Agrees n agrees) → ⊥
     nothing_said (inl e) = cc e
     nothing_said (inr (inl e)) = cc e
     nothing_said (inr (inr e)) = cc e

@@ -29,7 +29,7 @@ use Rattle.papaya_chain.specs.Resizer.{after, ask_of, follows_of, kind_of_ask}
 use Rattle.papaya_rests.specs.Copier.{HasWords, link_in_copying}
 use Rattle.papaya_chain_rests.specs.Resizers.{HasLink, IsResizeCause, IsStageTold, RestsStage, link_of}
 use Rattle.papaya_chain_rests.specs.Told.{Hands, IsCopyTold}
-use Rattle.papaya_chain_rests.proofs.LinkStates.{In, Of}
+use Rattle.papaya_chain_rests.proofs.LinkStates.{Of}
 use Rattle.papaya_chain_rests.proofs.ResizerRefusals.{resizer_why}
 use Rattle.papaya_chain_rests.proofs.ResizerRests.{stage_learns}
 use Rattle.papaya_law.specs.Exchange.{Exchange, State}
@@ -207,6 +207,7 @@ module _ {K V S H : Type 0} (eq : K → K → Bool) (input : K → List (List �
       hand (Aborted i) e left told is = hand_kept log pre (answers.Call told) (not_made told is) h' left
       hand (places.Done i j) e left told is = hand_kept log pre (answers.Call told) (not_made told is) h' left
       hand (Slot i x) e left told is = hand_kept log pre (answers.Call told) (not_made told is) h' left
+      hand places.Made e left told is = hand_kept log pre (answers.Call told) (not_made told is) h' left
 
       placed_marked : (kind : Option StepKind) → IsPlaced b (Some name) (pair_named (marked_or kind pair h.last))
       placed_marked (Some kinds.Mark) = t.placed

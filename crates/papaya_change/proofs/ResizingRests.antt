@@ -6,7 +6,7 @@ use Rattle.boxcar.specs.Table.{Where}
 use Rattle.logbook.specs.Pages.{Book}
 use Rattle.logbook.specs.declared.tokens.Pen.{Pen}
 use Rattle.papaya_ask.specs.declared.ask.At.{At}
-use Rattle.papaya_ask.specs.declared.ask.At.TheVariants.{Root, Next, Aborted, Done, Slot}
+use Rattle.papaya_ask.specs.declared.ask.At.TheVariants.{Root, Next, Aborted, Done, Slot, Made as Made_word}
 use Rattle.papaya_ask.specs.declared.ask.Answer.TheVariants.{Exchanged, Found as Found_instead}
 use Rattle.papaya_ask.specs.declared.ask.StepKind.{StepKind}
 use Rattle.papaya_ask.specs.declared.ask.StepKind.TheVariants as kinds
@@ -91,7 +91,7 @@ module _ {K V S H : Type 0} (eq : K → K → Bool) (input : K → List (List �
   hash = hash_of input build write finish
 
   abbrev pub G : List (Event K V S) → Setting K (Stored K V)
-  G log = setting_of eq (hash b.hasher) b.mode log
+  G log = setting_of eq (hash b.hasher) b.mode b.limit log
 
   abbrev pub C : Coding K (Stored K V)
   C = coding_of (hash b.hasher)
@@ -160,6 +160,7 @@ module _ {K V S H : Type 0} (eq : K → K → Bool) (input : K → List (List �
     reached (Slot t x) is =
         let came = chain_came v t is.0 in
         (came.0, came.1, subst (λ (n : ℕ). x < n) (sizes (steps_of v) t came.0 came.1).0 is.1)
+    reached Made_word is = absurd is
 
     -- where a table is about to be linked, none has come under its number, over a longer log too
     module _ (t n chunks : ℕ) (about : link_of m.state ≡ Some (links.Linking t n chunks)) where
@@ -294,7 +295,7 @@ module _ {K V S H : Type 0} (eq : K → K → Bool) (input : K → List (List �
 
             -- the setting where this table is the next to come
             abbrev G' : Setting K (Stored K V)
-            G' = setting_with eq (hash b.hasher) b.mode (names.Table w) log
+            G' = setting_with eq (hash b.hasher) b.mode b.limit (names.Table w) log
 
             hashed' : IsHashed G' C
             hashed' = with_hashed eq input build write finish classes respects b log l w
@@ -342,6 +343,7 @@ module _ {K V S H : Type 0} (eq : K → K → Bool) (input : K → List (List �
       can_exchange (Aborted t) old new asked = (reached (Aborted t) (there (copies.Exchange (Aborted t) old new) asked), can_try closed (Aborted t) old new asked (λ t e. cc e))
       can_exchange (Done t i) old new asked = (reached (Done t i) (there (copies.Exchange (Done t i) old new) asked), can_try closed (Done t i) old new asked (λ t e. cc e))
       can_exchange (Slot t x) old new asked = (reached (Slot t x) (there (copies.Exchange (Slot t x) old new) asked), can_try closed (Slot t x) old new asked (λ t e. cc e))
+      can_exchange Made_word old new asked = absurd (there (copies.Exchange Made_word old new) asked)
 
       pub can_answer : (ask : CopyAsk) → ask_of m ≡ Some ask → IsFitCopyAsk ask → CanAnswerTo eq hash b name ask (kind_of_ask m) (follows_of m) v h
       can_answer (copies.Load at) asked fit = reached at (there (copies.Load at) asked)

@@ -214,7 +214,7 @@ stage_links other behind old new e = absurd cc
 pub stage_linking : (stage : Stage) (behind table chunks : ℕ) → link_of stage ≡ Some (links.Linking behind table chunks) → (asks_in stage ≡ Some (Exchange (Next behind) 0 table)) × (kind_in stage ≡ Some kinds.Link)
 stage_linking (Linking link) behind table chunks e = let is : link ≡ links.Linking behind table chunks = cc e in rw is (refl, refl)
 stage_linking (Copying from goes) behind table chunks e =
-    let both = machine_linking (record (machine.started Get 0 Blocking 0 0) { phase = phases.Copying goes }) behind table chunks e in
+    let both = machine_linking (record (machine.started Get 0 Blocking 0 0 None) { phase = phases.Copying goes }) behind table chunks e in
     let asked : copying_ask goes ≡ Exchange (Next behind) 0 table = (let same = both.0 in cc same) in
     (ap (λ (a : CopyAsk). Some a) asked, both.1)
 stage_linking other behind table chunks e = absurd cc

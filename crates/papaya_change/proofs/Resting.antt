@@ -37,7 +37,7 @@ use Rattle.papaya_book.proofs.TableSizes.{some_slot}
 use Rattle.papaya_lookup.specs.Lookups.{coding_for, setting_for}
 
 module _ {K V S H : Type 0} (eq : K → K → Bool) (input : K → List (List ℕ)) (build : S → H) (write : H → List ℕ → H) (finish : H → ℕ) (classes : IsEquivalence eq) (respects : (x y : K) → eq x y ≡ true → input x ≡ input y)
-    (b : Begun K V S) (matches : K → Bool) (by : ℕ) (key : IsLawfulKey (setting_of {V = V} {S = S} eq (hash_of input build write finish b.hasher) b.mode []) (coding_of {V = V} (hash_of input build write finish b.hasher)) matches by) (k : Option K) (begun : List (Exchange (Stored K V))) where
+    (b : Begun K V S) (matches : K → Bool) (by : ℕ) (key : IsLawfulKey (setting_of {V = V} {S = S} eq (hash_of input build write finish b.hasher) b.mode b.limit []) (coding_of {V = V} (hash_of input build write finish b.hasher)) matches by) (k : Option K) (begun : List (Exchange (Stored K V))) where
   abbrev hash : S → K → ℕ
   hash = hash_of input build write finish
 
@@ -46,7 +46,7 @@ module _ {K V S H : Type 0} (eq : K → K → Bool) (input : K → List (List �
   wide log = setting_for eq hash b matches by log
 
   abbrev plain : List (Event K V S) → Setting K (Stored K V)
-  plain log = setting_of eq (hash b.hasher) b.mode log
+  plain log = setting_of eq (hash b.hasher) b.mode b.limit log
 
   abbrev pub coded : Coding (Option K) (Stored K V)
   coded = coding_for hash b.hasher by
@@ -74,7 +74,7 @@ module _ {K V S H : Type 0} (eq : K → K → Bool) (input : K → List (List �
   -- the same where this table is the next to come
   module _ (w : Where Sheet) (log : List (Event K V S)) (l : IsLawfulLog eq hash b log) (none : table_in (steps_of log) (number_of w) ≡ None) where
     abbrev pub plain_with : Setting K (Stored K V)
-    plain_with = setting_with eq (hash b.hasher) b.mode (names.Table w) log
+    plain_with = setting_with eq (hash b.hasher) b.mode b.limit (names.Table w) log
 
     abbrev pub wide_with : Setting (Option K) (Stored K V)
     wide_with = with_key plain_with matches by

@@ -1,5 +1,5 @@
 -- A call that inserts after its loads, its exchanges and its count.
-use Rattle.std.proofs.Common.{◌≡◌, ◌⊎◌, inr, ⊎_elim, ℕ, ◌==◌, Bool, true, false, MatchBool, MatchOption, Option, None, Some, List, [], length, refl, sym, ap, ◌∙◌, subst}
+use Rattle.std.proofs.Common.{◌≡◌, ◌⊎◌, inr, ⊎_elim, ℕ, ◌==◌, Bool, true, false, cond, MatchBool, MatchOption, Option, None, Some, List, [], length, refl, sym, ap, ◌∙◌, subst}
 use Rattle.std.proofs.lemmas.Bool.{cases_Bool}
 use Rattle.std.specs.Cmp.{IsEquivalence}
 use mathlib.Core.List.{IsPrefix}
@@ -9,7 +9,7 @@ use Rattle.logbook.specs.Pages.{Book, nib, may_write}
 use Rattle.logbook.specs.declared.tokens.Pen.{Pen}
 use Rattle.papaya_words.specs.Word.{pair_of}
 use Rattle.papaya_ask.specs.declared.ask.At.{At}
-use Rattle.papaya_ask.specs.declared.ask.At.TheVariants.{Root, Slot}
+use Rattle.papaya_ask.specs.declared.ask.At.TheVariants.{Root, Next, Aborted, Done, Slot, Made as Made_word}
 use Rattle.papaya_ask.specs.declared.ask.Ask.{Ask}
 use Rattle.papaya_ask.specs.declared.ask.Ask.TheVariants.{Load, Exchange as Ask_exchange, LoadHint, WriteHint, SizeOf, AddToShard}
 use Rattle.papaya_ask.specs.declared.ask.Answer.{Answer}
@@ -23,6 +23,7 @@ use Rattle.papaya_chain.specs.declared.machine.Phase.TheVariants.{Calling}
 use Rattle.papaya_chain.specs.Machine.{IsStanding, ask_of, kind_of_ask, started}
 use Rattle.papaya_chain_rests.proofs.Names.{call_asks}
 use Rattle.papaya_rests.specs.Followed.{MayAsk}
+use Rattle.papaya_rests.specs.Rests.{IsNumberAsk}
 use Rattle.papaya_ask.specs.declared.call.Task.{Task}
 use Rattle.papaya_call.specs.Machine as calls
 use Rattle.papaya_ask.specs.Search.{IsSize}
@@ -40,33 +41,52 @@ use Rattle.papaya_change.specs.Changing.{IsBringing, IsFresh}
 use Rattle.papaya_change.specs.Driver.{IsHeldAt, IsLoaded}
 use Rattle.papaya_book.specs.Hashes.{hash_of}
 use Rattle.papaya_book.specs.Hinted.{IsSlotHint}
-use Rattle.papaya_book.specs.Logs.{Stored, exchanges_of, number_of, pair_named}
+use Rattle.papaya_book.specs.Logs.{Stored, exchanges_of, number_of, pair_named, state_of}
 use Rattle.papaya_book.specs.Makers.{IsMade}
 use Rattle.papaya_book.specs.Plays.{CanExchange, IsPutting}
 use Rattle.papaya_book.specs.Rule.{IsLawfulLog, IsPlaced}
-use Rattle.papaya_change.specs.Writing.{IsWriting}
+use Rattle.papaya_book.specs.declared.book.pairs.KeyPart.TheVariants as keys
+use Rattle.papaya_change.specs.Writing.{HasValue, IsWriting, MayStand, TellsTaken}
 use Rattle.papaya_change.proofs.Changing.{begins as begins_calling, call_hands, call_rests, counted, hint_may, hint_table, hinted, load_table, loaded_lawful, loads, noted, size_table, sized, slot_table}
 use Rattle.papaya_change.proofs.OwnSteps.{own_kind}
+use Rattle.papaya_lookup.proofs.AskedPairs.{asked_kind}
 use Rattle.papaya_lookup.proofs.Driving.{IsResting, can_bury, can_put}
+use Rattle.papaya_lookup.specs.History.{key_of}
 use Rattle.papaya_change.proofs.Exchanging.{exchanged, lost}
 use Rattle.papaya_change.proofs.Opens.{beaten}
 use Rattle.papaya_change.proofs.Opens.{opened}
+use Rattle.papaya_change.proofs.Taking.{number_found, number_lost, number_taken, take_can}
 use Rattle.papaya_lookup.proofs.Readings.{IsQuery}
 use Rattle.papaya_change.proofs.Written.{Writing, WritingOn, goes_on, own_query}
 
--- such a call that begins
-pub begins : {K V S H : Type 0} (eq : K → K → Bool) (hash : S → K → ℕ) (b : Begun K V S) (name : Book) (key : K) (log : List (Event K V S)) (w : Writer K V S H) → IsLawfulLog eq hash b log → (task : Task) (initial : ℕ) → w.call.machine ≡ started task (hash b.hasher key) b.mode initial 0
-    → (w.call.table ≡ None) × (w.call.fresh ≡ None) → (w.call.last ≡ None) × (w.call.kept ≡ None) × (w.call.taken ≡ None) × (w.call.put ≡ None) → w.key ≡ Some key → w.brought ≡ None → IsWriting eq hash b name key [] log log w
-begins eq hash b name key log w l task initial machine table pairs own brought = record {
+-- such a call that begins, with its key and its value as they are handed in
+pub begins : {K V S H : Type 0} (eq : K → K → Bool) (hash : S → K → ℕ) (b : Begun K V S) (name : Book) (key : K) (log : List (Event K V S)) (w : Writer K V S H) → IsLawfulLog eq hash b log → (task : Task) (initial : ℕ) → w.call.machine ≡ started task (hash b.hasher key) b.mode initial 0 b.limit
+    → (w.call.table ≡ None) × (w.call.fresh ≡ None) → (w.call.last ≡ None) × (w.call.kept ≡ None) × (w.call.taken ≡ None) × (w.call.put ≡ None) → w.key ≡ Some (keys.Own key) → HasValue b name w.value → IsWriting eq hash b name key [] log log w
+begins eq hash b name key log w l task initial machine table pairs own valued = record {
   calling = rw (machine, table.0, table.1, pairs.0, pairs.1, pairs.2, pairs.3) (begins_calling eq hash b name (eq key) (hash b.hasher key) (Some key) refl log l task initial);
-  keyed = record {
-    own_is = λ k e. let f = sym own ∙ e in sym (cc f);
-    brought_is = λ p e. let f = sym brought ∙ e in absurd (cc f);
-    brought_placed = rw brought tt;
-    some = λ e. let f = sym own ∙ e in absurd (cc f);
-  };
+  keyed = rw own (refl, tt);
+  valued = valued;
   put_placed = rw pairs.3 tt;
 }
+
+-- what holds of a pair that is put in for an empty slot, or for a pair, by the kind of the exchange
+module _ (X Y : Type 0) where
+  claimed_as : (b : Bool) (kind : Option StepKind) → kind ≡ Some (cond b kinds.Claim kinds.Replace) → MatchBool b X Y → kind ≡ Some kinds.Claim → X
+  claimed_as true kind is x claims = x
+  claimed_as false kind is y claims = absurd (let f = sym is ∙ claims in cc f)
+
+  replaced_as : (b : Bool) (kind : Option StepKind) → kind ≡ Some (cond b kinds.Claim kinds.Replace) → MatchBool b X Y → kind ≡ Some kinds.Replace → Y
+  replaced_as true kind is x replaces = absurd (let f = sym is ∙ replaces in cc f)
+  replaced_as false kind is y replaces = y
+
+-- a load of how many numbers for pairs were taken tells that
+taken_at : {K V S : Type 0} (eq : K → K → Bool) (hash : S → K → ℕ) (b : Begun K V S) (name : Book) (log : List (Event K V S)) (at : At) (word : ℕ) (table table' : Option (Bor Sheet)) (last last' : Option (Stored K V)) → IsLoaded eq hash b name at word log table table' last last' → IsNumberAsk (Load at) → (state_of log).made ≡ word
+taken_at eq hash b name log Root word table table' last last' is number = absurd number
+taken_at eq hash b name log (Next t) word table table' last last' is number = absurd number
+taken_at eq hash b name log (Aborted t) word table table' last last' is number = absurd number
+taken_at eq hash b name log (Done t c) word table table' last last' is number = absurd number
+taken_at eq hash b name log (Slot t x) word table table' last last' is number = absurd number
+taken_at eq hash b name log Made_word word table table' last last' is number = is.0.is
 
 module _ {K V S H : Type 0} (eq : K → K → Bool) (input : K → List (List ℕ)) (build : S → H) (write : H → List ℕ → H) (finish : H → ℕ) (classes : IsEquivalence eq) (respects : (x y : K) → eq x y ≡ true → input x ≡ input y)
     (b : Begun K V S) (name : Book) (key : K) (made : List (Stored K V)) (begun : List (Event K V S)) where
@@ -118,23 +138,61 @@ module _ {K V S H : Type 0} (eq : K → K → Bool) (input : K → List (List �
           -- it was opened
           pub opened_here : (found == 0) ≡ true → IsTable log' new lent.now → On log' w' Exchanged
           opened_here is holds =
-              goes_on eq input build write finish classes respects b name key made begun log w r made log' w' Exchanged r.keyed tt
+              goes_on eq input build write finish classes respects b name key made begun log w r made log' w' Exchanged r.keyed r.valued tt
               (opened eq input build write finish classes respects b (eq key) (input key) query (Some key) name begun log log' m w.call.table w.call.last w.call.kept made w.call.taken w.call.put w.call.fresh fresh' r.calling new found t state asks_zero kind_open tried lent is holds)
               r.put_placed
 
           -- another one was
           pub opened_there : (found == 0) ≡ false → IsTable log' found lent.now → On log' w' (Found_instead found)
           opened_there is holds =
-              goes_on eq input build write finish classes respects b name key made begun log w r made log' w' (Found_instead found) r.keyed tt
+              goes_on eq input build write finish classes respects b name key made begun log w r made log' w' (Found_instead found) r.keyed r.valued tt
               (beaten eq input build write finish classes respects b (eq key) (input key) query (Some key) name begun log log' m w.call.table w.call.last w.call.kept made w.call.taken w.call.put w.call.fresh fresh' r.calling new found t state asks_zero kind_open tried lent is holds)
               r.put_placed
+
+      -- a number for a pair may be taken
+      module _ (old new : ℕ) (asks : ask_of m ≡ Call (Ask_exchange Made_word old new)) where
+        abbrev kind_take : kind_of_ask m ≡ Some kinds.Take
+        kind_take = own_kind m (call_asks m (Ask_exchange Made_word old new) asks).0 ∙ (may_ask (Ask_exchange Made_word old new) asks).1
+
+        pub taking : CanExchange eq hash b Made_word (kind_of_ask m) old new None names.Nothing log
+        taking = take_can eq input build write finish classes respects b (eq key) (input key) query (Some key) name begun log m w.call.table w.call.last w.call.kept made w.call.taken w.call.put w.call.fresh r.calling old new asks kind_take
+
+        -- after it was tried the call rests, and it was told how many are taken where another was first
+        module _ (log' : List (Event K V S)) (found : ℕ) (state : Option (Named K V)) (tried : IsTried eq hash b Made_word (kind_of_ask m) old new None names.Nothing log found log' state) where
+          abbrev Tells : Bool → Answer → Type 0
+          Tells z answer = MatchBool z (answer ≡ Exchanged) (answer ≡ Found_instead found)
+
+          pub took_on : (answer : Answer) → Tells (found == old) answer → On log' w answer
+          took_on answer told =
+              ⊎_elim
+              (λ is. subst (On log' w) (sym (subst (λ (z : Bool). Tells z answer) is told))
+              (goes_on eq input build write finish classes respects b name key made begun log w r made log' w Exchanged r.keyed r.valued tt (number_taken eq input build write finish classes respects b (eq key) (input key) query (Some key) name begun log m w.call.table w.call.last w.call.kept made w.call.taken w.call.put w.call.fresh r.calling old new asks kind_take log' found state tried is) r.put_placed))
+              (λ is. subst (On log' w) (sym (subst (λ (z : Bool). Tells z answer) is told))
+              (goes_on eq input build write finish classes respects b name key made begun log w r made log' w (Found_instead found) r.keyed r.valued tt (number_lost eq input build write finish classes respects b (eq key) (input key) query (Some key) name begun log m w.call.table w.call.last w.call.kept made w.call.taken w.call.put w.call.fresh r.calling old new asks kind_take log' found state tried is) r.put_placed))
+              (cases_Bool (found == old))
+
+          pub took_tells : (answer : Answer) → Tells (found == old) answer → TellsTaken log' (calls.ask_of m.call) answer
+          took_tells answer told number count says =
+              ⊎_elim
+              (λ is. let e = subst (λ (z : Bool). Tells z answer) is told in absurd (⊎_elim (λ s. let f = sym e ∙ s in cc f) (λ s. let f = sym e ∙ s in cc f) says))
+              (λ is.
+              let e = subst (λ (z : Bool). Tells z answer) is told in
+              let made_is = number_found eq input build write finish classes respects b (eq key) (input key) query (Some key) name begun log m w.call.table w.call.last w.call.kept made w.call.taken w.call.put w.call.fresh r.calling old new asks kind_take log' found state tried is in
+              ⊎_elim (λ s. absurd (let f = sym e ∙ s in cc f)) (λ s. let f = sym e ∙ s in made_is ∙ cc f) says)
+              (cases_Bool (found == old))
 
     -- a place was loaded
     pub loaded_on : (log' : List (Event K V S)) → IsPrefix log log' → (at : At) (word : ℕ) (c : Driver K V S H) → c ≡ record w.call { table = c.table; last = c.last } → ask_of m ≡ Call (Load at) → IsLoaded eq hash b name at word log' w.call.table c.table w.call.last c.last → On log' (record w { call = c }) (Word_read word)
     loaded_on log' pre at word c rest asks is =
         let calling = loads eq input build write finish classes respects b (eq key) (input key) query (Some key) name begun log log' pre (loaded_lawful eq hash b name log' at word w.call.table c.table w.call.last c.last is) m w.call.table w.call.last w.call.kept made w.call.taken w.call.put w.call.fresh r.calling at word c.table c.last asks is in
         subst (λ (z : Driver K V S H). On log' (record w { call = z }) (Word_read word)) (sym rest)
-        (goes_on eq input build write finish classes respects b name key made begun log w r made log' (record w { call = record w.call { table = c.table; last = c.last } }) (Word_read word) r.keyed tt calling r.put_placed)
+        (goes_on eq input build write finish classes respects b name key made begun log w r made log' (record w { call = record w.call { table = c.table; last = c.last } }) (Word_read word) r.keyed r.valued tt calling r.put_placed)
+
+    -- how many numbers for pairs were taken is told
+    pub loaded_tells : (log' : List (Event K V S)) (at : At) (word : ℕ) (c : Driver K V S H) → ask_of m ≡ Call (Load at) → IsLoaded eq hash b name at word log' w.call.table c.table w.call.last c.last → TellsTaken log' (calls.ask_of m.call) (Word_read word)
+    loaded_tells log' at word c asks is number count says =
+        let made_is = taken_at eq hash b name log' at word w.call.table c.table w.call.last c.last is (subst IsNumberAsk (call_asks m (Load at) asks).1 number) in
+        ⊎_elim (λ e. made_is ∙ cc e) (λ e. absurd (cc e)) says
 
     -- a slot whose hint is loaded or written is one of the table that is held
     pub hint_held : (t i : ℕ) → (ask_of m ≡ Call (LoadHint t i)) ⊎ ((hint : ℕ) × (ask_of m ≡ Call (WriteHint t i hint))) → IsHeldAt (Slot t i) log w.call.table
@@ -147,14 +205,14 @@ module _ {K V S H : Type 0} (eq : K → K → Bool) (input : K → List (List �
     -- a hint was loaded
     pub hinted_on : (log' : List (Event K V S)) → IsPrefix log log' → (t i n : ℕ) → ask_of m ≡ Call (LoadHint t i) → IsSlotHint eq hash b t i n log' → On log' w (Word_read n)
     hinted_on log' pre t i n asks is =
-        goes_on eq input build write finish classes respects b name key made begun log w r made log' w (Word_read n) r.keyed tt
+        goes_on eq input build write finish classes respects b name key made begun log w r made log' w (Word_read n) r.keyed r.valued tt
         (hinted eq input build write finish classes respects b (eq key) (input key) query (Some key) name begun log log' pre is.lawful m w.call.table w.call.last w.call.kept made w.call.taken w.call.put w.call.fresh r.calling t i n asks is)
         r.put_placed
 
     -- and one was written
     pub noted_on : (t i n : ℕ) → ask_of m ≡ Call (WriteHint t i n) → On log w Ok_done
     noted_on t i n asks =
-        goes_on eq input build write finish classes respects b name key made begun log w r made log w Ok_done r.keyed tt
+        goes_on eq input build write finish classes respects b name key made begun log w r made log w Ok_done r.keyed r.valued tt
         (noted eq input build write finish classes respects b (eq key) (input key) query (Some key) name begun log m w.call.table w.call.last w.call.kept made w.call.taken w.call.put w.call.fresh r.calling t i n asks)
         r.put_placed
 
@@ -165,14 +223,14 @@ module _ {K V S H : Type 0} (eq : K → K → Bool) (input : K → List (List �
     -- its size was told
     pub sized_on : (t : ℕ) (lent : Bor Sheet) → w.call.table ≡ Some lent → (slots limit : ℕ) → slots ≡ length lent.now.slots → limit ≡ lent.now.limit → IsSize slots limit → ask_of m ≡ Call (SizeOf t) → On log w (Size slots limit)
     sized_on t lent has slots limit slots_is limit_is size asks =
-        goes_on eq input build write finish classes respects b name key made begun log w r made log w (Size slots limit) r.keyed size
+        goes_on eq input build write finish classes respects b name key made begun log w r made log w (Size slots limit) r.keyed r.valued size
         (sized eq input build write finish classes respects b (eq key) (input key) query (Some key) name begun log m w.call.table w.call.last w.call.kept made w.call.taken w.call.put w.call.fresh r.calling t lent has slots limit slots_is limit_is asks)
         r.put_placed
 
     -- the change was counted
     pub counted_on : (by : _) → ask_of m ≡ Call (AddToShard by) → On log w Ok_done
     counted_on by asks =
-        goes_on eq input build write finish classes respects b name key made begun log w r made log w Ok_done r.keyed tt
+        goes_on eq input build write finish classes respects b name key made begun log w r made log w Ok_done r.keyed r.valued tt
         (counted eq input build write finish classes respects b (eq key) (input key) query (Some key) name begun log m w.call.table w.call.last w.call.kept made w.call.taken w.call.put w.call.fresh r.calling by asks)
         r.put_placed
 
@@ -187,12 +245,21 @@ module _ {K V S H : Type 0} (eq : K → K → Bool) (input : K → List (List �
       abbrev resting : IsResting eq input build write finish classes respects b (eq key) (input key) query (Some key) (exchanges_of begun) log m.call (call_hands eq input build write finish classes respects b (eq key) (input key) query (Some key) name begun w.call.last made)
       resting = call_rests eq input build write finish classes respects b (eq key) (input key) query (Some key) name begun log m w.call.table w.call.last w.call.kept made w.call.taken w.call.put w.call.fresh r.calling
 
-      -- a pair that was made may be put in, where one of its number was asked for
-      pub put_can : IsPutting (kind_of_ask m) → (q : Stored K V) → IsOneOf made q → pair_of new ≡ q.index → CanExchange eq hash b (Slot t i) (kind_of_ask m) old new (Some q) (names.Pair q) log
-      put_can kind q one number =
+      -- where a pair is put in, it is claimed for an empty slot, and else takes the place of another
+      kind_at : IsPutting (kind_of_ask m) → kind_of_ask m ≡ Some (cond (old == 0) kinds.Claim kinds.Replace)
+      kind_at kind = let same = own_kind m its_own.0 in same ∙ asked_kind m.call t i old new its_own.1 (subst IsPutting same kind)
+
+      -- one that is claimed has the call's key, where it may stand there
+      pub claims_own : IsPutting (kind_of_ask m) → (q : Stored K V) → MayStand log key t i old q → kind_of_ask m ≡ Some kinds.Claim → key_of q ≡ key
+      claims_own kind q stands claims = claimed_as _ _ (old == 0) (kind_of_ask m) (kind_at kind) stands claims
+
+      -- a pair may be put in that may stand there, where one of its number was asked for
+      pub put_can : IsPutting (kind_of_ask m) → (q : Stored K V) → MayStand log key t i old q → pair_of new ≡ q.index → CanExchange eq hash b (Slot t i) (kind_of_ask m) old new (Some q) (names.Pair q) log
+      put_can kind q stands number =
           let same = own_kind m its_own.0 in
           subst (λ (z : Option StepKind). CanExchange eq hash b (Slot t i) z old new (Some q) (names.Pair q) log) (sym same)
-          (can_put eq input build write finish classes respects b (eq key) (input key) query (Some key) (exchanges_of begun) log r.calling.lawful m.call (call_hands eq input build write finish classes respects b (eq key) (input key) query (Some key) name begun w.call.last made) resting t i old new its_own.1 (subst IsPutting same kind) q one number)
+          (can_put eq input build write finish classes respects b (eq key) (input key) query (Some key) (exchanges_of begun) log r.calling.lawful m.call (call_hands eq input build write finish classes respects b (eq key) (input key) query (Some key) name begun w.call.last made) resting t i old new its_own.1 (subst IsPutting same kind) q
+          (λ claims. ap (λ z. Some z) (claims_own kind q stands (same ∙ claims)), λ replaces. replaced_as _ _ (old == 0) (kind_of_ask m) (kind_at kind) stands (same ∙ replaces)) number)
 
       -- and a pair may be buried
       pub bury_can : kind_of_ask m ≡ Some kinds.Bury → CanExchange eq hash b (Slot t i) (kind_of_ask m) old new None names.Nothing log
@@ -207,18 +274,18 @@ module _ {K V S H : Type 0} (eq : K → K → Bool) (input : K → List (List �
       put_is_placed (Some q) own = r.calling.made_placed q (own q refl)
 
       -- An exchange was tried that puts in one of the pairs that were made, or none.
-      module _ (put : Option (Stored K V)) (own : (q : Stored K V) → put ≡ Some q → IsOneOf made q) (log' : List (Event K V S)) (found : ℕ) (pair : Option (Stored K V)) (s : IsSlotTried eq hash b name t i (kind_of_ask m) old new put (pair_named put) log found log' pair) where
+      module _ (put : Option (Stored K V)) (own : (q : Stored K V) → put ≡ Some q → IsOneOf made q) (claims : kind_of_ask m ≡ Some kinds.Claim → (q : Stored K V) → put ≡ Some q → key_of q ≡ key) (log' : List (Event K V S)) (found : ℕ) (pair : Option (Stored K V)) (s : IsSlotTried eq hash b name t i (kind_of_ask m) old new put (pair_named put) log found log' pair) where
         -- it was made
         slot_changed : (found == old) ≡ true → On log' (record w { call = record w.call { taken = pair; put = put } }) Exchanged
         slot_changed is =
-            goes_on eq input build write finish classes respects b name key made begun log w r made log' (record w { call = record w.call { taken = pair; put = put } }) Exchanged r.keyed tt
-            (exchanged eq input build write finish classes respects b (eq key) (input key) query (Some key) name begun log log' m w.call.table w.call.last w.call.kept made w.call.taken w.call.put w.call.fresh r.calling t i old new found put pair asks s own is)
+            goes_on eq input build write finish classes respects b name key made begun log w r made log' (record w { call = record w.call { taken = pair; put = put } }) Exchanged r.keyed r.valued tt
+            (exchanged eq input build write finish classes respects b (eq key) (input key) query (Some key) name begun log log' m w.call.table w.call.last w.call.kept made w.call.taken w.call.put w.call.fresh r.calling t i old new found put pair asks s own (λ claim q has. ap (λ z. Some z) (claims claim q has)) is)
             (put_is_placed put own)
 
         -- it was not
         slot_lost : (found == old) ≡ false → On log' (record w { call = record w.call { last = or_last pair w.call.last } }) (Found_instead found)
         slot_lost is =
-            goes_on eq input build write finish classes respects b name key made begun log w r made log' (record w { call = record w.call { last = or_last pair w.call.last } }) (Found_instead found) r.keyed tt
+            goes_on eq input build write finish classes respects b name key made begun log w r made log' (record w { call = record w.call { last = or_last pair w.call.last } }) (Found_instead found) r.keyed r.valued tt
             (lost eq input build write finish classes respects b (eq key) (input key) query (Some key) name begun log log' m w.call.table w.call.last w.call.kept made w.call.taken w.call.put w.call.fresh r.calling t i old new found put pair asks s is)
             r.put_placed
 

@@ -6,7 +6,7 @@ use Rattle.boxcar.specs.Table.{Where}
 use Rattle.logbook.specs.Pages.{Book, nib, may_write}
 use Rattle.logbook.specs.declared.tokens.Pen.{Pen}
 use Rattle.papaya_words.specs.declared.probe.Refused.{Refused}
-use Rattle.papaya_ask.specs.declared.ask.Ask.TheVariants.{SameKey, MakeKey, MakePair, MakeTable}
+use Rattle.papaya_ask.specs.declared.ask.Ask.TheVariants.{SameKey, MakeKey, MakeValue, MakePair, MakePairOf, MakeTable}
 use Rattle.papaya_ask.specs.declared.ask.Answer.{Answer}
 use Rattle.papaya_ask.specs.declared.ask.Answer.TheVariants.{Word as Word_read, Exchanged, Found as Found_instead, Yes, Op, Size, Made as Made_number, Ok as Ok_done, Refused as Was_refused}
 use Rattle.papaya_call.specs.Machine.{IsFit}
@@ -27,7 +27,10 @@ use Rattle.papaya_lookup.specs.History.{key_of}
 use Rattle.papaya_book.specs.Logs.{Stored, number_of, pair_named}
 use Rattle.papaya_book.specs.Makers.{IsMade}
 use Rattle.papaya_book.specs.Rule.{IsLawfulLog, IsPlaced}
-use Rattle.papaya_change.specs.Writing.{HasKey, IsWriting, IsWritingOn}
+use Rattle.papaya_book.specs.declared.book.pairs.KeyPart.{KeyPart}
+use Rattle.papaya_book.specs.declared.book.pairs.ValuePart.{ValuePart}
+use Rattle.papaya_rests.specs.Told.{IsOneOf}
+use Rattle.papaya_change.specs.Writing.{HasKey, HasValue, IsWriting, IsWritingOn}
 use Rattle.papaya_change.proofs.Changing.{barren, compared, held_later, quiet}
 use Rattle.papaya_change.proofs.OwnSteps.{own_brings}
 use Rattle.papaya_lookup.proofs.Readings.{IsQuery}
@@ -35,7 +38,7 @@ use Rattle.papaya_lookup.proofs.Readings.{IsQuery}
 -- what a call rests on doesn't depend on what it was given
 module _ {K V S H : Type 0} (eq : K → K → Bool) (hash : S → K → ℕ) (b : Begun K V S) (name : Book) (key : K) (made : List (Stored K V)) (begun log : List (Event K V S)) (w : Writer K V S H) (given : Rattle.papaya_book.specs.declared.rule.own.Own.Own Given) where
   pub with_given : (answer : Answer) → IsWritingOn eq hash b name key made begun log w answer → IsWritingOn eq hash b name key made begun log (record w { call = record w.call { given = given } }) answer
-  with_given answer on = (record { calling = on.0.calling; keyed = on.0.keyed; put_placed = on.0.put_placed }, on.1)
+  with_given answer on = (record { calling = on.0.calling; keyed = on.0.keyed; valued = on.0.valued; put_placed = on.0.put_placed }, on.1)
 
 -- an answer to an ask for something made
 abbrev pub IsPlainAnswer : Answer → Type 0
@@ -93,15 +96,15 @@ module _ {K V S H : Type 0} (eq : K → K → Bool) (input : K → List (List �
       abbrev IsGoing : List (Event K V S) → List (Stored K V) → Writer K V S H → Type 0
       IsGoing log' made' w' = IsDriven eq hash b name (eq key) (hash b.hasher key) (Some key) begun log' made' w'.call
 
-      -- it goes on with the key that it has
-      pub goes_on : (made' : List (Stored K V)) (log' : List (Event K V S)) (w' : Writer K V S H) (answer : Answer) → HasKey b name key w'.key w'.brought → IsFit answer
+      -- it goes on with the key and the value that it has
+      pub goes_on : (made' : List (Stored K V)) (log' : List (Event K V S)) (w' : Writer K V S H) (answer : Answer) → HasKey b name key w'.key → HasValue b name w'.value → IsFit answer
           → IsGoing log' made' (record w' { call = record w'.call { machine = after w'.call.machine (answers.Call answer) } }) → IsPlaced b (Some name) (pair_named w'.call.put) → IsWritingOn eq hash b name key made' begun log' w' answer
-      goes_on made' log' w' answer keyed fit calling placed = (record { calling = calling; keyed = keyed; put_placed = placed }, fit)
+      goes_on made' log' w' answer keyed valued fit calling placed = (record { calling = calling; keyed = keyed; valued = valued; put_placed = placed }, fit)
 
-      -- nothing was made for the key
+      -- nothing was made for the key, or for the value
       pub key_made : (answer : Answer) → ask_of m ≡ Call MakeKey → IsPlainAnswer answer → WritingOn log w answer
       key_made answer asks plain =
-          goes_on made log w answer r.keyed (plain_fit answer plain)
+          goes_on made log w answer r.keyed r.valued (plain_fit answer plain)
           (quiet eq input build write finish classes respects b (eq key) (input key) own_query (Some key) name begun log log ([], append-nil log) r.calling.lawful m w.call.table w.call.last w.call.kept made w.call.taken w.call.put w.call.fresh r.calling
           MakeKey asks answer w.call.last made w.call.table w.call.fresh
           (record {
@@ -112,39 +115,85 @@ module _ {K V S H : Type 0} (eq : K → K → Bool) (input : K → List (List �
           }) r.calling.holds_table r.calling.last_placed r.calling.made_placed)
           r.put_placed
 
-      -- the pair was not logged
-      pub pair_unmade : (left : Option V) (own : Option K) (brought : Option (Stored K V)) (answer : Answer) → HasKey b name key own brought → ask_of m ≡ Call MakePair → ((refused : Refused) × (answer ≡ Was_refused refused)) ⊎ (answer ≡ Ok_done) → IsPlainAnswer answer → WritingOn log (record w { value = left; key = own; brought = brought }) answer
-      pair_unmade left own brought answer keyed asks unmade plain =
-          goes_on made log (record w { value = left; key = own; brought = brought }) answer keyed (plain_fit answer plain)
+      pub value_made : (answer : Answer) → ask_of m ≡ Call MakeValue → IsPlainAnswer answer → WritingOn log w answer
+      value_made answer asks plain =
+          goes_on made log w answer r.keyed r.valued (plain_fit answer plain)
           (quiet eq input build write finish classes respects b (eq key) (input key) own_query (Some key) name begun log log ([], append-nil log) r.calling.lawful m w.call.table w.call.last w.call.kept made w.call.taken w.call.put w.call.fresh r.calling
-          MakePair asks answer w.call.last made w.call.table w.call.fresh
+          MakeValue asks answer w.call.last made w.call.table w.call.fresh
           (record {
-            told = inl (unmade, (refl, refl));
+            told = (make_answer answer plain, (refl, refl));
             same = refl;
             busy = λ z. z;
-            brings = barren eq input build write finish classes respects b (eq key) (input key) own_query (Some key) name begun log log ([], append-nil log) r.calling.lawful m w.call.table w.call.last w.call.kept made w.call.taken w.call.put w.call.fresh r.calling MakePair asks tt answer w.call.fresh;
+            brings = barren eq input build write finish classes respects b (eq key) (input key) own_query (Some key) name begun log log ([], append-nil log) r.calling.lawful m w.call.table w.call.last w.call.kept made w.call.taken w.call.put w.call.fresh r.calling MakeValue asks tt answer w.call.fresh;
           }) r.calling.holds_table r.calling.last_placed r.calling.made_placed)
           r.put_placed
 
-      -- the pair was logged
-      pub pair_made : (q : Stored K V) (left : Option V) (own : Option K) (brought : Option (Stored K V)) → HasKey b name key own brought → ask_of m ≡ Call MakePair → q.index < 2 ^ 48 → key_of q ≡ key → IsPlaced b (Some name) (names.Pair q) → IsWritingOn eq hash b name key (q ∷ made) begun log (record w { value = left; key = own; brought = brought }) (Made_number q.index)
-      pair_made q left own brought keyed asks low key_is placed =
-          goes_on (q ∷ made) log (record w { value = left; key = own; brought = brought }) (Made_number q.index) keyed low
-          (quiet eq input build write finish classes respects b (eq key) (input key) own_query (Some key) name begun log log ([], append-nil log) r.calling.lawful m w.call.table w.call.last w.call.kept made w.call.taken w.call.put w.call.fresh r.calling
-          MakePair asks (Made_number q.index) w.call.last (q ∷ made) w.call.table w.call.fresh
-          (record {
-            told = inr (q, ap (λ z. Some z) key_is, refl, refl, refl);
-            same = refl;
-            busy = λ z. z;
-            brings = barren eq input build write finish classes respects b (eq key) (input key) own_query (Some key) name begun log log ([], append-nil log) r.calling.lawful m w.call.table w.call.last w.call.kept made w.call.taken w.call.put w.call.fresh r.calling MakePair asks tt (Made_number q.index) w.call.fresh;
-          }) r.calling.holds_table r.calling.last_placed
-          (λ p one. ⊎_elim (λ is. subst (λ (z : Stored K V). IsPlaced b (Some name) (names.Pair z)) (sym is) placed) (λ other. r.calling.made_placed p other) one))
-          r.put_placed
+      -- the pair was not logged
+      abbrev pub IsUnlogged : Answer → Type 0
+      IsUnlogged answer = ((refused : Refused) × (answer ≡ Was_refused refused)) ⊎ (answer ≡ Ok_done)
+
+      module _ (own : Option (KeyPart K V)) (value : Option (ValuePart K V)) (keyed : HasKey b name key own) (valued : HasValue b name value) where
+        pub pair_unmade : (answer : Answer) → ask_of m ≡ Call MakePair → IsUnlogged answer → IsPlainAnswer answer → WritingOn log (record w { value = value; key = own }) answer
+        pair_unmade answer asks unmade plain =
+            goes_on made log (record w { value = value; key = own }) answer keyed valued (plain_fit answer plain)
+            (quiet eq input build write finish classes respects b (eq key) (input key) own_query (Some key) name begun log log ([], append-nil log) r.calling.lawful m w.call.table w.call.last w.call.kept made w.call.taken w.call.put w.call.fresh r.calling
+            MakePair asks answer w.call.last made w.call.table w.call.fresh
+            (record {
+              told = inl (unmade, (refl, refl));
+              same = refl;
+              busy = λ z. z;
+              brings = barren eq input build write finish classes respects b (eq key) (input key) own_query (Some key) name begun log log ([], append-nil log) r.calling.lawful m w.call.table w.call.last w.call.kept made w.call.taken w.call.put w.call.fresh r.calling MakePair asks tt answer w.call.fresh;
+            }) r.calling.holds_table r.calling.last_placed r.calling.made_placed)
+            r.put_placed
+
+        pub of_unmade : (n : ℕ) → (answer : Answer) → ask_of m ≡ Call (MakePairOf n) → IsUnlogged answer → IsPlainAnswer answer → WritingOn log (record w { value = value; key = own }) answer
+        of_unmade n answer asks unmade plain =
+            goes_on made log (record w { value = value; key = own }) answer keyed valued (plain_fit answer plain)
+            (quiet eq input build write finish classes respects b (eq key) (input key) own_query (Some key) name begun log log ([], append-nil log) r.calling.lawful m w.call.table w.call.last w.call.kept made w.call.taken w.call.put w.call.fresh r.calling
+            (MakePairOf n) asks answer w.call.last made w.call.table w.call.fresh
+            (record {
+              told = inl (unmade, (refl, refl));
+              same = refl;
+              busy = λ z. z;
+              brings = barren eq input build write finish classes respects b (eq key) (input key) own_query (Some key) name begun log log ([], append-nil log) r.calling.lawful m w.call.table w.call.last w.call.kept made w.call.taken w.call.put w.call.fresh r.calling (MakePairOf n) asks tt answer w.call.fresh;
+            }) r.calling.holds_table r.calling.last_placed r.calling.made_placed)
+            r.put_placed
+
+        -- the pair was logged
+        module _ (q : Stored K V) (low : q.index < 2 ^ 48) (placed : IsPlaced b (Some name) (names.Pair q)) where
+          one_placed : (p : Stored K V) → IsOneOf (q ∷ made) p → IsPlaced b (Some name) (pair_named (Some p))
+          one_placed p one = ⊎_elim (λ is. subst (λ (z : Stored K V). IsPlaced b (Some name) (names.Pair z)) (sym is) placed) (λ other. r.calling.made_placed p other) one
+
+          pub pair_made : key_of q ≡ key → ask_of m ≡ Call MakePair → IsWritingOn eq hash b name key (q ∷ made) begun log (record w { value = value; key = own }) (Made_number q.index)
+          pair_made is asks =
+              goes_on (q ∷ made) log (record w { value = value; key = own }) (Made_number q.index) keyed valued low
+              (quiet eq input build write finish classes respects b (eq key) (input key) own_query (Some key) name begun log log ([], append-nil log) r.calling.lawful m w.call.table w.call.last w.call.kept made w.call.taken w.call.put w.call.fresh r.calling
+              MakePair asks (Made_number q.index) w.call.last (q ∷ made) w.call.table w.call.fresh
+              (record {
+                told = inr (q, ap (λ z. Some z) is, (refl, refl, refl));
+                same = refl;
+                busy = λ z. z;
+                brings = barren eq input build write finish classes respects b (eq key) (input key) own_query (Some key) name begun log log ([], append-nil log) r.calling.lawful m w.call.table w.call.last w.call.kept made w.call.taken w.call.put w.call.fresh r.calling MakePair asks tt (Made_number q.index) w.call.fresh;
+              }) r.calling.holds_table r.calling.last_placed one_placed)
+              r.put_placed
+
+          pub of_made : (n : ℕ) → ((p : Stored K V) → w.call.last ≡ Some p → key_of q ≡ key_of p) → ask_of m ≡ Call (MakePairOf n) → IsWritingOn eq hash b name key (q ∷ made) begun log (record w { value = value; key = own }) (Made_number q.index)
+          of_made n is asks =
+              goes_on (q ∷ made) log (record w { value = value; key = own }) (Made_number q.index) keyed valued low
+              (quiet eq input build write finish classes respects b (eq key) (input key) own_query (Some key) name begun log log ([], append-nil log) r.calling.lawful m w.call.table w.call.last w.call.kept made w.call.taken w.call.put w.call.fresh r.calling
+              (MakePairOf n) asks (Made_number q.index) w.call.last (q ∷ made) w.call.table w.call.fresh
+              (record {
+                told = inr (q, λ p e f. ap (λ z. Some z) (is p e), (refl, refl, refl));
+                same = refl;
+                busy = λ z. z;
+                brings = barren eq input build write finish classes respects b (eq key) (input key) own_query (Some key) name begun log log ([], append-nil log) r.calling.lawful m w.call.table w.call.last w.call.kept made w.call.taken w.call.put w.call.fresh r.calling (MakePairOf n) asks tt (Made_number q.index) w.call.fresh;
+              }) r.calling.holds_table r.calling.last_placed one_placed)
+              r.put_placed
 
       -- the key was compared
       pub key_compared : (n : ℕ) (same : Bool) → ((p : Stored K V) → w.call.last ≡ Some p → same ≡ eq key (key_of p)) → ask_of m ≡ Call (SameKey n) → WritingOn log w (Yes same)
       key_compared n same is asks =
-          goes_on made log w (Yes same) r.keyed tt
+          goes_on made log w (Yes same) r.keyed r.valued tt
           (compared eq input build write finish classes respects b (eq key) (input key) own_query (Some key) name begun log m w.call.table w.call.last w.call.kept made w.call.taken w.call.put w.call.fresh r.calling n same is asks)
           r.put_placed
 
@@ -154,7 +203,7 @@ module _ {K V S H : Type 0} (eq : K → K → Bool) (input : K → List (List �
       table_told log' pre l' slots limit chunks answer fresh asks told fit is_fresh =
           let brings : (n : ℕ) → IsBringing (ask_of (after m (answers.Call answer))) n → IsFresh b name log' n fresh =
           λ n brought. let own = call_asks m (MakeTable slots limit chunks) asks in ⊎_elim (λ h. is_fresh n h.0) (λ h. let f = sym own.1 ∙ h in absurd (cc f)) (own_brings m own.0 answer n brought) in
-          goes_on made log' (record w { call = record w.call { fresh = fresh } }) answer r.keyed fit
+          goes_on made log' (record w { call = record w.call { fresh = fresh } }) answer r.keyed r.valued fit
           (quiet eq input build write finish classes respects b (eq key) (input key) own_query (Some key) name begun log log' pre l' m w.call.table w.call.last w.call.kept made w.call.taken w.call.put w.call.fresh r.calling
           (MakeTable slots limit chunks) asks answer w.call.last made w.call.table fresh (record { told = (told, (refl, refl)); same = refl; busy = λ z. z; brings = brings })
           (held_later log log' pre r.calling.number w.call.table r.calling.holds_table) r.calling.last_placed r.calling.made_placed)

@@ -86,10 +86,22 @@ abbrev pub HasAskedWords : Option Link → Option (Where Sheet × Pen) → Type 
 HasAskedWords link fresh = (behind n chunks : ℕ) → link ≡ Some (Linking behind n chunks)
     → HasChunks fresh chunks
 
+-- a key is of the class of the call's own, where it has one
+abbrev pub IsOfCall : {K : Type 0} → (K → K → Bool) → Option K → K → Type 0
+IsOfCall eq k other = MatchOption k (Unit {0}) (λ key. eq key other ≡ true)
+
+-- A pair that takes the place of none has the call's own key, and any other has that of the pair whose
+-- place it takes.
+pub record HasItsKey {K V : Type 0} (eq : K → K → Bool) (k : Option K) (taken : Option (Stored K V))
+    (q : Stored K V) : Type 0 where
+  pub is : MatchOption taken (Some (key_of q) ≡ k) (λ p. key_of q ≡ key_of p)
+  pub same : IsOfCall eq k (key_of q)
+
 -- The log ends with the call's change, which came after all that was there when it began. What it
 -- takes out and puts in has the numbers that the machine tells.
-pub record HasChanged {K V S : Type 0} (eq : K → K → Bool) (begun log : List (Event K V S))
-    (taken put : Option (Stored K V)) (change : Option ℕ × Option ℕ) : Type 0 where
+pub record HasChanged {K V S : Type 0} (eq : K → K → Bool) (k : Option K)
+    (begun log : List (Event K V S)) (taken put : Option (Stored K V))
+    (change : Option ℕ × Option ℕ) : Type 0 where
   pub before : List (Event K V S)
   pub since : IsPrefix begun before
   pub by : Exchange (Stored K V)
@@ -99,7 +111,8 @@ pub record HasChanged {K V S : Type 0} (eq : K → K → Bool) (begun log : List
   pub taken_is : MatchOption taken (change.0 ≡ None)
       (λ p. (change.0 ≡ Some p.index) × (class ≡ key_of p))
   pub put_is : MatchOption put (change.1 ≡ None)
-      (λ q. (change.1 ≡ Some q.index) × (eq class (key_of q) ≡ true))
+      (λ q. (change.1 ≡ Some q.index) × (eq class (key_of q) ≡ true)
+      × HasItsKey eq k taken q)
 
 -- A call by the key k, or by the further one, rests on the log since it began, with the copy that it
 -- is set aside for. It holds the table and the pair of which it was told last, the pair that its copy
@@ -124,7 +137,7 @@ pub record IsCalling {K V S : Type 0} (eq : K → K → Bool) (hash : S → K �
   pub made_placed : (q : Stored K V) → IsOneOf made q → IsPlaced b (Some name) (pair_named (Some q))
   pub taken_placed : IsPlaced b (Some name) (pair_named taken)
   pub changed : (change : Option ℕ × Option ℕ) → change_in m.call.state ≡ Some change
-      → HasChanged eq begun log taken put change
+      → HasChanged eq k begun log taken put change
   pub brings : (n : ℕ) → IsBringing (ask_of m) n → IsFresh b name log n fresh
   pub words : HasAskedWords (link_in m.phase) fresh
   pub counts : IsCountingOf (tables_of log) m
@@ -133,7 +146,7 @@ pub record IsCalling {K V S : Type 0} (eq : K → K → Bool) (hash : S → K �
 abbrev pub IsForm : {K V S : Type 0} → (K → K → Bool) → (S → K → ℕ) → Begun K V S → (K → Bool) → ℕ
     → Type 0
 IsForm {V = V} {S = S} eq hash b matches fed = IsLawfulKey
-    (setting_of {V = V} {S = S} eq (hash b.hasher) b.mode []) (coding_of {V = V} (hash b.hasher))
+    (setting_of {V = V} {S = S} eq (hash b.hasher) b.mode b.limit []) (coding_of {V = V} (hash b.hasher))
     matches fed
 
 module _ {K V S H : Type 0} (eq : K → K → Bool) (hash : S → K → ℕ) (b : Begun K V S)

@@ -7,7 +7,7 @@ use Rattle.papaya_words.specs.declared.probe.Refused.{Refused}
 use Rattle.papaya_words.specs.declared.probe.Refused.TheVariants.{Capacity, Memory}
 use Rattle.papaya_ask.specs.Search.{IsSize}
 use Rattle.papaya_ask.specs.declared.ask.At.{At}
-use Rattle.papaya_ask.specs.declared.ask.At.TheVariants.{Root, Next, Aborted, Done, Slot}
+use Rattle.papaya_ask.specs.declared.ask.At.TheVariants.{Root, Next, Aborted, Done, Slot, Made as Made_word}
 use Rattle.papaya_ask.specs.declared.ask.Answer.TheVariants.{Exchanged, Found, Made, Ok, Refused as Was_refused, Size, Word, Yes}
 use Rattle.papaya_ask.specs.declared.ask.StepKind.{StepKind}
 use Rattle.papaya_ask.specs.declared.ask.StepKind.TheVariants as kinds
@@ -23,7 +23,7 @@ use Rattle.papaya_book.specs.declared.rule.own.Given.TheVariants.{Sum}
 use Rattle.papaya_book.specs.Calls.{HasCome, IsTable}
 use Rattle.papaya_book.specs.Hinted.{IsSlotHint}
 use Rattle.papaya_book.specs.Limits.{IsFull}
-use Rattle.papaya_book.specs.Logs.{Stored, number_of, pair_named, steps_of, table_in}
+use Rattle.papaya_book.specs.Logs.{Stored, pair_named, steps_of, table_in}
 use Rattle.papaya_book.specs.Plays.{CanExchange}
 use Rattle.papaya_book.specs.Rule.{IsLawfulLog, IsPlaced}
 use Rattle.papaya_book.specs.Sheets.{Sheet}
@@ -51,6 +51,7 @@ IsReached log (Done t chunk) = (w : Where Sheet) × (table_in (steps_of log) t �
     × (chunk < length w.value.done)
 IsReached log (Slot t x) = (w : Where Sheet) × (table_in (steps_of log) t ≡ Some w)
     × (x < length w.value.slots)
+IsReached log Made_word = ⊥
 
 -- a pair is held, and lies in the logs
 pub record IsHeld {K V S : Type 0} (b : Begun K V S) (name : Book) (held : Option (Stored K V))

@@ -3,12 +3,12 @@ use Rattle.std.specs.Prelude.{◌≡◌, ℕ, Bool, MatchOption, Option, List, �
 use denote.Bor.{Bor}
 use Rattle.logbook.specs.Pages.{Book}
 use Rattle.papaya_ask.specs.declared.ask.At.{At}
-use Rattle.papaya_ask.specs.declared.ask.At.TheVariants.{Root, Next, Aborted, Done, Slot}
+use Rattle.papaya_ask.specs.declared.ask.At.TheVariants.{Root, Next, Aborted, Done, Slot, Made}
 use Rattle.papaya_rests.specs.Told.{or_last}
 use Rattle.papaya_book.specs.Sheets.{Sheet}
 use Rattle.papaya_book.specs.declared.rule.entry.Begun.{Begun}
 use Rattle.papaya_book.specs.declared.rule.entry.Event.{Event}
-use Rattle.papaya_book.specs.Calls.{IsNext, IsRoot, IsSlot, IsTable}
+use Rattle.papaya_book.specs.Calls.{IsNext, IsRoot, IsSlot, IsTable, IsWord}
 use Rattle.papaya_book.specs.Logs.{Stored}
 
 module _ {K V S : Type 0} where
@@ -20,6 +20,7 @@ module _ {K V S : Type 0} where
       (λ r. IsTable log t r.now × (x < length r.now.slots))
   IsHeldAt (Aborted t) log table = ⊥
   IsHeldAt (Done t chunk) log table = ⊥
+  IsHeldAt Made log table = Unit {0}
 
   -- What a load of a place tells, and which table and pair the call holds then: those that were
   -- loaded, or those of before where there is none.
@@ -34,3 +35,5 @@ module _ {K V S : Type 0} where
       × IsSlot eq hash b name t x word log pair × (last' ≡ or_last pair last) × (table' ≡ table)
   IsLoaded eq hash b name (Aborted t) word log table table' last last' = ⊥
   IsLoaded eq hash b name (Done t chunk) word log table table' last last' = ⊥
+  IsLoaded eq hash b name Made word log table table' last last' = IsWord eq hash b Made word log
+      × (table' ≡ table) × (last' ≡ last)

@@ -2,14 +2,13 @@
 use Rattle.std.specs.Prelude.{◌≡◌, ℕ, Bool, true, Option, None, Some, List}
 use Rattle.logbook.specs.Pages.{Book}
 use Rattle.papaya_words.specs.declared.probe.Refused.{Refused as Cause}
-use Rattle.papaya_words.specs.declared.probe.Refused.TheVariants.{Capacity}
+use Rattle.papaya_words.specs.declared.probe.Refused.TheVariants.{Capacity, Limit}
 use Rattle.papaya_ask.specs.declared.ask.Answer.{Answer}
 use Rattle.papaya_ask.specs.declared.ask.Ask.TheVariants.{Done}
 use Rattle.papaya_ask.specs.declared.call.Reply.{Reply}
 use Rattle.papaya_ask.specs.declared.call.Reply.TheVariants.{Refused}
 use Rattle.papaya_ask.specs.declared.call.Task.TheVariants.{Insert}
-use Rattle.papaya_call.specs.declared.write.Made.{Made}
-use Rattle.papaya_call.specs.declared.write.Made.TheVariants.{Nothing, Key, Pair}
+use Rattle.papaya_call.specs.declared.made.Of.{Of}
 use Rattle.papaya_call.specs.Machine.{IsFit}
 use Rattle.papaya_chain.specs.declared.ask.Ask.TheVariants.{Call}
 use Rattle.papaya_chain.specs.Machine.{ask_of}
@@ -20,33 +19,41 @@ use denote.Bor.{Bor}
 use Rattle.papaya_change.specs.Changes.{IsPut}
 use Rattle.papaya_lookup.specs.History.{history_of, key_of}
 use Rattle.papaya_book.specs.Logs.{Stored}
-use Rattle.papaya_book.specs.Plays.{made_list}
-use Rattle.papaya_book.specs.Limits.{HasNoRoom, tables_of}
-use Rattle.papaya_change.specs.Writing.{IsMemoryOrCapacity, IsWriting, answered as answered_writer}
+use Rattle.papaya_book.specs.Limits.{HasNoRoom, IsSpent, tables_of}
+use Rattle.papaya_rests.specs.Told.{IsOneOf}
+use Rattle.papaya_change.specs.Writing.{HasKeyAt, IsMemoryCapacityOrLimit, IsWriting, answered as answered_writer, held_value}
 
--- no pair is made yet
-abbrev pub IsUnpaired : Made → Type 0
-IsUnpaired Nothing = Unit {0}
-IsUnpaired Key = Unit {0}
-IsUnpaired (Pair n) = ⊥
+-- The pair that an insertion made of its own key is at hand, where its machine knows of one.
+pub record HasOwn {K V : Type 0} (key : K) (value : V) (made : List (Stored K V))
+    (machine : Option ℕ) (own : Option (Stored K V)) : Type 0 where
+  pub there : (n : ℕ) → machine ≡ Some n → (q : Stored K V) × (own ≡ Some q) × (q.index ≡ n)
+  pub is : (q : Stored K V) → own ≡ Some q → IsOneOf made q × (key_of q ≡ key)
+      × (q.value.value ≡ value)
+
+-- So is the last that it made of a key that it met in a slot, and that slot has this key still.
+pub record HasOf {K V S : Type 0} (value : V) (made : List (Stored K V)) (log : List (Event K V S))
+    (machine : Option Of) (of : Option (Stored K V)) : Type 0 where
+  pub there : (new : Of) → machine ≡ Some new → (q : Stored K V) × (of ≡ Some q)
+      × (q.index ≡ new.pair) × HasKeyAt log new.table new.index (key_of q)
+  pub is : (q : Stored K V) → of ≡ Some q → IsOneOf made q × (q.value.value ≡ value)
 
 module _ {K V S H : Type 0} (eq : K → K → Bool) (hash : S → K → ℕ) (b : Begun K V S)
     (name : Book) where
-  -- An insertion of this key and value. It holds the value until its pair is logged, and then the
-  -- pair.
+  -- An insertion of this key and value, and the pairs that it has made.
   pub record IsInserting (key : K) (value : V) (begun log : List (Event K V S))
       (x : Insertion K V S H) : Type 0 where
-    pub writing : IsWriting eq hash b name key (made_list x.made) begun log x.writer
+    pub made : List (Stored K V)
+    pub writing : IsWriting eq hash b name key made begun log x.writer
     pub task_is : x.writer.call.machine.call.task ≡ Insert true
-    pub left_is : (v : V) → x.writer.value ≡ Some v → v ≡ value
-    pub made_is : (q : Stored K V) → x.made ≡ Some q → (key_of q ≡ key) × (q.value.value ≡ value)
-    pub put_is : (q : Stored K V) → x.writer.call.put ≡ Some q
-        → (key_of q ≡ key) × (q.value.value ≡ value)
-    pub unmade : IsUnpaired x.writer.call.machine.call.made → x.made ≡ None
+    pub value_is : (v : V) → held_value x.writer.value ≡ Some v → v ≡ value
+    pub own_is : HasOwn key value made x.writer.call.machine.call.made.own x.own
+    pub of_is : HasOf value made log x.writer.call.machine.call.made.of x.of
+    pub put_is : (q : Stored K V) → x.writer.call.put ≡ Some q → q.value.value ≡ value
     pub refuses : (cause : Cause) → ask_of x.writer.call.machine ≡ Call (Done (Refused cause))
-        → IsMemoryOrCapacity cause
+        → IsMemoryCapacityOrLimit cause
     pub crowded : ask_of x.writer.call.machine ≡ Call (Done (Refused Capacity))
         → HasNoRoom x.writer.call.machine.call.initial (tables_of log) x.writer.call.given.done
+    pub spent : ask_of x.writer.call.machine ≡ Call (Done (Refused Limit)) → IsSpent b.limit log
 
   -- the insertion after its machine was answered
   abbrev pub answered : Insertion K V S H → Answer → Insertion K V S H

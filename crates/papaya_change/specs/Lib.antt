@@ -11,11 +11,15 @@ pub mod Showings
 pub mod RemovalAnswers
 pub mod Removing
 pub mod Resizing
+pub mod Settling
+pub mod Going
 -- the same by what is seen of the map
 pub mod Resizes
 pub mod Drivers
 pub mod Steps
 pub mod Copiers
+pub mod Settles
+pub mod Goings
 pub mod Writers
 pub mod Insertions
 pub mod Seeks

@@ -36,7 +36,7 @@ module _ {K V S H F : Type 0} (eq : K → K → Bool) (hash : S → K → ℕ) (
       (f : F) : Type 0 where
     pub calling : IsDriven eq hash b name matches fed None begun log [] x.call
     pub task_is : x.call.machine.call.task ≡ RemoveIf
-    pub words : ShowsPairs x.call.machine.call.state
+    pub words : ShowsPairs x.call.machine.call
     pub shown_placed : IsPlaced b (Some name) (pair_named x.shown)
     pub said : List (Stored K V × Bool)
     pub has_said : HasSaid judges first said f

@@ -75,8 +75,8 @@ IsResizeEnd initial resize tables given cause = (cause ≡ Memory)
 pub record IsResizing {K V S H : Type 0} (eq : K → K → Bool) (hash : S → K → ℕ) (b : Begun K V S)
     (name : Book) (log : List (Event K V S)) (m : Resizer) (h : Copier K V S H) : Type 0 where
   pub lawful : IsLawfulLog eq hash b log
-  pub rests : RestsResizer (setting_of eq (hash b.hasher) b.mode log) (coding_of (hash b.hasher))
-      (state_of log) m (hands_with h.last h.kept [])
+  pub rests : RestsResizer (setting_of eq (hash b.hasher) b.mode b.limit log)
+      (coding_of (hash b.hasher)) (state_of log) m (hands_with h.last h.kept [])
   pub last_placed : IsPlaced b (Some name) (pair_named h.last)
   pub kept_placed : IsPlaced b (Some name) (pair_named h.kept)
   pub opens : (n : ℕ) → m.state ≡ Opening n → IsFresh b name log n h.fresh

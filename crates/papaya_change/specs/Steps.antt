@@ -4,6 +4,7 @@ use Rattle.std.specs.Prelude.{◌≡◌, ◌==◌, ℕ, MatchBool, Option, None,
 use denote.Bor.{Bor}
 use Rattle.papaya_ask.specs.declared.ask.Answer.{Answer}
 use Rattle.papaya_ask.specs.declared.ask.Answer.TheVariants.{Exchanged, Found, Size}
+use Rattle.papaya_ask.specs.declared.ask.At.TheVariants.{Made}
 use Rattle.papaya_ask.specs.Search.{IsSize}
 use Rattle.papaya_chain.specs.Machine.{kind_of_ask}
 use Rattle.papaya_rests.specs.Told.{or_last}
@@ -12,7 +13,7 @@ use Rattle.papaya_book.specs.declared.rule.entry.Named.TheVariants.{Pair}
 use Rattle.papaya_book.specs.declared.window.Window.{Window}
 use Rattle.papaya_book.specs.Logs.{Stored}
 use Rattle.papaya_book.specs.Sheets.{Sheet}
-use Rattle.papaya_book.specs.Windows.{IsIn, TriesSlot}
+use Rattle.papaya_book.specs.Windows.{CanCopy, CopiesWord, IsIn, TriesSlot}
 use Rattle.papaya_change.specs.declared.driver.Driver.{Driver}
 
 -- this is the size of the table that is held
@@ -33,6 +34,17 @@ module _ {K V S H : Type 0} {d : keyed.Ghosts S K H} where
   -- a pair was loaded last
   abbrev pub HasLast : Window K V S H d → Driver K V S H → Type 0
   HasLast w c = (p : Stored K V) × (c.last ≡ Some p) × IsIn w (Pair p)
+
+  -- the number of a further pair may be taken
+  abbrev pub CanTake : Window K V S H d → Driver K V S H → (words : ℕ × ℕ) → Type 0
+  CanTake w c words = CanCopy w Made (kind_of_ask c.machine) None words
+
+  -- and was tried to be taken
+  abbrev pub Takes : Window K V S H d → Driver K V S H → (words : ℕ × ℕ) → Window K V S H d → Answer
+      → Type 0
+  Takes w c words w' answer = (found : ℕ)
+      × CopiesWord w w' Made (kind_of_ask c.machine) None words found
+      × MatchBool (found == words.0) (answer ≡ Exchanged) (answer ≡ Found found)
 
   -- the pair of this slot was tried to be buried
   abbrev pub Buries : (t x : ℕ) → (words : ℕ × ℕ) → Window K V S H d → Driver K V S H

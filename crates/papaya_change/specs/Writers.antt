@@ -1,4 +1,5 @@
 -- What a call on the shared map that inserts holds and rests on, by what it sees of the map.
+use Rattle.std.specs.Prelude.{ℕ}
 use Rattle.papaya_ask.specs.declared.ask.Answer.{Answer}
 use Rattle.papaya_book.specs.declared.keyed.Keyed as keyed
 use Rattle.papaya_book.specs.declared.window.Window.{Window}
@@ -22,16 +23,16 @@ module _ {K V S H : Type 0} {d : keyed.Ghosts S K H} where
   Pairs w c c' q = writing.Pairs d.keys.eq d.keys.hash (begun_of w.book.now.parts)
       w.book.now.begun.book w.sight.log c c' q
 
-  abbrev pub CanPut : Window K V S H d → Writer K V S H → Stored K V → Type 0
-  CanPut w c q = writing.CanPut d.keys.eq d.keys.hash (begun_of w.book.now.parts)
-      w.book.now.begun.book w.sight.log c q
+  abbrev pub CanPut : Window K V S H d → Writer K V S H → (t x old : ℕ) → Stored K V → Type 0
+  CanPut w c t x old q = writing.CanPut d.keys.eq d.keys.hash (begun_of w.book.now.parts)
+      w.book.now.begun.book w.sight.log c t x old q
 
-  abbrev pub Puts : Window K V S H d → Writer K V S H → Stored K V → Window K V S H d
-      → Writer K V S H → Answer → Type 0
-  Puts w c q w' c' answer = writing.Puts d.keys.eq d.keys.hash (begun_of w.book.now.parts)
-      w.book.now.begun.book w.sight.log c q w'.sight.log c' answer
+  abbrev pub Puts : Window K V S H d → Writer K V S H → (t x old : ℕ) → Stored K V
+      → Window K V S H d → Writer K V S H → Answer → Type 0
+  Puts w c t x old q w' c' answer = writing.Puts d.keys.eq d.keys.hash (begun_of w.book.now.parts)
+      w.book.now.begun.book w.sight.log c t x old q w'.sight.log c' answer
 
 module _ {K V S H : Type 0} where
   -- Whatever is seen of the map, each such call goes on so, with no step.
-  abbrev pub MakesKey : Keys K S → Writer K V S H → Answer → Type 0
-  MakesKey keys c answer = (w : Window K V S H (record { keys = keys })) → Writes w c w c answer
+  abbrev pub MakesPart : Keys K S → Writer K V S H → Answer → Type 0
+  MakesPart keys c answer = (w : Window K V S H (record { keys = keys })) → Writes w c w c answer

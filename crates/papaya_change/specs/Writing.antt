@@ -1,42 +1,55 @@
 -- What a call on the shared map that inserts holds and rests on, whatever its task.
-use Rattle.std.specs.Prelude.{◌≡◌, ◌⊎◌, ℕ, Bool, Option, None, Some, List, ◌∷◌}
+use Rattle.std.specs.Prelude.{◌≡◌, ◌⊎◌, ℕ, ◌==◌, Bool, MatchBool, MatchOption, Option, None, Some, List, ◌∷◌}
 use Rattle.logbook.specs.Pages.{Book}
 use Rattle.papaya_words.specs.declared.probe.Refused.{Refused as Cause}
-use Rattle.papaya_words.specs.declared.probe.Refused.TheVariants.{Capacity, Memory}
+use Rattle.papaya_words.specs.declared.probe.Refused.TheVariants.{Capacity, Limit, Memory}
+use Rattle.papaya_ask.specs.declared.ask.Ask.{Ask}
 use Rattle.papaya_ask.specs.declared.ask.Answer.{Answer}
-use Rattle.papaya_ask.specs.declared.ask.Answer.TheVariants.{Made, Ok as Ok_done, Refused}
+use Rattle.papaya_ask.specs.declared.ask.Answer.TheVariants.{Found, Made, Ok as Ok_done, Refused, Word as Word_read}
 use Rattle.papaya_call.specs.Machine.{IsFit}
 use Rattle.papaya_chain.specs.declared.ask.Answer.TheVariants.{Call}
 use Rattle.papaya_chain.specs.Machine.{after}
+use Rattle.papaya_law.specs.Invariant.{named}
+use Rattle.papaya_rests.specs.Rests.{IsNumberAsk}
 use Rattle.papaya_rests.specs.Told.{IsOneOf}
+use Rattle.papaya_book.specs.declared.book.pairs.KeyPart.{KeyPart}
+use Rattle.papaya_book.specs.declared.book.pairs.KeyPart.TheVariants as keys
+use Rattle.papaya_book.specs.declared.book.pairs.ValuePart.{ValuePart}
+use Rattle.papaya_book.specs.declared.book.pairs.ValuePart.TheVariants as values
 use Rattle.papaya_book.specs.declared.rule.entry.Begun.{Begun}
 use Rattle.papaya_book.specs.declared.rule.entry.Event.{Event}
+use Rattle.papaya_book.specs.declared.rule.entry.Named.TheVariants.{Pair}
 use Rattle.papaya_book.specs.declared.rule.own.Given.{Given}
 use Rattle.papaya_change.specs.declared.writing.Writer.{Writer}
 use Rattle.papaya_change.specs.Changing.{IsDriven}
 use Rattle.papaya_lookup.specs.History.{key_of}
-use Rattle.papaya_book.specs.Logs.{Stored, pair_named}
+use Rattle.papaya_book.specs.Logs.{Stored, pair_named, state_of}
 use Rattle.papaya_book.specs.Limits.{IsFull}
-use Rattle.papaya_book.specs.Pairs.{KeyHeld}
+use Rattle.papaya_book.specs.PairParts.{key_in, value_in}
 use Rattle.papaya_book.specs.Rule.{IsPlaced}
 
--- A call by this key has it at hand, or a pair that brought it to the log.
-pub record HasKey {K V S : Type 0} (b : Begun K V S) (name : Book) (key : K) (own : Option K)
-    (brought : Option (Stored K V)) : Type 0 where
-  pub own_is : (k : K) → own ≡ Some k → k ≡ key
-  pub brought_is : (p : Stored K V) → brought ≡ Some p → (key_of p ≡ key)
-      × (p.value.key.at ≡ None)
-  pub brought_placed : IsPlaced b (Some name) (pair_named brought)
-  pub some : own ≡ None → (p : Stored K V) × (brought ≡ Some p)
+-- a pair that a key or a value is taken from lies in the logs
+abbrev pub IsKeyPlaced : {K V S : Type 0} → Begun K V S → Book → KeyPart K V → Type 0
+IsKeyPlaced b name (keys.Own k) = Unit {0}
+IsKeyPlaced b name (keys.Of p) = IsPlaced b (Some name) (Pair p)
 
--- The key of a new pair is the one at hand, or else it lies at the pair that brought it.
-abbrev pub IsKeyBy : {K V : Type 0} → Option K → Option (Stored K V) → KeyHeld K → Type 0
-IsKeyBy (Some k) brought held = held ≡ record { value = k; at = None }
-IsKeyBy None (Some p) held = held ≡ record {
-  value = p.value.key.value;
-  at = Some (p.bucket, p.row);
-}
-IsKeyBy None None held = ⊥
+abbrev pub IsValuePlaced : {K V S : Type 0} → Begun K V S → Book → ValuePart K V → Type 0
+IsValuePlaced b name (values.Own v) = Unit {0}
+IsValuePlaced b name (values.Of p) = IsPlaced b (Some name) (Pair p)
+
+-- A call by this key has it: as it was handed in, or that of a pair that went into the log.
+abbrev pub HasKey : {K V S : Type 0} → Begun K V S → Book → (key : K) → Option (KeyPart K V)
+    → Type 0
+HasKey b name key part = MatchOption part ⊥ (λ own. (key_in own ≡ key) × IsKeyPlaced b name own)
+
+-- the value of the pair that a call makes next, if it has one
+abbrev pub held_value : {K V : Type 0} → Option (ValuePart K V) → Option V
+held_value None = None
+held_value (Some part) = Some (value_in part)
+
+-- it lies in the logs, if it lies at a pair
+abbrev pub HasValue : {K V S : Type 0} → Begun K V S → Book → Option (ValuePart K V) → Type 0
+HasValue b name part = MatchOption part (Unit {0}) (λ own. IsValuePlaced b name own)
 
 -- no pair was logged: there was no memory or no number for it, or nothing to log
 abbrev pub IsUnlogged : Answer → Type 0
@@ -48,15 +61,34 @@ answered w answer = record w {
   call = record w.call { machine = after w.call.machine (Call answer) };
 }
 
--- as a call is refused by itself: there was no memory, or there was no room
+-- as a call is refused by itself that makes no pair: there was no memory, or there was no room
 abbrev pub IsMemoryOrCapacity : Cause → Type 0
 IsMemoryOrCapacity cause = (cause ≡ Memory) ⊎ (cause ≡ Capacity)
+
+-- one that makes pairs: or the limit on pairs was spent
+abbrev pub IsMemoryCapacityOrLimit : Cause → Type 0
+IsMemoryCapacityOrLimit cause = IsMemoryOrCapacity cause ⊎ (cause ≡ Limit)
 
 -- No closure had a part in it: where it is a refusal, there was no memory, or a log that is full
 -- gave this number.
 abbrev pub IsUnsaid : List Given → Answer → Type 0
 IsUnsaid given answer = (cause : Cause) → answer ≡ Refused cause → (cause ≡ Memory)
     ⊎ ((cause ≡ Capacity) × IsFull given)
+
+module _ {K V S : Type 0} (log : List (Event K V S)) where
+  -- where it was asked how many numbers for pairs were taken, the answer tells that
+  abbrev pub TellsTaken : Ask → Answer → Type 0
+  TellsTaken ask answer = IsNumberAsk ask → (count : ℕ)
+      → (answer ≡ Word_read count) ⊎ (answer ≡ Found count) → (state_of log).made ≡ count
+
+  -- the pair that a slot names has just this key, and so it has from then on
+  abbrev pub HasKeyAt : (t x : ℕ) → K → Type 0
+  HasKeyAt t x key = (p : Stored K V) × (named ((state_of log).slot t x) ≡ Some p) × (key_of p ≡ key)
+
+  -- A pair may be put in place of this word of a slot: with the call's own key where that is empty,
+  -- and else with the key that is there.
+  abbrev pub MayStand : (key : K) → (t x old : ℕ) → Stored K V → Type 0
+  MayStand key t x old q = MatchBool (old == 0) (key_of q ≡ key) (HasKeyAt t x (key_of q))
 
 module _ {K V S H : Type 0} (eq : K → K → Bool) (hash : S → K → ℕ) (b : Begun K V S)
     (name : Book) where
@@ -65,7 +97,8 @@ module _ {K V S H : Type 0} (eq : K → K → Bool) (hash : S → K → ℕ) (b 
       (w : Writer K V S H) : Type 0 where
     pub calling : IsDriven eq hash b name (eq key) (hash b.hasher key) (Some key) begun log made
         w.call
-    pub keyed : HasKey b name key w.key w.brought
+    pub keyed : HasKey b name key w.key
+    pub valued : HasValue b name w.value
     pub put_placed : IsPlaced b (Some name) (pair_named w.call.put)
 
   -- this is an answer to what it asks
@@ -84,18 +117,19 @@ module _ {K V S H : Type 0} (eq : K → K → Bool) (hash : S → K → ℕ) (b 
   Writes log w log' w' answer = (key : K) (made : List (Stored K V)) (begun : List (Event K V S))
       → IsWriting key made begun log w → IsWritingOn key made begun log' w' answer
 
-  -- each such call has made this further pair, by its key
+  -- each such call has made this further pair
   abbrev pub Pairs : List (Event K V S) → Writer K V S H → Writer K V S H → Stored K V → Type 0
   Pairs log w w' q = (key : K) (made : List (Stored K V)) (begun : List (Event K V S))
-      → IsWriting key made begun log w → (key_of q ≡ key)
-      × IsWritingOn key (q ∷ made) begun log w' (Made q.index)
+      → IsWriting key made begun log w → IsWritingOn key (q ∷ made) begun log w' (Made q.index)
 
-  -- some such call that has made this pair is under way, and each that has goes on so
-  abbrev pub CanPut : List (Event K V S) → Writer K V S H → Stored K V → Type 0
-  CanPut log w q = (key : K) × (made : List (Stored K V)) × (begun : List (Event K V S))
-      × IsWriting key made begun log w × IsOneOf made q
+  -- Some such call is under way that has made this pair, which may stand in place of this word of a
+  -- slot, and each that has goes on so.
+  abbrev pub CanPut : List (Event K V S) → Writer K V S H → (t x old : ℕ) → Stored K V → Type 0
+  CanPut log w t x old q = (key : K) × (made : List (Stored K V)) × (begun : List (Event K V S))
+      × IsWriting key made begun log w × IsOneOf made q × MayStand log key t x old q
 
-  abbrev pub Puts : List (Event K V S) → Writer K V S H → Stored K V → List (Event K V S)
-      → Writer K V S H → Answer → Type 0
-  Puts log w q log' w' answer = (key : K) (made : List (Stored K V)) (begun : List (Event K V S))
-      → IsWriting key made begun log w → IsOneOf made q → IsWritingOn key made begun log' w' answer
+  abbrev pub Puts : List (Event K V S) → Writer K V S H → (t x old : ℕ) → Stored K V
+      → List (Event K V S) → Writer K V S H → Answer → Type 0
+  Puts log w t x old q log' w' answer = (key : K) (made : List (Stored K V))
+      (begun : List (Event K V S)) → IsWriting key made begun log w → IsOneOf made q
+      → MayStand log key t x old q → IsWritingOn key made begun log' w' answer

@@ -1,37 +1,66 @@
 //! Insertions whose search of the root ends where most do: their pair is logged and put in at once.
 //! The machine stands in the proof.
-ghost use Rattle.std.specs.Prelude.{◌≡◌, ◌<◌, is_ok, Err, IfErr, IfOk, Some};
+ghost use Rattle.std.specs.Prelude.{◌≡◌, ◌<◌, is_ok, Err, IfErr, IfOk, None, Some};
 ghost use Rattle.std.specs.Int.{IsPowerOfTwo};
-ghost use Rattle.papaya_ask.specs.Search.{IsSeen, IsWithin};
+ghost use Rattle.papaya_ask.specs.Search.{IsWithin};
 ghost use Rattle.papaya_ask.specs.declared.search.Search.TheVariants.{Looking, Reading};
-ghost use Rattle.papaya_call.specs.declared.machine.State.TheVariants.{Searching, Writing};
-ghost use Rattle.papaya_book.specs.Limits.{HasNoRoom, tables_of};
+ghost use Rattle.papaya_call.specs.declared.machine.State.TheVariants.{Searching};
+ghost use Rattle.papaya_words.specs.Word.{kind_of};
+ghost use Rattle.papaya_words.specs.declared.word.Kind.TheVariants.{Live};
+ghost use Rattle.papaya_book.specs.Limits.{HasNoRoom, IsSpent, tables_of};
 ghost use Rattle.papaya_book.specs.Windows.{IsLawful, Sees};
 ghost use Rattle.papaya_lookup.specs.Drivers.{own, past};
 ghost use Rattle.papaya_lookup.specs.History.{Makes};
 ghost use Rattle.papaya_change.specs.Changes.{IsPut};
-ghost use Rattle.papaya_change.specs.Seeking.{led_by, left_at, left_to};
-ghost use Rattle.papaya_change.specs.Seeks.{HasWritten, IsInsertingAt, Leads, Seeks, StandsAt};
-ghost use Rattle.papaya_change.specs.Writing.{IsMemoryOrCapacity};
+ghost use Rattle.papaya_change.specs.Seeking.{left_at, left_to, turn_of};
+ghost use Rattle.papaya_change.specs.Seeks.{HasWritten, IsFoundFor, LooksAt, ReadsAt, StandsBy, Turns};
+ghost use Rattle.papaya_change.specs.declared.at_once.Turn.TheVariants.{Empty, Met as MetPair, Next};
+ghost use Rattle.papaya_change.specs.Writing.{IsMemoryCapacityOrLimit};
 
-use crate::insertion::{insert_logged, insert_stepwise};
+use crate::insertion::{insert_logged, insert_met, insert_stepwise};
 use crate::means::Means;
+use papaya_ask::ask::StepKind;
 use papaya_ask::search::{Place, Search, Seen};
 use papaya_book::book::gains::named_pair;
+use papaya_book::book::pairs::{KeyPart, ValuePart};
 use papaya_book::count::Shard;
 use papaya_book::keyed::Hashed;
 use papaya_book::rule::own::{Given, Own};
-use papaya_book::rule::pair::Pair;
 use papaya_book::table::Table;
 use papaya_book::window::Window;
 use papaya_call::write::Write;
-use papaya_lookup::lookup::hash;
+use papaya_lookup::lookup::{Met, hash};
 use papaya_words::limits::MAX_LOG_LEN;
 use papaya_words::probe::Refused;
 use papaya_words::word::{Kind, Word, hint};
 use std::alloc::Global;
 use std::hash::{BuildHasher, Hash};
 use std::sync::Wait;
+
+/// Where a turn of a search leads an insertion.
+#[derive(Drop)]
+enum Turn<K, V> {
+    /// This place is looked at next.
+    Next(Place),
+    /// This place is empty, and no pair has the key.
+    Empty(Place),
+    /// A live pair has the key.
+    Met(Met<K, V>),
+    /// The pair of the key is being moved, or the table has no place for it.
+    Else,
+}
+
+/// Where a search goes on that has met no pair of the key.
+#[inline(always)]
+fn without<K, V>(seen: Seen) -> Turn<K, V>
+    ensures { result ≡ turn_of seen }
+{
+    match seen {
+        Seen::On(Search::Looking(at)) => Turn::Next(at),
+        Seen::Empty(at) => Turn::Empty(at),
+        _ => Turn::Else,
+    }
+}
 
 /// Loads the word at one place of a table, and compares the key of the pair that it names, if it names
 /// one.
@@ -41,14 +70,14 @@ fn read_at<K: Hash + Eq, V, S: BuildHasher>(
     key: &K,
     table: &Table<K, V, S>,
     at: Place,
-) -> Seen
+) -> Turn<K, V>
     requires within { IsWithin at }
-    requires stands { StandsAt window.old key.now (Searching (Reading at)) table.now }
+    requires stands { ReadsAt window.old key.now table.now at }
     ensures sees { Sees window.old window.new }
     ensures own { window.new.own ≡ window.old.own }
-    ensures leads { Leads window.old window.new key.now table.now (Searching (Reading at))
-        (led_by window.old.book.now.parts.mode result) }
-    ensures seen { IsSeen result }
+    ensures turns { Turns window.old window.new key.now table.now (Searching (Reading at)) result }
+    ensures next { (next : _) → result ≡ Next next → IsWithin next }
+    ensures live { (met : _) → result ≡ MetPair met → kind_of met.word ≡ Live }
     ensures fewer { left_to result < left_at at }
 {
     let (word, trade) = window.slot_word(table, at.table, at.probe.i);
@@ -59,9 +88,17 @@ fn read_at<K: Hash + Eq, V, S: BuildHasher>(
             let stored = named_pair(word, trade);
             let pair = book.pair(&stored);
             let same = *key == *book.key(pair);
-            Search::Comparing(at, word).at_yes(same)
+            let compared = Search::Comparing(at, word).at_yes(same);
+            match compared {
+                Seen::Here(..) if Word(word).kind() == Kind::Live => Turn::Met(Met {
+                    place: at,
+                    word,
+                    stored,
+                }),
+                _ => without(compared),
+            }
         }
-        _ => seen,
+        _ => without(seen),
     }
 }
 
@@ -74,21 +111,21 @@ fn look_at<K: Hash + Eq, V, S: BuildHasher>(
     hash: u64,
     table: &Table<K, V, S>,
     at: Place,
-) -> Seen
+) -> Turn<K, V>
     requires within { IsWithin at }
     requires hashed { hash ≡ ⟦<S as Hashed<K>>⟧.hash window.old.book.now.parts.hasher key.now }
-    requires stands { StandsAt window.old key.now (Searching (Looking at)) table.now }
+    requires stands { LooksAt window.old key.now table.now at }
     ensures sees { Sees window.old window.new }
     ensures own { window.new.own ≡ window.old.own }
-    ensures leads { Leads window.old window.new key.now table.now (Searching (Looking at))
-        (led_by window.old.book.now.parts.mode result) }
-    ensures seen { IsSeen result }
+    ensures turns { Turns window.old window.new key.now table.now (Searching (Looking at)) result }
+    ensures next { (next : _) → result ≡ Next next → IsWithin next }
+    ensures live { (met : _) → result ≡ MetPair met → kind_of met.word ≡ Live }
     ensures fewer { left_to result < left_at at }
 {
     let hint = window.hint(table, at.table, at.probe.i);
     let seen = at.hinted(hash, hint);
     let Seen::On(Search::Reading(_)) = seen else {
-        return seen;
+        return without(seen);
     };
     read_at(window, key, table, at)
 }
@@ -102,32 +139,29 @@ fn seek<K: Hash + Eq, V, S: BuildHasher>(
     hash: u64,
     table: &Table<K, V, S>,
     at: Place,
-) -> Option<Write>
+) -> Turn<K, V>
     requires within { IsWithin at }
     requires hashed { hash ≡ ⟦<S as Hashed<K>>⟧.hash window.old.book.now.parts.hasher key.now }
-    requires stands { StandsAt window.old key.now (Searching (Looking at)) table.now }
+    requires stands { LooksAt window.old key.now table.now at }
     ensures sees { Sees window.old window.new }
     ensures own { window.new.own ≡ window.old.own }
-    ensures seeks { Seeks window.old window.new key.now table.now at result }
+    ensures turns { Turns window.old window.new key.now table.now (Searching (Looking at)) result }
+    ensures live { (met : _) → result ≡ MetPair met → kind_of met.word ≡ Live }
 {
     let mut place = at;
     loop {
         match look_at(window, key, hash, table, place) {
-            Seen::On(Search::Looking(next)) => place = next,
-            Seen::Empty(place) => return Some(Write { place, old: 0 }),
-            Seen::Here(place, old) if Word(old).kind() == Kind::Live => {
-                return Some(Write { place, old });
-            }
-            _ => return None,
+            Turn::Next(next) => place = next,
+            turned => return turned,
         }
     }
 }
 
-/// Where a pair of the key may be put in: a table, and what is to be written there.
+/// Where a search of the root has led an insertion.
 #[derive(Drop)]
 struct Spot<'a, K: Hash + Eq, V, S: BuildHasher> {
     table: &'a Table<K, V, S>,
-    write: Write,
+    turn: Turn<K, V>,
 }
 
 /// Where a pair of the key may be put in, as the search of the root sees it.
@@ -141,8 +175,10 @@ fn find_place<'a, K: Hash + Eq, V, S: BuildHasher>(
     requires hashed { hash ≡ ⟦<S as Hashed<K>>⟧.hash window.old.book.now.parts.hasher key.now }
     ensures sees { Sees window.old window.new }
     ensures own { window.new.own ≡ window.old.own }
-    ensures found { (spot : _) → result ≡ Some spot → IsInsertingAt window.new key.now
-        window.old.sight.log (Writing spot.write) spot.table.now }
+    ensures found { (spot : _) → result ≡ Some spot → IsFoundFor window.old window.new key.now
+        spot.table.now spot.turn }
+    ensures live { (spot : _) → result ≡ Some spot → (met : _) → spot.turn ≡ MetPair met
+        → kind_of met.word ≡ Live }
 {
     let (number, root) = window.root();
     let Some(table) = root else {
@@ -150,60 +186,109 @@ fn find_place<'a, K: Hash + Eq, V, S: BuildHasher>(
     };
     let (len, limit) = table.size();
     let first = Place::first(hash, number, len, limit);
-    let Some(write) = seek(window, key, hash, table, first) else {
-        return None;
-    };
-    Some(Spot { table, write })
+    let turn = seek(window, key, hash, table, first);
+    Some(Spot { table, turn })
 }
 
-/// Logs a pair and puts it in where a search has found its place: the value that its key had. Where
-/// another word stands there by now, its machine begins.
+/// Logs a pair and claims the empty place that a search has found for it. Where another word stands
+/// there by now, its machine begins.
 #[inline(always)]
-fn write_at<'a, R: Wait, K: Hash + Eq + Drop, V: Drop, S: BuildHasher>(
+fn claim_at<'a, R: Wait, K: Hash + Eq + Drop, V: Drop, S: BuildHasher>(
     means: &Means<'_, '_, R>,
     window: &mut Window<'a, K, V, S>,
     given: &mut Own<Given>,
     key: K,
     value: V,
     hash: u64,
-    spot: Spot<'_, K, V, S>,
+    table: &Table<K, V, S>,
+    at: Place,
 ) -> Result<Option<&'a V>, Refused>
     requires initial { IsPowerOfTwo means.now.initial }
     requires hashed { hash ≡ ⟦<S as Hashed<K>>⟧.hash window.old.book.now.parts.hasher key }
-    requires stands { StandsAt window.old key (Writing spot.write) spot.table.now }
+    requires limit { window.old.book.now.parts.limit ≡ None }
+    requires stands { StandsBy window.old key table.now (Empty at) }
     ensures sees { Sees window.old window.new }
     ensures lawful { IsLawful window.new }
     ensures put { IfOk result (λ answer. HasWritten window.old window.new key value
-        spot.entry.table.now spot.entry.write answer) }
-    ensures refused { IfErr result (λ refused. IsMemoryOrCapacity refused) }
+        table.now (Empty at) answer) }
+    ensures refused { IfErr result (λ refused. IsMemoryCapacityOrLimit refused) }
     ensures crowded { result ≡ Err Refused.Capacity → HasNoRoom means.now.initial
         (tables_of window.new.sight.log) given.new.done }
+    ensures spent { result ≡ Err Refused.Limit → IsSpent window.new.book.now.parts.limit
+        window.new.sight.log }
     ensures made { Makes (is_ok result) (own window.old) (own window.new) (past window.new) }
 {
     let book = window.book;
-    let Ok(pair) = book.log_pair(means.rt, Pair::new(key, value)) else {
+    let Ok(pair) = book.log_pair(means.rt, KeyPart::Own(key), ValuePart::Own(value)) else {
         return Err(Refused::Memory);
     };
     if pair.index() >= MAX_LOG_LEN {
         *given = book.gave_pair(&pair);
         return Err(Refused::Capacity);
     }
-    let Spot { table, write } = spot;
-    let words = (write.old, Word::live(pair.index() as u64).0);
-    let Write { place, old } = write;
-    let kind = Some(write.kind());
-    let (found, before) = window.put_slot(table, place.table, place.probe.i, kind, &pair, words);
-    if found != old {
+    let words = (0, Word::live(pair.index() as u64).0);
+    let (slot, kind) = (at.probe.i, Some(StepKind::Claim));
+    let (found, _) = window.put_slot(table, at.table, slot, kind, &pair, words);
+    if found != 0 {
         return insert_logged(means, window, given, hash, pair);
     }
-    if old == 0 {
-        means.shard.add(1);
-        window.write_hint(table, place.table, place.probe.i, hint(hash));
+    means.shard.add(1);
+    window.write_hint(table, at.table, slot, hint(hash));
+    Ok(None)
+}
+
+/// Logs a pair with the key that a search has met, and puts it in the place of the pair that has that:
+/// the value that it had. The key that was handed in goes. Where another word stands there by now, its
+/// machine begins.
+#[inline(always)]
+fn replace_at<'a, R: Wait, K: Hash + Eq + Drop, V: Drop, S: BuildHasher>(
+    means: &Means<'_, '_, R>,
+    window: &mut Window<'a, K, V, S>,
+    given: &mut Own<Given>,
+    key: K,
+    value: V,
+    hash: u64,
+    table: &Table<K, V, S>,
+    met: Met<K, V>,
+) -> Result<Option<&'a V>, Refused>
+    requires initial { IsPowerOfTwo means.now.initial }
+    requires hashed { hash ≡ ⟦<S as Hashed<K>>⟧.hash window.old.book.now.parts.hasher key }
+    requires limit { window.old.book.now.parts.limit ≡ None }
+    requires stands { StandsBy window.old key table.now (MetPair met) }
+    requires live { kind_of met.word ≡ Live }
+    ensures sees { Sees window.old window.new }
+    ensures lawful { IsLawful window.new }
+    ensures put { IfOk result (λ answer. HasWritten window.old window.new key value
+        table.now (MetPair met) answer) }
+    ensures refused { IfErr result (λ refused. IsMemoryCapacityOrLimit refused) }
+    ensures crowded { result ≡ Err Refused.Capacity → HasNoRoom means.now.initial
+        (tables_of window.new.sight.log) given.new.done }
+    ensures spent { result ≡ Err Refused.Limit → IsSpent window.new.book.now.parts.limit
+        window.new.sight.log }
+    ensures made { Makes (is_ok result) (own window.old) (own window.new) (past window.new) }
+{
+    let book = window.book;
+    let Met {
+        place,
+        word,
+        stored,
+    } = met;
+    let Ok(pair) = book.log_pair(means.rt, KeyPart::Of(stored), ValuePart::Own(value)) else {
+        return Err(Refused::Memory);
+    };
+    if pair.index() >= MAX_LOG_LEN {
+        *given = book.gave_pair(&pair);
+        return Err(Refused::Capacity);
     }
-    match before {
-        Some(taken) => Ok(Some(book.pair(&taken).value())),
-        None => Ok(None),
+    let words = (word, Word::live(pair.index() as u64).0);
+    let (slot, kind) = (place.probe.i, Some(StepKind::Replace));
+    let (found, before) = window.put_slot(table, place.table, slot, kind, &pair, words);
+    if found != word {
+        let write = Write { place, old: word };
+        return insert_met(means, window, given, key, hash, write, pair);
     }
+    let Some(taken) = before else { unreachable!() };
+    Ok(Some(book.value(book.pair(&taken))))
 }
 
 /// Inserts a pair: the value that its key had. Where it is refused for want of room, `given` tells
@@ -223,9 +308,11 @@ pub fn insert<'a, R: Wait, K: Hash + Eq + Drop, V: Drop, S: BuildHasher>(
     ensures lawful { IsLawful window.new }
     ensures put { IfOk result (λ answer. IsPut K.eq key value (past window.old) (past window.new)
         answer) }
-    ensures refused { IfErr result (λ refused. IsMemoryOrCapacity refused) }
+    ensures refused { IfErr result (λ refused. IsMemoryCapacityOrLimit refused) }
     ensures crowded { result ≡ Err Refused.Capacity → HasNoRoom initial
         (tables_of window.new.sight.log) given.new.done }
+    ensures spent { result ≡ Err Refused.Limit → IsSpent window.new.book.now.parts.limit
+        window.new.sight.log }
     ensures made { Makes (is_ok result) (own window.old) (own window.new) (past window.new) }
 {
     window.learn();
@@ -236,8 +323,17 @@ pub fn insert<'a, R: Wait, K: Hash + Eq + Drop, V: Drop, S: BuildHasher>(
         initial,
         shard,
     };
-    match find_place(window, &key, hash) {
-        Some(spot) => write_at(&means, window, given, key, value, hash, spot),
-        None => insert_stepwise(&means, window, given, key, value),
+    // Where there is a limit, each pair needs a number, which its machine takes.
+    if window.book.parts.limit.is_some() {
+        return insert_stepwise(&means, window, given, key, value);
+    }
+    let Some(spot) = find_place(window, &key, hash) else {
+        return insert_stepwise(&means, window, given, key, value);
+    };
+    let table = spot.table;
+    match spot.turn {
+        Turn::Empty(at) => claim_at(&means, window, given, key, value, hash, table, at),
+        Turn::Met(met) => replace_at(&means, window, given, key, value, hash, table, met),
+        _ => insert_stepwise(&means, window, given, key, value),
     }
 }

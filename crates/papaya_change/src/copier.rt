@@ -1,13 +1,13 @@
 //! What is asked for a copy, answered by steps on the book. Whoever copies, a call that is set aside
 //! or one that resizes the map, this is the one place where tables are copied.
-ghost use Rattle.std.specs.Prelude.{◌≡◌, ◌≢◌, ◌⊎◌, ◌<◌, ◌+◌, ℕ, [], ◌∷◌, IfErr, IfOk, None, Some};
+ghost use Rattle.std.specs.Prelude.{◌≡◌, ◌≢◌, ◌⊎◌, ◌<◌, ◌+◌, ℕ, [], ◌∷◌, IfErr, IfOk, None, Some, length};
 ghost use Rattle.papaya_ask.specs.Search.{IsSize};
 ghost use Rattle.papaya_ask.specs.declared.ask.At.TheVariants.{Next, Slot};
 ghost use Rattle.papaya_chain.specs.Machine.{IsFit};
 ghost use Rattle.papaya_rests.specs.Told.{or_last};
 ghost use Rattle.papaya_book.specs.Limits.{IsFull};
 ghost use Rattle.papaya_book.specs.Logs.{pair_named};
-ghost use Rattle.papaya_book.specs.Windows.{HasCome, IsHint, IsIn, IsLawful, MayHint, Sees};
+ghost use Rattle.papaya_book.specs.Windows.{HasCome, IsHint, IsIn, IsLawful, IsTable, MayHint, Sees};
 ghost use Rattle.papaya_change.specs.Copier.{tried_answer};
 ghost use Rattle.papaya_book.specs.declared.rule.own.Given.TheVariants.{Sum};
 ghost use Rattle.papaya_change.specs.Copiers.{CanAnswer, CanExchange, CanJoin, CanReach, CanTryFor, Answers, Carries};
@@ -166,7 +166,29 @@ impl<K: Hash + Eq, V, S: BuildHasher> Copier<K, V, S> {
                 self.tell(pair);
                 word
             }
+            At::Made => unreachable!(),
         }
+    }
+
+    /// Loads the word of a table's slot, and keeps the pair that it names.
+    #[inline(always)]
+    pub(crate) fn load_slot<'a>(
+        &mut self,
+        table: &Table<K, V, S>,
+        number: u64,
+        place: usize,
+        window: &mut Window<'a, K, V, S>,
+    ) -> u64
+        requires table { IsTable window.old number table.now }
+        requires place { place < length table.now.slots }
+        ensures sees { Sees window.old window.new }
+        ensures own { window.new.own ≡ window.old.own }
+        ensures loaded { Loads (Slot number place) result window.old self.old window.new self.new }
+        ensures rest { self.new ≡ record self.old { last = self.new.last } }
+    {
+        let (word, pair) = window.slot(table, number, place);
+        self.tell(pair);
+        word
     }
 
     /// Tries to make the table that was made the one after another: the number that was found.
@@ -186,7 +208,7 @@ impl<K: Hash + Eq, V, S: BuildHasher> Copier<K, V, S> {
     }
 
     /// Tries an exchange.
-    fn exchange<'a>(
+    pub(crate) fn exchange<'a>(
         &mut self,
         at: At,
         kind: Option<StepKind>,
@@ -232,6 +254,58 @@ impl<K: Hash + Eq, V, S: BuildHasher> Copier<K, V, S> {
         found
     }
 
+    /// Tries to exchange the word of a table's slot: the word that was found, and the pair that it
+    /// names.
+    #[inline(always)]
+    fn try_slot<'a>(
+        &self,
+        table: &Table<K, V, S>,
+        number: u64,
+        place: usize,
+        kind: Option<StepKind>,
+        words: (u64, u64),
+        window: &mut Window<'a, K, V, S>,
+    ) -> (u64, Option<Stored<K, V>>)
+        requires table { IsTable window.old number table.now }
+        requires place { place < length table.now.slots }
+        requires can { CanTryFor window.old (Slot number place) kind words self.now }
+        ensures sees { Sees window.old window.new }
+        ensures own { window.new.own ≡ window.old.own }
+        ensures tried { TriesFor (Slot number place) kind words window.old self.now window.new
+            result }
+    {
+        window.copy_slot(table, number, place, kind, &self.kept, words)
+    }
+
+    /// Tries to exchange the word of a table's slot: the word that was found.
+    #[inline(always)]
+    pub(crate) fn exchange_slot<'a>(
+        &mut self,
+        table: &Table<K, V, S>,
+        number: u64,
+        place: usize,
+        kind: Option<StepKind>,
+        words: (u64, u64),
+        window: &mut Window<'a, K, V, S>,
+    ) -> u64
+        requires table { IsTable window.old number table.now }
+        requires place { place < length table.now.slots }
+        requires can { CanTryFor window.old (Slot number place) kind words self.old }
+        ensures sees { Sees window.old window.new }
+        ensures own { window.new.own ≡ window.old.own }
+        ensures tried { HasTried (Slot number place) kind words window.old self.old window.new
+            self.new result }
+        ensures rest { self.new ≡ record self.old { last = self.new.last } }
+    {
+        let (found, pair) = self.try_slot(table, number, place, kind, words, window);
+        if found != words.0 {
+            self.tell(pair);
+        } else if let Some(StepKind::Mark) = kind {
+            self.last = pair;
+        }
+        found
+    }
+
     /// Tries to exchange a word but that of a next table: the word that was found, and the pair that
     /// it names.
     fn try_for<'a>(
@@ -250,7 +324,7 @@ impl<K: Hash + Eq, V, S: BuildHasher> Copier<K, V, S> {
     {
         match at {
             At::Root => (window.copy_root(kind, &self.kept, words), None),
-            At::Next(_) => unreachable!(),
+            At::Next(_) | At::Made => unreachable!(),
             At::Aborted(number) => {
                 let table = window.table(number);
                 let found = window.copy_aborted(table, number, kind, &self.kept, words);
@@ -269,7 +343,8 @@ impl<K: Hash + Eq, V, S: BuildHasher> Copier<K, V, S> {
     }
 
     /// Carries the pair last told of: the hash of its key.
-    fn carry<'a>(&mut self, window: &Window<'a, K, V, S>) -> u64
+    #[inline(always)]
+    pub(crate) fn carry<'a>(&mut self, window: &Window<'a, K, V, S>) -> u64
         requires some { (p : _) × (self.old.last ≡ Some p) }
         requires placed { IsIn window.now (pair_named self.old.last) }
         ensures carries { Carries window.now self.old self.new result }
@@ -348,6 +423,23 @@ impl<K: Hash + Eq, V, S: BuildHasher> Copier<K, V, S> {
     }
 }
 
+/// Loads the hint of a table's slot.
+#[inline(always)]
+pub(crate) fn load_hint_at<'a, K: Hash + Eq, V, S: BuildHasher>(
+    table: &Table<K, V, S>,
+    number: u64,
+    place: usize,
+    window: &mut Window<'a, K, V, S>,
+) -> u64
+    requires table { IsTable window.old number table.now }
+    requires place { place < length table.now.slots }
+    ensures sees { Sees window.old window.new }
+    ensures own { window.new.own ≡ window.old.own }
+    ensures hint { IsHint window.old window.new number place result }
+{
+    window.hint(table, number, place)
+}
+
 /// Loads the hint of a slot of a table that has come.
 fn load_hint<'a, K: Hash + Eq, V, S: BuildHasher>(
     number: u64,
@@ -361,6 +453,26 @@ fn load_hint<'a, K: Hash + Eq, V, S: BuildHasher>(
 {
     let table = window.table(number);
     window.hint(table, number, place)
+}
+
+/// Writes the hint of a table's slot, where it has none.
+#[inline(always)]
+pub(crate) fn write_hint_at<'a, K: Hash + Eq, V, S: BuildHasher>(
+    table: &Table<K, V, S>,
+    number: u64,
+    place: usize,
+    hint: u8,
+    window: &mut Window<'a, K, V, S>,
+)
+    requires table { IsTable window.old number table.now }
+    requires place { place < length table.now.slots }
+    requires hint { MayHint window.old number place hint }
+    ensures sees { Sees window.old window.new }
+    ensures own { window.new.own ≡ window.old.own }
+    ensures lawful { IsLawful window.new }
+{
+    window.learn();
+    window.write_hint(table, number, place, hint);
 }
 
 /// Writes the hint of a slot of a table that has come, where it has none.
@@ -379,6 +491,25 @@ fn write_hint<'a, K: Hash + Eq, V, S: BuildHasher>(
     let table = window.table(number);
     window.learn();
     window.write_hint(table, number, place, hint);
+}
+
+/// The size of a table: how many slots it has, and at how many places but for the first a search of it
+/// looks.
+#[inline(always)]
+pub(crate) fn size_at<'a, K: Hash + Eq, V, S: BuildHasher>(
+    table: &Table<K, V, S>,
+    number: u64,
+    window: &mut Window<'a, K, V, S>,
+) -> (usize, usize)
+    requires table { IsTable window.old number table.now }
+    ensures sees { Sees window.old window.new }
+    ensures own { window.new.own ≡ window.old.own }
+    ensures size { IsSizeOf number window.old window.new result }
+    ensures fit { IsSize result.0 result.1 }
+{
+    let size = table.size();
+    window.learn();
+    size
 }
 
 /// The size of a table that has come: how many slots it has, and at how many places but for the

@@ -10,7 +10,7 @@ ghost use Rattle.papaya_rests.specs.Told.{or_last};
 ghost use Rattle.papaya_book.specs.Windows.{CanTrySlot, Does, IsHint, MayHint, Sees};
 ghost use Rattle.papaya_change.specs.Doing.{was_made};
 ghost use Rattle.papaya_change.specs.Drivers.{Holds, Loads};
-ghost use Rattle.papaya_change.specs.Steps.{Buries, HasTried, IsSizeOf};
+ghost use Rattle.papaya_change.specs.Steps.{Buries, CanTake, HasTried, IsSizeOf, Takes};
 
 use boxcar::Pushed;
 use logbook::Pen;
@@ -44,10 +44,16 @@ pub struct Driver<'a, K: Hash + Eq, V, S: BuildHasher> {
 impl<'a, K: Hash + Eq, V, S: BuildHasher> Driver<'a, K, V, S> {
     /// A call that begins. At which chunk it copies a table first is told once it is set aside.
     #[inline(always)]
-    pub fn new(task: Task, hash: u64, mode: ResizeMode, initial: usize) -> Driver<'a, K, V, S>
+    pub fn new(
+        task: Task,
+        hash: u64,
+        mode: ResizeMode,
+        initial: usize,
+        limit: Option<u64>,
+    ) -> Driver<'a, K, V, S>
         requires chunked { IsChunked mode }
         requires initial { IsPowerOfTwo initial }
-        ensures machine { result.machine ≡ started task hash mode initial 0 }
+        ensures machine { result.machine ≡ started task hash mode initial 0 limit }
         ensures standing { IsStanding result.machine }
         ensures table { (result.table ≡ None) × (result.fresh ≡ None) }
         ensures pairs { (result.last ≡ None) × (result.kept ≡ None) × (result.taken ≡ None)
@@ -55,7 +61,7 @@ impl<'a, K: Hash + Eq, V, S: BuildHasher> Driver<'a, K, V, S> {
         ensures given { result.given.done ≡ [] }
     {
         Driver {
-            machine: Machine::new(task, hash, mode, initial, 0),
+            machine: Machine::new(task, hash, mode, initial, 0, limit),
             table: None,
             last: None,
             kept: None,
@@ -104,6 +110,7 @@ impl<'a, K: Hash + Eq, V, S: BuildHasher> Driver<'a, K, V, S> {
                 self.tell(pair);
                 word
             }
+            (At::Made, _) => window.made(),
             _ => unreachable!(),
         }
     }
@@ -144,6 +151,22 @@ impl<'a, K: Hash + Eq, V, S: BuildHasher> Driver<'a, K, V, S> {
         };
         let (len, limit) = table.size();
         CallAnswer::Size { len, limit }
+    }
+
+    /// Tries to take the number of a further pair.
+    pub fn take(&self, words: (u64, u64), window: &mut Window<'a, K, V, S>) -> CallAnswer
+        requires can { CanTake window.old self.now words }
+        ensures sees { Sees window.old window.new }
+        ensures own { window.new.own ≡ window.old.own }
+        ensures takes { Takes window.old self.now words window.new result }
+    {
+        let kind = self.machine.kind();
+        let found = window.take(kind, words);
+        if found == words.0 {
+            CallAnswer::Exchanged
+        } else {
+            CallAnswer::Found(found)
+        }
     }
 
     /// Tries to bury the pair that a slot holds.

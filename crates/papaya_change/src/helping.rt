@@ -3,13 +3,18 @@
 ghost use Rattle.std.specs.Prelude.{◌≡◌, ◌≢◌, ℕ, MatchOption};
 ghost use Rattle.papaya_chain.specs.Machine.{IsFit, IsStanding, ask_of};
 ghost use Rattle.papaya_chain.specs.declared.ask.Ask.TheVariants.{Copy};
+ghost use Rattle.papaya_chain.specs.declared.machine.Phase.TheVariants as phases;
 ghost use Rattle.papaya_chain.specs.declared.machine.Phase.TheVariants.{Calling};
+ghost use Rattle.papaya_copy.specs.declared.settle.Settle.TheVariants.{Looking};
 ghost use Rattle.papaya_copy.specs.Link.{IsFitCopyAsk};
 ghost use Rattle.papaya_book.specs.Limits.{tables_of};
 ghost use Rattle.papaya_book.specs.Windows.{HasCome, IsLawful, IsTable, Sees};
 ghost use Rattle.papaya_change.specs.Copier.{copier_of, with_copier};
 ghost use Rattle.papaya_change.specs.Drivers.{CanGoOn, Copies, GoesOn};
+ghost use Rattle.papaya_change.specs.Going.{with_machine};
+ghost use Rattle.papaya_change.specs.Goings.{GoesBy};
 ghost use Rattle.papaya_change.specs.Helping.{HasHelped, IsEntering};
+ghost use Rattle.papaya_change.specs.Settling.{at_slot};
 
 use crate::copier::{Asked, Copier};
 use crate::driver::Driver;
@@ -21,6 +26,9 @@ use papaya_book::window::Window;
 use papaya_call::machine::State;
 use papaya_chain::ask::{Answer, Ask};
 use papaya_chain::machine::Phase;
+use papaya_copy::copying::{Aim, Copying};
+use papaya_copy::settle::Settle;
+use papaya_copy::step::{Chunk, Step};
 use std::alloc::Global;
 use std::hash::{BuildHasher, Hash};
 use std::mem;
@@ -98,7 +106,7 @@ impl<'a, K: Hash + Eq, V, S: BuildHasher> Driver<'a, K, V, S> {
             let Ask::Copy(ask) = self.machine.ask() else {
                 return;
             };
-            let answer = self.copy(rt, alloc, shard, ask, &mut making, window);
+            let answer = self.copy_on(rt, alloc, shard, ask, &mut making, window);
             self.machine.answer(answer);
             self.arrive(window);
         }
@@ -124,6 +132,61 @@ impl<'a, K: Hash + Eq, V, S: BuildHasher> Driver<'a, K, V, S> {
                 window.learn();
             }
         }
+    }
+
+    /// Copies slots of a chunk one after another, where the first of them is looked at, and else one
+    /// step further: the answer to what is asked then.
+    fn copy_on<R: Wait>(
+        &mut self,
+        rt: &R,
+        alloc: Global,
+        shard: &Shard<'_>,
+        ask: CopyAsk,
+        making: &mut Option<MutexGuard<'a, ()>>,
+        window: &mut Window<'a, K, V, S>,
+    ) -> Answer
+        requires standing { IsStanding self.old.machine }
+        requires can { CanGoOn window.old self.old }
+        requires asks { ask_of self.old.machine ≡ Copy ask }
+        requires fit { IsFitCopyAsk ask }
+        ensures sees { Sees window.old window.new }
+        ensures own { window.new.own ≡ window.old.own }
+        ensures standing { IsStanding self.new.machine }
+        ensures fit { IsFit result }
+        ensures goes { GoesBy window.old self.old window.new self.new result }
+        ensures rest { self.new ≡ with_machine (with_copier self.old (copier_of self.new))
+            self.new.machine }
+    {
+        match self.machine.phase {
+            Phase::Copying(Copying::Stepping(aim, Step::Settling(chunk, Settle::Looking))) => {
+                self.copy_slots(aim, chunk, window)
+            }
+            _ => self.copy(rt, alloc, shard, ask, making, window),
+        }
+    }
+
+    /// Copies slots of the chunk, from the one that is looked at on: the answer to what is asked
+    /// where that ends.
+    fn copy_slots(&mut self, aim: Aim, chunk: Chunk, window: &mut Window<'a, K, V, S>) -> Answer
+        requires standing { IsStanding self.old.machine }
+        requires can { CanGoOn window.old self.old }
+        requires phase { self.old.machine.phase ≡ phases.Copying (at_slot aim chunk Looking) }
+        ensures sees { Sees window.old window.new }
+        ensures own { window.new.own ≡ window.old.own }
+        ensures standing { IsStanding self.new.machine }
+        ensures fit { IsFit result }
+        ensures goes { GoesBy window.old self.old window.new self.new result }
+        ensures rest { self.new ≡ with_machine (with_copier self.old (copier_of self.new))
+            self.new.machine }
+    {
+        let mode = self.machine.call.mode;
+        let mut copier = self.lend();
+        let (copying, answer) = copier.copy_slots(aim, chunk, mode, window);
+        self.take_back(copier);
+        let mut machine = self.machine;
+        machine.phase = Phase::Copying(copying);
+        self.machine = machine;
+        answer
     }
 
     /// The answer to what is asked for a copy.

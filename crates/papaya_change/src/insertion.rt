@@ -4,31 +4,33 @@ ghost use Rattle.papaya_lookup.specs.History.{Makes, key_of};
 ghost use Rattle.papaya_book.specs.Windows.{Does, IsIn, IsLawful, Sees};
 ghost use Rattle.papaya_book.specs.declared.rule.entry.Named.TheVariants.{Pair as PairNamed};
 ghost use Rattle.papaya_change.specs.Doing.{Answers, has_changed, was_made};
-ghost use Rattle.papaya_book.specs.Limits.{HasNoRoom, tables_of};
+ghost use Rattle.papaya_book.specs.Limits.{HasNoRoom, IsSpent, tables_of};
 ghost use Rattle.papaya_change.specs.Insertions.{CanInsert, HasPut, HasPutSince, Inserts};
-ghost use Rattle.std.specs.Prelude.{◌≡◌, ◌<◌, ◌^◌, false, is_ok, None, Some, Err, IfErr, IfOk};
+ghost use Rattle.std.specs.Prelude.{◌≡◌, ℕ, ◌<◌, ◌^◌, false, true, is_ok, None, Some, Err, IfErr, IfOk};
 ghost use Rattle.std.specs.Int.{IsPowerOfTwo};
 ghost use Rattle.papaya_call.specs.Machine.{ask_of as call_ask_of};
 ghost use Rattle.papaya_chain.specs.Machine.{IsStanding, ask_of};
 ghost use Rattle.papaya_chain.specs.declared.ask.Ask.TheVariants.{Call};
 ghost use Rattle.papaya_chain.specs.declared.machine.Phase.TheVariants.{Calling};
-ghost use Rattle.papaya_ask.specs.declared.ask.Ask.TheVariants.{Done, Exchange, MakePair};
+ghost use Rattle.papaya_ask.specs.declared.ask.Ask.TheVariants.{Done, Exchange, MakePair, MakePairOf};
 ghost use Rattle.papaya_ask.specs.declared.ask.At.TheVariants.{Slot};
 ghost use Rattle.papaya_ask.specs.declared.call.Reply.TheVariants.{Refused as ReplyRefused};
 ghost use Rattle.papaya_change.specs.Changes.{IsPut};
-ghost use Rattle.papaya_change.specs.Writing.{IsMemoryOrCapacity};
+ghost use Rattle.papaya_change.specs.Writing.{HasKeyAt, IsMemoryCapacityOrLimit};
 
 use crate::driver::Driver;
 use crate::means::Means;
 use crate::writing::Writer;
 use papaya_ask::ask::{Answer, Ask as CallAsk, At};
 use papaya_ask::call::{Reply, Task};
+use papaya_book::book::pairs::{KeyPart, ValuePart};
 use papaya_book::count::Shard;
 use papaya_book::keyed::Hashed;
 use papaya_book::rule::entry::Stored;
 use papaya_book::rule::own::{Given, Own};
 use papaya_book::window::Window;
-use papaya_call::write::Made;
+use papaya_call::made::Made;
+use papaya_call::write::Write;
 use papaya_chain::ask::Ask;
 use papaya_lookup::lookup::hash;
 use papaya_words::probe::Refused;
@@ -36,15 +38,17 @@ use std::alloc::Global;
 use std::hash::{BuildHasher, Hash};
 use std::sync::Wait;
 
-/// An insertion under way. It makes one pair.
+/// An insertion under way, with the pair of its own key that it made, and the last that it made of a
+/// key that it met.
 #[derive(Drop)]
 pub struct Insertion<'a, K: Hash + Eq, V, S: BuildHasher> {
     writer: Writer<'a, K, V, S>,
-    made: Option<Stored<K, V>>,
+    own: Option<Stored<K, V>>,
+    of: Option<Stored<K, V>>,
 }
 
 impl<'a, K: Hash + Eq + Drop, V: Drop, S: BuildHasher> Insertion<'a, K, V, S> {
-    /// Logs the pair of the key and the value.
+    /// Logs the pair of the call's key and the value.
     fn make_pair<R: Wait>(&mut self, rt: &R, window: &Window<'a, K, V, S>) -> Answer
         requires standing { IsStanding self.old.writer.call.machine }
         requires can { CanInsert window.now self.old }
@@ -55,14 +59,33 @@ impl<'a, K: Hash + Eq + Drop, V: Drop, S: BuildHasher> Insertion<'a, K, V, S> {
         match self.writer.log_pair(rt, window) {
             Ok(pair) => {
                 let number = pair.index();
-                self.made = Some(pair);
+                self.own = Some(pair);
                 Answer::Made(number as u64)
             }
             Err(answer) => answer,
         }
     }
 
-    /// Tries to put the pair into a slot.
+    /// Logs the pair of the value and the key that was met.
+    fn make_pair_of<R: Wait>(&mut self, rt: &R, window: &Window<'a, K, V, S>) -> Answer
+        requires standing { IsStanding self.old.writer.call.machine }
+        requires can { CanInsert window.now self.old }
+        requires asks { (n : ℕ) × (ask_of self.old.writer.call.machine ≡ Call (MakePairOf n)) }
+        ensures machine { self.new.writer.call.machine ≡ self.old.writer.call.machine }
+        ensures inserts { Inserts window.now self.old window.now self.new (Some result) }
+    {
+        match self.writer.log_pair_of(rt, window) {
+            Ok(pair) => {
+                let number = pair.index();
+                self.of = Some(pair);
+                Answer::Made(number as u64)
+            }
+            Err(answer) => answer,
+        }
+    }
+
+    /// Tries to put a pair into a slot: of the call's own key where that is empty, and else of the key
+    /// that is there.
     fn put(
         &mut self,
         number: u64,
@@ -79,10 +102,12 @@ impl<'a, K: Hash + Eq + Drop, V: Drop, S: BuildHasher> Insertion<'a, K, V, S> {
         ensures machine { self.new.writer.call.machine ≡ self.old.writer.call.machine }
         ensures inserts { Inserts window.old self.old window.new self.new (Some result) }
     {
-        let Some(made) = &self.made else {
-            unreachable!()
-        };
-        self.writer.put(number, place, words, made, window)
+        if words.0 == 0 {
+            let Some(own) = &self.own else { unreachable!() };
+            return self.writer.put(number, place, words, own, window);
+        }
+        let Some(of) = &self.of else { unreachable!() };
+        self.writer.put(number, place, words, of, window)
     }
 
     /// The answer to what the machine asks. None where it has replied.
@@ -113,13 +138,15 @@ impl<'a, K: Hash + Eq + Drop, V: Drop, S: BuildHasher> Insertion<'a, K, V, S> {
             }
             CallAsk::SizeOf(_) => Some(self.writer.size(window)),
             CallAsk::SameKey(_) => Some(self.writer.same(window)),
-            CallAsk::MakeKey => Some(self.writer.make_key()),
+            CallAsk::MakeKey | CallAsk::MakeValue => Some(self.writer.make_part()),
             CallAsk::MakePair => Some(self.make_pair(rt, window)),
+            CallAsk::MakePairOf(_) => Some(self.make_pair_of(rt, window)),
             CallAsk::MakeTable { len, limit, chunks } => Some(
                 self.writer
                     .make_table(rt, alloc, len, limit, chunks, window),
             ),
             CallAsk::Exchange(At::Root, _, _) => Some(self.writer.open(window)),
+            CallAsk::Exchange(At::Made, old, new) => Some(self.writer.take((old, new), window)),
             CallAsk::Exchange(At::Slot(number, place), old, new) => {
                 Some(self.put(number, place, (old, new), window))
             }
@@ -141,7 +168,7 @@ impl<'a, K: Hash + Eq + Drop, V: Drop, S: BuildHasher> Insertion<'a, K, V, S> {
         requires done { (reply : _) × (ask_of self.now.writer.call.machine
             ≡ Call (Done reply)) }
         ensures put { IfOk result (λ answer. HasPut window.now self.now answer) }
-        ensures refused { IfErr result (λ refused. IsMemoryOrCapacity refused) }
+        ensures refused { IfErr result (λ refused. IsMemoryCapacityOrLimit refused) }
         ensures refusal { IfErr result (λ refused. ask_of self.now.writer.call.machine ≡ Call (Done
             (ReplyRefused refused))) }
         ensures changed { is_ok result ≡ has_changed self.now.writer.call.machine }
@@ -151,7 +178,7 @@ impl<'a, K: Hash + Eq + Drop, V: Drop, S: BuildHasher> Insertion<'a, K, V, S> {
         }
         let book = window.book;
         match &self.writer.call.taken {
-            Some(taken) => Ok(Some(book.pair(taken).value())),
+            Some(taken) => Ok(Some(book.value(book.pair(taken)))),
             None => Ok(None),
         }
     }
@@ -173,9 +200,11 @@ fn drive<'a, R: Wait, K: Hash + Eq + Drop, V: Drop, S: BuildHasher>(
     ensures lawful { IsLawful window.new }
     ensures put { IfOk result (λ answer. HasPutSince window.old begun.entry window.new
         answer) }
-    ensures refused { IfErr result (λ refused. IsMemoryOrCapacity refused) }
+    ensures refused { IfErr result (λ refused. IsMemoryCapacityOrLimit refused) }
     ensures crowded { result ≡ Err Refused.Capacity → HasNoRoom
         begun.entry.writer.call.machine.call.initial (tables_of window.new.sight.log) given.new.done }
+    ensures spent { result ≡ Err Refused.Limit → IsSpent window.new.book.now.parts.limit
+        window.new.sight.log }
     ensures made { Makes (is_ok result) (own window.old) (own window.new) (past window.new) }
 {
     let mut insertion = begun;
@@ -210,11 +239,13 @@ pub(crate) fn insert_stepwise<'a, R: Wait, K: Hash + Eq + Drop, V: Drop, S: Buil
     requires initial { IsPowerOfTwo means.now.initial }
     ensures sees { Sees window.old window.new }
     ensures lawful { IsLawful window.new }
-    ensures put { IfOk result (λ answer. IsPut K.eq key value (past window.old) (past window.new)
-        answer) }
-    ensures refused { IfErr result (λ refused. IsMemoryOrCapacity refused) }
+    ensures put { IfOk result (λ answer. IsPut K.eq key value
+        (past window.old) (past window.new) answer) }
+    ensures refused { IfErr result (λ refused. IsMemoryCapacityOrLimit refused) }
     ensures crowded { result ≡ Err Refused.Capacity → HasNoRoom means.now.initial
         (tables_of window.new.sight.log) given.new.done }
+    ensures spent { result ≡ Err Refused.Limit → IsSpent window.new.book.now.parts.limit
+        window.new.sight.log }
     ensures made { Makes (is_ok result) (own window.old) (own window.new) (past window.new) }
 {
     window.learn();
@@ -223,12 +254,12 @@ pub(crate) fn insert_stepwise<'a, R: Wait, K: Hash + Eq + Drop, V: Drop, S: Buil
     let task = Task::Insert { replace: true };
     let insertion = Insertion {
         writer: Writer {
-            call: Driver::new(task, hash, book.parts.mode, means.initial),
-            key: Some(key),
-            brought: None,
-            value: Some(value),
+            call: Driver::new(task, hash, book.parts.mode, means.initial, book.parts.limit),
+            key: Some(KeyPart::Own(key)),
+            value: Some(ValuePart::Own(value)),
         },
-        made: None,
+        own: None,
+        of: None,
     };
     drive(means, window, given, insertion)
 }
@@ -244,32 +275,86 @@ pub(crate) fn insert_logged<'a, R: Wait, K: Hash + Eq + Drop, V: Drop, S: BuildH
     requires initial { IsPowerOfTwo means.now.initial }
     requires hashed { hash ≡ ⟦<S as Hashed<K>>⟧.hash window.old.book.now.parts.hasher (key_of pair) }
     requires placed { IsIn window.old (PairNamed pair) }
-    requires brings { pair.value.key.at ≡ None }
     requires number { pair.index < 2 ^ 48 }
     ensures sees { Sees window.old window.new }
     ensures lawful { IsLawful window.new }
     ensures put { IfOk result (λ answer. IsPut K.eq (key_of pair) pair.value.value
         (past window.old) (past window.new) answer) }
-    ensures refused { IfErr result (λ refused. IsMemoryOrCapacity refused) }
+    ensures refused { IfErr result (λ refused. IsMemoryCapacityOrLimit refused) }
     ensures crowded { result ≡ Err Refused.Capacity → HasNoRoom means.now.initial
         (tables_of window.new.sight.log) given.new.done }
+    ensures spent { result ≡ Err Refused.Limit → IsSpent window.new.book.now.parts.limit
+        window.new.sight.log }
     ensures made { Makes (is_ok result) (own window.old) (own window.new) (past window.new) }
 {
     window.learn();
     let book = window.book;
     let task = Task::Insert { replace: true };
-    let mut call = Driver::new(task, hash, book.parts.mode, means.initial);
+    let mut call = Driver::new(task, hash, book.parts.mode, means.initial, book.parts.limit);
     let mut machine = call.machine;
-    machine.call.made = Made::Pair(pair.index() as u64);
+    machine.call.made = Made {
+        own: Some(pair.index() as u64),
+        ..machine.call.made
+    };
     call.machine = machine;
     let insertion = Insertion {
         writer: Writer {
             call,
-            key: None,
-            brought: Some(pair.again()),
-            value: None,
+            key: Some(KeyPart::Of(pair.again())),
+            value: Some(ValuePart::Of(pair.again())),
         },
-        made: Some(pair),
+        own: Some(pair),
+        of: None,
+    };
+    drive(means, window, given, insertion)
+}
+
+/// Inserts the value of a pair that lies in the log, with a key that was met in the slot of this write,
+/// by its machine: the value that the call's key had.
+pub(crate) fn insert_met<'a, R: Wait, K: Hash + Eq + Drop, V: Drop, S: BuildHasher>(
+    means: &Means<'_, '_, R>,
+    window: &mut Window<'a, K, V, S>,
+    given: &mut Own<Given>,
+    key: K,
+    hash: u64,
+    write: Write,
+    pair: Stored<K, V>,
+) -> Result<Option<&'a V>, Refused>
+    requires initial { IsPowerOfTwo means.now.initial }
+    requires hashed { hash ≡ ⟦<S as Hashed<K>>⟧.hash window.old.book.now.parts.hasher key }
+    requires placed { IsIn window.old (PairNamed pair) }
+    requires number { pair.index < 2 ^ 48 }
+    requires met { HasKeyAt window.old.sight.log write.place.table write.place.probe.i (key_of pair) }
+    requires same { K.eq key (key_of pair) ≡ true }
+    ensures sees { Sees window.old window.new }
+    ensures lawful { IsLawful window.new }
+    ensures put { IfOk result (λ answer. IsPut K.eq key pair.value.value
+        (past window.old) (past window.new) answer) }
+    ensures refused { IfErr result (λ refused. IsMemoryCapacityOrLimit refused) }
+    ensures crowded { result ≡ Err Refused.Capacity → HasNoRoom means.now.initial
+        (tables_of window.new.sight.log) given.new.done }
+    ensures spent { result ≡ Err Refused.Limit → IsSpent window.new.book.now.parts.limit
+        window.new.sight.log }
+    ensures made { Makes (is_ok result) (own window.old) (own window.new) (past window.new) }
+{
+    window.learn();
+    let book = window.book;
+    let task = Task::Insert { replace: true };
+    let mut call = Driver::new(task, hash, book.parts.mode, means.initial, book.parts.limit);
+    let mut machine = call.machine;
+    machine.call.made = Made {
+        of: Some(write.of(pair.index() as u64)),
+        ..machine.call.made
+    };
+    call.machine = machine;
+    let insertion = Insertion {
+        writer: Writer {
+            call,
+            key: Some(KeyPart::Own(key)),
+            value: Some(ValuePart::Of(pair.again())),
+        },
+        own: None,
+        of: Some(pair),
     };
     drive(means, window, given, insertion)
 }

@@ -11,4 +11,5 @@ pub mod means;
 pub mod removal;
 pub mod removal_at_once;
 pub mod resizing;
+mod settling;
 pub mod writing;

@@ -56,7 +56,7 @@ pub fn entry<'a, K: Hash + Eq, V, S: BuildHasher>(
     ensures { AreOf result stored.now }
 {
     let pair = book.pair(stored);
-    (book.key(pair), pair.value())
+    (book.key(pair), book.value(pair))
 }
 
 impl<'a, K: Hash + Eq, V, S: BuildHasher> Removal<'a, K, V, S> {
@@ -138,7 +138,9 @@ impl<'a, K: Hash + Eq, V, S: BuildHasher> Removal<'a, K, V, S> {
             | CallAsk::WriteHint(_, _, _)
             | CallAsk::Exchange(_, _, _)
             | CallAsk::MakeKey
+            | CallAsk::MakeValue
             | CallAsk::MakePair
+            | CallAsk::MakePairOf(_)
             | CallAsk::MakeTable { .. } => unreachable!(),
         }
     }
@@ -206,6 +208,7 @@ pub fn remove_stepwise<
             hash(&book.parts.hasher, key),
             book.parts.mode,
             means.initial,
+            book.parts.limit,
         ),
         shown: None,
     };

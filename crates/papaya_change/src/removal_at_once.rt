@@ -1,6 +1,7 @@
 //! Removals whose pair a lookup's search finds live: it is buried at once. The machine stands in the
 //! proof.
 ghost use Rattle.std.specs.Prelude.{◌≡◌};
+ghost use Rattle.papaya_call.specs.Made.{IsLimit};
 ghost use Rattle.papaya_book.specs.Windows.{IsLawful, Sees};
 ghost use Rattle.papaya_lookup.specs.Drivers.{own, past};
 ghost use Rattle.papaya_lookup.specs.History.{Makes};
@@ -14,6 +15,12 @@ use papaya_keys::guard::Equivalent;
 use papaya_lookup::lookup::{Hit, Met, find};
 use papaya_words::word::{Kind, Word};
 use std::hash::{BuildHasher, Hash};
+
+/// A limit on pairs is a number of 64 bits, which no clause of the book says. No code is left of this.
+#[inline(always)]
+fn fits(limit: Option<u64>)
+    ensures { IsLimit limit }
+{}
 
 /// Finds a key's pair by a lookup's search, shows it to the closure where it is live, and buries it if
 /// that agrees. None where the pair is being moved, or another word stands in its place by then: the
@@ -47,6 +54,7 @@ pub fn remove_at_once<
     if Word(hit.met.word).kind() != Kind::Live {
         return None;
     }
+    fits(window.book.parts.limit);
     let Hit {
         table,
         met,

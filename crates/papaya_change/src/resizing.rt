@@ -1,14 +1,17 @@
 //! Calls that resize the shared map and change no pair of it: their machine, answered by a copier.
-ghost use Rattle.std.specs.Prelude.{◌≡◌, IfErr, IfOk, Some, None, Err};
+ghost use Rattle.std.specs.Prelude.{◌≡◌, ℕ, IfErr, IfOk, Some, None, Err};
 ghost use Rattle.std.specs.Int.{IsPowerOfTwo};
 ghost use Rattle.papaya_chain.specs.Machine.{IsFit};
 ghost use Rattle.papaya_chain.specs.Resizer.{IsStandingResizer, ask_of, reply_of};
 ghost use Rattle.papaya_ask.specs.declared.call.Reply.TheVariants.{Refused as ReplyRefused};
 ghost use Rattle.papaya_chain.specs.declared.resizer.State.TheVariants.{Opening, Done};
+ghost use Rattle.papaya_chain.specs.declared.resizer.State.TheVariants as stages;
+ghost use Rattle.papaya_copy.specs.declared.settle.Settle.TheVariants.{Looking};
 ghost use Rattle.papaya_book.specs.Limits.{tables_of};
 ghost use Rattle.papaya_book.specs.Windows.{IsLawful, Sees};
 ghost use Rattle.papaya_change.specs.Resizes.{CanResize, GoesOnAfter};
 ghost use Rattle.papaya_change.specs.Resizing.{HasNoRoomFor, HasRoomFor};
+ghost use Rattle.papaya_change.specs.Settling.{at_slot};
 ghost use Rattle.papaya_change.specs.Writing.{IsMemoryOrCapacity};
 
 use crate::copier::{Asked, Copier, tried};
@@ -19,6 +22,9 @@ use papaya_book::rule::own::{Given, Own};
 use papaya_book::window::Window;
 use papaya_chain::ask::Answer;
 use papaya_chain::resizer::{Resize, Resizer, State};
+use papaya_copy::copying::{Aim, Copying};
+use papaya_copy::settle::Settle;
+use papaya_copy::step::{Chunk, Step};
 use papaya_words::probe::Refused;
 use std::alloc::Global;
 use std::hash::{BuildHasher, Hash};
@@ -48,18 +54,77 @@ impl<K: Hash + Eq, V, S: BuildHasher> Resizing<K, V, S> {
         ensures sees { Sees window.old window.new }
         ensures own { window.new.own ≡ window.old.own }
         ensures fit { IsFit result }
+        ensures standing { IsStandingResizer self.new.machine }
+        ensures machine { self.new.machine ≡ record self.old.machine {
+          state = self.new.machine.state;
+        } }
+        ensures goes_on { GoesOnAfter window.new self.new result }
+    {
+        match self.machine.state {
+            State::Opening(_) => self.open(window),
+            State::Copying {
+                from,
+                copying: Copying::Stepping(aim, Step::Settling(chunk, Settle::Looking)),
+            } => self.copy_slots(from, aim, chunk, window),
+            _ => self.copy(rt, alloc, shard, ask, making, window),
+        }
+    }
+
+    /// The answer to what it asks, where no table is opened.
+    fn copy<'a, R: Wait>(
+        &mut self,
+        rt: &R,
+        alloc: Global,
+        shard: &Shard<'_>,
+        ask: CopyAsk,
+        making: &mut Option<MutexGuard<'a, ()>>,
+        window: &mut Window<'a, K, V, S>,
+    ) -> Answer
+        requires standing { IsStandingResizer self.old.machine }
+        requires can { CanResize window.old self.old }
+        requires asks { ask_of self.old.machine ≡ Some ask }
+        requires closed { (n : ℕ) → self.old.machine.state ≡ Opening n → ⊥ }
+        ensures sees { Sees window.old window.new }
+        ensures own { window.new.own ≡ window.old.own }
+        ensures fit { IsFit result }
         ensures machine { self.new.machine ≡ self.old.machine }
         ensures goes_on { GoesOnAfter window.new self.new result }
     {
-        if let State::Opening(_) = self.machine.state {
-            return self.open(window);
-        }
         let asked = Asked {
             ask,
             kind: self.machine.kind(),
             follows: self.machine.follows(),
         };
         self.copier.answer(rt, alloc, shard, asked, making, window)
+    }
+
+    /// Copies slots of the chunk, from the one that is looked at on: the answer to what is asked where
+    /// that ends.
+    fn copy_slots<'a>(
+        &mut self,
+        from: u64,
+        aim: Aim,
+        chunk: Chunk,
+        window: &mut Window<'a, K, V, S>,
+    ) -> Answer
+        requires standing { IsStandingResizer self.old.machine }
+        requires can { CanResize window.old self.old }
+        requires state { self.old.machine.state ≡ stages.Copying from (at_slot aim chunk Looking) }
+        ensures sees { Sees window.old window.new }
+        ensures own { window.new.own ≡ window.old.own }
+        ensures fit { IsFit result }
+        ensures standing { IsStandingResizer self.new.machine }
+        ensures machine { self.new.machine ≡ record self.old.machine {
+          state = self.new.machine.state;
+        } }
+        ensures goes_on { GoesOnAfter window.new self.new result }
+    {
+        let mode = self.machine.mode;
+        let (copying, answer) = self.copier.copy_slots(aim, chunk, mode, window);
+        let mut machine = self.machine;
+        machine.state = State::Copying { from, copying };
+        self.machine = machine;
+        answer
     }
 
     /// Tries to make the table that was made the root.

@@ -1,25 +1,28 @@
 //! What calls that insert have in common: their machine's asks, answered by steps on the book.
 ghost use Rattle.papaya_book.specs.Windows.{Does, IsIn, Sees};
-ghost use Rattle.papaya_change.specs.Writers.{CanPut, CanWrite, MakesKey, Pairs, Puts, Writes};
+ghost use Rattle.papaya_change.specs.Writers.{CanPut, CanWrite, MakesPart, Pairs, Puts, Writes};
 ghost use Rattle.std.specs.Prelude.{◌≡◌, ◌⊎◌, ℕ, ◌<◌, ◌^◌, IfErr, IfOk, None, Some};
+ghost use Rattle.papaya_call.specs.Machine.{ask_of as call_ask_of};
 ghost use Rattle.papaya_chain.specs.Machine.{IsStanding, ask_of, kind_of_ask};
 ghost use Rattle.papaya_chain.specs.declared.ask.Ask.TheVariants.{Call};
 ghost use Rattle.papaya_ask.specs.Search.{IsSize};
-ghost use Rattle.papaya_ask.specs.declared.ask.Ask.TheVariants.{Exchange, Load, LoadHint, MakeKey, MakePair, MakeTable, SameKey, SizeOf, WriteHint};
-ghost use Rattle.papaya_ask.specs.declared.ask.At.TheVariants.{Root, Slot};
+ghost use Rattle.papaya_ask.specs.declared.ask.Ask.TheVariants.{Exchange, Load, LoadHint, MakeKey, MakePair, MakePairOf, MakeTable, MakeValue, SameKey, SizeOf, WriteHint};
+ghost use Rattle.papaya_ask.specs.declared.ask.At.TheVariants.{Made as MadeWord, Root, Slot};
 ghost use Rattle.papaya_ask.specs.declared.ask.StepKind.TheVariants.{Bury};
 ghost use Rattle.papaya_words.specs.Word.{pair_of};
 ghost use Rattle.papaya_book.specs.Plays.{IsPutting};
 ghost use Rattle.papaya_change.specs.Doing.{was_made};
-ghost use Rattle.papaya_rests.specs.Told.{or_last};
-ghost use Rattle.papaya_change.specs.Writing.{IsKeyBy, IsUnlogged, IsUnsaid};
+ghost use Rattle.papaya_lookup.specs.History.{key_of};
+ghost use Rattle.papaya_book.specs.Limits.{IsFull};
+ghost use Rattle.papaya_book.specs.PairParts.{key_in};
+ghost use Rattle.papaya_change.specs.Writing.{IsUnlogged, IsUnsaid, TellsTaken, held_value};
 ghost use Rattle.papaya_book.specs.declared.rule.entry.Named.TheVariants.{Pair as PairNamed};
 
 use crate::driver::Driver;
 use papaya_ask::ask::{Answer, At};
+use papaya_book::book::pairs::{KeyPart, ValuePart};
 use papaya_book::keyed::Keyed;
 use papaya_book::rule::entry::Stored;
-use papaya_book::rule::pair::Pair;
 use papaya_book::window::Window;
 use papaya_words::limits::MAX_LOG_LEN;
 use papaya_words::probe::Refused;
@@ -27,39 +30,13 @@ use std::alloc::Global;
 use std::hash::{BuildHasher, Hash};
 use std::sync::Wait;
 
-/// A call that inserts, under way: its key until that goes into the log with a first pair, then
-/// the pair that brought it, and the value of the pair that it makes next until that is logged.
+/// A call that inserts, under way: its key, and the value of the pair that it makes next. They are
+/// handed in, and are those of a pair once they went into the log with it.
 #[derive(Drop)]
 pub struct Writer<'a, K: Hash + Eq, V, S: BuildHasher> {
     pub call: Driver<'a, K, V, S>,
-    pub key: Option<K>,
-    pub brought: Option<Stored<K, V>>,
-    pub value: Option<V>,
-}
-
-/// A pair of this value, with the key that is at hand, or else by the pair that brought it.
-#[inline(always)]
-fn pair_by<K, V>(key: Option<K>, brought: &Option<Stored<K, V>>, value: V) -> Pair<K, V>
-    requires { key ≡ None → (p : _) × (brought.now ≡ Some p) × (p.value.key.at ≡ None) }
-    ensures key { IsKeyBy key brought.now result.key }
-    ensures value { result.value ≡ value }
-{
-    match (key, brought) {
-        (Some(key), _) => Pair::new(key, value),
-        (None, Some(first)) => Pair::by_key_of(first, value),
-        (None, None) => unreachable!(),
-    }
-}
-
-/// The pair that brought the key before, or else this one.
-#[inline(always)]
-fn or_this<K, V>(brought: Option<Stored<K, V>>, pair: &Stored<K, V>) -> Option<Stored<K, V>>
-    ensures { result ≡ or_last brought (Some pair.now) }
-{
-    match brought {
-        Some(first) => Some(first),
-        None => Some(pair.again()),
-    }
+    pub key: Option<KeyPart<K, V>>,
+    pub value: Option<ValuePart<K, V>>,
 }
 
 impl<'a, K: Hash + Eq + Drop, V: Drop, S: BuildHasher> Writer<'a, K, V, S> {
@@ -73,10 +50,27 @@ impl<'a, K: Hash + Eq + Drop, V: Drop, S: BuildHasher> Writer<'a, K, V, S> {
         ensures machine { self.new.call.machine ≡ self.old.call.machine }
         ensures value { self.new.value ≡ self.old.value }
         ensures unsaid { IsUnsaid self.new.call.given.done result }
+        ensures tells { TellsTaken window.new.sight.log (call_ask_of self.old.call.machine.call)
+            result }
         ensures put { self.new.call.put ≡ self.old.call.put }
         ensures writes { Writes window.old self.old window.new self.new result }
     {
         Answer::Word(self.call.load(at, window))
+    }
+
+    /// Tries to take the number of a further pair, in a map that has a limit on them.
+    pub fn take(&self, words: (u64, u64), window: &mut Window<'a, K, V, S>) -> Answer
+        requires can { CanWrite window.old self.now }
+        requires asks { ask_of self.now.call.machine ≡ Call (Exchange MadeWord words.0 words.1) }
+        requires standing { IsStanding self.now.call.machine }
+        ensures sees { Sees window.old window.new }
+        ensures own { window.new.own ≡ window.old.own }
+        ensures unsaid { IsUnsaid self.now.call.given.done result }
+        ensures tells { TellsTaken window.new.sight.log (call_ask_of self.now.call.machine.call)
+            result }
+        ensures writes { Writes window.old self.now window.new self.now result }
+    {
+        self.call.take(words, window)
     }
 
     /// Loads the hint of a slot.
@@ -126,26 +120,27 @@ impl<'a, K: Hash + Eq + Drop, V: Drop, S: BuildHasher> Writer<'a, K, V, S> {
         };
         let book = window.book;
         let found = book.key(book.pair(last));
-        let same = match (&self.key, &self.brought) {
-            (Some(key), _) => *key == *found,
-            (None, Some(pair)) => *book.key(book.pair(pair)) == *found,
-            (None, None) => unreachable!(),
+        let same = match &self.key {
+            Some(KeyPart::Own(key)) => *key == *found,
+            Some(KeyPart::Of(pair)) => *book.key(book.pair(pair)) == *found,
+            None => unreachable!(),
         };
         Answer::Yes(same)
     }
 
-    /// The key goes into the log of pairs, with the first pair, so that nothing is made for it
-    /// now. It has no number yet, and its machine asks for none.
-    pub fn make_key(&self) -> Answer
-        requires asks { ask_of self.now.call.machine ≡ Call MakeKey }
+    /// The key and the value go into the log of pairs, with the first pair that has them, so that
+    /// nothing is made for them now. They have no number yet, and their machine asks for none.
+    pub fn make_part(&self) -> Answer
+        requires asks { (ask_of self.now.call.machine ≡ Call MakeKey)
+            ⊎ (ask_of self.now.call.machine ≡ Call MakeValue) }
         requires standing { IsStanding self.now.call.machine }
         ensures unsaid { IsUnsaid self.now.call.given.done result }
-        ensures makes { MakesKey ⟦<S as Keyed<K>>⟧.keys self.now result }
+        ensures makes { MakesPart ⟦<S as Keyed<K>>⟧.keys self.now result }
     {
         Answer::Made(0)
     }
 
-    /// Logs the pair of the key and the value, and hands it out. Where there is none, what the
+    /// Logs the pair of the call's key and the value, and hands it out. Where there is none, what the
     /// machine is to be answered.
     pub fn log_pair<R: Wait>(
         &mut self,
@@ -157,37 +152,97 @@ impl<'a, K: Hash + Eq + Drop, V: Drop, S: BuildHasher> Writer<'a, K, V, S> {
         requires standing { IsStanding self.old.call.machine }
         ensures machine { self.new.call.machine ≡ self.old.call.machine }
         ensures put { self.new.call.put ≡ self.old.call.put }
-        ensures left { (v : _) → self.new.value ≡ Some v → self.old.value ≡ Some v }
+        ensures left { held_value self.new.value ≡ held_value self.old.value }
         ensures number { IfOk result (λ q. q.index < 2 ^ 48) }
         ensures placed { IfOk result (λ q. IsIn window.now (PairNamed q)) }
-        ensures value { IfOk result (λ q. (self.old.value ≡ Some q.value.value)
-            × (self.new.value ≡ None)) }
+        ensures key { IfOk result (λ q. (k : _) → self.old.key ≡ Some k → key_of q ≡ key_in k) }
+        ensures value { IfOk result (λ q. held_value self.old.value ≡ Some q.value.value) }
         ensures pairs { IfOk result (λ q. Pairs window.now self.old self.new q) }
         ensures unlogged { IfErr result (λ answer. IsUnlogged answer) }
         ensures unsaid { IfErr result (λ answer. IsUnsaid self.new.call.given.done answer) }
-        ensures kept { IfErr result (λ answer. answer ≡ Answer.Ok
-            → self.new.value ≡ self.old.value) }
         ensures writes { IfErr result (λ answer. Writes window.now self.old window.now self.new
             answer) }
     {
         let Some(value) = self.value.take() else {
             return Err(Answer::Ok);
         };
-        let pair = pair_by(self.key.take(), &self.brought, value);
-        match window.book.log_pair(rt, pair) {
+        let Some(key) = self.key.take() else {
+            unreachable!()
+        };
+        match window.book.log_pair(rt, key, value) {
             Ok(pair) => {
-                self.brought = or_this(self.brought.take(), &pair);
-                if pair.index() >= MAX_LOG_LEN {
-                    self.call.given = window.book.gave_pair(&pair);
-                    return Err(Answer::Refused(Refused::Capacity));
-                }
-                Ok(pair)
+                self.key = Some(KeyPart::Of(pair.again()));
+                self.hold(pair, window)
             }
-            Err(back) => {
-                self.key = back.into_key();
+            Err((key, value)) => {
+                self.key = Some(key);
+                self.value = Some(value);
                 Err(Answer::Refused(Refused::Memory))
             }
         }
+    }
+
+    /// Logs the pair of the value and the key of the pair last loaded, and hands it out. Where there
+    /// is none, what the machine is to be answered.
+    pub fn log_pair_of<R: Wait>(
+        &mut self,
+        rt: &R,
+        window: &Window<'a, K, V, S>,
+    ) -> Result<Stored<K, V>, Answer>
+        requires can { CanWrite window.now self.old }
+        requires asks { (n : ℕ) × (ask_of self.old.call.machine ≡ Call (MakePairOf n)) }
+        requires standing { IsStanding self.old.call.machine }
+        ensures machine { self.new.call.machine ≡ self.old.call.machine }
+        ensures put { self.new.call.put ≡ self.old.call.put }
+        ensures left { held_value self.new.value ≡ held_value self.old.value }
+        ensures number { IfOk result (λ q. q.index < 2 ^ 48) }
+        ensures placed { IfOk result (λ q. IsIn window.now (PairNamed q)) }
+        ensures key { IfOk result (λ q. (p : _) → self.old.call.last ≡ Some p
+            → key_of q ≡ key_of p) }
+        ensures value { IfOk result (λ q. held_value self.old.value ≡ Some q.value.value) }
+        ensures pairs { IfOk result (λ q. Pairs window.now self.old self.new q) }
+        ensures unlogged { IfErr result (λ answer. IsUnlogged answer) }
+        ensures unsaid { IfErr result (λ answer. IsUnsaid self.new.call.given.done answer) }
+        ensures writes { IfErr result (λ answer. Writes window.now self.old window.now self.new
+            answer) }
+    {
+        let Some(value) = self.value.take() else {
+            return Err(Answer::Ok);
+        };
+        let Some(last) = &self.call.last else {
+            unreachable!()
+        };
+        match window.book.log_pair(rt, KeyPart::Of(last.again()), value) {
+            Ok(pair) => self.hold(pair, window),
+            Err((_, value)) => {
+                self.value = Some(value);
+                Err(Answer::Refused(Refused::Memory))
+            }
+        }
+    }
+
+    /// The pair was logged that has the value, and is handed out where a word can name it.
+    fn hold(
+        &mut self,
+        pair: Stored<K, V>,
+        window: &Window<'a, K, V, S>,
+    ) -> Result<Stored<K, V>, Answer>
+        requires placed { IsIn window.now (PairNamed pair) }
+        ensures ok { IfOk result (λ q. (q ≡ pair) × (q.index < 2 ^ 48)
+            × (self.new.call.given ≡ self.old.call.given)) }
+        ensures err { IfErr result (λ answer. (answer ≡ Answer.Refused Refused.Capacity)
+            × IsFull self.new.call.given.done) }
+        ensures rest { self.new ≡ record self.old {
+          value = Some (ValuePart.Of pair);
+          call = record self.old.call { given = self.new.call.given };
+        } }
+    {
+        self.value = Some(ValuePart::Of(pair.again()));
+        if pair.index() >= MAX_LOG_LEN {
+            self.call.given = window.book.gave_pair(&pair);
+            return Err(Answer::Refused(Refused::Capacity));
+        }
+        Ok(pair)
     }
 
     /// Makes a table, and keeps it with its seal until it is tried to be opened.
@@ -259,7 +314,7 @@ impl<'a, K: Hash + Eq + Drop, V: Drop, S: BuildHasher> Writer<'a, K, V, S> {
         pair: &Stored<K, V>,
         window: &mut Window<'a, K, V, S>,
     ) -> Answer
-        requires can { CanPut window.old self.old pair.now }
+        requires can { CanPut window.old self.old number place words.0 pair.now }
         requires number { pair_of words.1 ≡ pair.now.index }
         requires asks { ask_of self.old.call.machine ≡ Call (Exchange (Slot number place)
             words.0 words.1) }
@@ -272,7 +327,8 @@ impl<'a, K: Hash + Eq + Drop, V: Drop, S: BuildHasher> Writer<'a, K, V, S> {
         ensures unsaid { IsUnsaid self.new.call.given.done result }
         ensures put { (self.new.call.put ≡ self.old.call.put)
             ⊎ (self.new.call.put ≡ Some pair.now) }
-        ensures writes { Puts window.old self.old pair.now window.new self.new result }
+        ensures writes { Puts window.old self.old number place words.0 pair.now window.new self.new
+            result }
     {
         let Some(table) = self.call.table else {
             unreachable!()

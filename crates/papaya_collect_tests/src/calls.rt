@@ -51,7 +51,7 @@ const CALLS: [Call; 14] = [
     Call::TakeOut,
 ];
 
-/// The pairs of which one is made: of two with one key the later one stays.
+/// The pairs of which one is made: of two with one key the later value stays.
 const ITEMS: [Pair; 3] = [(Key(0), 7), (Key(1), 10), (Key(0), 0)];
 
 /// One that a call makes, beside the one that is there.

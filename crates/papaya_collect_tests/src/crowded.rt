@@ -38,7 +38,7 @@ impl Crowded for HashMap<u64, u64, Times> {
         mode: ResizeMode,
         hasher: Times,
     ) -> Result<Self, Refused> {
-        HashMap::with_parts(rt, alloc, mode, 0, 4, hasher)
+        HashMap::with_parts(rt, alloc, mode, 0, 4, hasher, None)
     }
 
     fn value_of(given: u64) -> u64 {
@@ -82,7 +82,7 @@ impl Crowded for HashSet<u64, Times> {
         mode: ResizeMode,
         hasher: Times,
     ) -> Result<Self, Refused> {
-        HashSet::with_parts(rt, alloc, mode, 0, 4, hasher)
+        HashSet::with_parts(rt, alloc, mode, 0, 4, hasher, None)
     }
 
     fn value_of(_given: u64) -> u64 {

@@ -21,7 +21,7 @@ impl Collection for HashMap<Key, u64> {
             Maker::Capacity => HashMap::with_capacity(alloc, 3),
             Maker::Hasher => HashMap::with_hasher(alloc, hasher),
             Maker::CapacityAndHasher => HashMap::with_capacity_and_hasher(alloc, 3, hasher),
-            Maker::Parts(mode) => HashMap::with_parts(alloc, mode, 0, 1, hasher),
+            Maker::Parts(mode) => HashMap::with_parts(alloc, mode, 0, 1, hasher, None),
             Maker::Built => map::HashMap::builder().capacity(3).build_seq(alloc),
         }
     }

@@ -20,7 +20,7 @@ impl Collection for HashSet<Key> {
             Maker::Capacity => HashSet::with_capacity(alloc, 3),
             Maker::Hasher => HashSet::with_hasher(alloc, hasher),
             Maker::CapacityAndHasher => HashSet::with_capacity_and_hasher(alloc, 3, hasher),
-            Maker::Parts(mode) => HashSet::with_parts(alloc, mode, 0, 1, hasher),
+            Maker::Parts(mode) => HashSet::with_parts(alloc, mode, 0, 1, hasher, None),
             Maker::Built => set::HashSet::builder().capacity(3).build_seq(alloc),
         }
     }

@@ -18,7 +18,7 @@ impl Collection for HashMap<Key, u64> {
             Maker::Capacity => HashMap::with_capacity(rt, alloc, 3),
             Maker::Hasher => HashMap::with_hasher(rt, alloc, hasher),
             Maker::CapacityAndHasher => HashMap::with_capacity_and_hasher(rt, alloc, 3, hasher),
-            Maker::Parts(mode) => HashMap::with_parts(rt, alloc, mode, 0, 4, hasher),
+            Maker::Parts(mode) => HashMap::with_parts(rt, alloc, mode, 0, 4, hasher, None),
             Maker::Built => HashMap::builder().capacity(3).build(rt, alloc),
         }
     }

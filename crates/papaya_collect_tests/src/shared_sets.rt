@@ -18,7 +18,7 @@ impl Collection for HashSet<Key> {
             Maker::Capacity => HashSet::with_capacity(rt, alloc, 3),
             Maker::Hasher => HashSet::with_hasher(rt, alloc, hasher),
             Maker::CapacityAndHasher => HashSet::with_capacity_and_hasher(rt, alloc, 3, hasher),
-            Maker::Parts(mode) => HashSet::with_parts(rt, alloc, mode, 0, 4, hasher),
+            Maker::Parts(mode) => HashSet::with_parts(rt, alloc, mode, 0, 4, hasher, None),
             Maker::Built => HashSet::builder().capacity(3).build(rt, alloc),
         }
     }

@@ -1,11 +1,15 @@
 -- A compute that was set aside goes on after a copy as it was: what its closure was shown and said stays, and what was made of it.
-use Rattle.std.proofs.Common.{◌≡◌, inl, inr, ⊎_elim, ℕ, Bool, Option, Some, List, [], append-nil, refl, sym, ap, ◌∙◌, subst}
+use Rattle.std.proofs.Common.{◌≡◌, inl, inr, ⊎_elim, ℕ, Bool, true, Option, Some, List, [], append-nil, refl, sym, ap, ◌∙◌, subst}
+use Rattle.std.specs.Cmp.{IsEquivalence}
 use mathlib.Core.List.{IsPrefix}
 use Rattle.logbook.specs.Pages.{Book}
+use Rattle.papaya_words.specs.declared.probe.Refused.TheVariants.{Limit}
 use Rattle.papaya_call.specs.declared.answers.Operation.{Operation}
 use Rattle.papaya_ask.specs.declared.ask.Answer.TheVariants.{Word as Word_read}
 use Rattle.papaya_ask.specs.declared.ask.Ask.TheVariants.{Done}
-use Rattle.papaya_ask.specs.declared.call.Reply.TheVariants.{Aborted}
+use Rattle.papaya_ask.specs.declared.call.Reply.TheVariants.{Aborted, Refused}
+use Rattle.papaya_ask.specs.declared.call.Task.TheVariants.{Compute}
+use Rattle.papaya_call.specs.declared.compute.Remembered.{Remembered}
 use Rattle.papaya_call.specs.declared.machine.Machine.{Machine as Call_machine}
 use Rattle.papaya_call.specs.declared.machine.State.TheVariants.{AtRoot}
 use Rattle.papaya_call.specs.Machine as calls
@@ -16,26 +20,31 @@ use Rattle.papaya_chain.specs.Machine.{ask_of}
 use Rattle.papaya_chain_rests.proofs.Names.{call_asks}
 use Rattle.papaya_chain_rests.proofs.Once.{aside_filled}
 use Rattle.papaya_chain_rests.proofs.Replies.{anew}
-use Rattle.papaya_rests.specs.Says.{HasShownNone}
+use Rattle.papaya_rests.specs.Says.{HasShownNone, IsAnswered, Makes}
 use Rattle.papaya_rests.proofs.SaysOnce.{machine_shown}
 use Rattle.papaya_book.specs.declared.rule.entry.Begun.{Begun}
 use Rattle.papaya_book.specs.declared.rule.entry.Event.{Event}
 use Rattle.papaya_book.specs.declared.rule.own.Given.{Given}
-use Rattle.papaya_book.specs.Limits.{tables_of}
+use Rattle.papaya_book.specs.Hashes.{hash_of}
+use Rattle.papaya_book.specs.Limits.{IsSpent, tables_of}
 use Rattle.papaya_book.specs.Logs.{Stored, pair_named}
 use Rattle.papaya_book.specs.Rule.{IsPlaced}
 use Rattle.papaya_book.proofs.Lengths.{tables_since}
-use Rattle.papaya_lookup.specs.History.{history_of}
+use Rattle.papaya_lookup.specs.History.{history_of, key_of}
 use Rattle.papaya_lookup.proofs.Histories.{history_since}
+use Rattle.papaya_lookup.proofs.KeptKeys.{key_at_stays}
 use Rattle.papaya_change.specs.declared.driver.Driver.{Driver}
 use Rattle.papaya_change.specs.Changing.{IsDriven}
 use Rattle.papaya_change.specs.Helping.{HasHelped}
 use Rattle.papaya_change.specs.Showings.{WasHeld}
-use Rattle.papaya_change.proofs.Helped.{helped_keeps, room_kept}
+use Rattle.papaya_change.proofs.Helped.{helped_keeps, room_kept, spent_kept}
 use Rattle.papaya_change.proofs.Showings.{all_shown, held_wider}
 use Rattle.papaya_compute.specs.declared.computing.Computing.{Computing}
 use Rattle.papaya_compute.specs.Computing.{IsComputing}
-use Rattle.papaya_compute.proofs.ComputeGoes.{holds_still}
+use Rattle.papaya_compute.specs.Putting.{PutsChosen}
+use Rattle.papaya_compute.proofs.AnsweredValues.{answered_aside}
+use Rattle.papaya_compute.proofs.ChosenSlots.{puts_anew}
+use Rattle.papaya_compute.proofs.ComputeGoes.{holds_still, newest_still}
 
 module _ (m m' : Machine) (tables : List ℕ) (given : List Given) (helped : HasHelped m m' tables given) where
   -- a closure that was shown that there is none has been shown it
@@ -47,6 +56,33 @@ module _ (m m' : Machine) (tables : List ℕ) (given : List Given) (helped : Has
         subst (λ (z : Call_machine). HasShownNone z.remembered.fill z.state) (sym h.call)
         (machine_shown (record m.call { state = AtRoot }) (Word_read h.root) (aside_filled m.call.remembered.fill m.call.state h.from h.left shown)).1
     | inr (inr (inr h)) ↦ subst (λ (z : Call_machine). HasShownNone z.remembered.fill z.state) (sym h.call) tt
+  ]
+
+  -- what it is to put in was made for its slot
+  puts_kept : m.call.task ≡ Compute → PutsChosen m.call → PutsChosen m'.call
+  puts_kept is puts = elim helped [
+    | inl same ↦ subst (λ (z : Machine). PutsChosen z.call) (sym same) puts
+    | inr (inl h) ↦ subst PutsChosen (sym h.call) tt
+    | inr (inr (inl h)) ↦ subst PutsChosen (sym h.call) (puts_anew m.call h.root is)
+    | inr (inr (inr h)) ↦ subst PutsChosen (sym h.call) tt
+  ]
+
+  -- what it remembers stays
+  remembers : m'.call.remembered ≡ m.call.remembered
+  remembers = elim helped [
+    | inl same ↦ ap (λ (z : Machine). z.call.remembered) same
+    | inr (inl h) ↦ ap (λ (z : Call_machine). z.remembered) h.call
+    | inr (inr (inl h)) ↦ ap (λ (z : Call_machine). z.remembered) h.call
+    | inr (inr (inr h)) ↦ ap (λ (z : Call_machine). z.remembered) h.call
+  ]
+
+  -- one whose closure has answered is not set aside
+  waits_kept : IsAnswered m.call.state → IsAnswered m'.call.state
+  waits_kept waits = elim helped [
+    | inl same ↦ subst (λ (z : Machine). IsAnswered z.call.state) (sym same) waits
+    | inr (inl h) ↦ absurd (answered_aside m.call.state h.from h.left waits)
+    | inr (inr (inl h)) ↦ absurd (answered_aside m.call.state h.from h.left waits)
+    | inr (inr (inr h)) ↦ absurd (answered_aside m.call.state h.from h.left waits)
   ]
 
   -- no copy ends a call as its closure would
@@ -61,31 +97,44 @@ module _ (m m' : Machine) (tables : List ℕ) (given : List Given) (helped : Has
         | inr (inr (inr h)) ↦ let f = ap (λ (z : Call_machine). calls.ask_of z) (sym h.call) ∙ own in absurd (cc f)
       ]
 
-module _ {K V S H T : Type 0} (eq : K → K → Bool) (hash : S → K → ℕ) (b : Begun K V S) (name : Book) (key : K) (begun log log' : List (Event K V S)) (pre : IsPrefix log log') (x : Computing K V S T H) (heard : List (Option (Stored K V) × Operation V T)) (r : IsComputing eq hash b name key begun log x heard) (c : Driver K V S H) where
+module _ {K V S H T : Type 0} (eq : K → K → Bool) (input : K → List (List ℕ)) (build : S → H) (write : H → List ℕ → H) (finish : H → ℕ) (classes : IsEquivalence eq) (respects : (x y : K) → eq x y ≡ true → input x ≡ input y)
+    (b : Begun K V S) (name : Book) (key : K) (begun log log' : List (Event K V S)) (pre : IsPrefix log log') (x : Computing K V S T H) (heard : List (Option (Stored K V) × Operation V T)) (r : IsComputing eq (hash_of input build write finish) b name key begun log x heard) (c : Driver K V S H) where
+  abbrev hash : S → K → ℕ
+  hash = hash_of input build write finish
+
   abbrev HeldOn : List (Event K V S) → Option (Stored K V) → Type 0
   HeldOn log' held = WasHeld eq (eq key) (history_of begun) (history_of log') held
 
   held_later : (held : Option (Stored K V)) → HeldOn log held → HeldOn log' held
   held_later held h = held_wider eq (eq key) (history_of begun) (history_of begun) (history_of log) (history_of log') ([], append-nil (history_of begun)) (history_since log log' pre) held h
 
-  pub computing_helped : IsDriven eq hash b name (eq key) (hash b.hasher key) (Some key) begun log' r.made c → c.put ≡ x.writer.call.put → c.machine.phase ≡ Calling → (x.writer.call.machine.phase ≡ Calling → c ≡ x.writer.call) → HasHelped x.writer.call.machine c.machine (tables_of log') c.given.done
+  pub computing_helped : IsDriven eq hash b name (eq key) (hash b.hasher key) (Some key) begun log' r.made c → c.put ≡ x.writer.call.put → c.machine.phase ≡ Calling → (x.writer.call.machine.phase ≡ Calling → (c ≡ x.writer.call) × (log' ≡ log)) → HasHelped x.writer.call.machine c.machine (tables_of log') c.given.done
       → IsComputing eq hash b name key begun log' (record x { writer = record x.writer { call = c } }) heard
   computing_helped driven put calling still helped =
       let m = x.writer.call.machine in
-      let k = helped_keeps m c.machine (tables_of log') c.given.done helped in
+      let tables = tables_of log' in
+      let given = c.given.done in
+      let k = helped_keeps m c.machine tables given helped in
+      let same = λ (e : m.phase ≡ Calling). (still e).0 in
       record {
         made = r.made;
-        writing = record { calling = driven; keyed = r.writing.keyed; put_placed = subst (λ o. IsPlaced b (Some name) (pair_named o)) (sym put) r.writing.put_placed };
+        writing = record { calling = driven; keyed = r.writing.keyed; valued = r.writing.valued; put_placed = subst (λ o. IsPlaced b (Some name) (pair_named o)) (sym put) r.writing.put_placed };
         task_is = k.task ∙ r.task_is;
         words = k.shows r.words;
+        puts = puts_kept m c.machine tables given helped r.task_is r.puts;
         shown_placed = r.shown_placed;
         fill_placed = r.fill_placed;
         chosen_placed = r.chosen_placed;
         held = all_shown (HeldOn log) (HeldOn log') held_later heard r.held;
         none_once = r.none_once;
-        none_shown = ⊎_elim (λ none. inl none) (λ shown. inr (shown_kept m c.machine (tables_of log') c.given.done helped shown)) r.none_shown;
+        none_shown = ⊎_elim (λ none. inl none) (λ shown. inr (shown_kept m c.machine tables given helped shown)) r.none_shown;
         stood = λ stands h. holds_still key r.made heard x (record x.writer { call = c }) refl stands (r.stood stands (k.stands stands h));
-        aborts = λ with e. r.aborts with (aborted_before m c.machine (tables_of log') c.given.done helped with e);
-        refuses = λ cause e. ⊎_elim (λ same. r.refuses cause (ap ask_of (sym same) ∙ e)) (λ h. inl (⊎_elim (λ memory. inl memory) (λ full. inr full.0) h)) (k.ends cause e);
-        crowded = room_kept x.writer.call c (tables_of log') calling still helped (tables_of log) (tables_since log log' pre) r.crowded;
+        newest = λ i n h.
+            ⊎_elim (λ waits. inl (waits_kept m c.machine tables given helped waits)) (λ newest. inr (newest_still x (record x.writer { call = c }) refl newest))
+            (r.newest i n (k.stands (Makes (Some i) n) h));
+        of_slot = λ old new e. let h = r.of_slot old new (ap (λ (z : Remembered). z.choice) (sym (remembers m c.machine tables given helped)) ∙ e) in (h.0, h.1, key_at_stays eq input build write finish classes respects b log log' driven.lawful pre new.table new.index (key_of h.0) h.2);
+        aborts = λ with e. r.aborts with (aborted_before m c.machine tables given helped with e);
+        refuses = λ cause e. ⊎_elim (λ one. r.refuses cause (ap ask_of (sym one) ∙ e)) (λ h. inl (inl (⊎_elim (λ memory. inl memory) (λ full. inr full.0) h))) (k.ends cause e);
+        crowded = room_kept x.writer.call c tables calling same helped (tables_of log) (tables_since log log' pre) r.crowded;
+        spent = spent_kept x.writer.call c tables calling same helped (IsSpent b.limit log') (λ e. subst (IsSpent b.limit) (sym (still (call_asks m (Done (Refused Limit)) e).0).1) (r.spent e));
       }

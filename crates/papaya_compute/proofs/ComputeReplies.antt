@@ -25,7 +25,8 @@ use Rattle.papaya_keys.specs.declared.compute.Compute.TheVariants as computed
 use Rattle.papaya_compute.specs.declared.computing.Computing.{Computing}
 use Rattle.papaya_book.specs.declared.rule.entry.Begun.{Begun}
 use Rattle.papaya_book.specs.declared.rule.entry.Event.{Event}
-use Rattle.papaya_change.specs.Changing.{HasChanged}
+use Rattle.papaya_book.specs.declared.book.pairs.KeyPart.TheVariants as keys
+use Rattle.papaya_change.specs.Changing.{HasChanged, HasItsKey}
 use Rattle.papaya_change.specs.Changes.{IsChangeOf}
 use Rattle.papaya_compute.specs.Computing.{Holds, IsComputing, IsReplied}
 use Rattle.papaya_compute.specs.ComputeAnswers.{IsComputeBy, IsOperated}
@@ -53,6 +54,19 @@ IsNoCompute (Kept n) = Unit {0}
 IsNoCompute (Aborted t) = ⊥
 IsNoCompute Reply_done = Unit {0}
 IsNoCompute (Refused cause) = ⊥
+
+-- what is none of the replies of a compute is one of these
+pub other_reply : (reply : Reply) → ((n : ℕ) → reply ≡ Inserted n → ⊥) → ((old n : ℕ) → reply ≡ Replaced old n → ⊥) → ((n : ℕ) → reply ≡ Removed n → ⊥) → ((with : ℕ) → reply ≡ Aborted with → ⊥) → ((cause : Cause) → reply ≡ Refused cause → ⊥) → IsNoCompute reply
+other_reply Absent inserted replaced removed aborted refused = tt
+other_reply (Found n) inserted replaced removed aborted refused = tt
+other_reply (Inserted n) inserted replaced removed aborted refused = inserted n refl
+other_reply (Replaced old n) inserted replaced removed aborted refused = replaced old n refl
+other_reply (Occupied n) inserted replaced removed aborted refused = tt
+other_reply (Removed n) inserted replaced removed aborted refused = removed n refl
+other_reply (Kept n) inserted replaced removed aborted refused = tt
+other_reply (Aborted with) inserted replaced removed aborted refused = aborted with refl
+other_reply Reply_done inserted replaced removed aborted refused = tt
+other_reply (Refused cause) inserted replaced removed aborted refused = refused cause refl
 
 -- what is there is this
 of_some : {P : Type 0} (holds : P → Type 0) (none : Type 0) (o : Option P) (p : P) → o ≡ Some p → MatchOption o none holds → holds p
@@ -85,7 +99,7 @@ module _ {K V S T H : Type 0} (eq : K → K → Bool) (input : K → List (List 
   at_hand reply said e is = r.stood said (inl (ap (λ t. said_in t m.call.state) r.task_is ∙ (ap (said_in Compute) (ended_in m.call.made m.call.hash m.call.state reply (call_asks m (Done reply) e).1) ∙ is)))
 
   module _ (reply : Reply) (e : ask_of m ≡ Call (Done reply)) (old new : Option ℕ) (change : change_of_reply reply ≡ Some (old, new)) where
-    changed : HasChanged eq begun log x.writer.call.taken x.writer.call.put (old, new)
+    changed : HasChanged eq (Some key) begun log x.writer.call.taken x.writer.call.put (old, new)
     changed =
         let query = own_query eq input build write finish classes respects b name key in
         let g = Wide eq input build write finish classes respects b (eq key) (input key) query (Some key) name begun log in
@@ -96,8 +110,15 @@ module _ {K V S T H : Type 0} (eq : K → K → Bool) (input : K → List (List 
     taken_number : (taken : Stored K V) → x.writer.call.taken ≡ Some taken → (old ≡ Some taken.index) × (changed.class ≡ key_of taken)
     taken_number taken is = of_some (λ p. (old ≡ Some p.index) × (changed.class ≡ key_of p)) (old ≡ None) x.writer.call.taken taken is changed.taken_is
 
-    put_number : (put : Stored K V) → x.writer.call.put ≡ Some put → (new ≡ Some put.index) × (eq changed.class (key_of put) ≡ true)
-    put_number put is = of_some (λ q. (new ≡ Some q.index) × (eq changed.class (key_of q) ≡ true)) (new ≡ None) x.writer.call.put put is changed.put_is
+    abbrev IsPutIn : Stored K V → Type 0
+    IsPutIn q = (new ≡ Some q.index) × (eq changed.class (key_of q) ≡ true) × HasItsKey eq (Some key) x.writer.call.taken q
+
+    put_number : (put : Stored K V) → x.writer.call.put ≡ Some put → IsPutIn put
+    put_number put is = of_some IsPutIn (new ≡ None) x.writer.call.put put is changed.put_is
+
+    -- where it took the place of another it has the key that was stored
+    kept : (p q : Stored K V) → x.writer.call.taken ≡ Some p → x.writer.call.put ≡ Some q → key_of q ≡ key_of p
+    kept p q took puts = subst (λ o. MatchOption o (Some (key_of q) ≡ Some key) (λ old. key_of q ≡ key_of old)) took (put_number q puts).2.is
 
     none_taken : old ≡ None → x.writer.call.taken ≡ None
     none_taken none = by_option x.writer.call.taken changed.taken_is
@@ -109,7 +130,7 @@ module _ {K V S T H : Type 0} (eq : K → K → Bool) (input : K → List (List 
     none_put : new ≡ None → x.writer.call.put ≡ None
     none_put none = by_option x.writer.call.put changed.put_is
       where
-        by_option : (o : Option (Stored K V)) → MatchOption o (new ≡ None) (λ q. (new ≡ Some q.index) × (eq changed.class (key_of q) ≡ true)) → o ≡ None
+        by_option : (o : Option (Stored K V)) → MatchOption o (new ≡ None) IsPutIn → o ≡ None
         by_option None h = refl
         by_option (Some p) h = let g = sym none ∙ h.0 in absurd (cc g)
 
@@ -117,7 +138,7 @@ module _ {K V S T H : Type 0} (eq : K → K → Bool) (input : K → List (List 
     some_taken n some is = let h = subst (λ o. MatchOption o (old ≡ None) (λ p. (old ≡ Some p.index) × (changed.class ≡ key_of p))) is changed.taken_is in let g = sym some ∙ h in cc g
 
     some_put : (n : ℕ) → new ≡ Some n → x.writer.call.put ≡ None → ⊥
-    some_put n some is = let h = subst (λ o. MatchOption o (new ≡ None) (λ q. (new ≡ Some q.index) × (eq changed.class (key_of q) ≡ true))) is changed.put_is in let g = sym some ∙ h in cc g
+    some_put n some is = let h = subst (λ o. MatchOption o (new ≡ None) IsPutIn) is changed.put_is in let g = sym some ∙ h in cc g
 
     -- its change, of a class of the call's key
     change_is : (taken put : Option (Stored K V)) → x.writer.call.taken ≡ taken → x.writer.call.put ≡ put → eq key changed.class ≡ true → Changes taken put
@@ -129,6 +150,7 @@ module _ {K V S T H : Type 0} (eq : K → K → Bool) (input : K → List (List 
       class_is = class;
       taken_is = took;
       put_is = puts;
+      kept = λ p q e f. kept p q (took ∙ e) (puts ∙ f);
     }
 
   -- it put a pair in
@@ -232,7 +254,7 @@ module _ {K V S T H : Type 0} (eq : K → K → Bool) (input : K → List (List 
         let value = ap (λ (z : Stored K V). z.value) one ∙ same in
         let new : replaced.1 ≡ made = cc (replaced.4, made_is) in
         let new_value = ap (λ (z : Stored K V). z.value) new ∙ new_same in
-        let own : key_of put ≡ key = ap (λ z. z.key.value) (sym new_value) ∙ replaced.5.key_is in
+        let own = kept (Replaced i n) e (Some i) (Some n) refl taken put took puts in
         let class = went_class (Replaced i n) e i (Some n) refl replaced.0 replaced.3 taken took value (shown_key replaced.0 (operation.Insert replaced.1.value.value) replaced.5.said_is) in
         answers (Ok (computed.Updated before after))
         (taken, put, change_is (Replaced i n) e (Some i) (Some n) refl (Some taken) (Some put) took puts class, own, (replaced.0, (went_number (Replaced i n) e i (Some n) refl replaced.0 replaced.3 taken took, value), subst (λ (z : V). Member (Some replaced.0, operation.Insert z) heard) (ap (λ z. z.value) new_value) replaced.5.said_is), are, new_are)
@@ -274,7 +296,7 @@ module _ {K V S T H : Type 0} (eq : K → K → Bool) (input : K → List (List 
 -- what was seen before a compute began was seen before its change, and before what its closure was shown
 module _ {K V : Type 0} (eq : K → K → Bool) (key : K) (older old new : List (Change K (Stored K V))) (pre : IsPrefix older old) where
   pub change_since : (taken put : Option (Stored K V)) → IsChangeOf (eq key) old new taken put → IsChangeOf (eq key) older new taken put
-  change_since taken put t = record { before = t.before; change = t.change; since = prefix_trans older old t.before pre t.since; is = t.is; class_is = t.class_is; taken_is = t.taken_is; put_is = t.put_is }
+  change_since taken put t = record { before = t.before; change = t.change; since = prefix_trans older old t.before pre t.since; is = t.is; class_is = t.class_is; taken_is = t.taken_is; put_is = t.put_is; kept = t.kept }
 
 module _ {K V T : Type 0} (eq : K → K → Bool) (key : K) (older old new : List (Change K (Stored K V))) (pre : IsPrefix older old) where
   operated_since : (said : List (Option (Stored K V) × Operation V T)) (answer : Result (Computed K V T) Cause) → IsOperated eq key old new said answer → IsOperated eq key older new said answer
@@ -298,13 +320,14 @@ module _ {K V T : Type 0} (eq : K → K → Bool) (key : K) (older old new : Lis
       record { said = heard; left = left; has_said = has; held = s.held; none_once = s.none_once; operated = s.operated }
 
 -- a compute that begins
-pub begins : {K V S T H : Type 0} (eq : K → K → Bool) (hash : S → K → ℕ) (b : Begun K V S) (name : Book) (key : K) (log : List (Event K V S)) (x : Computing K V S T H) → IsLawfulLog eq hash b log → (initial : ℕ) → x.writer.call.machine ≡ started Compute (hash b.hasher key) b.mode initial 0
-    → (x.writer.call.table ≡ None) × (x.writer.call.fresh ≡ None) → (x.writer.call.last ≡ None) × (x.writer.call.kept ≡ None) × (x.writer.call.taken ≡ None) × (x.writer.call.put ≡ None) → x.writer.key ≡ Some key → x.writer.brought ≡ None → x.shown ≡ None → x.fill ≡ None → x.chosen ≡ None → IsComputing eq hash b name key log log x []
-begins eq hash b name key log x l initial machine table pairs own brought shown fill chosen = record {
+pub begins : {K V S T H : Type 0} (eq : K → K → Bool) (hash : S → K → ℕ) (b : Begun K V S) (name : Book) (key : K) (log : List (Event K V S)) (x : Computing K V S T H) → IsLawfulLog eq hash b log → (initial : ℕ) → x.writer.call.machine ≡ started Compute (hash b.hasher key) b.mode initial 0 b.limit
+    → (x.writer.call.table ≡ None) × (x.writer.call.fresh ≡ None) → (x.writer.call.last ≡ None) × (x.writer.call.kept ≡ None) × (x.writer.call.taken ≡ None) × (x.writer.call.put ≡ None) → x.writer.key ≡ Some (keys.Own key) → x.writer.value ≡ None → x.shown ≡ None → x.fill ≡ None → x.chosen ≡ None → IsComputing eq hash b name key log log x []
+begins eq hash b name key log x l initial machine table pairs own value shown fill chosen = record {
   made = [];
-  writing = begins_writing eq hash b name key log x.writer l Compute initial machine table pairs own brought;
+  writing = begins_writing eq hash b name key log x.writer l Compute initial machine table pairs own (rw value tt);
   task_is = ap (λ (z : Machine). z.call.task) machine;
   words = rw machine tt;
+  puts = rw machine tt;
   shown_placed = rw shown tt;
   fill_placed = rw fill tt;
   chosen_placed = rw chosen tt;
@@ -312,12 +335,15 @@ begins eq hash b name key log x l initial machine table pairs own brought shown 
   none_once = tt;
   none_shown = inl tt;
   stood = λ stands h. absurd (nothing_said (subst (λ (z : Machine). StandsOn z.call stands) machine h));
+  newest = λ i n h. absurd (nothing_said (subst (λ (z : Machine). StandsOn z.call (Makes (Some i) n)) machine h));
+  of_slot = λ old new e. let g = sym (ap (λ (z : Machine). z.call.remembered.choice) machine) ∙ e in absurd (cc g);
   aborts = λ with e. let g = sym (ap ask_of machine) ∙ e in absurd (cc g);
   refuses = λ cause e. let g = sym (ap ask_of machine) ∙ e in absurd (cc g);
   crowded = λ e. let g = sym (ap ask_of machine) ∙ e in absurd (cc g);
+  spent = λ e. let g = sym (ap ask_of machine) ∙ e in absurd (cc g);
 }
   where
-    nothing_said : {stands : Said} → StandsOn (started Compute (hash b.hasher key) b.mode initial 0).call stands → ⊥
+    nothing_said : {stands : Said} → StandsOn (started Compute (hash b.hasher key) b.mode initial 0 b.limit).call stands → ⊥
     nothing_said (inl e) = cc e
     nothing_said (inr (inl e)) = cc e
     nothing_said (inr (inr e)) = cc e

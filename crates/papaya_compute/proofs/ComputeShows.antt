@@ -3,7 +3,7 @@ use Rattle.std.proofs.Common.{◌≡◌, ◌⊎◌, inl, inr, ⊎_elim, ℕ, Boo
 use Rattle.std.specs.Cmp.{IsEquivalence}
 use Rattle.logbook.specs.Pages.{Book}
 use Rattle.papaya_words.specs.declared.probe.Refused.{Refused as Cause}
-use Rattle.papaya_words.specs.declared.probe.Refused.TheVariants.{Capacity}
+use Rattle.papaya_words.specs.declared.probe.Refused.TheVariants.{Capacity, Limit}
 use Rattle.papaya_call.specs.declared.answers.Operation.{Operation}
 use Rattle.papaya_call.specs.declared.answers.Operation.TheVariants as operation
 use Rattle.papaya_ask.specs.declared.ask.Ask.TheVariants.{Load, ShowNone, ShowPair, Done}
@@ -27,13 +27,15 @@ use Rattle.papaya_chain_rests.proofs.Once.{chain_offered, chain_once}
 use Rattle.papaya_chain_rests.proofs.Replies.{chain_shows, chain_task}
 use Rattle.papaya_call.specs.declared.machine.State.{State as Stage}
 use Rattle.papaya_call.specs.declared.machine.State.TheVariants.{Offering, Pairing, Ended}
-use Rattle.papaya_call.specs.declared.write.Made.{Made}
-use Rattle.papaya_call.specs.declared.write.Made.TheVariants.{Nothing, Key, Pair}
-use Rattle.papaya_rests.specs.Says.{Agrees, HasShownNone, Inserts, IsFilled, IsSaidBy, Makes, Removes, Said, StandsOn, said_to_fill, show}
+use Rattle.papaya_call.specs.declared.compute.Choice.TheVariants.{Replace as To_replace}
+use Rattle.papaya_call.specs.declared.made.Made.{Made}
+use Rattle.papaya_call.specs.declared.made.Of.{Of}
+use Rattle.papaya_rests.specs.Says.{Agrees, HasShownNone, Inserts, IsAnswered, IsFilled, IsSaidBy, KeepsFill, Makes, Removes, Said, StandsOn, said_to_fill, show}
 use Rattle.papaya_law.specs.Code.{Coding}
 use Rattle.papaya_law.specs.Exchange.{Setting}
-use Rattle.papaya_rests.specs.Rests.{WasAtMoment}
+use Rattle.papaya_rests.specs.Rests.{IsAtLimit, WasAtMoment}
 use Rattle.papaya_rests.specs.Told.{Hands}
+use Rattle.papaya_rests.proofs.Makings.{IsPairAsk, pairing_asks}
 use Rattle.papaya_rests.proofs.RestsHeld as held
 use Rattle.papaya_rests.proofs.RestsHeld.{machine_offers, machine_unpaired}
 use Rattle.papaya_rests.proofs.SaysOver.{machine_chosen}
@@ -43,9 +45,10 @@ use Rattle.papaya_book.specs.declared.rule.entry.Begun.{Begun}
 use Rattle.papaya_book.specs.declared.rule.entry.Event.{Event}
 use Rattle.papaya_change.specs.declared.writing.Writer.{Writer}
 use Rattle.papaya_change.specs.Changing.{IsCalling}
+use Rattle.papaya_book.specs.declared.book.pairs.ValuePart.{ValuePart}
 use Rattle.papaya_compute.specs.Computing.{Holds, IsComputing, IsMadeOf, IsSpared, aborted_after, chosen_after, keeping, kind_of, number_of, value_after}
 use Rattle.papaya_book.specs.Hashes.{hash_of}
-use Rattle.papaya_lookup.specs.History.{history_of}
+use Rattle.papaya_lookup.specs.History.{history_of, key_of}
 use Rattle.papaya_book.specs.Logs.{Member, Stored, exchanges_of, pair_named}
 use Rattle.papaya_book.specs.Rule.{IsPlaced}
 use Rattle.papaya_book.specs.declared.keyed.Keyed as keyed
@@ -53,10 +56,13 @@ use Rattle.papaya_book.specs.declared.window.Window.{Window}
 use Rattle.papaya_change.specs.Doing.{Answers}
 use Rattle.papaya_change.proofs.Doing.{idle}
 use Rattle.papaya_change.specs.Showings.{HasNoNone, IsNoneOnce, WasHeld}
-use Rattle.papaya_change.specs.Writing.{IsWriting}
+use Rattle.papaya_change.specs.Writing.{HasKeyAt, HasValue, IsWriting, held_value}
 use Rattle.papaya_change.proofs.Changing.{Coded, Wide, barren, quiet}
 use Rattle.papaya_change.proofs.OwnSteps.{own_order}
 use Rattle.papaya_change.proofs.Refusals.{IsOwnEnd, own_refused}
+use Rattle.papaya_compute.proofs.AnsweredValues.{answered_none, answered_pair}
+use Rattle.papaya_compute.proofs.ChosenChains.{chain_puts}
+use Rattle.papaya_compute.proofs.ChosenSlots.{machine_choice}
 use Rattle.papaya_compute.proofs.ComputeOwn.{own_aborted, own_step}
 use Rattle.papaya_compute.specs.Computing.{IsComputingOn, IsToShow}
 use Rattle.papaya_lookup.proofs.Readings.{IsQuery, hashed_with}
@@ -65,7 +71,7 @@ use Rattle.papaya_change.proofs.Written.{own_query}
 
 -- what the machine is told tells what the closure answered
 module _ {V T : Type 0} where
-  inserts : (done : Operation V T) → kind_of done ≡ kinds.Insert → (v : V) × (done ≡ operation.Insert v) × ((before : Option V) → value_after done before ≡ Some v)
+  inserts : {K : Type 0} (done : Operation V T) → kind_of done ≡ kinds.Insert → (v : V) × (done ≡ operation.Insert v) × ((before : Option (ValuePart K V)) → held_value (value_after done before) ≡ Some v)
   inserts (operation.Insert v) e = (v, refl, λ before. refl)
   inserts operation.Remove e = absurd (cc e)
   inserts (operation.Abort t) e = absurd (cc e)
@@ -104,9 +110,7 @@ module _ {K V T : Type 0} where
 -- a call that shows a pair, and has shown that there is none, remembers the pair that would fill
 filled_in : (made : Made) (hash : ℕ) (fill : Option ℕ) (stage : Stage) (n : ℕ) → calls.asks made hash stage ≡ ShowPair n → HasShownNone fill stage → IsFilled fill
 filled_in made hash fill (Offering gap) n e h = absurd h
-filled_in Nothing hash fill (Pairing purpose) n e h = absurd (cc e)
-filled_in Key hash fill (Pairing purpose) n e h = absurd (cc e)
-filled_in (Pair i) hash fill (Pairing purpose) n e h = absurd (cc e)
+filled_in made hash fill (Pairing purpose) n e h = absurd (subst IsPairAsk e (pairing_asks made purpose))
 filled_in made hash fill (Ended reply) n e h = absurd (cc e)
 filled_in made hash fill stage n e h = h
 
@@ -213,8 +217,8 @@ module _ {K V S H : Type 0} (eq : K → K → Bool) (input : K → List (List �
         r.calling.holds_table r.calling.last_placed r.calling.made_placed
 
     -- a writer whose closure was asked rests again, whatever value it keeps
-    asked : (shown : Option ℕ) (value : Option V) → ask_of w.call.machine ≡ Call (show shown) → IsWriting eq hash b name key made begun log (record w { call = record w.call { machine = w' }; value = value })
-    asked shown value asks = record { calling = called shown asks; keyed = r.keyed; put_placed = r.put_placed }
+    asked : (shown : Option ℕ) (value : Option (ValuePart K V)) → HasValue b name value → ask_of w.call.machine ≡ Call (show shown) → IsWriting eq hash b name key made begun log (record w { call = record w.call { machine = w' }; value = value })
+    asked shown value valued asks = record { calling = called shown asks; keyed = r.keyed; valued = valued; put_placed = r.put_placed }
 
   module _ {T : Type 0} (log : List (Event K V S)) (x : Computing K V S T H) (heard : List (Option (Stored K V) × Operation V T)) (r : Comp log x heard) (standing : IsStanding x.writer.call.machine) (held : Option (Stored K V)) (done : Operation V T) (asks : ask_of x.writer.call.machine ≡ Call (show (number_of held))) where
     abbrev chain : Machine
@@ -290,11 +294,43 @@ module _ {K V S H : Type 0} (eq : K → K → Bool) (input : K → List (List �
     refused_by : (cause : Cause) → ask_of chain' ≡ Call (Done (Refused cause)) → IsOwnEnd chain own_asks.0 (Op (kind_of done)) cause
     refused_by cause e = own_refused chain own_asks.0 (Op (kind_of done)) (not_done (number_of held) asks) cause e
 
+    -- it is told of no count of numbers
+    unlimited : IsAtLimit m (Op (kind_of done)) → ⊥
+    unlimited over = ⊎_elim (λ e. cc e) (λ e. cc e) over.5
+
+    -- a value that it answers lies at no pair yet
+    valued_in : (o : Operation V T) → HasValue b name (value_after o x.writer.value)
+    valued_in (operation.Insert v) = tt
+    valued_in operation.Remove = r.writing.valued
+    valued_in (operation.Abort t) = r.writing.valued
+
     chosen_in : (o : Operation V T) (shown : Option (Stored K V)) → IsPlaced b (Some name) (pair_named shown) → IsPlaced b (Some name) (pair_named (chosen_after shown o x.chosen))
     chosen_in o None p = r.chosen_placed
     chosen_in (operation.Insert v) (Some q) p = r.chosen_placed
     chosen_in operation.Remove (Some q) p = p
     chosen_in (operation.Abort t) (Some q) p = r.chosen_placed
+
+    -- where it remembers one in the place of a pair, this is a newer answer, or the call is over
+    answered_now : IsAnswered m'.state → IsAnswered chain'.call.state
+    answered_now waits = subst (λ (z : Call_machine). IsAnswered z.state) (sym steps) waits
+
+    removed_none : (p : Stored K V) → held ≡ Some p → kind_of done ≡ kinds.Remove → (i n : ℕ) → StandsOn m' (Makes (Some i) n) → ⊥
+    removed_none p e removes_it i n h =
+        let shows : calls.ask_of m ≡ ShowPair p.index = own_asks.1 ∙ ap (λ (o : Option (Stored K V)). show (number_of o)) e in
+        let removed : StandsOn (calls.after m (Op kinds.Remove)) (Makes (Some i) n) = subst (λ (k : OpKind). StandsOn (calls.after m (Op k)) (Makes (Some i) n)) removes_it h in
+        ⊎_elim (λ is. cc is) (λ (a : KeepsFill m (Makes (Some i) n)). let is = a.1 in cc is) (machine_chosen m p.index (Makes (Some i) n) r.task_is shows removed)
+
+    newest_by : (o : Option (Stored K V)) → held ≡ o → (kind : OpKind) → kind_of done ≡ kind → (i n : ℕ) → StandsOn m' (Makes (Some i) n) → IsAnswered m'.state
+    newest_by None e kind is i n h = answered_none m (kind_of done) (own_asks.1 ∙ ap (λ (o : Option (Stored K V)). show (number_of o)) e)
+    newest_by (Some p) e kinds.Insert is i n h = answered_pair m p.index (kind_of done) r.task_is (λ f. let g = sym is ∙ f in cc g) (own_asks.1 ∙ ap (λ (o : Option (Stored K V)). show (number_of o)) e)
+    newest_by (Some p) e kinds.Remove is i n h = absurd (removed_none p e is i n h)
+    newest_by (Some p) e (kinds.Abort with) is i n h = answered_pair m p.index (kind_of done) r.task_is (λ f. let g = sym is ∙ f in cc g) (own_asks.1 ∙ ap (λ (o : Option (Stored K V)). show (number_of o)) e)
+
+    newest_now : (i n : ℕ) → StandsOn chain'.call (Makes (Some i) n) → IsAnswered chain'.call.state
+    newest_now i n h = answered_now (newest_by held refl (kind_of done) refl i n (subst (λ (z : Call_machine). StandsOn z (Makes (Some i) n)) steps h))
+
+    slot_now : (old : ℕ) (new : Of) → chain'.call.remembered.choice ≡ Some (To_replace old new) → (q : Stored K V) × (x.made ≡ Some q) × HasKeyAt log new.table new.index (key_of q)
+    slot_now old new e = ⊎_elim (λ same. r.of_slot old new same) (λ now. let f = now.1.1 in absurd (cc f)) (machine_choice m old new (Op (kind_of done)) (ap (λ (z : Call_machine). z.remembered.choice) (sym steps) ∙ e))
 
     -- where it ends the call, the pair that would fill has the value of what it answered before to None
     spared_now : (o : Option (Stored K V)) → held ≡ o → IsSpared x.fill heard
@@ -313,9 +349,10 @@ module _ {K V S H : Type 0} (eq : K → K → Bool) (input : K → List (List �
     shows_on was placed = (
       record {
         made = r.made;
-        writing = asked r.made log x.writer r.writing (kind_of done) (number_of held) (value_after done x.writer.value) asks;
+        writing = asked r.made log x.writer r.writing (kind_of done) (number_of held) (value_after done x.writer.value) (valued_in done) asks;
         task_is = (chain_task chain (answers.Call (Op (kind_of done))) order).0 ∙ r.task_is;
         words = chain_shows chain (answers.Call (Op (kind_of done))) order r.words;
+        puts = chain_puts chain (answers.Call (Op (kind_of done))) order r.task_is standing.call r.puts;
         shown_placed = placed;
         fill_placed = r.fill_placed;
         chosen_placed = chosen_in done held placed;
@@ -323,12 +360,15 @@ module _ {K V S H : Type 0} (eq : K → K → Bool) (input : K → List (List �
         none_once = (none_by held refl).1;
         none_shown = (none_by held refl).0;
         stood = stood_now;
+        newest = λ i n h. inl (newest_now i n h);
+        of_slot = slot_now;
         aborts = λ with e. let s = own_aborted chain own_asks.0 (Op (kind_of done)) with (not_done (number_of held) asks) e in let a = aborts_with done with (op_is done (kinds.Abort with) s.2) in (a.0, a.2 x.aborted, ap (λ (o : Operation V T). (held, o)) a.1, spared_by a.0 a.1);
         refuses = λ cause e. ⊎_elim
             (λ h. absurd (cc h))
-            (λ a. inr (a.0, (λ j. (none_asked m held own_asks.1 (call_asks chain ShowNone a.1).1 j, removes done (op_is done kinds.Remove a.2) j))))
+            (λ others. ⊎_elim (λ over. absurd (unlimited over.1)) (λ a. inr (a.0, (λ j. (none_asked m held own_asks.1 (call_asks chain ShowNone a.1).1 j, removes done (op_is done kinds.Remove a.2) j)))) others)
             (refused_by cause e);
-        crowded = λ e. ⊎_elim (λ h. absurd (cc h)) (λ a. let f = a.0 in absurd (cc f)) (refused_by Capacity e);
+        crowded = λ e. ⊎_elim (λ h. absurd (cc h)) (λ others. ⊎_elim (λ over. let f = over.0 in absurd (cc f)) (λ a. let f = a.0 in absurd (cc f)) others) (refused_by Capacity e);
+        spent = λ e. ⊎_elim (λ h. absurd (cc h)) (λ others. ⊎_elim (λ over. absurd (unlimited over.1)) (λ a. let f = a.0 in absurd (cc f)) others) (refused_by Limit e);
       },
       tt,
     )

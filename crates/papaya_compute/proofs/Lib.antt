@@ -1,3 +1,7 @@
+pub mod AnsweredValues
+pub mod ChosenSlots
+pub mod ChosenChains
+pub mod PairsMade
 pub mod ComputeOwn
 pub mod ComputeGoes
 pub mod ComputeHelped

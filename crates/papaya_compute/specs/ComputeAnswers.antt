@@ -11,7 +11,7 @@ use Rattle.papaya_change.specs.Changes.{IsChangeOf}
 use Rattle.papaya_lookup.specs.History.{Change, key_of}
 use Rattle.papaya_book.specs.Logs.{Member, Stored}
 use Rattle.papaya_change.specs.Showings.{AllShown, AreOf, HasSaid, IsNoneOnce, IsSamePair, WasHeld, WasLast}
-use Rattle.papaya_change.specs.Writing.{IsMemoryOrCapacity}
+use Rattle.papaya_change.specs.Writing.{IsMemoryCapacityOrLimit}
 
 -- the compute changed the map
 abbrev pub changes : {K V T : Type 0} → Result (Computed K V T) Refused → Bool
@@ -25,7 +25,7 @@ changes (Err refused) = false
 -- nothing.
 abbrev pub IsRefusedBy : {K V T : Type 0} → List (Option (Stored K V) × Operation V T) → Refused
     → Type 0
-IsRefusedBy said refused = IsMemoryOrCapacity refused ⊎ ((refused ≡ RemoveNothing)
+IsRefusedBy said refused = IsMemoryCapacityOrLimit refused ⊎ ((refused ≡ RemoveNothing)
     × WasLast None operation.Remove said)
 
 module _ {K V T : Type 0} (eq : K → K → Bool) (key : K)
@@ -36,14 +36,15 @@ module _ {K V T : Type 0} (eq : K → K → Bool) (key : K)
   WasOperated p done said = (shown : Stored K V) × IsSamePair shown p
       × Member (Some shown, done) said
 
-  -- What a compute answers, by what its closure was shown and answered. A new pair has the key that
-  -- was handed in, and the value of the closure's answer to just what it takes the place of.
+  -- What a compute answers, by what its closure was shown and answered. A new pair has the value of
+  -- the closure's answer to just what it takes the place of, and the key of that: the stored key
+  -- stays. Where there was none, it has the key that was handed in.
   abbrev pub IsOperated : List (Option (Stored K V) × Operation V T)
       → Result (Computed K V T) Refused → Type 0
   IsOperated said (Ok (Inserted k v)) = (q : Stored K V) × IsChangeOf (eq key) old new None (Some q)
       × (key_of q ≡ key) × Member (None, operation.Insert q.value.value) said × AreOf (k, v) q
   IsOperated said (Ok (Updated before after)) = (p : Stored K V) × (q : Stored K V)
-      × IsChangeOf (eq key) old new (Some p) (Some q) × (key_of q ≡ key)
+      × IsChangeOf (eq key) old new (Some p) (Some q) × (key_of q ≡ key_of p)
       × WasOperated p (operation.Insert q.value.value) said × AreOf before p × AreOf after q
   IsOperated said (Ok (Removed k v)) = (p : Stored K V) × IsChangeOf (eq key) old new (Some p) None
       × WasOperated p operation.Remove said × AreOf (k, v) p

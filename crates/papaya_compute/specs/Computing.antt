@@ -3,14 +3,14 @@ use Rattle.std.specs.Prelude.{◌≡◌, ◌⊎◌, ℕ, Bool, MatchOption, Opti
 use mathlib.Core.List.{IsPrefix}
 use Rattle.logbook.specs.Pages.{Book}
 use Rattle.papaya_words.specs.declared.probe.Refused.{Refused}
-use Rattle.papaya_words.specs.declared.probe.Refused.TheVariants.{Capacity}
+use Rattle.papaya_words.specs.declared.probe.Refused.TheVariants.{Capacity, Limit}
 use Rattle.papaya_call.specs.declared.answers.Operation.{Operation}
 use Rattle.papaya_call.specs.declared.answers.Operation.TheVariants as operation
 use Rattle.papaya_ask.specs.declared.ask.Answer.{Answer}
 use Rattle.papaya_ask.specs.declared.ask.Answer.TheVariants.{Op}
 use Rattle.papaya_ask.specs.declared.ask.Ask.{Ask}
-use Rattle.papaya_ask.specs.declared.ask.Ask.TheVariants.{Done, Exchange, Load, LoadHint, MakeKey, MakeTable, SameKey, SizeOf}
-use Rattle.papaya_ask.specs.declared.ask.At.TheVariants.{Root}
+use Rattle.papaya_ask.specs.declared.ask.Ask.TheVariants.{Done, Exchange, Load, LoadHint, MakeKey, MakeTable, MakeValue, SameKey, SizeOf}
+use Rattle.papaya_ask.specs.declared.ask.At.TheVariants.{Made as Made_word, Root}
 use Rattle.papaya_ask.specs.declared.ask.StepKind.{StepKind}
 use Rattle.papaya_ask.specs.declared.ask.StepKind.TheVariants.{Claim}
 use Rattle.papaya_ask.specs.declared.ask.OpKind.{OpKind}
@@ -18,10 +18,13 @@ use Rattle.papaya_ask.specs.declared.ask.OpKind.TheVariants as kinds
 use Rattle.papaya_ask.specs.declared.call.Reply.{Reply}
 use Rattle.papaya_ask.specs.declared.call.Reply.TheVariants as reply
 use Rattle.papaya_ask.specs.declared.call.Task.TheVariants.{Compute}
+use Rattle.papaya_call.specs.declared.compute.Choice.TheVariants.{Replace as To_replace}
+use Rattle.papaya_call.specs.declared.machine.Machine.{Machine}
+use Rattle.papaya_call.specs.declared.made.Of.{Of}
 use Rattle.papaya_call.specs.Machine.{IsFit}
 use Rattle.papaya_chain.specs.declared.ask.Ask.TheVariants.{Call}
 use Rattle.papaya_chain.specs.Machine.{ask_of}
-use Rattle.papaya_rests.specs.Says.{Agrees, HasShownNone, Inserts, Makes, Removes, Said, ShowsPairs, StandsOn, show}
+use Rattle.papaya_rests.specs.Says.{Agrees, HasShownNone, Inserts, IsAnswered, Makes, Removes, Said, ShowsPairs, StandsOn, show}
 use Rattle.papaya_rests.specs.Told.{IsOneOf}
 use Rattle.papaya_keys.specs.declared.compute.Compute.{Compute as Computed}
 use Rattle.papaya_compute.specs.declared.computing.Computing.{Computing}
@@ -29,11 +32,15 @@ use Rattle.papaya_book.specs.declared.rule.entry.Begun.{Begun}
 use Rattle.papaya_book.specs.declared.rule.entry.Event.{Event}
 use Rattle.papaya_lookup.specs.History.{Change, history_of, key_of}
 use Rattle.papaya_book.specs.Logs.{Member, Stored, pair_named}
-use Rattle.papaya_book.specs.Limits.{HasNoRoom, tables_of}
+use Rattle.papaya_book.specs.declared.book.pairs.ValuePart.{ValuePart}
+use Rattle.papaya_book.specs.declared.book.pairs.ValuePart.TheVariants as values
+use Rattle.papaya_book.specs.Limits.{HasNoRoom, IsSpent, tables_of}
 use Rattle.papaya_book.specs.Rule.{IsPlaced}
 use Rattle.papaya_change.specs.Showings.{AllShown, HasNoNone, IsNoneOnce, WasHeld, WasLast}
-use Rattle.papaya_change.specs.Writing.{IsWriting, answered as answered_writer}
+use Rattle.papaya_change.specs.Changes.{key_kept}
+use Rattle.papaya_change.specs.Writing.{HasKeyAt, IsWriting, answered as answered_writer, held_value}
 use Rattle.papaya_compute.specs.ComputeAnswers.{IsOperated, IsRefusedBy}
+use Rattle.papaya_compute.specs.Putting.{PutsChosen}
 
 -- what the machine is told of an answer of the closure
 abbrev pub kind_of : {V T : Type 0} → Operation V T → OpKind
@@ -42,8 +49,9 @@ kind_of operation.Remove = kinds.Remove
 kind_of (operation.Abort t) = kinds.Abort 0
 
 -- the value of the next pair after it, and what the call is to end with
-abbrev pub value_after : {V T : Type 0} → Operation V T → Option V → Option V
-value_after (operation.Insert v) before = Some v
+abbrev pub value_after : {K V T : Type 0} → Operation V T → Option (ValuePart K V)
+    → Option (ValuePart K V)
+value_after (operation.Insert v) before = Some (values.Own v)
 value_after operation.Remove before = before
 value_after (operation.Abort t) before = before
 
@@ -92,24 +100,27 @@ abbrev pub IsToShow : {K V S H T : Type 0} → Computing K V S T H → Option (S
 IsToShow x shown = (ask_of x.writer.call.machine ≡ Call (show (number_of shown)))
     × MatchOption shown (Unit {0}) (λ p. x.writer.call.last ≡ Some p)
 
--- what any call asks that inserts, but for its pair and the slots that it exchanges
+-- what any call asks that inserts, but for its pairs and the slots that it exchanges
 abbrev pub IsWriters : Ask → Type 0
 IsWriters (Load at) = Unit {0}
 IsWriters (LoadHint t x) = Unit {0}
 IsWriters (SizeOf t) = Unit {0}
 IsWriters (SameKey n) = Unit {0}
 IsWriters MakeKey = Unit {0}
+IsWriters MakeValue = Unit {0}
 IsWriters (MakeTable len limit chunks) = Unit {0}
 IsWriters (Exchange Root old new) = Unit {0}
+IsWriters (Exchange Made_word old new) = Unit {0}
 IsWriters _ = ⊥
 
--- a pair that was made of a value that the closure answered
+-- A pair that was made of a value that the closure answered: with the key of the pair that it was
+-- shown, or with the call's own where there was none.
 pub record IsMadeOf {K V T : Type 0} (key : K) (made : List (Stored K V))
     (said : List (Option (Stored K V) × Operation V T)) (held : Option (Stored K V)) (n : ℕ)
     (q : Stored K V) : Type 0 where
   pub number : q.index ≡ n
   pub made_is : IsOneOf made q
-  pub key_is : key_of q ≡ key
+  pub key_is : key_of q ≡ key_kept held key
   pub said_is : Member (held, operation.Insert q.value.value) said
 
 module _ {K V S T H : Type 0} (key : K) (made : List (Stored K V))
@@ -118,15 +129,33 @@ module _ {K V S T H : Type 0} (key : K) (made : List (Stored K V))
   -- was shown, are at hand.
   abbrev pub Holds : Said → Type 0
   Holds (Agrees n agrees) = ⊥
-  Holds (Inserts None) = (x.shown ≡ None) × ((v : V) × (x.writer.value ≡ Some v)
+  Holds (Inserts None) = (x.shown ≡ None) × ((v : V)
+      × (held_value x.writer.value ≡ Some v)
       × Member (None, operation.Insert v) said)
   Holds (Inserts (Some n)) = (p : Stored K V) × (x.shown ≡ Some p) × (p.index ≡ n)
-      × ((v : V) × (x.writer.value ≡ Some v) × Member (Some p, operation.Insert v) said)
+      × ((v : V) × (held_value x.writer.value ≡ Some v) × Member (Some p, operation.Insert v) said)
   Holds (Makes None n) = (q : Stored K V) × (x.fill ≡ Some q) × IsMadeOf key made said None n q
   Holds (Makes (Some m) n) = (p : Stored K V) × (q : Stored K V) × (x.chosen ≡ Some p)
       × (p.index ≡ m) × (x.made ≡ Some q) × IsMadeOf key made said (Some p) n q
   Holds (Removes n) = (p : Stored K V) × (x.chosen ≡ Some p) × (p.index ≡ n)
       × Member (Some p, operation.Remove) said
+
+-- Where a pair was made in the place of another, that one was shown last, and the next pair would
+-- have the same value.
+pub record IsNewest {K V S T H : Type 0} (x : Computing K V S T H) : Type 0 where
+  pub shown : x.shown ≡ x.chosen
+  pub made : (q : Stored K V) × (x.made ≡ Some q)
+      × (held_value x.writer.value ≡ Some q.value.value)
+
+module _ {K V S T H : Type 0} (m : Machine) (x : Computing K V S T H) where
+  -- So it is with what is remembered, but while a newer answer waits.
+  abbrev pub HasNewest : Type 0
+  HasNewest = (i n : ℕ) → StandsOn m (Makes (Some i) n) → IsAnswered m.state ⊎ IsNewest x
+
+  -- The pair that is remembered has the key that is in the slot that it was made for.
+  abbrev pub IsOfItsSlot : List (Event K V S) → Type 0
+  IsOfItsSlot log = (old : ℕ) (new : Of) → m.remembered.choice ≡ Some (To_replace old new)
+      → (q : Stored K V) × (x.made ≡ Some q) × HasKeyAt log new.table new.index (key_of q)
 
 -- The pair that would fill has the value that the closure answered where it was shown none.
 abbrev pub IsSpared : {K V T : Type 0} → Option (Stored K V)
@@ -150,7 +179,8 @@ module _ {K V S H T : Type 0} (eq : K → K → Bool) (hash : S → K → ℕ) (
     pub made : List (Stored K V)
     pub writing : IsWriting eq hash b name key made begun log x.writer
     pub task_is : x.writer.call.machine.call.task ≡ Compute
-    pub words : ShowsPairs x.writer.call.machine.call.state
+    pub words : ShowsPairs x.writer.call.machine.call
+    pub puts : PutsChosen x.writer.call.machine.call
     pub shown_placed : IsPlaced b (Some name) (pair_named x.shown)
     pub fill_placed : IsPlaced b (Some name) (pair_named x.fill)
     pub chosen_placed : IsPlaced b (Some name) (pair_named x.chosen)
@@ -160,6 +190,8 @@ module _ {K V S H T : Type 0} (eq : K → K → Bool) (hash : S → K → ℕ) (
         x.writer.call.machine.call.state
     pub stood : (stands : Said) → StandsOn x.writer.call.machine.call stands
         → Holds key made heard x stands
+    pub newest : HasNewest x.writer.call.machine.call x
+    pub of_slot : IsOfItsSlot x.writer.call.machine.call x log
     pub aborts : (with : ℕ) → ask_of x.writer.call.machine
         ≡ Call (Done (reply.Aborted with))
         → (t : T) × (x.aborted ≡ Some t) × WasLast x.shown (operation.Abort t) heard
@@ -168,6 +200,8 @@ module _ {K V S H T : Type 0} (eq : K → K → Bool) (hash : S → K → ℕ) (
         ≡ Call (Done (reply.Refused refused)) → IsRefusedBy heard refused
     pub crowded : ask_of x.writer.call.machine ≡ Call (Done (reply.Refused Capacity))
         → HasNoRoom x.writer.call.machine.call.initial (tables_of log) x.writer.call.given.done
+    pub spent : ask_of x.writer.call.machine ≡ Call (Done (reply.Refused Limit))
+        → IsSpent b.limit log
 
   -- the compute after its machine was answered
   abbrev pub answered : Computing K V S T H → Answer → Computing K V S T H

@@ -8,7 +8,7 @@ use Rattle.papaya_book.specs.Logs.{Member, Stored}
 use Rattle.papaya_lookup.specs.History.{Change, key_of}
 use Rattle.papaya_change.specs.Changes.{IsChangeOf}
 use Rattle.papaya_change.specs.Showings.{AllShown, HasSaid, IsNoneOnce, WasHeld, WasLast}
-use Rattle.papaya_change.specs.Writing.{IsMemoryOrCapacity}
+use Rattle.papaya_change.specs.Writing.{IsMemoryCapacityOrLimit}
 use Rattle.papaya_compute.specs.ComputeAnswers.{WasOperated}
 use Rattle.papaya_compute.specs.Computing.{value_in}
 use Rattle.papaya_compute.specs.declared.deciding.Outcome.{Outcome}
@@ -40,20 +40,21 @@ module _ {K V : Type 0} where
 
 module _ {K V : Type 0} (eq : K → K → Bool) (key : K)
     (old new : List (Change K (Stored K V))) where
-  -- what such a call answers, by what its rule was shown and answered
+  -- What such a call answers, by what its rule was shown and answered. A value that takes another's
+  -- place comes with the key that was stored.
   abbrev pub IsDecidedOf : List (Option (Stored K V) × Operation V (Unit {0}))
       → Result (Outcome V) Refused → Type 0
   IsDecidedOf heard (Ok (Put v)) = (q : Stored K V) × IsChangeOf (eq key) old new None (Some q)
       × (key_of q ≡ key) × Member (None, operation.Insert q.value.value) heard
       × (v.now ≡ q.value.value)
   IsDecidedOf heard (Ok (Replaced v)) = (p : Stored K V) × (q : Stored K V)
-      × IsChangeOf (eq key) old new (Some p) (Some q) × (key_of q ≡ key)
+      × IsChangeOf (eq key) old new (Some p) (Some q) × (key_of q ≡ key_of p)
       × WasOperated eq key old new p (operation.Insert q.value.value) heard
       × (v.now ≡ q.value.value)
   IsDecidedOf heard (Ok (Left current spare)) = (held : Option (Stored K V))
       × WasLast held (operation.Abort tt) heard
       × (option_map (λ v. v.now) current ≡ value_in held) × IsSpare spare heard
-  IsDecidedOf heard (Err refused) = IsMemoryOrCapacity refused
+  IsDecidedOf heard (Err refused) = IsMemoryCapacityOrLimit refused
 
   -- What it answers whose rule was shown and answered these, the last of them first. What it was
   -- shown was the map's between the two histories, and at most once that there is none.

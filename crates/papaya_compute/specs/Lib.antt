@@ -1,6 +1,7 @@
 -- what a compute answers, and what it rests on
 pub mod ComputeAnswers
 pub mod Computing
+pub mod Putting
 -- what a call does that stores where its rule says so
 pub mod Deciding
 -- the same by what is seen of the map

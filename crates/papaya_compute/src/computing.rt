@@ -13,7 +13,7 @@ ghost use Rattle.papaya_chain.specs.declared.ask.Ask.TheVariants.{Call};
 ghost use Rattle.papaya_chain.specs.declared.machine.Phase.TheVariants.{Calling};
 ghost use Rattle.papaya_ask.specs.declared.ask.StepKind.TheVariants.{Claim, Replace};
 ghost use Rattle.papaya_ask.specs.declared.call.Reply.TheVariants.{Aborted, Inserted, Removed, Replaced, Refused as ReplyRefused};
-ghost use Rattle.papaya_ask.specs.declared.ask.Ask.TheVariants.{Done, Exchange, MakePair, ShowPair};
+ghost use Rattle.papaya_ask.specs.declared.ask.Ask.TheVariants.{Done, Exchange, MakePair, MakePairOf, ShowPair};
 ghost use Rattle.papaya_ask.specs.declared.ask.At.TheVariants.{Slot};
 ghost use Rattle.papaya_compute.specs.Computing.{IsKept, IsToShow, IsWriters, chosen_after, pair_for, value_in};
 ghost use Rattle.papaya_compute.specs.ComputeAnswers.{changes};
@@ -23,6 +23,7 @@ ghost use Rattle.papaya_book.specs.Limits.{tables_of};
 use papaya_ask::ask::{Answer, Ask as CallAsk, At, OpKind, StepKind};
 use papaya_ask::call::{Reply, Task};
 use papaya_book::book::Book;
+use papaya_book::book::pairs::{KeyPart, ValuePart};
 use papaya_book::count::Shard;
 use papaya_book::keyed::Keyed;
 use papaya_book::rule::entry::Stored;
@@ -41,7 +42,7 @@ use std::sync::Wait;
 
 /// A compute under way: the pair that its closure was shown last, if it was one; the pair that it
 /// would put in where there is none; the pair of which it was answered what is to become, and the
-/// one that is to take its place; and what its closure ended it with.
+/// one that is to take its place, with its key; and what its closure ended it with.
 #[derive(Drop)]
 pub struct Computing<'a, K: Hash + Eq, V, S: BuildHasher, T> {
     pub writer: Writer<'a, K, V, S>,
@@ -101,7 +102,7 @@ impl<'a, K: Hash + Eq + Drop, V: Drop, S: BuildHasher, T: Drop> Computing<'a, K,
     {
         match operation {
             Operation::Insert(value) => {
-                self.writer.value = Some(value);
+                self.writer.value = Some(ValuePart::Own(value));
                 Answer::Op(OpKind::Insert)
             }
             Operation::Remove => Answer::Op(OpKind::Remove),
@@ -126,9 +127,14 @@ impl<'a, K: Hash + Eq + Drop, V: Drop, S: BuildHasher, T: Drop> Computing<'a, K,
         let hash = hash(&book.parts.hasher, &key);
         Computing {
             writer: Writer {
-                call: Driver::new(Task::Compute, hash, book.parts.mode, initial),
-                key: Some(key),
-                brought: None,
+                call: Driver::new(
+                    Task::Compute,
+                    hash,
+                    book.parts.mode,
+                    initial,
+                    book.parts.limit,
+                ),
+                key: Some(KeyPart::Own(key)),
                 value: None,
             },
             shown: None,
@@ -190,7 +196,8 @@ impl<'a, K: Hash + Eq + Drop, V: Drop, S: BuildHasher, T: Drop> Computing<'a, K,
         self.writer.call.help(rt, alloc, shard, window);
     }
 
-    /// Logs a pair of the key and of the value that the closure answered last.
+    /// Logs the pair that is to stand where there is none: of the call's key and of the value that
+    /// the closure answered last.
     fn make_pair<R: Wait>(&mut self, rt: &R, window: &Window<'a, K, V, S>) -> Answer
         requires can { CanCompute window.now self.old }
         requires standing { IsStanding self.old.writer.call.machine }
@@ -198,18 +205,39 @@ impl<'a, K: Hash + Eq + Drop, V: Drop, S: BuildHasher, T: Drop> Computing<'a, K,
         ensures machine { self.new.writer.call.machine ≡ self.old.writer.call.machine }
         ensures computes { Computes window.now self.old window.now self.new (Some result) }
     {
-        let pair = match self.writer.log_pair(rt, window) {
-            Ok(pair) => pair,
-            Err(answer) => return answer,
+        match self.writer.log_pair(rt, window) {
+            Ok(pair) => {
+                let number = pair.index() as u64;
+                self.fill = Some(pair);
+                Answer::Made(number)
+            }
+            Err(answer) => answer,
+        }
+    }
+
+    /// Logs a pair in the place of the one that the closure was shown last: of that one's key and
+    /// of the value that was answered of it.
+    fn make_pair_of<R: Wait>(&mut self, rt: &R, window: &Window<'a, K, V, S>) -> Answer
+        requires can { CanCompute window.now self.old }
+        requires standing { IsStanding self.old.writer.call.machine }
+        requires asks { (n : ℕ) × (ask_of self.old.writer.call.machine ≡ Call (MakePairOf n)) }
+        ensures machine { self.new.writer.call.machine ≡ self.old.writer.call.machine }
+        ensures computes { Computes window.now self.old window.now self.new (Some result) }
+    {
+        let (Some(shown), Some(last)) = (&self.shown, &self.writer.call.last) else {
+            unreachable!()
         };
-        let number = pair.index() as u64;
-        let Some(shown) = &self.shown else {
-            self.fill = Some(pair);
-            return Answer::Made(number);
-        };
-        self.chosen = Some(shown.again());
-        self.made = Some(pair);
-        Answer::Made(number)
+        window.book.parts.pairs.agrees(shown, last);
+        let chosen = shown.again();
+        match self.writer.log_pair_of(rt, window) {
+            Ok(pair) => {
+                let number = pair.index() as u64;
+                self.chosen = Some(chosen);
+                self.made = Some(pair);
+                Answer::Made(number)
+            }
+            Err(answer) => answer,
+        }
     }
 
     /// Tries to put the pair into a slot that was made for it.
@@ -283,11 +311,12 @@ impl<'a, K: Hash + Eq + Drop, V: Drop, S: BuildHasher, T: Drop> Computing<'a, K,
             CallAsk::LoadHint(number, place) => self.writer.hint(number, place, window),
             CallAsk::SizeOf(_) => self.writer.size(window),
             CallAsk::SameKey(_) => self.writer.same(window),
-            CallAsk::MakeKey => self.writer.make_key(),
+            CallAsk::MakeKey | CallAsk::MakeValue => self.writer.make_part(),
             CallAsk::MakeTable { len, limit, chunks } => self
                 .writer
                 .make_table(rt, alloc, len, limit, chunks, window),
             CallAsk::Exchange(At::Root, _, _) => self.writer.open(window),
+            CallAsk::Exchange(At::Made, old, new) => self.writer.take((old, new), window),
             _ => unreachable!(),
         }
     }
@@ -314,6 +343,7 @@ impl<'a, K: Hash + Eq + Drop, V: Drop, S: BuildHasher, T: Drop> Computing<'a, K,
             CallAsk::ShowNone => Turn::Shows(None),
             CallAsk::ShowPair(_) => Turn::Shows(Some(self.to_show())),
             CallAsk::MakePair => Turn::Answered(self.make_pair(rt, window)),
+            CallAsk::MakePairOf(_) => Turn::Answered(self.make_pair_of(rt, window)),
             CallAsk::Exchange(At::Slot(number, place), old, new) => {
                 Turn::Answered(self.exchange(number, place, (old, new), window))
             }

@@ -7,7 +7,7 @@ ghost use Rattle.papaya_ask.specs.declared.call.Reply.TheVariants.{Refused as Re
 ghost use Rattle.papaya_chain.specs.declared.ask.Ask.TheVariants.{Call};
 ghost use Rattle.papaya_chain.specs.Machine.{IsStanding, ask_of};
 ghost use Rattle.papaya_book.specs.Books.{IsIn};
-ghost use Rattle.papaya_book.specs.Limits.{HasNoRoom, tables_of};
+ghost use Rattle.papaya_book.specs.Limits.{HasNoRoom, IsSpent, tables_of};
 ghost use Rattle.papaya_book.specs.Logs.{pair_named};
 ghost use Rattle.papaya_book.specs.Windows.{IsLawful, Sees};
 ghost use Rattle.papaya_lookup.specs.Drivers.{own, past};
@@ -79,7 +79,7 @@ fn wish<K: Hash + Eq, V, S: BuildHasher, D: Rule<V>>(
 {
     let wanted = match shown {
         None => rule.absent(),
-        Some(pair) => rule.present(book.pair(pair).value()),
+        Some(pair) => rule.present(book.value(book.pair(pair))),
     };
     match wanted {
         Some(value) => Operation::Insert(value),
@@ -135,6 +135,8 @@ pub fn decide<'a, R: Wait, K: Hash + Eq + Drop, V: Drop, S: BuildHasher, D: Rule
     ensures made { Makes (puts result) (own window.old) (own window.new) (past window.new) }
     ensures crowded { result ≡ Err Refused.Capacity → HasNoRoom initial
         (tables_of window.new.sight.log) given.new.done }
+    ensures spent { result ≡ Err Refused.Limit → IsSpent window.new.book.now.parts.limit
+        window.new.sight.log }
     ensures decided { IsDecided K.eq key (past window.old) (past window.new) D.decides rule.old
         rule.new result }
 {

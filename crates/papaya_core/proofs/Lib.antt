@@ -1,3 +1,6 @@
 -- Lemmas of their own: most stand in papaya_timeline.
+pub mod LimitMet
+pub mod LimitRefusals
+pub mod NumbersTaken
 pub mod Steps
 pub mod Walks

@@ -13,6 +13,7 @@ ghost use Rattle.std.specs.Prelude.{Some, None, is_some, MatchOption, reverse, �
 ghost use Rattle.std.specs.Int.{IsPowerOfTwo};
 ghost use Rattle.papaya_law.specs.Content.{AreApart};
 ghost use Rattle.papaya_words.specs.Mode.{IsChunked};
+ghost use Rattle.papaya_call.specs.Made.{IsLimit};
 ghost use Rattle.papaya_chain.specs.Machine.{IsStanding};
 ghost use Rattle.papaya_words.specs.Table.{TableWords};
 ghost use Rattle.papaya_ask.specs.Search.{IsSize};
@@ -21,18 +22,19 @@ ghost use Rattle.papaya_store.specs.Tables.{table_of};
 ghost use Rattle.papaya_timeline.specs.Callers.{visiting, visitor_in, working};
 ghost use Rattle.papaya_timeline.specs.Maps.{key_of};
 ghost use Rattle.papaya_core.specs.Goes.{CallGoes, IsStandingWork, ResizerGoes, WorkGoes};
+ghost use Rattle.papaya_core.specs.Limits.{IsSpent, IsWithin, NeedsNumber};
 ghost use Rattle.papaya_timeline.specs.Outcomes.{AnswersWalk, as_reply};
 ghost use Rattle.papaya_store.specs.Store.{KeepsPairs, pair_of};
 ghost use Rattle.papaya_keys.specs.Hashes.{hash_of};
 ghost use Rattle.papaya_timeline.specs.Core.{work_of};
 ghost use Rattle.papaya_timeline.specs.Content.{content};
 ghost use Rattle.papaya_timeline.specs.Counted.{IsCounted};
-ghost use Rattle.papaya_timeline.specs.Begins.{Begins, begun, begun_work, visitor_begun};
+ghost use Rattle.papaya_timeline.specs.Begins.{Begins, begun, begun_work, handed, visitor_begun};
 ghost use Rattle.papaya_timeline.specs.Advances.{AddsToShard, event_of, reply_in};
 ghost use Rattle.papaya_timeline.specs.Headline.{HasTimeline};
 ghost use Rattle.papaya_timeline.specs.Intends.{IntendsHanded, KeepsIntents};
 ghost use Rattle.papaya_timeline.specs.Moves.{MovesMap};
-ghost use Rattle.papaya_timeline.specs.New.{IsNew};
+ghost use Rattle.papaya_timeline.specs.New.{IsNew, IsNewLimited};
 ghost use Rattle.papaya_keys.specs.Sizes.{IsSizeRefusal};
 ghost use Rattle.papaya_keys.specs.Sizes.{IsAllowed};
 ghost use Rattle.papaya_timeline.specs.Runs.{Steps, TurnsRun, StopsEarly, TurnRuns, IsCutShort, BeginRuns, StepRuns, StepsRun};
@@ -47,7 +49,8 @@ use papaya_chain::ask::Ask;
 use papaya_chain::machine::Machine;
 use papaya_chain::resizer::{Resize, Resizer};
 use papaya_chain::visitor::{Visit, Visitor};
-use papaya_store::pairs::{KeyOf, Running};
+use papaya_store::mode::Mode;
+use papaya_store::pairs::{Part, Running};
 use papaya_store::store::Store;
 use papaya_store::visits::{Numbers, Visiting};
 use papaya_timeline::outcome::Outcome;
@@ -62,13 +65,13 @@ use std::marker::Model;
 /// `A` gives the answers of the closures of calls that take one: [`papaya_call::answers::Listed`],
 /// or a type of the user's own.
 ///
-/// Contracts see the words, the logs of keys and pairs, and the calls under way.
+/// Contracts see the words, the log of pairs, and the calls under way.
 #[derive(Drop)]
 pub struct Core<K: Hash + Eq, V, S: BuildHasher, A> {
     alloc: Global,
     store: Store<K, V, S>,
     callers: Callers<K, V, A>,
-    mode: ResizeMode,
+    mode: Mode,
     initial: usize,
 }
 
@@ -93,17 +96,27 @@ impl<K: Hash + Eq, V, S: BuildHasher, A> Model for Core<K, V, S, A> {
         c.callers c.mode × IsCounted K.eq c.store c.callers × IsPowerOfTwo c.initial };
 }
 
+/// A value that was handed in is the call's own.
+fn handed_in<V>(value: Option<V>) -> Option<Part<V>>
+    ensures { result ≡ handed value }
+{
+    match value {
+        Some(value) => Some(Part::Own(value)),
+        None => None,
+    }
+}
+
 /// A call on one key as it begins: its task, the key, and what else it was handed.
 fn call_on<K: Hash + Eq, V: Drop, S: BuildHasher, A>(
     store: &Store<K, V, S>,
-    mode: ResizeMode,
+    mode: Mode,
     initial: usize,
     number: u64,
     task: Task,
     key: K,
     handed: (Option<V>, Option<A>),
 ) -> Work<K, V, A>
-    requires chunked { IsChunked mode }
+    requires chunked { IsChunked mode.resize }
     requires initial { IsPowerOfTwo initial }
     ensures begun { result ≡ Work.Call (begun (hash_of K.hash_input S.build_hasher S.Hasher.write
         S.Hasher.finish store.now.hasher) mode initial number task key handed.0 handed.1) }
@@ -112,9 +125,16 @@ fn call_on<K: Hash + Eq, V: Drop, S: BuildHasher, A>(
 {
     let (value, answers) = handed;
     Work::Call(Running {
-        machine: Machine::new(task, store.hash(&key), mode, initial, number),
-        key: KeyOf::Own(key),
-        value,
+        machine: Machine::new(
+            task,
+            store.hash(&key),
+            mode.resize,
+            initial,
+            number,
+            mode.limit,
+        ),
+        key: Part::Own(key),
+        value: handed_in(value),
         answers,
     })
 }
@@ -143,12 +163,12 @@ fn visit_on<K, V, A>(
 fn begin_call<K: Hash + Eq, V: Drop, S: BuildHasher, A>(
     alloc: Global,
     store: &Store<K, V, S>,
-    mode: ResizeMode,
+    mode: Mode,
     initial: usize,
     number: u64,
     call: Call<K, V, A>,
 ) -> Work<K, V, A>
-    requires chunked { IsChunked mode }
+    requires chunked { IsChunked mode.resize }
     requires initial { IsPowerOfTwo initial }
     ensures begun { result ≡ begun_work (hash_of K.hash_input S.build_hasher S.Hasher.write
         S.Hasher.finish store.now.hasher) mode initial number call }
@@ -162,16 +182,17 @@ fn begin_call<K: Hash + Eq, V: Drop, S: BuildHasher, A>(
         Call::RemoveIf(key, answers) => (Task::RemoveIf, key, (None, Some(answers))),
         Call::Compute(key, answers) => (Task::Compute, key, (None, Some(answers))),
         Call::Reserve(more) => {
-            return Work::Resize(Resizer::new(Resize::Reserve(more), mode, initial, number));
+            return Work::Resize(Resizer::new(Resize::Reserve(more), mode.resize, initial, number));
         }
         Call::CopyAll => {
-            return Work::Resize(Resizer::new(Resize::CopyAll, mode, initial, number));
+            return Work::Resize(Resizer::new(Resize::CopyAll, mode.resize, initial, number));
         }
-        Call::Clear => return visit_on(alloc, mode, initial, number, Visit::Clear, None),
+        Call::Clear => return visit_on(alloc, mode.resize, initial, number, Visit::Clear, None),
         Call::Retain(answers) => {
-            return visit_on(alloc, mode, initial, number, Visit::Retain, Some(answers));
+            let answers = Some(answers);
+            return visit_on(alloc, mode.resize, initial, number, Visit::Retain, answers);
         }
-        Call::Walk => return visit_on(alloc, mode, initial, number, Visit::Walk, None),
+        Call::Walk => return visit_on(alloc, mode.resize, initial, number, Visit::Walk, None),
     };
     call_on(store, mode, initial, number, task, key, handed)
 }
@@ -273,11 +294,13 @@ impl<K: Hash + Eq, V, S: BuildHasher, A> Core<K, V, S, A> {
     /// Is this caller in a call?
     ///
     /// The contract also says of any core, whatever calls are under way, that its count is the
-    /// number of pairs, but for what the calls have yet to add.
+    /// number of pairs, but for what the calls have yet to add, and that no more numbers were taken
+    /// for pairs than its limit says, where it has one.
     pub fn running(&self, caller: usize) -> bool
         ensures running { result ≡ is_some (work_of self.now caller) }
         ensures apart { AreApart K.eq (λ p. p.key) (content K.eq self.now.store) }
         ensures counted { IsCounted K.eq self.now.store self.now.callers }
+        ensures limit { IsWithin self.now }
     {
         self.callers.is_running(caller)
     }
@@ -293,8 +316,8 @@ impl<K: Hash + Eq, V, S: BuildHasher, A> Core<K, V, S, A> {
 }
 
 impl<K: Hash + Eq + Drop, V: Drop, S: BuildHasher + Drop, A> Core<K, V, S, A> {
-    /// A core with no pairs and no callers. `capacity` is for how many pairs its first table is
-    /// made at once; with 0 the first change makes one.
+    /// A core with no pairs, no limit on them, and no callers. `capacity` is for how many pairs its
+    /// first table is made at once; with 0 the first change makes one.
     ///
     /// `Refused::ZeroChunk` for chunks of no slots. `Refused::Capacity` for more shards than
     /// [`papaya_words::limits::MAX_SHARDS`], and for a table past
@@ -313,12 +336,54 @@ impl<K: Hash + Eq + Drop, V: Drop, S: BuildHasher + Drop, A> Core<K, V, S, A> {
         ensures content { IfOk result (λ core. content K.eq core.store ≡ []) }
         ensures counted { IfOk result (λ core. IsCounted K.eq core.store core.callers) }
     {
+        Core::of(alloc, mode, capacity, shards, hasher, None)
+    }
+
+    /// The same of a core that logs `n` pairs at most: a call that needs one more is refused
+    /// `Refused::Limit`. One that took a number for its pair, and was then refused the memory for
+    /// it, has used the number up.
+    ///
+    /// Refused as [`Core::new`].
+    pub fn with_pair_limit(
+        alloc: Global,
+        mode: ResizeMode,
+        capacity: usize,
+        shards: usize,
+        hasher: S,
+        n: u64,
+    ) -> Result<Core<K, V, S, A>, Refused>
+        ensures ok { IfOk result (λ core. IsAllowed mode capacity shards
+            × IsNewLimited mode capacity shards hasher (Some n) core) }
+        ensures err { IfErr result (λ e. IsSizeRefusal mode capacity shards e) }
+        ensures content { IfOk result (λ core. content K.eq core.store ≡ []) }
+        ensures counted { IfOk result (λ core. IsCounted K.eq core.store core.callers) }
+    {
+        Core::of(alloc, mode, capacity, shards, hasher, Some(n))
+    }
+
+    /// A core with no pairs and no callers, and with this limit, if there is one.
+    fn of(
+        alloc: Global,
+        mode: ResizeMode,
+        capacity: usize,
+        shards: usize,
+        hasher: S,
+        limit: Option<u64>,
+    ) -> Result<Core<K, V, S, A>, Refused>
+        requires { IsLimit limit }
+        ensures ok { IfOk result (λ core. IsAllowed mode capacity shards
+            × IsNewLimited mode capacity shards hasher limit core) }
+        ensures err { IfErr result (λ e. IsSizeRefusal mode capacity shards e) }
+        ensures content { IfOk result (λ core. content K.eq core.store ≡ []) }
+        ensures counted { IfOk result (λ core. IsCounted K.eq core.store core.callers) }
+    {
         let (store, initial) = Store::with_parts(alloc, mode, capacity, shards, hasher)?;
+        let resize = mode;
         Ok(Core {
             alloc,
             store,
             callers: Callers::new(alloc),
-            mode,
+            mode: Mode { resize, limit },
             initial,
         })
     }
@@ -368,6 +433,9 @@ impl<K: Hash + Eq + Drop, V: Drop, S: BuildHasher, A: Answers<K, V> + Drop> Core
         ensures keeps { KeepsPairs self.old.store self.new.store }
         ensures shard { AddsToShard self.old caller self.new }
         ensures counted { IsCounted K.eq self.new.store self.new.callers }
+        ensures limit { as_reply result.1 ≡ Some (Reply.Refused Refused.Limit) → IsSpent self.old }
+        ensures spent { NeedsNumber self.old caller → IsSpent self.old
+            → as_reply result.1 ≡ Some (Reply.Refused Refused.Limit) }
     {
         let work = self.callers.take(caller);
         let (event, outcome, rest) = advance_work(
@@ -388,8 +456,11 @@ impl<K: Hash + Eq + Drop, V: Drop, S: BuildHasher, A: Answers<K, V> + Drop> Core
     /// with it, or as its closure answered when it was shown just what goes. The contracts of
     /// `begin` and of each step say where intents come from.
     ///
-    /// With `refuse_memory` a step that would make a key, a pair or a table answers
+    /// With `refuse_memory` a step that would log a key, a value or a pair, or make a table, answers
     /// `Refused::Memory`, and any other step is an ordinary one.
+    ///
+    /// `Refused::Limit` is answered where as many numbers were taken for pairs as the limit says
+    /// and the call needs one more, and only there.
     pub fn step(&mut self, caller: usize, refuse_memory: bool) -> Option<Outcome>
         requires { IsSome (work_of self.old caller) }
         ensures steps { (event : _) × Steps K.eq (record { op = A.op_gives; yes = A.yes_gives })
@@ -402,6 +473,9 @@ impl<K: Hash + Eq + Drop, V: Drop, S: BuildHasher, A: Answers<K, V> + Drop> Core
         ensures keeps { KeepsPairs self.old.store self.new.store }
         ensures shard { AddsToShard self.old caller self.new }
         ensures counted { IsCounted K.eq self.new.store self.new.callers }
+        ensures limit { as_reply result ≡ Some (Reply.Refused Refused.Limit) → IsSpent self.old }
+        ensures spent { NeedsNumber self.old caller → IsSpent self.old
+            → as_reply result ≡ Some (Reply.Refused Refused.Limit) }
     {
         let (_, outcome) = self.advance(caller, refuse_memory);
         outcome

@@ -8,6 +8,10 @@ mod expect;
 #[cfg(test)]
 mod guards;
 #[cfg(test)]
+mod kept_keys;
+#[cfg(test)]
+mod limits;
+#[cfg(test)]
 mod machines;
 #[cfg(test)]
 mod plain;

@@ -1,5 +1,6 @@
 // What machines ask and reply over words that stand in tables: worked values, where specs and
 // code might agree and both be wrong.
+ghost use Rattle.std.specs.Prelude.{◌<◌, ◌^◌};
 ghost use Rattle.papaya_words.specs.Mode.{IsChunked};
 ghost use Rattle.papaya_call.specs.Machine.{IsFit, IsStanding};
 
@@ -36,6 +37,9 @@ const CLOSED: u64 = 5;
 const EMPTY: u64 = 0;
 /// What an insertion puts where its pair has the number 12.
 const LIVE_12: u64 = 12_289;
+
+/// The same of the number 13.
+const LIVE_13: u64 = 13_313;
 
 /// The machine asks this, and is answered.
 fn told(rt: &impl Abort, machine: &mut Machine, ask: Ask, answer: Answer)
@@ -96,24 +100,6 @@ fn compares(rt: &impl Abort, machine: &mut Machine, pair: u64, same: bool)
     told(rt, machine, Ask::SameKey(pair), Answer::Yes(same));
 }
 
-/// The machine tries to put its pair in place of a word.
-fn tries(
-    rt: &impl Abort,
-    machine: &mut Machine,
-    slot: usize,
-    old: u64,
-    kind: StepKind,
-    answer: Answer,
-)
-    requires standing { IsStanding machine.old }
-    requires fit { IsFit answer }
-    ensures { IsStanding machine.new }
-{
-    is(rt, machine.kind() == Some(kind), true);
-    let ask = Ask::Exchange(At::Slot(2, slot), old, LIVE_12);
-    told(rt, machine, ask, answer);
-}
-
 /// The machine replies.
 fn replies(rt: &impl Abort, machine: &Machine, reply: Reply)
     requires { IsStanding machine.now }
@@ -123,7 +109,7 @@ fn replies(rt: &impl Abort, machine: &Machine, reply: Reply)
 
 #[test]
 fn lookup_passes_each_kind_of_word(rt: HostRuntime) {
-    let mut lookup = Machine::new(Task::Get, HASH, ResizeMode::Incremental(64), 1);
+    let mut lookup = Machine::new(Task::Get, HASH, ResizeMode::Incremental(64), 1, None);
     enters_root(&rt, &mut lookup, 1);
     hints(&rt, &mut lookup, 1, 2, HINT_OF_ANOTHER);
     hints(&rt, &mut lookup, 1, 3, SHUT as u64);
@@ -143,7 +129,7 @@ fn lookup_passes_each_kind_of_word(rt: HostRuntime) {
 
 #[test]
 fn lookup_follows_a_copied_pair(rt: HostRuntime) {
-    let mut lookup = Machine::new(Task::Get, HASH, ResizeMode::Incremental(64), 1);
+    let mut lookup = Machine::new(Task::Get, HASH, ResizeMode::Incremental(64), 1, None);
     enters_root(&rt, &mut lookup, 1);
     loads(&rt, &mut lookup, 1, 2, COPIED);
     compares(&rt, &mut lookup, 4, true);
@@ -182,14 +168,25 @@ fn decides(rt: &impl Abort, machine: &mut Machine, pair: u64, kind: OpKind)
     told(rt, machine, Ask::ShowPair(pair), Answer::Op(kind));
 }
 
-/// The machine makes its key and the pair 12 of what its closure answered.
+/// The machine makes the pair 12 of its key and of what its closure answered.
 fn makes_12(rt: &impl Abort, machine: &mut Machine)
     requires { IsStanding machine.old }
     ensures { IsStanding machine.new }
 {
     is(rt, machine.kind().is_none(), true);
-    told(rt, machine, Ask::MakeKey, Answer::Made(11));
+    told(rt, machine, Ask::MakeKey, Answer::Made(0));
+    told(rt, machine, Ask::MakeValue, Answer::Made(0));
     told(rt, machine, Ask::MakePair, Answer::Made(12));
+}
+
+/// The machine makes a pair of the key of the pair 3 and of the value that it has logged.
+fn makes_of_3(rt: &impl Abort, machine: &mut Machine, pair: u64)
+    requires standing { IsStanding machine.old }
+    requires pair { pair < 2 ^ 48 }
+    ensures { IsStanding machine.new }
+{
+    is(rt, machine.kind().is_none(), true);
+    told(rt, machine, Ask::MakePairOf(3), Answer::Made(pair));
 }
 
 /// The machine tries to put a pair into an empty slot of table 1.
@@ -217,7 +214,7 @@ fn replaces(rt: &impl Abort, machine: &mut Machine, old: u64, new: u64, answer: 
 /// what to insert, is not shown again that its key is absent.
 #[test]
 fn compute_remembers_what_it_inserts(rt: HostRuntime) {
-    let mut compute = Machine::new(Task::Compute, HASH, ResizeMode::Blocking, 1);
+    let mut compute = Machine::new(Task::Compute, HASH, ResizeMode::Blocking, 1, None);
     enters_root(&rt, &mut compute, 1);
     loads(&rt, &mut compute, 1, 2, EMPTY);
     shows_none(&rt, &mut compute, OpKind::Insert);
@@ -233,28 +230,110 @@ fn compute_remembers_what_it_inserts(rt: HostRuntime) {
     replies(&rt, &compute, Reply::Inserted(12));
 }
 
-/// The pair 3 was copied meanwhile: in the next table the closure is not shown it again.
+/// The pair 3 was copied meanwhile: in the next table the closure is not shown it again. The pair
+/// 12 has the key that stood in the first table, and so the next slot gets another with its value.
 #[test]
 fn compute_remembers_what_it_answered_to_a_pair(rt: HostRuntime) {
-    let mut compute = Machine::new(Task::Compute, HASH, ResizeMode::Incremental(64), 1);
+    let mut compute = Machine::new(Task::Compute, HASH, ResizeMode::Incremental(64), 1, None);
     enters_root(&rt, &mut compute, 1);
     loads(&rt, &mut compute, 1, 2, LIVE);
     compares(&rt, &mut compute, 3, true);
     decides(&rt, &mut compute, 3, OpKind::Insert);
-    makes_12(&rt, &mut compute);
+    told(&rt, &mut compute, Ask::MakeValue, Answer::Made(0));
+    makes_of_3(&rt, &mut compute, 12);
     replaces(&rt, &mut compute, LIVE, LIVE_12, Answer::Found(COPIED_3));
     compares(&rt, &mut compute, 3, true);
     told(&rt, &mut compute, Ask::Load(At::Next(1)), Answer::Word(2));
     enters(&rt, &mut compute, 2);
     loads(&rt, &mut compute, 2, 2, LIVE);
     compares(&rt, &mut compute, 3, true);
-    tries(
-        &rt,
-        &mut compute,
-        2,
-        LIVE,
-        StepKind::Replace,
-        Answer::Exchanged,
-    );
-    replies(&rt, &compute, Reply::Replaced { old: 3, new: 12 });
+    makes_of_3(&rt, &mut compute, 13);
+    is(&rt, compute.kind() == Some(StepKind::Replace), true);
+    let ask = Ask::Exchange(At::Slot(2, 2), LIVE, LIVE_13);
+    told(&rt, &mut compute, ask, Answer::Exchanged);
+    replies(&rt, &compute, Reply::Replaced { old: 3, new: 13 });
+}
+
+/// The machine loads how many numbers were taken for pairs.
+fn counts(rt: &impl Abort, machine: &mut Machine, made: u64)
+    requires { IsStanding machine.old }
+    ensures { IsStanding machine.new }
+{
+    is(rt, machine.kind().is_none(), true);
+    told(rt, machine, Ask::Load(At::Made), Answer::Word(made));
+}
+
+/// The machine tries to take the number after so many.
+fn takes(rt: &impl Abort, machine: &mut Machine, made: u64, next: u64, answer: Answer)
+    requires standing { IsStanding machine.old }
+    requires fit { IsFit answer }
+    ensures { IsStanding machine.new }
+{
+    is(rt, machine.kind() == Some(StepKind::Take), true);
+    told(rt, machine, Ask::Exchange(At::Made, made, next), answer);
+}
+
+/// An insertion of at most three pairs finds an empty place.
+fn finds_a_place(rt: &impl Abort) -> Machine
+    ensures { IsStanding result }
+{
+    let task = Task::Insert { replace: true };
+    let mut insertion = Machine::new(task, HASH, ResizeMode::Blocking, 1, Some(3));
+    enters_root(rt, &mut insertion, 1);
+    loads(rt, &mut insertion, 1, 2, EMPTY);
+    insertion
+}
+
+/// Nothing is made then, and so no memory is wanted.
+#[test]
+fn insertion_is_refused_at_the_limit(rt: HostRuntime) {
+    let mut insertion = finds_a_place(&rt);
+    counts(&rt, &mut insertion, 3);
+    replies(&rt, &insertion, Reply::Refused(Refused::Limit));
+}
+
+/// Other calls take the last numbers.
+#[test]
+fn insertion_loses_the_last_number(rt: HostRuntime) {
+    let mut insertion = finds_a_place(&rt);
+    counts(&rt, &mut insertion, 1);
+    takes(&rt, &mut insertion, 1, 2, Answer::Found(2));
+    takes(&rt, &mut insertion, 2, 3, Answer::Found(3));
+    replies(&rt, &insertion, Reply::Refused(Refused::Limit));
+}
+
+/// One below the limit is taken, and the pair is made and claims its place.
+#[test]
+fn insertion_takes_the_last_number(rt: HostRuntime) {
+    let mut insertion = finds_a_place(&rt);
+    counts(&rt, &mut insertion, 2);
+    takes(&rt, &mut insertion, 2, 3, Answer::Exchanged);
+    makes_12(&rt, &mut insertion);
+    claims(&rt, &mut insertion, 2, LIVE_12, Answer::Exchanged);
+    told(&rt, &mut insertion, Ask::AddToShard(1), Answer::Ok);
+    told(&rt, &mut insertion, Ask::WriteHint(1, 2, HINT), Answer::Ok);
+    replies(&rt, &insertion, Reply::Inserted(12));
+}
+
+/// The second pair of a call needs a number of its own, and there is none.
+#[test]
+fn each_pair_takes_a_number(rt: HostRuntime) {
+    let mode = ResizeMode::Incremental(64);
+    let mut compute = Machine::new(Task::Compute, HASH, mode, 1, Some(3));
+    enters_root(&rt, &mut compute, 1);
+    loads(&rt, &mut compute, 1, 2, LIVE);
+    compares(&rt, &mut compute, 3, true);
+    decides(&rt, &mut compute, 3, OpKind::Insert);
+    counts(&rt, &mut compute, 2);
+    takes(&rt, &mut compute, 2, 3, Answer::Exchanged);
+    told(&rt, &mut compute, Ask::MakeValue, Answer::Made(0));
+    makes_of_3(&rt, &mut compute, 12);
+    replaces(&rt, &mut compute, LIVE, LIVE_12, Answer::Found(COPIED_3));
+    compares(&rt, &mut compute, 3, true);
+    told(&rt, &mut compute, Ask::Load(At::Next(1)), Answer::Word(2));
+    enters(&rt, &mut compute, 2);
+    loads(&rt, &mut compute, 2, 2, LIVE);
+    compares(&rt, &mut compute, 3, true);
+    counts(&rt, &mut compute, 3);
+    replies(&rt, &compute, Reply::Refused(Refused::Limit));
 }

@@ -17,9 +17,9 @@ use std::process::Abort;
 use std::test::Fail;
 
 /// An insertion into a new map makes so many steps: it loads the root, makes a table and opens it,
-/// learns its size, loads a hint and its slot, makes the key and the pair, claims the slot, counts,
-/// and writes the hint.
-const STEPS_OF_INSERT: usize = 11;
+/// learns its size, loads a hint and its slot, makes the key, the value and the pair, claims the
+/// slot, counts, and writes the hint.
+const STEPS_OF_INSERT: usize = 12;
 
 /// A removal of a pair that the map has, which agrees at once, makes so many steps: it loads the
 /// root, learns its size, loads the hint and the slot, compares the key, shows the pair, buries it,
@@ -28,13 +28,13 @@ const STEPS_OF_REMOVAL: usize = 8;
 
 /// A compute of a pair that the map has, whose closure answers an insertion, makes so many steps:
 /// it loads the root, learns its size, loads the hint and the slot, compares the key, shows the
-/// pair, makes the key and the new pair, and replaces the old one.
+/// pair, makes the value and the new pair of the old one's key, and replaces the old one.
 const STEPS_OF_UPDATE: usize = 9;
 
 /// A compute in a new map, whose closure answers an insertion, makes so many steps: it loads the
-/// root, shows that there is none, makes the key, the pair and a table, opens that, learns its
-/// size, loads a hint and its slot, claims that, counts, and writes the hint.
-const STEPS_OF_FILL: usize = 12;
+/// root, shows that there is none, makes the key, the value, the pair and a table, opens that,
+/// learns its size, loads a hint and its slot, claims that, counts, and writes the hint.
+const STEPS_OF_FILL: usize = 13;
 
 /// What is replied to callers 0 and 1, and to a lookup of 7 afterwards.
 type Replies = (Reply, Reply, Reply);
@@ -96,8 +96,8 @@ fn stopped(
 
 /// What two insertions come to that never replace, where the first is stopped after so many steps.
 fn kept_at(steps: usize) -> Replies {
-    // Caller 0 claims the slot in its ninth step. Its hint comes later: the pair is found without.
-    if steps < 9 {
+    // Caller 0 claims the slot in its tenth step. Its hint comes later: the pair is found without.
+    if steps < 10 {
         (
             Reply::Occupied(200),
             Reply::Inserted(200),
@@ -114,12 +114,12 @@ fn kept_at(steps: usize) -> Replies {
 
 /// The values of the first two pairs then.
 fn made_at(steps: usize) -> (Option<u64>, Option<u64>) {
-    // Caller 0 loads the slot in its sixth step, and makes its pair in its eighth. Where the slot
-    // is taken, it makes no pair.
+    // Caller 0 loads the slot in its sixth step, and makes its pair in its ninth. Where the slot is
+    // taken, it makes no pair.
     match steps {
         0..6 => (Some(200), None),
-        6 | 7 => (Some(200), Some(100)),
-        8 => (Some(100), Some(200)),
+        6..9 => (Some(200), Some(100)),
+        9 => (Some(100), Some(200)),
         _ => (Some(100), None),
     }
 }
@@ -202,9 +202,9 @@ fn is_shown(rt: &impl Abort, alloc: Global, core: &mut Numbers, steps: usize) ->
 
 /// What a compute comes to that is stopped so, where a pair comes and goes meanwhile.
 fn filled_at(steps: usize) -> Replies {
-    // The compute claims a slot in its tenth step. Where 1 came and went before, its closure
+    // The compute claims a slot in its eleventh step. Where 1 came and went before, its closure
     // is shown only once that there is none, before or after that.
-    let found = if steps < 10 {
+    let found = if steps < 11 {
         Reply::Found(10)
     } else {
         Reply::Absent

@@ -140,6 +140,7 @@ fn refusals(rt: HostRuntime) -> Result<(), Fail> {
         (Refused::Shape, 6, "Shape"),
         (Refused::KeyClash, 7, "KeyClash"),
         (Refused::Item, 8, "Item"),
+        (Refused::Limit, 9, "Limit"),
     ] {
         is(&rt, refused.number(), number);
         let printed = format!(in rt.alloc(); "{refused}")?;

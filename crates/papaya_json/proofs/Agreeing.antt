@@ -1,5 +1,5 @@
 -- What was written of the pairs of a map and was read again, as a map.
-use Rattle.std.proofs.Common.{◌≡◌, ◌⊎◌, inl, inr, ⊎_elim, Bool, true, false, cond, List, [], ◌∷◌, Option, Some, None, MatchOption, option_map, refl, sym, ap, ◌∙◌, subst}
+use Rattle.std.proofs.Common.{◌≡◌, inl, inr, ⊎_elim, Bool, true, false, cond, List, [], ◌∷◌, Option, Some, None, MatchOption, option_map, refl, sym, ap, ◌∙◌, subst}
 use Rattle.std.proofs.lemmas.Bool.{cases_Bool, cond-true, cond-false, true≢false}
 use Rattle.std.specs.Cmp.{IsEquivalence}
 use Rattle.std.specs.Prelude.{is_some}
@@ -7,7 +7,7 @@ use Rattle.papaya_law.specs.Content.{AreApart, lookup}
 use Rattle.papaya_timeline.specs.Content.{content, map_in}
 use Rattle.papaya_store.specs.Store.{StoreState, Stored}
 use Rattle.papaya_seq.specs.Clones.{Agree}
-use Rattle.papaya_seq.specs.Entries.{Entries, entries_in, nothing, put, put_all}
+use Rattle.papaya_seq.specs.Entries.{Entries, entries_in, kept, nothing, put, put_all}
 use Rattle.papaya_seq.specs.Map.{entry_of}
 use Rattle.papaya_set.specs.Sets.{HaveSameKeys}
 use Rattle.papaya_json.proofs.Lists.{In}
@@ -45,22 +45,42 @@ module _ {K P : Type 0} (eq : K → K → Bool) (law : IsEquivalence eq) (key : 
       (cases_Bool (eq k (key q))))
       there
 
-module _ {K V B : Type 0} (eq : K → K → Bool) (shows : B → K × V) where
-  -- the class of a key has the last item with an equal key, or what it had
-  last_of : (done : List B) (m : Entries K V) (k : K) → ((b : B) × In b done × (eq k (shows b).0 ≡ true) × (put_all eq shows m done k ≡ Some (shows b)))
-      ⊎ (((b : B) → In b done → eq k (shows b).0 ≡ true → ⊥) × (put_all eq shows m done k ≡ m k))
-  last_of [] m k = inr (λ b there y. there, refl)
-  last_of (b ∷ done) m k =
+some_none : {A : Type 0} {x : A} → Some x ≡ None → ⊥
+some_none e = absurd cc
+
+module _ {K V B : Type 0} (eq : K → K → Bool) (law : IsEquivalence eq) (shows : B → K × V) (Read : B → Type 0) where
+  -- the entry of a class has the key of an item of that class, and the value of one
+  abbrev IsOfItems : K → Option (K × V) → Type 0
+  IsOfItems k None = Unit {0}
+  IsOfItems k (Some e) = (a : B) × (b : B) × Read a × Read b × (eq k (shows a).0 ≡ true) × (eq k (shows b).0 ≡ true) × (e ≡ ((shows a).0, (shows b).1))
+
+  of_kept : (k : K) (b : B) (o : Option (K × V)) → Read b → eq k (shows b).0 ≡ true → IsOfItems (shows b).0 o → IsOfItems k (Some (kept o (shows b)))
+  of_kept k b None read y is = (b, b, read, read, y, y, refl)
+  of_kept k b (Some there) read y (a, c, own, _, first, _, e) = (a, b, own, read, law.congr k (shows b).0 (shows a).0 y ∙ first, y, ap (λ (z : K × V). (z.0, (shows b).1)) e)
+
+  of_put : (m : Entries K V) → ((j : K) → IsOfItems j (m j)) → (b : B) → Read b → (k : K) → IsOfItems k (put eq m (shows b) k)
+  of_put m all b read k =
       ⊎_elim
-      (λ later. inl (later.0, inr later.1, later.2, later.3))
-      (λ none. ⊎_elim
-      (λ (y : eq k (shows b).0 ≡ true). inl (b, inl refl, y, none.1 ∙ cond-true (eq k (shows b).0) (Some (shows b)) (m k) y))
-      (λ (n : eq k (shows b).0 ≡ false). inr (
-        λ c there y. ⊎_elim (λ is. true≢false (sym y ∙ ap (λ (z : B). eq k (shows z).0) (sym is) ∙ n)) (λ later. none.0 c later y) there,
-        none.1 ∙ cond-false (eq k (shows b).0) (Some (shows b)) (m k) n,
+      (λ (y : eq k (shows b).0 ≡ true). subst (IsOfItems k) (sym (cond-true (eq k (shows b).0) (Some (kept (m (shows b).0) (shows b))) (m k) y)) (of_kept k b (m (shows b).0) read y (all (shows b).0)))
+      (λ (n : eq k (shows b).0 ≡ false). subst (IsOfItems k) (sym (cond-false (eq k (shows b).0) (Some (kept (m (shows b).0) (shows b))) (m k) n)) (all k))
+      (cases_Bool (eq k (shows b).0))
+
+  of_all : (done : List B) → ((b : B) → In b done → Read b) → (m : Entries K V) → ((j : K) → IsOfItems j (m j)) → (k : K) → IsOfItems k (put_all eq shows m done k)
+  of_all [] read m all k = all k
+  of_all (b ∷ done) read m all k = of_all done (λ c there. read c (inr there)) (put eq m (shows b)) (of_put m all b (read b (inl refl))) k
+
+  -- a class that has no entry had none before, and there is no item of it
+  none_put : (done : List B) (m : Entries K V) (k : K) → put_all eq shows m done k ≡ None → (m k ≡ None) × ((b : B) → In b done → eq k (shows b).0 ≡ true → ⊥)
+  none_put [] m k none = (none, λ b there y. there)
+  none_put (b ∷ done) m k none =
+      let later = none_put done (put eq m (shows b)) k none in
+      ⊎_elim
+      (λ (y : eq k (shows b).0 ≡ true). absurd (some_none (sym (cond-true (eq k (shows b).0) (Some (kept (m (shows b).0) (shows b))) (m k) y) ∙ later.0)))
+      (λ (n : eq k (shows b).0 ≡ false). (
+        sym (cond-false (eq k (shows b).0) (Some (kept (m (shows b).0) (shows b))) (m k) n) ∙ later.0,
+        λ c there y. ⊎_elim (λ is. true≢false (sym y ∙ ap (λ (z : B). eq k (shows z).0) (sym is) ∙ n)) (λ rest. later.1 c rest y) there,
       ))
-      (cases_Bool (eq k (shows b).0)))
-      (last_of done (put eq m (shows b)) k)
+      (cases_Bool (eq k (shows b).0))
 
 none_of : {K V : Type 0} (o : Option (Stored K V)) → option_map entry_of o ≡ None → o ≡ None
 none_of None e = refl
@@ -71,7 +91,7 @@ some_of None e is = absurd cc
 some_of (Some q) e is = (q, refl, cc is)
 
 module _ {K V B S Z : Type 0} (eq : K → K → Bool) (law : IsEquivalence eq) (shows : B → K × V) (Near : K × V → K × V → Type 0) (near : (a b : K × V) → Near a b → eq a.0 b.0 ≡ true)
-    (s : StoreState K V S) (t : StoreState K V Z) (done : List B) where
+    (near_both : (e a b : K × V) → Near e a → Near e b → Near e (a.0, b.1)) (s : StoreState K V S) (t : StoreState K V Z) (done : List B) where
   abbrev keyed : Stored K V → K
   keyed p = p.key
 
@@ -80,33 +100,29 @@ module _ {K V B S Z : Type 0} (eq : K → K → Bool) (law : IsEquivalence eq) (
   pub agree : AreApart eq keyed (content eq s) → ((p : Stored K V) → In p (content eq s) → (b : B) × In b done × Near (entry_of p) (shows b))
       → ((b : B) → In b done → (p : Stored K V) × In p (content eq s) × Near (entry_of p) (shows b)) → ((k : K) → entries_in eq t k ≡ put_all eq shows nothing done k)
       → Agree eq (λ p q. Near (entry_of p) (entry_of q)) s t
-  agree apart there from just k = of_option (map_in eq s k) refl
+  agree apart there from just k = of_option (map_in eq s k) refl (put_all eq shows nothing done k) refl (of_all eq law shows (λ b. In b done) done (λ b within. within) nothing (λ j. tt) k)
     where
-      of_item : (p : Stored K V) → map_in eq s k ≡ Some p → (b : B) → In b done → eq k (shows b).0 ≡ true → put_all eq shows nothing done k ≡ Some (shows b)
-          → (q : Stored K V) × (map_in eq t k ≡ Some q) × Near (entry_of p) (entry_of q)
-      of_item p is b within y last =
-          let own = some_of (map_in eq t k) (shows b) (just k ∙ last) in
+      -- an item of the class is near the class's pair
+      near_own : (p : Stored K V) → map_in eq s k ≡ Some p → (b : B) → In b done → eq k (shows b).0 ≡ true → Near (entry_of p) (shows b)
+      near_own p is b within y =
           let of = from b within in
           let found : map_in eq s k ≡ Some of.0 = one_in eq law keyed (content eq s) apart k of.0 of.1 (joined eq law keyed k (shows b).0 of.0.key y (near (entry_of of.0) (shows b) of.2)) in
           let same : of.0 ≡ p = (let both : Some of.0 ≡ Some p = sym found ∙ is in cc both) in
-          (own.0, own.1, subst (λ (e : K × V). Near (entry_of p) e) (sym own.2) (subst (λ (z : Stored K V). Near (entry_of z) (shows b)) same of.2))
+          subst (λ (z : Stored K V). Near (entry_of z) (shows b)) same of.2
 
-      of_option : (o : Option (Stored K V)) → map_in eq s k ≡ o → MatchOption o (map_in eq t k ≡ None) (λ (p : Stored K V). (q : Stored K V) × (map_in eq t k ≡ Some q) × Near (entry_of p) (entry_of q))
-      of_option None is =
-          ⊎_elim
-          (λ last.
-          let of = from last.0 last.1 in
-          absurd (none_in eq law keyed (content eq s) k is of.0 of.1 (joined eq law keyed k (shows last.0).0 of.0.key last.2 (near (entry_of of.0) (shows last.0) of.2))))
-          (λ none. none_of (map_in eq t k) (just k ∙ none.1))
-          (last_of eq shows done nothing k)
-      of_option (Some p) is =
-          ⊎_elim
-          (λ last. of_item p is last.0 last.1 last.2 last.3)
-          (λ none.
+      of_option : (o : Option (Stored K V)) → map_in eq s k ≡ o → (u : Option (K × V)) → put_all eq shows nothing done k ≡ u → IsOfItems eq law shows (λ b. In b done) k u
+          → MatchOption o (map_in eq t k ≡ None) (λ (p : Stored K V). (q : Stored K V) × (map_in eq t k ≡ Some q) × Near (entry_of p) (entry_of q))
+      of_option None is None none _ = none_of (map_in eq t k) (just k ∙ none)
+      of_option None is (Some e) has (a, b, within, _, y, _, _) =
+          let of = from a within in
+          absurd (none_in eq law keyed (content eq s) k is of.0 of.1 (joined eq law keyed k (shows a).0 of.0.key y (near (entry_of of.0) (shows a) of.2)))
+      of_option (Some p) is None none _ =
           let held = found_in eq law keyed (content eq s) k p is in
           let b = there p held.0 in
-          absurd (none.0 b.0 b.1 (law.congr k p.key (shows b.0).0 held.1 ∙ near (entry_of p) (shows b.0) b.2)))
-          (last_of eq shows done nothing k)
+          absurd ((none_put eq law shows (λ b. In b done) done nothing k none).1 b.0 b.1 (law.congr k p.key (shows b.0).0 held.1 ∙ near (entry_of p) (shows b.0) b.2))
+      of_option (Some p) is (Some e) has (a, b, first, last, y, z, e_is) =
+          let own = some_of (map_in eq t k) e (just k ∙ has) in
+          (own.0, own.1, subst (λ (w : K × V). Near (entry_of p) w) (sym (own.2 ∙ e_is)) (near_both (entry_of p) (shows a) (shows b) (near_own p is a first y) (near_own p is b last z)))
 
 module _ {K V S Z : Type 0} (eq : K → K → Bool) (s : StoreState K V S) (t : StoreState K V Z) where
   -- maps that agree by more agree by less

@@ -52,7 +52,7 @@ module _ {K V S Z : Type 0} (eq : K → K → Bool) (law : IsEquivalence eq) (te
       let p = zip_left (λ (p : Stored K V). IsMember text_of data_of (entry_of p)) (content eq s.store) written.members zipped m.0 m.1 in
       (p.0, p.1, near_by (entry_of p.0) m.0 p.2 e.0 (sym m.2) (sym m.3) b e.2) in
       agree_by eq s.store t.store (λ p q. Near (entry_of p) (entry_of q)) (λ p q. same p.value q.value ≡ true) (λ p q near. near.1)
-      (agree eq law (λ p. p) Near (λ a b near. near.0) s.store t.store read.done apart there from read.just.entries)
+      (agree eq law (λ p. p) Near (λ a b near. near.0) (λ e a b key value. (key.0, value.1)) s.store t.store read.done apart there from read.just.entries)
 
 -- the items of a value, if it is an array
 abbrev items_in : Value-F Value → List Value
@@ -79,4 +79,4 @@ module _ {K S Z : Type 0} (eq : K → K → Bool) (law : IsEquivalence eq) (data
       let item = zip_left (IsKey key_of) again.items read.done read.each b within in
       let p = zip_left (λ (p : Stored K (Unit {0})) (item : Value). data_of p.key (Some item)) (content eq s.store) again.items zipped item.0 item.1 in
       (p.0, p.1, items p.0.key b item.0 p.2 item.2) in
-      same_keys eq s.store t.store (λ p q. NearKey (entry_of p) (entry_of q)) (agree eq law entry_of_key NearKey (λ a b near. near) s.store t.store read.done apart there from read.just.entries)
+      same_keys eq s.store t.store (λ p q. NearKey (entry_of p) (entry_of q)) (agree eq law entry_of_key NearKey (λ a b near. near) (λ e a b key value. key) s.store t.store read.done apart there from read.just.entries)

@@ -51,8 +51,9 @@ where
 }
 
 /// The map of a JSON object: of each member a pair, whose key and value the functions answer. It
-/// stands for the implementation of `Deserialize` in 0.2.5. Of two members with equal keys the
-/// later one stays, by the order of their texts. No room is made ahead.
+/// stands for the implementation of `Deserialize` in 0.2.5. Of two members with equal keys the key
+/// of the earlier one stays, with the later one's value, by the order of their texts. No room is
+/// made ahead, and the map has no limit on pairs.
 ///
 /// `Refused::Shape` where the value is no object, before all else. `Refused::Item` at the first
 /// member for which a function answered none. `Refused::Memory` where the map was not made; else
@@ -109,8 +110,8 @@ fn set_of<K: Hash + Eq + Drop, S: BuildHasher + Drop, T: Fn(&Value) -> Option<K>
 }
 
 /// The set of a JSON array: of each item a key, which the function answers. It stands for the
-/// implementation of `Deserialize` in 0.2.5. Of two items with equal keys the later one stays. No
-/// room is made ahead.
+/// implementation of `Deserialize` in 0.2.5. Of two items with equal keys the earlier one stays. No
+/// room is made ahead, and the set has no limit on keys.
 ///
 /// `Refused::Shape` where the value is no array, before all else. `Refused::Item` at the first item
 /// for which the function answered none. `Refused::Memory` where the set was not made; else refused

@@ -1,5 +1,5 @@
 //! Maps that threads share as JSON objects, sets that they share as JSON arrays, and back.
-ghost use Rattle.std.specs.Prelude.{◌≡◌, ◌⊎◌, IfErr, IfOk, List};
+ghost use Rattle.std.specs.Prelude.{◌≡◌, ◌⊎◌, IfErr, IfOk, List, None};
 ghost use Rattle.std.specs.Fn.{FnReturnsAt};
 ghost use Rattle.papaya_words.specs.declared.limits.TheConstants.{DEFAULT_CHUNK, DEFAULT_SHARDS};
 ghost use Rattle.papaya_map.specs.Fixed.{IsFor};
@@ -44,7 +44,7 @@ where
     object_from(alloc, pairs, key, value)
 }
 
-/// Stores the pairs of an object's members.
+/// Stores the pairs of an object's members in a map without a limit.
 fn fill<R: Wait, K: Hash + Eq + Drop, V: Drop, S: BuildHasher, T, W>(
     rt: &R,
     map: &HashMap<K, V, S>,
@@ -55,6 +55,7 @@ fn fill<R: Wait, K: Hash + Eq + Drop, V: Drop, S: BuildHasher, T, W>(
 where
     T: Fn(&str) -> Option<K>,
     W: Fn(&Value) -> Option<V>,
+    requires limit { map.now.begun.limit ≡ None }
     requires key { T.IsAlwaysCallable key }
     requires value { W.IsAlwaysCallable value }
     ensures ok { IfOk result (λ _. IsEachRead (IsPair (FnReturnsAt T.Fn key)
@@ -94,7 +95,8 @@ where
     requires value { W.IsAlwaysCallable value }
     ensures ok { IfOk result (λ map. IsEachRead (IsPair (FnReturnsAt T.Fn key)
         (FnReturnsAt W.Fn value)) members.now.entries) }
-    ensures made { IfOk result (IsFor (ResizeMode.Incremental DEFAULT_CHUNK) 0 DEFAULT_SHARDS) }
+    ensures made { IfOk result (IsFor (ResizeMode.Incremental DEFAULT_CHUNK) 0 DEFAULT_SHARDS
+        None) }
     ensures hasher { IfOk result (λ made. made.begun.hasher ≡ hasher) }
     ensures err { IfErr result (λ e. IsUnread (HasNoPair (FnReturnsAt T.Fn key)
         (FnReturnsAt W.Fn value)) e members.now.entries) }
@@ -111,7 +113,7 @@ where
 ///
 /// `Refused::Shape` where the value is no object, before the map is made. `Refused::Item` at the
 /// first member for which a function answered none. Else refused as
-/// [`papaya_map::map::HashMap::with_hasher`] and an insertion are.
+/// [`papaya_map::map::HashMap::with_hasher`] and an insertion are; the map has no limit on pairs.
 pub fn shared_map_from_value<R: Wait, K: Hash + Eq + Drop, V: Drop, S: BuildHasher + Drop, T, W>(
     rt: &R,
     alloc: Global,
@@ -127,7 +129,8 @@ where
     requires value { W.IsAlwaysCallable value }
     ensures ok { IfOk result (λ map. IsObjectWith v.now (IsEachRead (IsPair (FnReturnsAt T.Fn key)
         (FnReturnsAt W.Fn value)))) }
-    ensures made { IfOk result (IsFor (ResizeMode.Incremental DEFAULT_CHUNK) 0 DEFAULT_SHARDS) }
+    ensures made { IfOk result (IsFor (ResizeMode.Incremental DEFAULT_CHUNK) 0 DEFAULT_SHARDS
+        None) }
     ensures hasher { IfOk result (λ made. made.begun.hasher ≡ hasher) }
     ensures err { IfErr result (IsNoObjectOr v.now (IsUnread (HasNoPair (FnReturnsAt T.Fn key)
         (FnReturnsAt W.Fn value)))) }
@@ -157,14 +160,15 @@ pub fn shared_set_to_value<R: Wait, K: Hash + Eq, S: BuildHasher, T: Fn(&K) -> O
     array_from(alloc, keys, key)
 }
 
-/// Stores the keys of an array's items.
+/// Stores the keys of an array's items in a set without a limit.
 fn fill_set<R: Wait, K: Hash + Eq + Drop, S: BuildHasher, T: Fn(&Value) -> Option<K>>(
     rt: &R,
     set: &HashSet<K, S>,
     items: &Vec<Value>,
     key: T,
 ) -> Result<(), Refused>
-    requires { T.IsAlwaysCallable key }
+    requires limit { set.now.begun.limit ≡ None }
+    requires key { T.IsAlwaysCallable key }
     ensures ok { IfOk result (λ _. IsEachRead (IsKey (FnReturnsAt T.Fn key)) items.now.items) }
     ensures err { IfErr result (λ e. IsUnread (HasNoKey (FnReturnsAt T.Fn key)) e
         items.now.items) }
@@ -193,7 +197,8 @@ where
     T: Fn(&Value) -> Option<K>,
     requires { T.IsAlwaysCallable key }
     ensures ok { IfOk result (λ set. IsEachRead (IsKey (FnReturnsAt T.Fn key)) items.now.items) }
-    ensures made { IfOk result (IsFor (ResizeMode.Incremental DEFAULT_CHUNK) 0 DEFAULT_SHARDS) }
+    ensures made { IfOk result (IsFor (ResizeMode.Incremental DEFAULT_CHUNK) 0 DEFAULT_SHARDS
+        None) }
     ensures hasher { IfOk result (λ made. made.begun.hasher ≡ hasher) }
     ensures err { IfErr result (λ e. IsUnread (HasNoKey (FnReturnsAt T.Fn key)) e
         items.now.items) }
@@ -210,7 +215,7 @@ where
 ///
 /// `Refused::Shape` where the value is no array, before the set is made. `Refused::Item` at the
 /// first item for which the function answered none. Else refused as
-/// [`papaya_set::set::HashSet::with_hasher`] and an insertion are.
+/// [`papaya_set::set::HashSet::with_hasher`] and an insertion are; the set has no limit on keys.
 pub fn shared_set_from_value<R: Wait, K: Hash + Eq + Drop, S: BuildHasher + Drop, T>(
     rt: &R,
     alloc: Global,
@@ -223,7 +228,8 @@ where
     requires { T.IsAlwaysCallable key }
     ensures ok { IfOk result (λ set. IsArrayWith v.now (IsEachRead
         (IsKey (FnReturnsAt T.Fn key)))) }
-    ensures made { IfOk result (IsFor (ResizeMode.Incremental DEFAULT_CHUNK) 0 DEFAULT_SHARDS) }
+    ensures made { IfOk result (IsFor (ResizeMode.Incremental DEFAULT_CHUNK) 0 DEFAULT_SHARDS
+        None) }
     ensures hasher { IfOk result (λ made. made.begun.hasher ≡ hasher) }
     ensures err { IfErr result (IsNoArrayOr v.now (IsUnread (HasNoKey (FnReturnsAt T.Fn key)))) }
 {

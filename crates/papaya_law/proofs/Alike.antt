@@ -1,6 +1,6 @@
 -- Two settings that see pairs alike allow the same exchanges, whatever types their keys have: an exchange asks of keys only what the pairs' keys are to each other and where their places are.
-use Rattle.std.proofs.Common.{true, ◌≡◌, inl, inr, ⊎_elim, ℕ, suc, ◌<◌, Bool, cond, List, [], ◌∷◌, refl, sym, ap, ◌∙◌, subst}
-use Rattle.papaya_law.specs.Exchange.{Word, Empty, Closed, Live, Marked, Copied, Buried, Setting, State, Exchange, Open, Claim, Replace, Bury, Link, Mark, Close, Place, Finish, Advance, Promote, Abort, after, walk}
+use Rattle.std.proofs.Common.{MatchOption, true, ◌≡◌, inl, inr, ⊎_elim, ℕ, suc, ◌<◌, Bool, cond, List, [], ◌∷◌, refl, sym, ap, ◌∙◌, subst}
+use Rattle.papaya_law.specs.Exchange.{Word, Empty, Closed, Live, Marked, Copied, Buried, Setting, State, Exchange, Open, Claim, Replace, Bury, Link, Mark, Close, Place, Finish, Advance, Promote, Abort, Take, after, walk}
 use Rattle.papaya_law.specs.View.{View, Foreign, Here, Leaving, Gone, Grave, beyond, foreign, view, look, IsPassed, IsFull, HasWord, IsNextPlace, IsReached}
 use Rattle.papaya_law.specs.Copying.{IsSettled, IsTaker, IsTarget, IsCopied}
 use Rattle.papaya_law.specs.Allows.{Allows, AllAllowed}
@@ -11,21 +11,27 @@ pub record AreAlike {K K' P : Type 0} (g : Setting K P) (g' : Setting K' P) : Ty
   pub blocking : g'.blocking ≡ g.blocking
   pub size : (t : ℕ) → g'.size t ≡ g.size t
   pub chunk_of : (x : ℕ) → g'.chunk_of x ≡ g.chunk_of x
+  pub most : g'.most ≡ g.most
   pub chunks : (t : ℕ) → g'.chunks t ≡ g.chunks t
   pub places : (t : ℕ) → g'.places t ≡ g.places t
   pub place : (p : P) (t j : ℕ) → g'.place (g'.key p) t j ≡ g.place (g.key p) t j
   pub same : (p q : P) → g'.same (g'.key p) (g'.key q) ≡ g.same (g.key p) (g.key q)
+  pub kept : (p q : P) → g.key q ≡ g.key p → g'.key q ≡ g'.key p
+  pub kept_back : (p q : P) → g'.key q ≡ g'.key p → g.key q ≡ g.key p
 
 -- so does g of g'
 pub alike_back : {K K' P : Type 0} (g : Setting K P) (g' : Setting K' P) → AreAlike g g' → AreAlike g' g
 alike_back g g' alike = record {
   blocking = sym alike.blocking;
   size = λ t. sym (alike.size t);
+  most = sym alike.most;
   chunk_of = λ x. sym (alike.chunk_of x);
   chunks = λ t. sym (alike.chunks t);
   places = λ t. sym (alike.places t);
   place = λ p t j. sym (alike.place p t j);
   same = λ p q. sym (alike.same p q);
+  kept = alike.kept_back;
+  kept_back = alike.kept;
 }
 
 module _ {K K' P : Type 0} (g : Setting K P) (g' : Setting K' P) (alike : AreAlike g g') where
@@ -105,7 +111,7 @@ module _ {K K' P : Type 0} (g : Setting K P) (g' : Setting K' P) (alike : AreAli
     pub allows_alike : (e : Exchange P) → Allows g s e → Allows g' s e
     allows_alike (Open t) may = may
     allows_alike (Claim t x p) may = record { empty = may.empty; reached = reached_alike p t may.reached; place = next_place_alike p beyond t x may.place }
-    allows_alike (Replace t x p q) may = record { live = may.live; reached = reached_alike p t may.reached; same = alike.same p q ∙ may.same }
+    allows_alike (Replace t x p q) may = record { live = may.live; reached = reached_alike p t may.reached; same = alike.same p q ∙ may.same; kept = alike.kept p q may.kept }
     allows_alike (Bury t x p) may = record { live = may.live; reached = reached_alike p t may.reached }
     allows_alike (Link t n) may = record {
       last = may.last;
@@ -145,6 +151,7 @@ module _ {K K' P : Type 0} (g : Setting K P) (g' : Setting K' P) (alike : AreAli
       source = copied_alike n may.pair may.source;
       full = said_alike may.pair (λ k V. IsFull k V n) may.full;
     }
+    allows_alike (Take m) may = (may.0, subst (λ o. MatchOption o (Unit {0}) (λ n. m < n)) (sym alike.most) may.1)
 
   -- so is a list
   pub all_alike : (es : List (Exchange P)) (s : State P) → AllAllowed g s es → AllAllowed g' s es

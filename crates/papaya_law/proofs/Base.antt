@@ -1,7 +1,7 @@
 -- What every allowed exchange keeps in both modes, of all words.
 use Rattle.std.proofs.Common.{◌≡◌, ◌⊎◌, inl, inr, ⊎_elim, ℕ, zero, suc, ◌<◌, ◌≤◌, Bool, true, false, ◌==◌, ◌&&◌, Some, refl, sym, ap, ◌∙◌, subst, arith, eqb-true, eq-eqb}
 use Rattle.std.proofs.lemmas.Bool.{and_parts, cases_Bool, cond-true, cond-false}
-use Rattle.papaya_law.specs.Exchange.{Word, Setting, State, Open, Link, Advance, Promote, start, after, at_put, done_put, slot_put, walk}
+use Rattle.papaya_law.specs.Exchange.{Word, Setting, State, Open, Link, Advance, Promote, Take, start, after, at_put, done_put, slot_put, walk}
 use Rattle.papaya_law.specs.View.{View, view, look, IsNextPlace}
 use Rattle.papaya_law.specs.Copying.{IsLinking}
 use Rattle.papaya_law.specs.Meaning.{IsLawful}
@@ -150,6 +150,20 @@ module _ {K P : Type 0} (g : Setting K P) (s : State P) where
       placed = sound.placed;
       further = sound.further;
       done_on = λ u d h. ⊎_elim (λ r. subst (IsOn s.first s.next) (sym r.0) on) (λ r. sound.done_on u d r) (done_cases s.done n c u d h);
+    }
+
+    -- a number is taken
+    pub take_sound : (k : ℕ) → IsSound g (after s (Take k))
+    take_sound k = record {
+      rises = sound.rises;
+      root = sound.root;
+      was = sound.was;
+      root_was = sound.root_was;
+      linked = sound.linked;
+      done_on = sound.done_on;
+      slots_on = sound.slots_on;
+      placed = sound.placed;
+      further = sound.further;
     }
 
     -- the root moves on along the chain

@@ -1,7 +1,7 @@
 -- A word that stood Live and is Buried now was buried between: after that exchange the map has no pair of its keys.
 use Rattle.std.proofs.Common.{◌≡◌, ⊎_elim, ℕ, true, Option, None, List, [], ◌∷◌, refl, ap, ◌∙◌, sym, subst}
 use Rattle.std.proofs.lemmas.Bool.{cond-true}
-use Rattle.papaya_law.specs.Exchange.{Word, Empty, Closed, Live, Marked, Copied, Buried, Setting, State, Exchange, Open, Claim, Replace, Bury, Link, Mark, Close, Place, Finish, Advance, Promote, Abort, slot_put, after, run}
+use Rattle.papaya_law.specs.Exchange.{Word, Empty, Closed, Live, Marked, Copied, Buried, Setting, State, Exchange, Open, Claim, Replace, Bury, Link, Mark, Close, Place, Finish, Advance, Promote, Abort, Take, slot_put, after, run}
 use Rattle.papaya_law.specs.Allows.{Allows, AllAllowed}
 use Rattle.papaya_law.specs.Meaning.{map_after, IsAtMoment, IsLawful}
 use Rattle.papaya_law.specs.Later.{Becomes}
@@ -35,6 +35,7 @@ module _ {K P : Type 0} (g : Setting K P) where
   buries s m (Advance n c) may u y p q live buried k same = absurd cc
   buries s m (Promote t n) may u y p q live buried k same = absurd cc
   buries s m (Abort n) may u y p q live buried k same = absurd cc
+  buries s m (Take n) may u y p q live buried k same = absurd cc
 
   -- a moment after a first exchange is one of all
   moment_after : (m : K → Option P) (e : Exchange P) (fs : List (Exchange P)) (k : K) (v : Option P) → IsAtMoment g (map_after g m e) fs k v → IsAtMoment g m (e ∷ fs) k v
@@ -59,7 +60,7 @@ module _ {K P : Type 0} (g : Setting K P) where
         by_next : ((r : P) → (after s e).slot t x ≡ Live r → g.same k (g.key r) ≡ true → IsAtMoment g (map_after g m e) fs k None) → (w : Word P) → (after s e).slot t x ≡ w → IsAtMoment g m (e ∷ fs) k None
         by_next ih Empty is = absurd (became Empty is)
         by_next ih Closed is = absurd (became Closed is)
-        by_next ih (Live r) is = moment_after m e fs k None (ih r is (law.through k (g.key p) (g.key r) same (became (Live r) is)))
+        by_next ih (Live r) is = moment_after m e fs k None (ih r is (subst (λ y. g.same k y ≡ true) (sym (became (Live r) is)) same))
         by_next ih (Marked r) is = absurd (⊎_elim (λ d. cc) (λ d. cc) (became_then (Marked r) is))
         by_next ih (Copied r) is = absurd (let d = became_then (Copied r) is in cc d)
         by_next ih (Buried r) is = record { so_far = e ∷ []; rest = fs; is = refl; value_is = buries s m e may.0 t x p r live is k same }

@@ -1,7 +1,7 @@
 -- Each exchange of a slot is a legal step of the numbers that stand for its words.
 use Rattle.std.proofs.Common.{◌≡◌, ℕ, Some, refl, sym, ◌∙◌, subst}
 use Rattle.papaya_words.specs.Word.{IsSlotStep, MayBecome, NamesSamePair, kind_of}
-use Rattle.papaya_law.specs.Exchange.{Word, Empty, Closed, Live, Marked, Copied, Buried, Setting, State, Exchange, Open, Claim, Replace, Bury, Link, Mark, Close, Place, Finish, Advance, Promote, Abort, after, slot_put}
+use Rattle.papaya_law.specs.Exchange.{Word, Empty, Closed, Live, Marked, Copied, Buried, Setting, State, Exchange, Open, Claim, Replace, Bury, Link, Mark, Close, Place, Finish, Advance, Promote, Abort, Take, after, slot_put}
 use Rattle.papaya_law.specs.Allows.{Allows}
 use Rattle.papaya_law.specs.Invariant.{named}
 use Rattle.papaya_law.specs.Code.{Coding, IsLawfulCoding, code, kind, ChangesSlot}
@@ -41,6 +41,7 @@ module _ {K P : Type 0} (g : Setting K P) (c : Coding K P) where
     code_step s (Advance n c) may t x is = absurd is
     code_step s (Promote u n) may t x is = absurd is
     code_step s (Abort n) may t x is = absurd is
+    code_step s (Take n) may t x is = absurd is
 
 -- a slot that the exchange doesn't change keeps its word
 pub code_stays : {P : Type 0} → (s : State P) (e : Exchange P) (t x : ℕ) → (ChangesSlot e t x → ⊥) → (after s e).slot t x ≡ s.slot t x
@@ -56,3 +57,4 @@ code_stays s (Finish u y p) t x other = put_elsewhere s u y (Copied p) t x other
 code_stays s (Advance n c) t x other = refl
 code_stays s (Promote u n) t x other = refl
 code_stays s (Abort n) t x other = refl
+code_stays s (Take n) t x other = refl

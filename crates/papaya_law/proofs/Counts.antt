@@ -1,6 +1,6 @@
 -- How many pairs one table has after each exchange, while no table has a next one.
 use Rattle.std.proofs.Common.{◌≡◌, ⊎_elim, ℕ, zero, suc, ◌+◌, ◌<◌, Option, Some, length, refl, sym, ap, ◌∙◌, subst, arith}
-use Rattle.papaya_law.specs.Exchange.{Word, Live, Buried, Setting, State, Exchange, Open, Claim, Replace, Bury, Link, Mark, Close, Place, Finish, Advance, Promote, Abort, after, slot_put, walk}
+use Rattle.papaya_law.specs.Exchange.{Word, Live, Buried, Setting, State, Exchange, Open, Claim, Replace, Bury, Link, Mark, Close, Place, Finish, Advance, Promote, Abort, Take, after, slot_put, walk}
 use Rattle.papaya_law.specs.View.{IsReached}
 use Rattle.papaya_law.specs.Allows.{Allows}
 use Rattle.papaya_law.specs.Meaning.{IsLawful}
@@ -81,3 +81,4 @@ module _ {K P : Type 0} (g : Setting K P) (law : IsLawful g) (s : State P) (m : 
   count_after (Advance n c) may = refl
   count_after (Promote t n) may = absurd (no_walk may.target.links t n may.target.is may.target.made)
   count_after (Abort n) may = refl
+  count_after (Take n) may = refl

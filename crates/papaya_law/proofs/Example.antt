@@ -1,6 +1,6 @@
 -- Two lists of exchanges that are allowed, one in each mode, together of every kind: the conditions can be met.
 use Rattle.std.proofs.Common.{◌≡◌, inl, inr, ℕ, zero, suc, ◌<◌, ◌==◌, Bool, true, false, cond, [], ◌∷◌, refl, sym, ◌∙◌, arith, eqb-true, eq-eqb}
-use Rattle.papaya_law.specs.Exchange.{State, Open, Claim, Replace, Link, Mark, Close, Place, Finish, Abort, start, run, walk}
+use Rattle.papaya_law.specs.Exchange.{State, Take, Open, Claim, Replace, Link, Mark, Close, Place, Finish, Abort, start, run, walk}
 use Rattle.papaya_law.specs.View.{look, beyond, foreign}
 use Rattle.papaya_law.specs.Copying.{IsSettled}
 use Rattle.papaya_law.specs.Allows.{AllAllowed}
@@ -41,45 +41,48 @@ below_two Q a b (suc (suc n)) h = absurd (omega arith)
 
 -- after eight exchanges
 abbrev eight : State ℕ
-eight = run {P = ℕ} (Open 1 ∷ Claim 1 0 70 ∷ Replace 1 0 70 71 ∷ Link 1 2 ∷ Mark 1 0 71 ∷ Place 2 0 71 ∷ Finish 1 0 71 ∷ Close 1 1 ∷ []) start
+eight = run {P = ℕ} (Take 0 ∷ Open 1 ∷ Claim 1 0 70 ∷ Replace 1 0 70 71 ∷ Link 1 2 ∷ Mark 1 0 71 ∷ Place 2 0 71 ∷ Finish 1 0 71 ∷ Close 1 1 ∷ []) start
 
 -- without blocking
 pub one_walk : AllAllowed by_two start two_tables
 one_walk = (
   (refl, omega arith),
   (
-    record { empty = refl; reached = record { from = 1; links = 0; was = refl; is = refl; made = omega arith; mode = inl refl; passed = λ i lt. absurd (omega arith) }; place = record { at = 0; within = omega arith; is = refl; before = λ i lt. absurd (omega arith) } },
+    (refl, omega arith),
     (
-      record { live = refl; reached = record { from = 1; links = 0; was = refl; is = refl; made = omega arith; mode = inl refl; passed = λ i lt. absurd (omega arith) }; same = refl },
+      record { empty = refl; reached = record { from = 1; links = 0; was = refl; is = refl; made = omega arith; mode = inl refl; passed = λ i lt. absurd (omega arith) }; place = record { at = 0; within = omega arith; is = refl; before = λ i lt. absurd (omega arith) } },
       (
-        record { last = refl; on = (omega arith, (0, refl)); rises = omega arith; from = 1; linking = inl (refl, λ b. refl); covers = λ x lt. omega arith },
+        record { live = refl; reached = record { from = 1; links = 0; was = refl; is = refl; made = omega arith; mode = inl refl; passed = λ i lt. absurd (omega arith) }; same = refl; kept = refl },
         (
-          record { live = refl; was = refl; further = omega arith },
+          record { last = refl; on = (omega arith, (0, refl)); rises = omega arith; from = 1; linking = inl (refl, λ b. refl); covers = λ x lt. omega arith },
           (
-            record {
-              empty = refl;
-              source = record { from = 1; slot = 0; stood = inl refl; taker = record { links = 0; is = refl; made = omega arith; over = λ i lt. absurd (omega arith) } };
-              place = record { at = 0; within = omega arith; is = refl; before = λ i lt. absurd (omega arith) };
-            },
+            record { live = refl; was = refl; further = omega arith },
             (
-              record { marked = refl; mode = refl; to = 2; taker = record { links = 0; is = refl; made = omega arith; over = λ i lt. absurd (omega arith) }; has = (0, omega arith, refl) },
+              record {
+                empty = refl;
+                source = record { from = 1; slot = 0; stood = inl refl; taker = record { links = 0; is = refl; made = omega arith; over = λ i lt. absurd (omega arith) } };
+                place = record { at = 0; within = omega arith; is = refl; before = λ i lt. absurd (omega arith) };
+              },
               (
-                record { empty = refl; was = refl; further = omega arith },
+                record { marked = refl; mode = refl; to = 2; taker = record { links = 0; is = refl; made = omega arith; over = λ i lt. absurd (omega arith) }; has = (0, omega arith, refl) },
                 (
-                  record {
-                    done = refl;
-                    from = 1;
-                    slot = 0;
-                    in_chunk = refl;
-                    target = record { links = 0; is = refl; made = omega arith; mode = inl refl; over = λ i lt. absurd (omega arith) };
-                    within = omega arith;
-                    settled = λ x lo hi. below_two (λ y. IsSettled by_two eight 2 (eight.slot 1 y)) tt tt x lo;
-                  },
+                  record { empty = refl; was = refl; further = omega arith },
                   (
-                    record { root = refl; made = omega arith; target = record { links = 0; is = refl; made = omega arith; mode = inl refl; over = λ i lt. absurd (omega arith) }; whole = λ x lt. refl },
+                    record {
+                      done = refl;
+                      from = 1;
+                      slot = 0;
+                      in_chunk = refl;
+                      target = record { links = 0; is = refl; made = omega arith; mode = inl refl; over = λ i lt. absurd (omega arith) };
+                      within = omega arith;
+                      settled = λ x lo hi. below_two (λ y. IsSettled by_two eight 2 (eight.slot 1 y)) tt tt x lo;
+                    },
                     (
-                      record { live = refl; reached = record { from = 2; links = 0; was = refl; is = refl; made = omega arith; mode = inl refl; passed = λ i lt. absurd (omega arith) } },
-                      tt,
+                      record { root = refl; made = omega arith; target = record { links = 0; is = refl; made = omega arith; mode = inl refl; over = λ i lt. absurd (omega arith) }; whole = λ x lt. refl },
+                      (
+                        record { live = refl; reached = record { from = 2; links = 0; was = refl; is = refl; made = omega arith; mode = inl refl; passed = λ i lt. absurd (omega arith) } },
+                        tt,
+                      ),
                     ),
                   ),
                 ),

@@ -1,7 +1,7 @@
 -- Lists in which no key stands twice: those of one map are of one length, which an exchange changes as it changes the map.
 use Rattle.std.proofs.Common.{◌≡◌, ⊎_elim, suc, true, false, cond, Option, None, Some, List, [], ◌∷◌, length, refl, sym, ap, ◌∙◌, subst}
 use Rattle.std.proofs.lemmas.Bool.{cases_Bool, cond-true, cond-false}
-use Rattle.papaya_law.specs.Exchange.{Setting, State, Exchange, Open, Claim, Replace, Bury, Link, Mark, Close, Place, Finish, Advance, Promote, Abort}
+use Rattle.papaya_law.specs.Exchange.{Setting, State, Exchange, Open, Claim, Replace, Bury, Link, Mark, Close, Place, Finish, Advance, Promote, Abort, Take}
 use Rattle.papaya_law.specs.Allows.{Allows}
 use Rattle.papaya_law.specs.Meaning.{IsLawful, IsLegal, map_after}
 use Rattle.papaya_law.specs.Content.{lookup, AreApart, IsCountAfter}
@@ -158,6 +158,7 @@ module _ {K P : Type 0} (g : Setting K P) where
       length_after (Advance n c) legal now = sym (one_length a b ha hb (λ k. before k ∙ sym (now k)))
       length_after (Promote t n) legal now = sym (one_length a b ha hb (λ k. before k ∙ sym (now k)))
       length_after (Abort n) legal now = sym (one_length a b ha hb (λ k. before k ∙ sym (now k)))
+      length_after (Take n) legal now = sym (one_length a b ha hb (λ k. before k ∙ sym (now k)))
 
     module _ (m : K → Option P) (a : List P) (ha : AreApart g.same g.key a) (before : (k : K) → lookup g.same g.key a k ≡ m k) where
       -- a claim puts its pair in
@@ -200,3 +201,4 @@ module _ {K P : Type 0} (g : Setting K P) where
       list_after s (Advance n c) may legal = (a, ha, before)
       list_after s (Promote t n) may legal = (a, ha, before)
       list_after s (Abort n) may legal = (a, ha, before)
+      list_after s (Take n) may legal = (a, ha, before)

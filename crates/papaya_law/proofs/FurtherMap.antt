@@ -1,6 +1,6 @@
 -- The map in a setting with one further key: the map itself and, for that key, what the map has for those that it matches.
 use Rattle.std.proofs.Common.{◌≡◌, ◌↔◌, ℕ, Bool, true, false, cond, Option, None, Some, List, [], ◌∷◌, ◌++◌, refl, sym, ap, ◌∙◌, subst}
-use Rattle.papaya_law.specs.Exchange.{Setting, State, Exchange, Open, Claim, Replace, Bury, Link, Mark, Close, Place, Finish, Advance, Promote, Abort, after, run, start}
+use Rattle.papaya_law.specs.Exchange.{Setting, State, Exchange, Open, Claim, Replace, Bury, Link, Mark, Close, Place, Finish, Advance, Promote, Abort, Take, after, run, start}
 use Rattle.papaya_law.specs.Allows.{Allows, AllAllowed}
 use Rattle.papaya_law.specs.Meaning.{AllLegal, IsAtMoment, IsLegal, map_after, map_of, map_left}
 use Rattle.papaya_law.specs.Code.{Coding}
@@ -22,6 +22,7 @@ module _ {K P : Type 0} (g : Setting K P) (matches : K → Bool) (hash : ℕ) wh
   own_after m m' own (Advance n c) k = own k
   own_after m m' own (Promote t n) k = own k
   own_after m m' own (Abort n) k = own k
+  own_after m m' own (Take n) k = own k
 
   -- after a list
   own_of : (es : List (Exchange P)) (m : K → Option P) (m' : Option K → Option P) → ((k : K) → m' (Some k) ≡ m k) → (k : K) → map_of (with_key g matches hash) m' es (Some k) ≡ map_of g m es k
@@ -42,6 +43,7 @@ module _ {K P : Type 0} (g : Setting K P) (matches : K → Bool) (hash : ℕ) wh
   key_legal m m' own (Advance n c) = (λ h. h, λ h. h)
   key_legal m m' own (Promote t n) = (λ h. h, λ h. h)
   key_legal m m' own (Abort n) = (λ h. h, λ h. h)
+  key_legal m m' own (Take n) = (λ h. h, λ h. h)
 
   -- so is a list
   pub key_all_legal : (es : List (Exchange P)) (m : K → Option P) (m' : Option K → Option P) → ((k : K) → m' (Some k) ≡ m k) → AllLegal g m es ↔ AllLegal (with_key g matches hash) m' es
@@ -66,6 +68,7 @@ module _ {K P : Type 0} (g : Setting K P) (matches : K → Bool) (hash : ℕ) wh
     matched_after m m' k h is (Advance n c) = is
     matched_after m m' k h is (Promote t n) = is
     matched_after m m' k h is (Abort n) = is
+    matched_after m m' k h is (Take n) = is
 
     -- after a list
     matched_of : (es : List (Exchange P)) (m : K → Option P) (m' : Option K → Option P) (k : K) → matches k ≡ true → m' None ≡ m k → map_of (with_key g matches hash) m' es None ≡ map_of g m es k
@@ -95,6 +98,7 @@ module _ {K P : Type 0} (g : Setting K P) (matches : K → Bool) (hash : ℕ) wh
     found_after s m' f (Advance n c) may = f
     found_after s m' f (Promote t n) may = f
     found_after s m' f (Abort n) may = f
+    found_after s m' f (Take n) may = f
 
     -- after a list
     found_of : (es : List (Exchange P)) (s : State P) (m' : Option K → Option P) → IsFinding (m' None) → AllAllowed g s es → IsFinding (map_of (with_key g matches hash) m' es None)

@@ -1,7 +1,7 @@
 -- What a caller saw, an exchange or a list of them that is allowed under one setting, is so under each that agrees with it on the tables of the chain.
-use Rattle.std.proofs.Common.{◌≡◌, inl, inr, ⊎_elim, ℕ, suc, ◌<◌, ◌≤◌, ◌==◌, Bool, true, cond, Option, None, Some, List, [], ◌∷◌, refl, sym, ap, ◌∙◌, subst, arith, eqb-true, eq-eqb}
+use Rattle.std.proofs.Common.{MatchOption, ◌≡◌, inl, inr, ⊎_elim, ℕ, suc, ◌<◌, ◌≤◌, ◌==◌, Bool, true, cond, Option, None, Some, List, [], ◌∷◌, refl, sym, ap, ◌∙◌, subst, arith, eqb-true, eq-eqb}
 use Rattle.std.proofs.lemmas.Bool.{cond-true}
-use Rattle.papaya_law.specs.Exchange.{Word, Empty, Closed, Live, Buried, Marked, Copied, Setting, Exchange, Open, Claim, Replace, Bury, Link, Mark, Close, Place, Finish, Advance, Promote, Abort, State, after, at_put, run, walk}
+use Rattle.papaya_law.specs.Exchange.{Word, Empty, Closed, Live, Buried, Marked, Copied, Setting, Exchange, Open, Claim, Replace, Bury, Link, Mark, Close, Place, Finish, Advance, Promote, Abort, Take, State, after, at_put, run, walk}
 use Rattle.papaya_law.specs.View.{View, beyond, foreign, look, IsNextPlace, IsReached}
 use Rattle.papaya_law.specs.Copying.{IsSettled, IsTaker, IsTarget, IsCopied, IsLinking}
 use Rattle.papaya_law.specs.Allows.{Allows, AllAllowed}
@@ -93,6 +93,7 @@ module _ {K P : Type 0} (g g' : Setting K P) (s : State P) (sound : IsSound g s)
     live = may.live;
     reached = reached_pair p t may.reached;
     same = agrees.same (g'.key p) (g'.key q) ∙ (ap (λ k. g.same k (g'.key q)) (agrees.key p) ∙ (ap (g.same (g.key p)) (agrees.key q) ∙ may.same));
+    kept = agrees.key q ∙ may.kept ∙ sym (agrees.key p);
   }
   allows_carries (Bury t x p) chunks may = record { live = may.live; reached = reached_pair p t may.reached }
   allows_carries (Link t n) chunks may =
@@ -144,6 +145,7 @@ module _ {K P : Type 0} (g g' : Setting K P) (s : State P) (sound : IsSound g s)
         source = copied_carries n may.pair c;
         full = full_carries g g' s sound agrees (look g s (g.key may.pair)) (look g' s (g'.key may.pair)) (look_pair g g' s sound agrees may.pair) n (taker_on (g.key may.pair) c.from n (source_on n may.pair c) c.taker) may.full;
       }
+  allows_carries (Take m) chunks may = (may.0, subst (λ o. MatchOption o (Unit {0}) (λ n. m < n)) (sym agrees.most) may.1)
 
 module _ {K P : Type 0} (g g' : Setting K P) (On : ℕ → Type 0) (agrees : Agrees On g g') where
   -- fewer tables
@@ -154,14 +156,15 @@ module _ {K P : Type 0} (g g' : Setting K P) (On : ℕ → Type 0) (agrees : Agr
     same = agrees.same;
     size = λ t h. agrees.size t (on t h);
     chunk_of = agrees.chunk_of;
+    most = agrees.most;
     chunks = λ t h. agrees.chunks t (on t h);
     places = λ t h. agrees.places t (on t h);
     place = λ k t j h. agrees.place k t j (on t h);
   }
 
-  -- what two keys are to each other
-  same_pairs : (p q : P) → g.same (g.key p) (g.key q) ≡ true → g'.same (g'.key p) (g'.key q) ≡ true
-  same_pairs p q h = agrees.same (g'.key p) (g'.key q) ∙ (ap (λ k. g.same k (g'.key q)) (agrees.key p) ∙ (ap (g.same (g.key p)) (agrees.key q) ∙ h))
+  -- what two pairs' keys are to each other
+  same_pairs : (p q : P) → g.key q ≡ g.key p → g'.key q ≡ g'.key p
+  same_pairs p q h = agrees.key q ∙ h ∙ sym (agrees.key p)
 
   -- what a word may become
   pub becomes_carries : (u w : Word P) → Becomes g u w → Becomes g' u w
@@ -179,7 +182,7 @@ module _ {K P : Type 0} (g g' : Setting K P) (On : ℕ → Type 0) (agrees : Agr
 
   -- a later state stays later
   pub later_carries : (s s' : State P) → IsLater g s s' → IsLater g' s s'
-  later_carries s s' l = record { was = l.was; next = l.next; aborted = l.aborted; done = l.done; words = λ t x. becomes_carries (s.slot t x) (s'.slot t x) (l.words t x) }
+  later_carries s s' l = record { was = l.was; next = l.next; aborted = l.aborted; done = l.done; made = l.made; words = λ t x. becomes_carries (s.slot t x) (s'.slot t x) (l.words t x) }
 
   -- an exchange does the same to the map
   map_after_at : (m : K → Option P) (e : Exchange P) (k : K) → map_after g' m e k ≡ map_after g m e k
@@ -195,6 +198,7 @@ module _ {K P : Type 0} (g g' : Setting K P) (On : ℕ → Type 0) (agrees : Agr
   map_after_at m (Advance n c) k = refl
   map_after_at m (Promote t n) k = refl
   map_after_at m (Abort n) k = refl
+  map_after_at m (Take n) k = refl
 
   -- so does a list
   pub map_of_carries : (es : List (Exchange P)) (m : K → Option P) → map_of g' m es ≡ map_of g m es
@@ -216,6 +220,7 @@ module _ {K P : Type 0} (g : Setting K P) (law : IsLawful g) where
   on_after s sound (Advance n c) may t on = on
   on_after s sound (Promote u n) may t on = on
   on_after s sound (Abort n) may t on = on
+  on_after s sound (Take n) may t on = on
 
   -- and has the table that the exchange brings
   brought_on : (s : State P) → IsSound g s → (e : Exchange P) → Allows g s e → (t : ℕ) → brings e t ≡ true → IsOn (after s e).first (after s e).next t
@@ -234,6 +239,7 @@ module _ {K P : Type 0} (g : Setting K P) (law : IsLawful g) where
   brought_on s sound (Advance n c) may t b = absurd cc
   brought_on s sound (Promote u n) may t b = absurd cc
   brought_on s sound (Abort n) may t b = absurd cc
+  brought_on s sound (Take n) may t b = absurd cc
 
   -- and at a list of them
   pub on_run : (es : List (Exchange P)) (s : State P) (m : K → Option P) → IsKeeping g s m → AllAllowed g s es → (t : ℕ) → IsOn s.first s.next t → IsOn (run es s).first (run es s).next t

@@ -25,12 +25,12 @@ module _ {K P : Type 0} (g : Setting K P) (c : Coding K P) where
   hint_none (Buried p) = inl refl
 
   module _ (law : IsLawfulCoding g c) where
-    -- pairs of equal keys have one hint
-    hint_same : (p q : P) → g.same (g.key p) (g.key q) ≡ true → hint_of_pair g c p ≡ hint_of_pair g c q
-    hint_same p q e = ap hint_of (law.respects (g.key p) (g.key q) e)
+    -- pairs of one key have one hint
+    hint_same : (p q : P) → g.key q ≡ g.key p → hint_of_pair g c p ≡ hint_of_pair g c q
+    hint_same p q e = ap (λ k. hint_of (c.hash k)) (sym e)
 
     -- of a pair that gives way to one of an equal key
-    hint_by : (p q : P) (n : ℕ) → g.same (g.key p) (g.key q) ≡ true → (n ≡ 0) ⊎ (n ≡ hint_of_pair g c p) → (n ≡ 0) ⊎ (n ≡ hint_of_pair g c q)
+    hint_by : (p q : P) (n : ℕ) → g.key q ≡ g.key p → (n ≡ 0) ⊎ (n ≡ hint_of_pair g c p) → (n ≡ 0) ⊎ (n ≡ hint_of_pair g c q)
     hint_by p q n e h = ⊎_elim (λ z. inl z) (λ y. inr (y ∙ hint_same p q e)) h
 
     -- what a hint says stays true of whatever the word becomes

@@ -1,7 +1,7 @@
 -- What an allowed exchange can't undo, so that what a caller saw at an earlier moment still serves.
 use Rattle.std.proofs.Common.{◌≡◌, ◌⊎◌, inl, inr, ⊎_elim, ℕ, zero, suc, ◌<◌, ◌≤◌, Bool, true, false, cond, ◌==◌, List, [], ◌∷◌, refl, sym, ap, ◌∙◌, subst, arith, eqb-true}
 use Rattle.std.proofs.lemmas.Bool.{cases_lt, cases_Bool, cond-true, cond-false}
-use Rattle.papaya_law.specs.Exchange.{Word, Empty, Closed, Live, Marked, Copied, Buried, Setting, State, Exchange, Open, Claim, Replace, Bury, Link, Mark, Close, Place, Finish, Advance, Promote, Abort, slot_put, at_put, after, run, walk}
+use Rattle.papaya_law.specs.Exchange.{Word, Empty, Closed, Live, Marked, Copied, Buried, Setting, State, Exchange, Open, Claim, Replace, Bury, Link, Mark, Close, Place, Finish, Advance, Promote, Abort, Take, slot_put, at_put, after, run, walk}
 use Rattle.papaya_law.specs.View.{View, Free, Foreign, Here, Leaving, Gone, Grave, view, look, own, beyond, foreign, IsPassed, IsFull, HasWord, IsReached}
 use Rattle.papaya_law.specs.Copying.{IsTaker, IsTarget, IsSettled}
 use Rattle.papaya_law.specs.Allows.{Allows, AllAllowed}
@@ -51,23 +51,27 @@ own_sees (Gone p) w h f = ap own h
 own_sees (Grave p) w h f = ap own h
 
 module _ {K P : Type 0} (g : Setting K P) (law : IsLawful g) where
+  -- a key that is kept is an equal one
+  pub kept_same : (p q : P) → g.key q ≡ g.key p → g.same (g.key p) (g.key q) ≡ true
+  kept_same p q e = subst (λ k. g.same (g.key p) k ≡ true) (sym e) (law.itself (g.key p))
+
   -- a word may stay
   becomes_itself : (w : Word P) → Becomes g w w
   becomes_itself Empty = tt
   becomes_itself Closed = refl
-  becomes_itself (Live p) = law.itself (g.key p)
+  becomes_itself (Live p) = refl
   becomes_itself (Marked p) = inl refl
   becomes_itself (Copied p) = refl
   becomes_itself (Buried p) = refl
 
   -- of a pair that gave way to one of an equal key
-  live_through : (p q : P) → g.same (g.key p) (g.key q) ≡ true → (w : Word P) → Becomes g (Live q) w → Becomes g (Live p) w
+  live_through : (p q : P) → g.key q ≡ g.key p → (w : Word P) → Becomes g (Live q) w → Becomes g (Live p) w
   live_through p q h Empty b = b
   live_through p q h Closed b = b
-  live_through p q h (Live r) b = law.through (g.key p) (g.key q) (g.key r) h b
-  live_through p q h (Marked r) b = law.through (g.key p) (g.key q) (g.key r) h b
-  live_through p q h (Copied r) b = law.through (g.key p) (g.key q) (g.key r) h b
-  live_through p q h (Buried r) b = law.through (g.key p) (g.key q) (g.key r) h b
+  live_through p q h (Live r) b = b ∙ h
+  live_through p q h (Marked r) b = b ∙ h
+  live_through p q h (Copied r) b = b ∙ h
+  live_through p q h (Buried r) b = b ∙ h
 
   -- in two steps
   pub becomes_through : (u v w : Word P) → Becomes g u v → Becomes g v w → Becomes g u w
@@ -85,7 +89,7 @@ module _ {K P : Type 0} (g : Setting K P) (law : IsLawful g) where
 
   -- a state is later than itself
   pub later_itself : (s : State P) → IsLater g s s
-  later_itself s = record { was = λ t h. h; next = λ t h. refl; aborted = λ t h. h; done = λ t c h. h; words = λ t x. becomes_itself (s.slot t x) }
+  later_itself s = record { was = λ t h. h; next = λ t h. refl; aborted = λ t h. h; done = λ t c h. h; made = omega arith; words = λ t x. becomes_itself (s.slot t x) }
 
   -- and later than what it is later than is
   pub later_through : (s s' s'' : State P) → IsLater g s s' → IsLater g s' s'' → IsLater g s s''
@@ -94,6 +98,7 @@ module _ {K P : Type 0} (g : Setting K P) (law : IsLawful g) where
     next = λ t h. b.next t (subst (λ y. 0 < y) (sym (a.next t h)) h) ∙ a.next t h;
     aborted = λ t h. b.aborted t (a.aborted t h);
     done = λ t c h. b.done t c (a.done t c h);
+    made = let x = a.made in let y = b.made in omega arith;
     words = λ t x. becomes_through (s.slot t x) (s'.slot t x) (s''.slot t x) (a.words t x) (b.words t x);
   }
 
@@ -104,6 +109,7 @@ module _ {K P : Type 0} (g : Setting K P) (law : IsLawful g) where
     next = λ u h. refl;
     aborted = λ u h. h;
     done = λ u c h. h;
+    made = omega arith;
     words = λ u y. ⊎_elim
         (λ r. subst (Becomes g (s.slot u y)) (sym r.0) (becomes_itself (s.slot u y)))
         (λ r. let e : s.slot u y ≡ w = cc (r.0, r.1, old) in subst (Becomes g (s.slot u y)) (sym r.2) (subst (λ v. Becomes g v w') (sym e) b))
@@ -112,18 +118,19 @@ module _ {K P : Type 0} (g : Setting K P) (law : IsLawful g) where
 
   -- nothing of this asks that the words are as they have to be
   pub later_step : (s : State P) (e : Exchange P) → Allows g s e → IsLater g s (after s e)
-  later_step s (Open t) may = let l = later_itself s in record { was = put_on s.was_root t; next = l.next; aborted = l.aborted; done = l.done; words = l.words }
+  later_step s (Open t) may = let l = later_itself s in record { was = put_on s.was_root t; next = l.next; aborted = l.aborted; done = l.done; made = l.made; words = l.words }
   later_step s (Claim t x p) may = slot_later s t x Empty (Live p) may.empty tt
-  later_step s (Replace t x p q) may = slot_later s t x (Live p) (Live q) may.live may.same
-  later_step s (Bury t x p) may = slot_later s t x (Live p) (Buried p) may.live (law.itself (g.key p))
+  later_step s (Replace t x p q) may = slot_later s t x (Live p) (Live q) may.live may.kept
+  later_step s (Bury t x p) may = slot_later s t x (Live p) (Buried p) may.live refl
   later_step s (Link t n) may = let l = later_itself s in record {
     was = l.was;
     aborted = l.aborted;
     done = l.done;
+    made = l.made;
     words = l.words;
     next = λ u h. ⊎_elim (λ (q : (u == t) ≡ true). let e = ap s.next (eqb-true u t q) in let z = may.last in absurd (omega arith)) (λ (q : (u == t) ≡ false). cond-false (u == t) n (s.next u) q) (cases_Bool (u == t));
   }
-  later_step s (Mark t x p) may = slot_later s t x (Live p) (Marked p) may.live (law.itself (g.key p))
+  later_step s (Mark t x p) may = slot_later s t x (Live p) (Marked p) may.live refl
   later_step s (Close t x) may = slot_later s t x Empty Closed may.empty tt
   later_step s (Place n x p) may = slot_later s n x Empty (Live p) may.empty tt
   later_step s (Finish t x p) may = slot_later s t x (Marked p) (Copied p) may.marked (inr refl)
@@ -131,11 +138,13 @@ module _ {K P : Type 0} (g : Setting K P) (law : IsLawful g) where
     was = l.was;
     next = l.next;
     aborted = l.aborted;
+    made = l.made;
     words = l.words;
     done = λ u d h. done_stays s.done n c u d h;
   }
-  later_step s (Promote t n) may = let l = later_itself s in record { was = put_on s.was_root n; next = l.next; aborted = l.aborted; done = l.done; words = l.words }
-  later_step s (Abort n) may = let l = later_itself s in record { was = l.was; next = l.next; aborted = put_on s.aborted n; done = l.done; words = l.words }
+  later_step s (Promote t n) may = let l = later_itself s in record { was = put_on s.was_root n; next = l.next; aborted = l.aborted; done = l.done; made = l.made; words = l.words }
+  later_step s (Abort n) may = let l = later_itself s in record { was = l.was; next = l.next; aborted = put_on s.aborted n; done = l.done; made = l.made; words = l.words }
+  later_step s (Take m) may = let l = later_itself s in record { was = l.was; next = l.next; aborted = l.aborted; done = l.done; made = let e = may.0 in omega arith; words = l.words }
 
   -- the same of a list
   pub later_run : (es : List (Exchange P)) (s : State P) → AllAllowed g s es → IsLater g s (run es s)
@@ -162,10 +171,10 @@ module _ {K P : Type 0} (g : Setting K P) (law : IsLawful g) where
   sees_later k Closed w b = ap (view g k) b
   sees_later k (Live p) Empty b = absurd b
   sees_later k (Live p) Closed b = absurd b
-  sees_later k (Live p) (Live q) b = at_live k p q (Here q) b refl
-  sees_later k (Live p) (Marked q) b = at_live k p q (Leaving q) b refl
-  sees_later k (Live p) (Copied q) b = at_live k p q (Gone q) b refl
-  sees_later k (Live p) (Buried q) b = at_live k p q (Grave q) b refl
+  sees_later k (Live p) (Live q) b = at_live k p q (Here q) (kept_same p q b) refl
+  sees_later k (Live p) (Marked q) b = at_live k p q (Leaving q) (kept_same p q b) refl
+  sees_later k (Live p) (Copied q) b = at_live k p q (Gone q) (kept_same p q b) refl
+  sees_later k (Live p) (Buried q) b = at_live k p q (Grave q) (kept_same p q b) refl
   sees_later k (Marked p) w b = marked (g.same k (g.key p)) refl
     where
       marked : (c : Bool) → g.same k (g.key p) ≡ c → Sees (cond c (Leaving p) Foreign) (view g k w)

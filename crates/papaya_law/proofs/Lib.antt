@@ -25,6 +25,8 @@ pub mod Turns
 pub mod Walks
 pub mod Copies
 pub mod CopierFacts
+pub mod Kept
+pub mod Numbers
 -- tables that come later, and logs
 pub mod Carries
 pub mod Grows

@@ -1,7 +1,7 @@
 -- The setting that a log gives: its later entries change nothing of the tables that its earlier ones brought onto the chain.
 use Rattle.std.proofs.Common.{◌≡◌, ◌⊎◌, inl, inr, ⊎_elim, ℕ, zero, suc, ◌<◌, ◌==◌, true, None, List, [], ◌∷◌, ◌++◌, refl, sym, ap, ◌∙◌, subst, arith, eq-eqb}
 use Rattle.std.proofs.lemmas.Bool.{cases_Bool, cond-true, cond-false, or_cases, or_left, or_right}
-use Rattle.papaya_law.specs.Exchange.{Exchange, Open, Claim, Replace, Bury, Link, Mark, Close, Place, Finish, Advance, Promote, Abort, State, start, after, run, walk}
+use Rattle.papaya_law.specs.Exchange.{Exchange, Open, Claim, Replace, Bury, Link, Mark, Close, Place, Finish, Advance, Promote, Abort, Take, State, start, after, run, walk}
 use Rattle.papaya_law.specs.Allows.{Allows, AllAllowed}
 use Rattle.papaya_law.specs.Meaning.{IsLawful}
 use Rattle.papaya_law.specs.Class.{IsOn}
@@ -26,6 +26,7 @@ comes_after s (Finish u x p) t c = inr c
 comes_after s (Advance n d) t c = inr c
 comes_after s (Promote u n) t c = inr c
 comes_after s (Abort n) t c = inr c
+comes_after s (Take n) t c = inr c
 
 -- a table of the chain is the first root or some table's next
 pub on_comes : {P : Type 0} (s : State P) (t : ℕ) → IsOn s.first s.next t → Comes s t
@@ -86,7 +87,7 @@ module _ {K P : Type 0} (h : Plan K P) where
   -- settings of one plan agree where their sizes and numbers of places do
   pub planned_agrees : (On : ℕ → Type 0) (size size' places places' chunks chunks' : ℕ → ℕ) → ((t : ℕ) → On t → size' t ≡ size t) → ((t : ℕ) → On t → places' t ≡ places t) → ((t : ℕ) → On t → chunks' t ≡ chunks t)
       → Agrees On (planned h size places chunks) (planned h size' places' chunks')
-  planned_agrees On size size' places places' chunks chunks' a b d = record { blocking = refl; key = λ p. refl; same = λ k l. refl; size = a; chunk_of = λ x. refl; chunks = d; places = b; place = λ k t j on. ap (λ n. h.probe k n j) (a t on) }
+  planned_agrees On size size' places places' chunks chunks' a b d = record { blocking = refl; key = λ p. refl; same = λ k l. refl; size = a; chunk_of = λ x. refl; chunks = d; most = refl; places = b; place = λ k t j on. ap (λ n. h.probe k n j) (a t on) }
 
   -- and are lawful where each table has a slot and a place
   pub planned_lawful : IsLawfulPlan h → (size places chunks : ℕ → ℕ) → ((t : ℕ) → 0 < size t) → ((t : ℕ) → 0 < places t) → IsLawful (planned h size places chunks)

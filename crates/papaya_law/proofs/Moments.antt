@@ -1,6 +1,6 @@
 -- Moments of a list of exchanges, and what a caller that is slow finds with blocking.
 use Rattle.std.proofs.Common.{◌≡◌, ◌⊎◌, inl, inr, ⊎_elim, ℕ, ◌<◌, true, false, Option, List, [], ◌∷◌, ◌++◌, refl, sym, ap, ◌∙◌, subst, arith}
-use Rattle.papaya_law.specs.Exchange.{Word, Empty, Closed, Live, Marked, Copied, Buried, Setting, State, Exchange, Open, Claim, Replace, Bury, Link, Mark, Close, Place, Finish, Advance, Promote, Abort, after, run}
+use Rattle.papaya_law.specs.Exchange.{Word, Empty, Closed, Live, Marked, Copied, Buried, Setting, State, Exchange, Open, Claim, Replace, Bury, Link, Mark, Close, Place, Finish, Advance, Promote, Abort, Take, after, run}
 use Rattle.papaya_law.specs.View.{view, look}
 use Rattle.papaya_law.specs.Allows.{Allows, AllAllowed, MayPromote}
 use Rattle.papaya_law.specs.Meaning.{map_after, map_of, IsLawful}
@@ -78,6 +78,7 @@ module _ {K P : Type 0} (g : Setting K P) where
     keeps_root s t is some (Advance n c) may = inl is
     keeps_root s t is some (Promote u n) may = inr (n, subst (λ y. MayPromote g s y n) (sym may.root ∙ is) may)
     keeps_root s t is some (Abort n) may = inl is
+    keeps_root s t is some (Take n) may = inl is
 
     -- a root of the past was seen so at a moment when it was the root
     pub root_moment : (fs : List (Exchange P)) (s : State P) (m : K → Option P) → IsBlockingState g s m → AllAllowed g s fs → (t : ℕ) → s.root ≡ t → 0 < t → IsRootMoment s t fs

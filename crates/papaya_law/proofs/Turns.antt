@@ -1,7 +1,7 @@
 -- The exchange by which a slot came to what it holds.
 use Rattle.std.proofs.Common.{◌≡◌, ⊎_elim, ℕ, Bool, true, false, Option, None, List, [], ◌∷◌, ◌++◌, refl, sym, ap, ◌∙◌, subst}
 use Rattle.std.proofs.lemmas.Bool.{cond-true}
-use Rattle.papaya_law.specs.Exchange.{Word, Empty, Closed, Live, Marked, Copied, Buried, Setting, State, Exchange, Open, Claim, Replace, Bury, Link, Mark, Close, Place, Finish, Advance, Promote, Abort, after, run, slot_put}
+use Rattle.papaya_law.specs.Exchange.{Word, Empty, Closed, Live, Marked, Copied, Buried, Setting, State, Exchange, Open, Claim, Replace, Bury, Link, Mark, Close, Place, Finish, Advance, Promote, Abort, Take, after, run, slot_put}
 use Rattle.papaya_law.specs.Allows.{Allows, AllAllowed}
 use Rattle.papaya_law.specs.Meaning.{map_after, map_of, IsLawful, IsAtMoment}
 use Rattle.papaya_law.specs.Later.{Becomes}
@@ -65,6 +65,7 @@ module _ {K P : Type 0} (g : Setting K P) where
   by_burial s t x (Advance n c) may old new = absurd (cc (old, new))
   by_burial s t x (Promote u n) may old new = absurd (cc (old, new))
   by_burial s t x (Abort n) may old new = absurd (cc (old, new))
+  by_burial s t x (Take n) may old new = absurd (cc (old, new))
 
   -- only a finish makes a word Copied
   pub by_finish : (s : State P) (t x : ℕ) (e : Exchange P) → Allows g s e → copied (s.slot t x) ≡ false → copied ((after s e).slot t x) ≡ true → (p : P) × (s.slot t x ≡ Marked p) × (e ≡ Finish t x p)
@@ -80,6 +81,7 @@ module _ {K P : Type 0} (g : Setting K P) where
   by_finish s t x (Advance n c) may old new = absurd (cc (old, new))
   by_finish s t x (Promote u n) may old new = absurd (cc (old, new))
   by_finish s t x (Abort n) may old new = absurd (cc (old, new))
+  by_finish s t x (Take n) may old new = absurd (cc (old, new))
 
   -- a slot whose word of key k was no Buried one, and now is: at a moment since then the map had none
   pub none_since : (law : IsLawful g) (m : K → Option P) (k : K) (t x : ℕ) (fs : List (Exchange P)) (s : State P) → AllAllowed g s fs → buried (s.slot t x) ≡ false → (p : P) → (run fs s).slot t x ≡ Buried p → g.same k (g.key p) ≡ true → IsAtMoment g m fs k None

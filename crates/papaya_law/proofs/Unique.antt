@@ -1,7 +1,7 @@
 -- A search always ends, so the words alone say what a key's pair is: a map that they mean is one.
 use Rattle.std.proofs.Common.{◌≡◌, ◌⊎◌, inl, inr, ⊎_elim, ℕ, zero, suc, ◌+◌, ◌<◌, ◌≤◌, ◌==◌, true, false, Option, List, [], ◌∷◌, refl, sym, ◌∙◌, subst, arith, eqb-true}
 use Rattle.std.proofs.lemmas.Bool.{cases_Bool, cases_lt, cond-false}
-use Rattle.papaya_law.specs.Exchange.{Setting, State, Exchange, Open, Claim, Replace, Bury, Link, Mark, Close, Place, Finish, Advance, Promote, Abort, after, run, start}
+use Rattle.papaya_law.specs.Exchange.{Setting, State, Exchange, Open, Claim, Replace, Bury, Link, Mark, Close, Place, Finish, Advance, Promote, Abort, Take, after, run, start}
 use Rattle.papaya_law.specs.View.{View, Free, Foreign, Here, Leaving, Gone, Grave, look, beyond, IsPassed, IsReached}
 use Rattle.papaya_law.specs.Allows.{AllAllowed}
 use Rattle.papaya_law.specs.Meaning.{IsLawful, IsMeaning, map_left}
@@ -31,6 +31,7 @@ step_bounded s (Finish t x p) h = h
 step_bounded s (Advance n c) h = h
 step_bounded s (Promote t n) h = h
 step_bounded s (Abort n) h = h
+step_bounded s (Take n) h = h
 
 -- so does a list
 run_bounded : {P : Type 0} → (es : List (Exchange P)) (s : State P) → IsBounded s → IsBounded (run es s)

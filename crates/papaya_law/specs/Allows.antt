@@ -1,8 +1,8 @@
 -- When an exchange may come next. Each condition is on the state alone; but for what the word
 -- itself holds, no later exchange undoes it (`proofs/Law/Later.antt`), so "was" and "stood" are
 -- read off the words as they are now.
-use Rattle.std.specs.Prelude.{◌≡◌, ℕ, ◌<◌, true, false, List, [], ◌∷◌}
-use Rattle.papaya_law.specs.Exchange.{Empty, Live, Marked, Setting, Exchange, Open, Claim, Replace, Bury, Link, Mark, Close, Place, Finish, Advance, Promote, Abort, State, after}
+use Rattle.std.specs.Prelude.{◌≡◌, ℕ, ◌<◌, MatchOption, true, false, List, [], ◌∷◌}
+use Rattle.papaya_law.specs.Exchange.{Empty, Live, Marked, Setting, Exchange, Open, Claim, Replace, Bury, Link, Mark, Close, Place, Finish, Advance, Promote, Abort, Take, State, after}
 use Rattle.papaya_law.specs.View.{look, beyond, foreign, IsFull, HasWord, IsNextPlace, IsReached}
 use Rattle.papaya_law.specs.Class.{IsOn}
 use Rattle.papaya_law.specs.Copying.{IsTaker, IsTarget, IsCopied, IsSettled, IsLinking, Covers}
@@ -14,12 +14,13 @@ pub record MayClaim {K P : Type 0} (g : Setting K P) (s : State P) (t x : ℕ) (
   pub reached : IsReached g s (g.key p) t
   pub place : IsNextPlace g s (g.key p) beyond t x
 
--- Replace: q takes the place of p, which has an equal key.
+-- Replace: q takes the place of p, and has its key.
 pub record MayReplace {K P : Type 0} (g : Setting K P) (s : State P) (t x : ℕ)
     (p q : P) : Type 0 where
   pub live : s.slot t x ≡ Live p
   pub reached : IsReached g s (g.key p) t
   pub same : g.same (g.key p) (g.key q) ≡ true
+  pub kept : g.key q ≡ g.key p
 
 -- Bury: p is removed.
 pub record MayBury {K P : Type 0} (g : Setting K P) (s : State P) (t x : ℕ) (p : P) : Type 0 where
@@ -106,6 +107,8 @@ Allows g s (Finish t x p) = MayFinish g s t x p
 Allows g s (Advance n c) = MayAdvance g s n c
 Allows g s (Promote t n) = MayPromote g s t n
 Allows g s (Abort n) = MayAbort g s n
+-- Take: a number for a pair, below the limit.
+Allows g s (Take m) = (s.made ≡ m) × MatchOption g.most (Unit {0}) (λ n. m < n)
 
 -- each exchange of the list may come where it comes
 abbrev pub AllAllowed : {K P : Type 0} → Setting K P → State P → List (Exchange P) → Type 0

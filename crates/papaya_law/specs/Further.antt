@@ -32,6 +32,7 @@ with_key g matches hash = record {
   blocking = g.blocking;
   size = g.size;
   chunk_of = g.chunk_of;
+  most = g.most;
   chunks = g.chunks;
   places = g.places;
   place = place_with g hash;

@@ -1,6 +1,6 @@
 -- Tables that come later: settings that agree on the tables of the chain, and the setting that a
 -- growing list of tables or a log gives.
-use Rattle.std.specs.Prelude.{◌≡◌, ◌⊎◌, ℕ, ◌<◌, ◌==◌, ◌||◌, Bool, true, false, cond, List, [], ◌∷◌}
+use Rattle.std.specs.Prelude.{◌≡◌, ◌⊎◌, ℕ, ◌<◌, ◌==◌, ◌||◌, Bool, true, false, cond, List, [], ◌∷◌, Option}
 use Rattle.papaya_law.specs.Exchange.{Setting, State, Exchange, Open, Link}
 
 -- g' says of modes, keys and the tables of the chain what g says; of other tables it may say
@@ -11,6 +11,7 @@ pub record Agrees {K P : Type 0} (On : ℕ → Type 0) (g g' : Setting K P) : Ty
   pub same : (k l : K) → g'.same k l ≡ g.same k l
   pub size : (t : ℕ) → On t → g'.size t ≡ g.size t
   pub chunk_of : (x : ℕ) → g'.chunk_of x ≡ g.chunk_of x
+  pub most : g'.most ≡ g.most
   pub chunks : (t : ℕ) → On t → g'.chunks t ≡ g.chunks t
   pub places : (t : ℕ) → On t → g'.places t ≡ g.places t
   pub place : (k : K) (t j : ℕ) → On t → g'.place k t j ≡ g.place k t j
@@ -20,6 +21,7 @@ pub record Agrees {K P : Type 0} (On : ℕ → Type 0) (g g' : Setting K P) : Ty
 pub record Plan (K P : Type 0) : Type 0 where
   pub blocking : Bool
   pub chunk_of : ℕ → ℕ
+  pub most : Option ℕ
   pub key : P → K
   pub same : K → K → Bool
   pub probe : K → ℕ → ℕ → ℕ  -- the slot of the j-th place of a key in a table of a length
@@ -39,6 +41,7 @@ planned h size places chunks = record {
   blocking = h.blocking;
   size = size;
   chunk_of = h.chunk_of;
+  most = h.most;
   chunks = chunks;
   places = places;
   place =

@@ -1,13 +1,15 @@
 -- Keys that are looked for by their hash.
-use Rattle.std.specs.Prelude.{ℕ, Bool}
+use Rattle.std.specs.Prelude.{ℕ, Bool, Option}
 use Rattle.papaya_words.specs.Probe.{place}
 use Rattle.papaya_law.specs.Grows.{Plan}
 
 -- the plan in which a search begins at the key's hash
-abbrev pub hashed : {K P : Type 0} → Bool → (ℕ → ℕ) → (P → K) → (K → K → Bool) → (K → ℕ) → Plan K P
-hashed blocking chunk_of key same hash = record {
+abbrev pub hashed : {K P : Type 0} → Bool → (ℕ → ℕ) → Option ℕ → (P → K) → (K → K → Bool) → (K → ℕ)
+    → Plan K P
+hashed blocking chunk_of most key same hash = record {
   blocking = blocking;
   chunk_of = chunk_of;
+  most = most;
   key = key;
   same = same;
   probe =

@@ -14,7 +14,7 @@ ghost use Rattle.papaya_law.specs.Grows.{Agrees, AllSized, Comes, Entry, IsLawfu
 ghost use Rattle.papaya_law.specs.Hashing.{hashed};
 ghost use Rattle.papaya_law.specs.Invariant.{IsKeeping, named, shut};
 ghost use Rattle.papaya_law.specs.Class.{IsOn};
-ghost use Rattle.papaya_law.specs.Later.{IsLasting, IsLater};
+ghost use Rattle.papaya_law.specs.Later.{IsLasting, IsLater, IsOfKey};
 ghost use Rattle.papaya_law.specs.Meaning.{AllLegal, IsAtMoment, IsLawful, IsLegal, IsMeaning, map_after, map_left, map_of};
 ghost use Rattle.papaya_law.specs.View.{Foreign, Free, Gone, Grave, Here, HasWord, IsPassed, IsReached, Leaving, active, beyond, held, look, own, view};
 ghost use Rattle.papaya_law.specs.Code.{IsHashed};
@@ -101,6 +101,18 @@ pub fn facts_last<K, P>()
         → IsLater g s s' → IsLasting g s s' }
     ensures root { (g : Setting K P) → IsLawful g → (s : State P) (m : K → Option P)
         → IsKeeping g s m → (k : K) → 0 < s.root → IsReached g s k s.root }
+{}
+
+/// The key of a filled slot never changes.
+pub fn keys_stay<K, P>()
+    ensures { (g : Setting K P) (s s' : State P) → IsLater g s s' → (t x : ℕ) (k : K)
+        → IsOfKey g (s.slot t x) k → IsOfKey g (s'.slot t x) k }
+{}
+
+/// Numbers for pairs are taken one after another, and no more than the limit lets.
+pub fn numbers<K, P>()
+    ensures { (g : Setting K P) (n : ℕ) → g.most ≡ Some n → (s : State P) (es : List (Exchange P))
+        → AllAllowed g s es → s.made ≤ n → (run es s).made ≤ n }
 {}
 
 /// With blocking, a reader that took t for the root may be slow: what it finds there after the
@@ -250,11 +262,12 @@ pub fn hints<K, P>()
 /// Keys that are looked for by their hash have a lawful plan, and a lawful plan gives lawful
 /// settings.
 pub fn plans_by_hash<K, P>()
-    ensures plan { (blocking : Bool) (chunk_of : ℕ → ℕ) (key : P → K) (same : K → K → Bool)
-        (hash : K → ℕ) → ((k : K) → same k k ≡ true) → ((k l : K) → same k l ≡ true → same l k ≡ true)
+    ensures plan { (blocking : Bool) (chunk_of : ℕ → ℕ) (most : Option ℕ) (key : P → K)
+        (same : K → K → Bool) (hash : K → ℕ) → ((k : K) → same k k ≡ true)
+        → ((k l : K) → same k l ≡ true → same l k ≡ true)
         → ((k l m : K) → same k l ≡ true → same l m ≡ true → same k m ≡ true)
         → ((k l : K) → same k l ≡ true → hash k ≡ hash l)
-        → IsLawfulPlan (hashed blocking chunk_of key same hash) }
+        → IsLawfulPlan (hashed blocking chunk_of most key same hash) }
     ensures setting { (h : Plan K P) → IsLawfulPlan h → (size places chunks : ℕ → ℕ)
         → ((t : ℕ) → 0 < size t) → ((t : ℕ) → 0 < places t)
         → IsLawful (planned h size places chunks) }
@@ -271,10 +284,12 @@ pub fn further_keys<K, P>()
     ensures lawful { (g : Setting K P) (c : Coding K P) → IsHashed g c → ((t : ℕ) → 0 < g.size t)
         → (matches : K → Bool) (hash : ℕ) → IsLawfulKey g c matches hash
         → IsHashed (with_key g matches hash) (coding_with c hash) }
-    ensures planned { (blocking : Bool) (chunk_of : ℕ → ℕ) (key : P → K) (same : K → K → Bool)
-        (hash_of : K → ℕ) (size places chunks : ℕ → ℕ) (matches : K → Bool) (hash : ℕ) → with_key
-        (planned (hashed blocking chunk_of key same hash_of) size places chunks) matches hash
-        ≡ planned (hashed blocking chunk_of (λ p. Some (key p)) (same_with same matches)
+    ensures planned { (blocking : Bool) (chunk_of : ℕ → ℕ) (most : Option ℕ) (key : P → K)
+        (same : K → K → Bool) (hash_of : K → ℕ) (size places chunks : ℕ → ℕ) (matches : K → Bool)
+        (hash : ℕ)
+        → with_key (planned (hashed blocking chunk_of most key same hash_of) size places chunks)
+        matches hash
+        ≡ planned (hashed blocking chunk_of most (λ p. Some (key p)) (same_with same matches)
         (hash_with hash_of hash)) size places chunks }
     ensures agrees { (g g' : Setting K P) (s : State P) → Agrees (IsOn s.first s.next) g g'
         → (matches : K → Bool) (hash : ℕ) → Agrees (IsOn s.first s.next) (with_key g matches hash)

@@ -19,10 +19,11 @@ use Rattle.papaya_call.specs.declared.machine.Machine.{Machine}
 use Rattle.papaya_law.specs.Exchange.{Exchange}
 use Rattle.papaya_law.specs.Hints.{IsHint}
 use Rattle.papaya_law.specs.Invariant.{named}
-use Rattle.papaya_call.specs.Machine.{IsStanding, IsStandingState, after, ask_of, kind_of_ask, started}
+use Rattle.papaya_call.specs.Machine.{IsStandingState, after, ask_of, kind_of_ask, started}
 use Rattle.papaya_rests.specs.Rests.{IsModeOf}
 use Rattle.papaya_rests.specs.Told.{Hands, IsTold, no_hands, or_last, told_of}
 use Rattle.papaya_rests.proofs.FurtherWords.{key_word}
+use Rattle.papaya_rests.proofs.RestsLearnPairs.{wanted_rests}
 use Rattle.papaya_law.proofs.OneMap.{sound}
 use Rattle.papaya_book.specs.Sheets.{Sheet}
 use Rattle.papaya_book.specs.declared.rule.entry.Begun.{Begun}
@@ -32,7 +33,7 @@ use Rattle.papaya_book.specs.Calls.{IsNext, IsRoot, IsTable}
 use Rattle.papaya_book.specs.Hashes.{hash_of}
 use Rattle.papaya_book.specs.Hinted.{IsSlotHint}
 use Rattle.papaya_book.specs.Logs.{Stored, coding_of, exchanges_of, is_blocking, setting_of, state_of, steps_of}
-use Rattle.papaya_lookup.specs.Lookups.{HoldsPair, HoldsTable, IsReading, left_of, table_of}
+use Rattle.papaya_lookup.specs.Lookups.{HoldsPair, HoldsTable, IsReading, coding_for, left_of, setting_for, table_of}
 use Rattle.papaya_book.specs.Rule.{IsLawfulLog, word_in}
 use Rattle.papaya_book.proofs.Loaded.{table_since}
 use Rattle.papaya_book.proofs.Logs.{came_entered, table_came}
@@ -43,10 +44,6 @@ use Rattle.papaya_book.proofs.Settings.{is_hashed}
 -- a machine of a lookup
 pub of_get : (m : Machine) → m.task ≡ Get → m ≡ lookup m.hash m.initial m.mode m.made m.remembered m.state
 of_get m e = ap (λ (t : Task). record m { task = t }) e
-
--- that stands as one
-pub stands_get : (m : Machine) → m.task ≡ Get → IsStanding m → IsStandingState Get m.state
-stands_get m e s = subst (λ (t : Task). IsStandingState t m.state) e s.state
 
 module _ {K V S : Type 0} where
   -- the table that is held is held still, over a longer log, where no other one is named
@@ -81,12 +78,12 @@ module _ {K V S H : Type 0} (eq : K → K → Bool) (input : K → List (List �
     pub reading : Rested log' (after m answer) table pair
     pub fewer : left_of (after m answer).state < left_of m.state
 
-  module _ (log log' : List (Event K V S)) (pre : IsPrefix log log') (l' : IsLawfulLog eq hash b log') (m : Machine) (table : Option (Bor Sheet)) (pair : Option (Stored K V)) (r : Rested log m table pair) (stands : IsStanding m) where
+  module _ (log log' : List (Event K V S)) (pre : IsPrefix log log') (l' : IsLawfulLog eq hash b log') (m : Machine) (table : Option (Bor Sheet)) (pair : Option (Stored K V)) (r : Rested log m table pair) (stands : IsStandingState Get m.state) where
     -- the word at a place was loaded
     loaded : (at : At) (word : ℕ) → ask_of m ≡ Load at → word_in eq hash b log' at ≡ word → On log' (after m (Word word)) (told_of (state_of log') at r.hands)
     loaded at word asks is =
         let f = fed eq input build write finish classes respects b matches query lawful in
-        let read = key_word (setting_of eq (hash b.hasher) b.mode log') matches f (coding_of (hash b.hasher)) (state_of log') at ∙ is in
+        let read = key_word (setting_of eq (hash b.hasher) b.mode b.limit log') matches f (coding_of (hash b.hasher)) (state_of log') at ∙ is in
         let on = later eq input build write finish classes respects b matches query lawful begun log r.lawful m r.hands (rests_on log m table pair r) log' l' pre in record {
           since = on.since;
           is = on.is;
@@ -100,7 +97,7 @@ module _ {K V S H : Type 0} (eq : K → K → Bool) (input : K → List (List �
         → ((last : Option (Stored K V)) → HoldsPair b last pair → HoldsPair b (or_last stored last) pair') → IsGoing log' m (Word word) table pair'
     slot_read t x word stored pair' asks is names holds =
         let on = loaded (Slot t x) word asks is in
-        let all = slot_step m.hash m.initial m.mode m.made m.remembered m.state (stands_get m r.task_is stands) t x word asks in
+        let all = slot_step m.hash m.initial m.mode m.made m.remembered m.state (stands) t x word asks in
         let get = of_get m r.task_is in
         let to : (after m (Word word)).state ≡ (after (lookup m.hash m.initial m.mode m.made m.remembered m.state) (Word word)).state = ap (λ (z : Machine). (after z (Word word)).state) get in
         let step : IsStepIn t m.state (after m (Word word)).state = subst (IsStepIn t m.state) (sym to) all.0 in record {
@@ -124,9 +121,9 @@ module _ {K V S H : Type 0} (eq : K → K → Bool) (input : K → List (List �
         let f = fed eq input build write finish classes respects b matches query lawful in
         let g = setting eq input build write finish classes respects b matches query lawful log' in
         let c = coding eq input build write finish classes respects b matches query lawful in
-        let hint : IsHint g c (state_of log') t x n = hint_with (setting_of eq (hash b.hasher) b.mode log') (coding_of (hash b.hasher)) matches f ((state_of log').slot t x) n told.is in
+        let hint : IsHint g c (state_of log') t x n = hint_with (setting_of eq (hash b.hasher) b.mode b.limit log') (coding_of (hash b.hasher)) matches f ((state_of log').slot t x) n told.is in
         let on = later eq input build write finish classes respects b matches query lawful begun log r.lawful m r.hands (rests_on log m table pair r) log' l' pre in
-        let all = hint_step m.hash m.initial m.mode m.made m.remembered m.state (stands_get m r.task_is stands) t x n asks in
+        let all = hint_step m.hash m.initial m.mode m.made m.remembered m.state (stands) t x n asks in
         let get = of_get m r.task_is in
         let to : (after m (Word n)).state ≡ (after (lookup m.hash m.initial m.mode m.made m.remembered m.state) (Word n)).state = ap (λ (z : Machine). (after z (Word n)).state) get in
         let step : IsStepIn t m.state (after m (Word n)).state = subst (IsStepIn t m.state) (sym to) all.0 in record {
@@ -149,7 +146,7 @@ module _ {K V S H : Type 0} (eq : K → K → Bool) (input : K → List (List �
     pub root_read : (name : Book) (word : ℕ) (table' : Option (Bor Sheet)) → ask_of m ≡ Load Root → IsRoot eq hash b name word log' table' → IsGoing log' m (Word word) table' pair
     root_read name word table' asks is =
         let on = loaded Root word asks is.is in
-        let all = root_step m.hash m.initial m.mode m.made m.remembered m.state (stands_get m r.task_is stands) word asks in
+        let all = root_step m.hash m.initial m.mode m.made m.remembered m.state (stands) word asks in
         let get = of_get m r.task_is in
         let to : (after m (Word word)).state ≡ (after (lookup m.hash m.initial m.mode m.made m.remembered m.state) (Word word)).state = ap (λ (z : Machine). (after z (Word word)).state) get in
         let step : IsStepTo word m.state (after m (Word word)).state = subst (IsStepTo word m.state) (sym to) all in record {
@@ -181,9 +178,9 @@ module _ {K V S H : Type 0} (eq : K → K → Bool) (input : K → List (List �
     next_read name t word table' asks is =
         let on = loaded (Next t) word asks is.is in
         let hashed = is_hashed eq input build write finish classes respects b log' l' in
-        let rises = (sound (setting_of eq (hash b.hasher) b.mode log') hashed.lawful (exchanges_of log') l'.allowed).rises t in
+        let rises = (sound (setting_of eq (hash b.hasher) b.mode b.limit log') hashed.lawful (exchanges_of log') l'.allowed).rises t in
         let up : (word ≡ 0 → ⊥) → t < word = λ some. ⊎_elim (λ z. absurd (some (sym is.is ∙ z))) (λ h. subst (λ y. t < y) is.is h.1) rises in
-        let all = next_step m.hash m.initial m.mode m.made m.remembered m.state (stands_get m r.task_is stands) t word (λ some. (up some, fits word name table' is.names some)) asks in
+        let all = next_step m.hash m.initial m.mode m.made m.remembered m.state (stands) t word (λ some. (up some, fits word name table' is.names some)) asks in
         let get = of_get m r.task_is in
         let to : (after m (Word word)).state ≡ (after (lookup m.hash m.initial m.mode m.made m.remembered m.state) (Word word)).state = ap (λ (z : Machine). (after z (Word word)).state) get in
         let step : IsStepTo word m.state (after m (Word word)).state = subst (IsStepTo word m.state) (sym to) all.1 in record {
@@ -207,7 +204,7 @@ mode_of (Incremental chunk) = refl
 mode_of Blocking = refl
 
 -- a lookup that begins
-pub begins : {K V S : Type 0} (eq : K → K → Bool) (hash : S → K → ℕ) (b : Begun K V S) (matches : K → Bool) (fed : ℕ) (log : List (Event K V S)) → IsLawfulLog eq hash b log → (m : Machine) → m ≡ started Get fed b.mode 0
+pub begins : {K V S : Type 0} (eq : K → K → Bool) (hash : S → K → ℕ) (b : Begun K V S) (matches : K → Bool) (fed : ℕ) (log : List (Event K V S)) → IsLawfulLog eq hash b log → (m : Machine) → m ≡ started Get fed b.mode 0 b.limit
     → IsReading eq hash b matches fed (exchanges_of log) log m None None
 begins eq hash b matches fed log l m e =
     subst (λ (z : Machine). IsReading eq hash b matches fed (exchanges_of log) log z None None) (sym e) (record {
@@ -216,7 +213,7 @@ begins eq hash b matches fed log l m e =
       is = append-nil (exchanges_of log);
       hands = no_hands;
       task_is = refl;
-      rests = record { hash = refl; mode = mode_of b.mode; made = record { keys = λ q none. absurd none; made_is = tt; fill_is = tt; choice_is = tt }; stage = tt };
+      rests = record { hash = refl; mode = mode_of b.mode; made = record { keys = λ q none. absurd none; limit = refl; number_is = wanted_rests (setting_for eq hash b matches fed log) (coding_for hash b.hasher fed) (exchanges_of log) [] None b.limit; own_is = tt; of_is = tt; fill_is = tt; choice_is = tt }; stage = tt };
       holds_table = tt;
       holds_pair = (refl, tt);
       found = λ n h. cc h;

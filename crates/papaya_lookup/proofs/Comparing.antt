@@ -18,12 +18,12 @@ use Rattle.papaya_call.specs.declared.compute.Remembered.{Remembered}
 use Rattle.papaya_ask.specs.declared.search.Search.TheVariants.{Sizing, Looking, Reading, Comparing}
 use Rattle.papaya_ask.specs.declared.search.Seen.{Seen}
 use Rattle.papaya_ask.specs.declared.search.Seen.TheVariants as seen
-use Rattle.papaya_call.specs.declared.write.Made.{Made}
+use Rattle.papaya_call.specs.declared.made.Made.{Made}
 use Rattle.papaya_law.specs.Allows.{AllAllowed}
 use Rattle.papaya_law.specs.Code.{Coding}
 use Rattle.papaya_law.specs.Exchange.{Exchange, Setting, start}
 use Rattle.papaya_law.specs.View.{Foreign, Here, Leaving as View_leaving, held, view}
-use Rattle.papaya_call.specs.Machine.{IsStanding, IsStandingState, after, ask_of, asks, goes_as, kind_of_ask, passes}
+use Rattle.papaya_call.specs.Machine.{IsStandingState, after, ask_of, asks, goes_as, kind_of_ask, passes}
 use Rattle.papaya_rests.specs.Rests.{RestsStage, WasAtMoment}
 use Rattle.papaya_ask.specs.Search.{IsSize, at_yes}
 use Rattle.papaya_rests.specs.Told.{Hands, IsTold}
@@ -39,7 +39,7 @@ use Rattle.papaya_book.specs.Hashes.{hash_of}
 use Rattle.papaya_lookup.specs.History.{key_of}
 use Rattle.papaya_book.specs.Logs.{Stored, state_of, steps_of}
 use Rattle.papaya_lookup.specs.Lookups.{HoldsTable, table_of}
-use Rattle.papaya_lookup.proofs.Answering.{IsGoing, Rested, held_on, of_get, stands_get}
+use Rattle.papaya_lookup.proofs.Answering.{IsGoing, Rested, held_on, of_get}
 use Rattle.papaya_lookup.proofs.Lookups.{IsStepIn, hint_step, lookup, size_step, slot_step, yes_step}
 use Rattle.papaya_lookup.proofs.Readings.{IsQuery, RestsOn, allowed_with, coding, hashed_with, learned, setting}
 use Rattle.papaya_book.proofs.TableSizes.{sizes}
@@ -89,7 +89,7 @@ module _ {K P : Type 0} (g : Setting K P) (c : Coding K P) (hashed : IsHashed g 
 
 module _ {K V S H : Type 0} (eq : K → K → Bool) (input : K → List (List ℕ)) (build : S → H) (write : H → List ℕ → H) (finish : H → ℕ) (classes : IsEquivalence eq) (respects : (x y : K) → eq x y ≡ true → input x ≡ input y)
     (b : Begun K V S) (matches : K → Bool) (query : List (List ℕ)) (lawful : IsQuery eq input matches query) (begun : List (Exchange (Stored K V)))
-    (log : List (Event K V S)) (m : Machine) (table : Option (Bor Sheet)) (pair : Option (Stored K V)) (r : Rested eq input build write finish classes respects b matches query lawful begun log m table pair) (stands : IsStanding m) where
+    (log : List (Event K V S)) (m : Machine) (table : Option (Bor Sheet)) (pair : Option (Stored K V)) (r : Rested eq input build write finish classes respects b matches query lawful begun log m table pair) (stands : IsStandingState Get m.state) where
   abbrev hash : S → K → ℕ
   hash = hash_of input build write finish
 
@@ -115,7 +115,7 @@ module _ {K V S H : Type 0} (eq : K → K → Bool) (input : K → List (List �
   -- a slot that is named is one of the table that is held
   pub slot_held : (t x : ℕ) (lent : Bor Sheet) → table ≡ Some lent → ask_of m ≡ Load (Slot t x) → IsTable log t lent.now × (x < length lent.now.slots)
   slot_held t x lent has e =
-      let step = slot_step m.hash m.initial m.mode m.made m.remembered m.state (stands_get m r.task_is stands) t x 0 e in
+      let step = slot_step m.hash m.initial m.mode m.made m.remembered m.state (stands) t x 0 e in
       let came = table_held t step.0.names lent has in
       let may = subst (AllAllowed g start) (sym r.is) (allowed_with eq input build write finish classes respects b matches query lawful log r.lawful) in
       let hashed = hashed_with eq input build write finish classes respects b matches query lawful log r.lawful in
@@ -125,7 +125,7 @@ module _ {K V S H : Type 0} (eq : K → K → Bool) (input : K → List (List �
   -- and so is one whose hint is
   pub hint_held : (t x : ℕ) (lent : Bor Sheet) → table ≡ Some lent → ask_of m ≡ LoadHint t x → IsTable log t lent.now × (x < length lent.now.slots)
   hint_held t x lent has e =
-      let step = hint_step m.hash m.initial m.mode m.made m.remembered m.state (stands_get m r.task_is stands) t x 0 e in
+      let step = hint_step m.hash m.initial m.mode m.made m.remembered m.state (stands) t x 0 e in
       let came = table_held t step.0.names lent has in
       let may = subst (AllAllowed g start) (sym r.is) (allowed_with eq input build write finish classes respects b matches query lawful log r.lawful) in
       let hashed = hashed_with eq input build write finish classes respects b matches query lawful log r.lawful in
@@ -143,7 +143,7 @@ module _ {K V S H : Type 0} (eq : K → K → Bool) (input : K → List (List �
       let told : IsTold g c None (state_of log) (kind_of_ask m) r.hands (SizeOf t) (Size slots limit) [] r.hands = ((limit, places, ap (λ n. Size n limit) many), (refl, refl)) in
       let further = learned eq input build write finish classes respects b matches query lawful begun log r.lawful m r.hands on (Size slots limit) r.hands
       (subst (λ (a : Ask). IsTold g c None (state_of log) (kind_of_ask m) r.hands a (Size slots limit) [] r.hands) (sym e) told) in
-      let step = size_step m.hash m.initial m.mode m.made m.remembered m.state (stands_get m r.task_is stands) t slots limit size.few e in
+      let step = size_step m.hash m.initial m.mode m.made m.remembered m.state (stands) t slots limit size.few e in
       let get = of_get m r.task_is in
       let to : (after m (Size slots limit)).state ≡ (after (lookup m.hash m.initial m.mode m.made m.remembered m.state) (Size slots limit)).state = ap (λ (z : Machine). (after z (Size slots limit)).state) get in
       let in_it : IsStepIn t m.state (after m (Size slots limit)).state = subst (IsStepIn t m.state) (sym to) step.0 in record {
@@ -169,7 +169,7 @@ module _ {K V S H : Type 0} (eq : K → K → Bool) (input : K → List (List �
       let told : IsTold g c None (state_of log) (kind_of_ask m) r.hands (SameKey n) (Yes same) [] r.hands = (λ p e' f. ap Yes (matched p e'), (refl, refl)) in
       let further = learned eq input build write finish classes respects b matches query lawful begun log r.lawful m r.hands on (Yes same) r.hands
       (subst (λ (a : Ask). IsTold g c None (state_of log) (kind_of_ask m) r.hands a (Yes same) [] r.hands) (sym e) told) in
-      let step = yes_step m.hash m.initial m.mode m.made m.remembered m.state (stands_get m r.task_is stands) n same e in
+      let step = yes_step m.hash m.initial m.mode m.made m.remembered m.state (stands) n same e in
       let t = step.0 in
       let get = of_get m r.task_is in
       let to : (after m (Yes same)).state ≡ (after (lookup m.hash m.initial m.mode m.made m.remembered m.state) (Yes same)).state = ap (λ (z : Machine). (after z (Yes same)).state) get in
@@ -185,7 +185,7 @@ module _ {K V S H : Type 0} (eq : K → K → Bool) (input : K → List (List �
           holds_pair = r.holds_pair;
           found = λ j f.
               yes_found g c (hashed_with eq input build write finish classes respects b matches query lawful log r.lawful) begun r.since
-              (subst (AllAllowed g start) (sym r.is) (allowed_with eq input build write finish classes respects b matches query lawful log r.lawful)) None r.hands m.hash m.initial m.mode m.made m.remembered m.state (stands_get m r.task_is stands)
+              (subst (AllAllowed g start) (sym r.is) (allowed_with eq input build write finish classes respects b matches query lawful log r.lawful)) None r.hands m.hash m.initial m.mode m.made m.remembered m.state (stands)
               (subst (λ t. RestsStage g c begun r.since None r.hands t m.state) r.task_is r.rests.stage) n same matched e j (sym to ∙ f);
         };
         fewer = in_it.fewer;

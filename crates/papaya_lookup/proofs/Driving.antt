@@ -4,7 +4,7 @@ use Rattle.papaya_words.specs.Word.{pair_of}
 use Rattle.std.specs.Cmp.{IsEquivalence}
 use mathlib.Core.List.{IsPrefix}
 use Rattle.papaya_ask.specs.declared.ask.At.{At}
-use Rattle.papaya_ask.specs.declared.ask.At.TheVariants.{Root, Next, Aborted, Done, Slot}
+use Rattle.papaya_ask.specs.declared.ask.At.TheVariants.{Root, Next, Aborted, Done, Slot, Made}
 use Rattle.papaya_ask.specs.declared.ask.Ask.TheVariants.{Exchange as Ask_exchange}
 use Rattle.papaya_ask.specs.declared.ask.Answer.{Answer}
 use Rattle.papaya_ask.specs.declared.ask.StepKind.{StepKind}
@@ -15,6 +15,7 @@ use Rattle.papaya_law.specs.Allows.{AllAllowed, Allows}
 use Rattle.papaya_law.specs.Class.{IsOn}
 use Rattle.papaya_law.specs.Exchange.{Exchange, Setting, State, Word, Empty, Closed, Live, Marked, Copied, Buried, after as after_exchange, run, start}
 use Rattle.papaya_law.specs.Code.{Coding, code}
+use Rattle.papaya_law.specs.Invariant.{named}
 use Rattle.papaya_law.specs.Grows.{Agrees}
 use Rattle.papaya_rests.specs.Rests.{Rests}
 use Rattle.papaya_rests.specs.Told.{Hands, IsAsked, IsOneOf, IsOwnWord, IsTold, IsWritten, word_of}
@@ -33,9 +34,10 @@ use Rattle.papaya_book.specs.declared.rule.entry.Event.{Event}
 use Rattle.papaya_book.specs.Hashes.{hash_of}
 use Rattle.papaya_lookup.specs.History.{key_of}
 use Rattle.papaya_book.specs.Logs.{Stored, coding_of, exchanges_of, setting_of, state_of}
-use Rattle.papaya_book.specs.Plays.{CanExchange, IsPutting, MayStep, made_list}
+use Rattle.papaya_book.specs.Plays.{CanExchange, IsCallAsked, IsPutting, MayStep, Numbered, made_list}
 use Rattle.papaya_book.specs.Rule.{IsLawfulLog, word_in}
 use Rattle.papaya_book.proofs.Logs.{exchanges_of-append}
+use Rattle.papaya_lookup.proofs.KeptKeys.{HasKeyAt, key_at_stays}
 use Rattle.papaya_lookup.proofs.Namesakes.{claimed_instead, replaced_instead, written_instead}
 use Rattle.papaya_lookup.proofs.Readings.{IsQuery, allowed_with, coding, fed, hashed_with, setting}
 use Rattle.papaya_book.proofs.Settings.{agrees_later}
@@ -50,41 +52,52 @@ one_made (Some p) q (inr one) = absurd one
 pub is_made : {P : Type 0} (made : Option P) (q : P) → made ≡ Some q → IsOneOf (made_list made) q
 is_made made q is = subst (λ o. IsOneOf (made_list o) q) (sym is) (inl refl)
 
-module _ {K K' P : Type 0} (c : Coding K P) (c' : Coding K' P) (numbers : (p : P) → c.number p ≡ c'.number p) (hands hands' : Hands P) (made : (q : P) → IsOneOf hands.made q → IsOneOf hands'.made q) where
-  own_word : (new : ℕ) (q : P) → IsOwnWord c hands new q → IsOwnWord c' hands' new q
-  own_word new q own = record { made = made q own.made; named = sym (numbers q) ∙ own.named }
+module _ {K V K' : Type 0} (g : Setting K' (Stored K V)) (c : Coding K' (Stored K V)) (k : K') (numbers : (p : Stored K V) → c.number p ≡ p.index) (keys : (p q : Stored K V) → key_of q ≡ key_of p → g.key q ≡ g.key p)
+    (hands hands' : Hands (Stored K V)) (made : (q : Stored K V) → IsOneOf hands.made q → IsOneOf hands'.made q) where
+  own_word : (new : ℕ) (q : Stored K V) → IsOwnWord Numbered hands new q → IsOwnWord c hands' new q
+  own_word new q own = record { made = made q own.made; named = numbers q ∙ own.named }
 
-  -- what a machine asks for depends on the pairs that it made and on their numbers, and not on the pair last loaded
-  pub asked_by_made : (kind : Option StepKind) (at : At) (new : ℕ) (s : State P) (e : Exchange P) → IsAsked c kind at new s hands e → IsAsked c' kind at new s hands' e
-  asked_by_made None at new s e a = absurd a
-  asked_by_made (Some kinds.Open) Root new s e a = a
-  asked_by_made (Some kinds.Open) (Next t) new s e a = absurd a
-  asked_by_made (Some kinds.Open) (Aborted t) new s e a = absurd a
-  asked_by_made (Some kinds.Open) (Done t chunk) new s e a = absurd a
-  asked_by_made (Some kinds.Open) (Slot t x) new s e a = absurd a
-  asked_by_made (Some kinds.Claim) Root new s e a = absurd a
-  asked_by_made (Some kinds.Claim) (Next t) new s e a = absurd a
-  asked_by_made (Some kinds.Claim) (Aborted t) new s e a = absurd a
-  asked_by_made (Some kinds.Claim) (Done t chunk) new s e a = absurd a
-  asked_by_made (Some kinds.Claim) (Slot t x) new s e a = (a.0, own_word new a.0 a.1, a.2)
-  asked_by_made (Some kinds.Replace) Root new s e a = absurd a
-  asked_by_made (Some kinds.Replace) (Next t) new s e a = absurd a
-  asked_by_made (Some kinds.Replace) (Aborted t) new s e a = absurd a
-  asked_by_made (Some kinds.Replace) (Done t chunk) new s e a = absurd a
-  asked_by_made (Some kinds.Replace) (Slot t x) new s e a = (a.0, a.1, a.2, own_word new a.1 a.3, a.4)
-  asked_by_made (Some kinds.Bury) Root new s e a = absurd a
-  asked_by_made (Some kinds.Bury) (Next t) new s e a = absurd a
-  asked_by_made (Some kinds.Bury) (Aborted t) new s e a = absurd a
-  asked_by_made (Some kinds.Bury) (Done t chunk) new s e a = absurd a
-  asked_by_made (Some kinds.Bury) (Slot t x) new s e a = a
-  asked_by_made (Some kinds.Link) at new s e a = absurd a
-  asked_by_made (Some kinds.Mark) at new s e a = absurd a
-  asked_by_made (Some kinds.Close) at new s e a = absurd a
-  asked_by_made (Some kinds.Place) at new s e a = absurd a
-  asked_by_made (Some kinds.Finish) at new s e a = absurd a
-  asked_by_made (Some kinds.Advance) at new s e a = absurd a
-  asked_by_made (Some kinds.Promote) at new s e a = absurd a
-  asked_by_made (Some kinds.Abort) at new s e a = absurd a
+  -- What a call asks for is what its machine asks for, where a pair that it claims has its key. It depends on the pairs that it made and on their numbers, and not on the pair last loaded.
+  pub asked_by_made : (kind : Option StepKind) (at : At) (new : ℕ) (s : State (Stored K V)) (e : Exchange (Stored K V)) → (kind ≡ Some kinds.Claim → (q : Stored K V) → IsOneOf hands.made q → g.key q ≡ k) → IsCallAsked kind at new s hands e → IsAsked g c k kind at new s hands' e
+  asked_by_made None at new s e own a = absurd a
+  asked_by_made (Some kinds.Open) Root new s e own a = a
+  asked_by_made (Some kinds.Open) (Next t) new s e own a = absurd a
+  asked_by_made (Some kinds.Open) (Aborted t) new s e own a = absurd a
+  asked_by_made (Some kinds.Open) (Done t chunk) new s e own a = absurd a
+  asked_by_made (Some kinds.Open) (Slot t x) new s e own a = absurd a
+  asked_by_made (Some kinds.Open) Made new s e own a = absurd a
+  asked_by_made (Some kinds.Claim) Root new s e own a = absurd a
+  asked_by_made (Some kinds.Claim) (Next t) new s e own a = absurd a
+  asked_by_made (Some kinds.Claim) (Aborted t) new s e own a = absurd a
+  asked_by_made (Some kinds.Claim) (Done t chunk) new s e own a = absurd a
+  asked_by_made (Some kinds.Claim) (Slot t x) new s e own a = (a.0, own_word new a.0 a.1, own refl a.0 a.1.made, a.2)
+  asked_by_made (Some kinds.Claim) Made new s e own a = absurd a
+  asked_by_made (Some kinds.Replace) Root new s e own a = absurd a
+  asked_by_made (Some kinds.Replace) (Next t) new s e own a = absurd a
+  asked_by_made (Some kinds.Replace) (Aborted t) new s e own a = absurd a
+  asked_by_made (Some kinds.Replace) (Done t chunk) new s e own a = absurd a
+  asked_by_made (Some kinds.Replace) (Slot t x) new s e own a = (a.0, a.1, a.2, own_word new a.1 a.3, keys a.0 a.1 a.4, a.5)
+  asked_by_made (Some kinds.Replace) Made new s e own a = absurd a
+  asked_by_made (Some kinds.Bury) Root new s e own a = absurd a
+  asked_by_made (Some kinds.Bury) (Next t) new s e own a = absurd a
+  asked_by_made (Some kinds.Bury) (Aborted t) new s e own a = absurd a
+  asked_by_made (Some kinds.Bury) (Done t chunk) new s e own a = absurd a
+  asked_by_made (Some kinds.Bury) (Slot t x) new s e own a = a
+  asked_by_made (Some kinds.Bury) Made new s e own a = absurd a
+  asked_by_made (Some kinds.Link) at new s e own a = absurd a
+  asked_by_made (Some kinds.Mark) at new s e own a = absurd a
+  asked_by_made (Some kinds.Close) at new s e own a = absurd a
+  asked_by_made (Some kinds.Place) at new s e own a = absurd a
+  asked_by_made (Some kinds.Finish) at new s e own a = absurd a
+  asked_by_made (Some kinds.Advance) at new s e own a = absurd a
+  asked_by_made (Some kinds.Promote) at new s e own a = absurd a
+  asked_by_made (Some kinds.Abort) at new s e own a = absurd a
+  asked_by_made (Some kinds.Take) Root new s e own a = absurd a
+  asked_by_made (Some kinds.Take) (Next t) new s e own a = absurd a
+  asked_by_made (Some kinds.Take) (Aborted t) new s e own a = absurd a
+  asked_by_made (Some kinds.Take) (Done t chunk) new s e own a = absurd a
+  asked_by_made (Some kinds.Take) (Slot t x) new s e own a = absurd a
+  asked_by_made (Some kinds.Take) Made new s e own a = a
 
 -- a word's number is the same in all settings
 code_same : {K P : Type 0} (g g' : Setting K P) (c : Coding K P) (w : Word P) → code g' c w ≡ code g c w
@@ -102,6 +115,7 @@ word_same g g' c s (Next t) = refl
 word_same g g' c s (Aborted t) = refl
 word_same g g' c s (Done t chunk) = refl
 word_same g g' c s (Slot t x) = code_same g g' c (s.slot t x)
+word_same g g' c s Made = refl
 
 module _ {K V S H : Type 0} (eq : K → K → Bool) (input : K → List (List ℕ)) (build : S → H) (write : H → List ℕ → H) (finish : H → ℕ) (classes : IsEquivalence eq) (respects : (x y : K) → eq x y ≡ true → input x ≡ input y)
     (b : Begun K V S) (matches : K → Bool) (query : List (List ℕ)) (lawful : IsQuery eq input matches query) (k : Option K) (begun : List (Exchange (Stored K V))) where
@@ -116,7 +130,7 @@ module _ {K V S H : Type 0} (eq : K → K → Bool) (input : K → List (List �
   wide log = setting eq input build write finish classes respects b matches query lawful log
 
   abbrev plain : List (Event K V S) → Setting K (Stored K V)
-  plain log = setting_of eq (hash b.hasher) b.mode log
+  plain log = setting_of eq (hash b.hasher) b.mode b.limit log
 
   abbrev pub coded : Coding (Option K) (Stored K V)
   coded = coding eq input build write finish classes respects b matches query lawful
@@ -175,7 +189,7 @@ module _ {K V S H : Type 0} (eq : K → K → Bool) (input : K → List (List �
   -- An exchange that a machine asked for may come next after this log, and writes the new word.
   record IsGranted (log : List (Event K V S)) (kind : Option StepKind) (hands : Hands (Stored K V)) (at : At) (new : ℕ) : Type 0 where
     pub by : Exchange (Stored K V)
-    pub asked : IsAsked coded kind at new (state_of log) hands by
+    pub asked : IsAsked (wide log) coded k kind at new (state_of log) hands by
     pub allowed : Allows (plain log) (state_of log) by
     pub written : IsWritten (plain log) c (state_of log) at new (after_exchange (state_of log) by)
 
@@ -194,7 +208,7 @@ module _ {K V S H : Type 0} (eq : K → K → Bool) (input : K → List (List �
       let written : IsWritten (wide log) coded (state_of log) at new (after_exchange (state_of log) by) = subst (λ (z : List (Exchange (Stored K V))). IsWritten (wide log) coded (run z start) at new (after_exchange (run z start) by)) now.is done.3 in
       let same = λ (s : State (Stored K V)). λ (at' : At). key_word (plain log) matches fed_to c s at' in record {
         by = by;
-        asked = subst (λ (z : List (Exchange (Stored K V))). IsAsked coded (kind_of_ask m) at new (run z start) hands by) now.is done.1;
+        asked = subst (λ (z : List (Exchange (Stored K V))). IsAsked (wide log) coded k (kind_of_ask m) at new (run z start) hands by) now.is done.1;
         allowed = allows_alike (wide log) (plain log) (alike_back (plain log) (wide log) (key_alike (plain log) matches fed_to)) (state_of log) by wide_allows;
         written = record {
           here = sym (same (after_exchange (state_of log) by) at) ∙ written.here;
@@ -202,37 +216,45 @@ module _ {K V S H : Type 0} (eq : K → K → Bool) (input : K → List (List �
         };
       }
 
-  -- the pairs that a call made have one key
-  one_key : (log : List (Event K V S)) (m : Machine) (hands : Hands (Stored K V)) → IsResting log m hands → (p q : Stored K V) → IsOneOf hands.made p → IsOneOf hands.made q → key_of p ≡ key_of q
-  one_key log m hands r p q one other = let both : Some (key_of p) ≡ Some (key_of q) = r.rests.made.keys p one ∙ sym (r.rests.made.keys q other) in cc both
+  -- A pair of this key may be put in by an exchange of this kind: it is claimed with the call's own key, and replaces one of its key.
+  abbrev pub IsKeyFor : List (Event K V S) → Option StepKind → (t x : ℕ) → K → Type 0
+  IsKeyFor log kind t x key = (kind ≡ Some kinds.Claim → Some key ≡ k) × (kind ≡ Some kinds.Replace → HasKeyAt log t x key)
 
   module _ (log : List (Event K V S)) (hands : Hands (Stored K V)) (t x new : ℕ) where
     -- a pair that the call made is put in, where one of its number was asked for
-    module _ (q : Stored K V) (number : pair_of new ≡ q.index) (keys : (p : Stored K V) → IsOneOf hands.made p → key_of p ≡ key_of q) where
+    module _ (q : Stored K V) (number : pair_of new ≡ q.index) where
       abbrev MayPut : Option StepKind → Type 0
       MayPut kind = MayStep eq hash b (Slot t x) kind new (Some q) (names.Pair q) log
 
-      may_claim : IsGranted log (Some kinds.Claim) hands (Slot t x) new → MayPut (Some kinds.Claim)
-      may_claim g =
-          let p = g.asked.0 in let own = g.asked.1 in let is = g.asked.2 in let key = keys p own.made in record {
+      may_claim : Some (key_of q) ≡ k → IsGranted log (Some kinds.Claim) hands (Slot t x) new → MayPut (Some kinds.Claim)
+      may_claim own_is g =
+          let p = g.asked.0 in let own = g.asked.1 in let is = g.asked.3 in
+          let both : Some (key_of p) ≡ Some (key_of q) = g.asked.2 ∙ sym own_is in
+          let key : key_of p ≡ key_of q = cc both in record {
             step = steps.Claim t x q;
             meant = record { asked = inl (q, record { made = inl refl; named = sym number }, refl); with_it = refl };
             allowed = claimed_instead (plain log) c p q key (own.named ∙ number) (state_of log) t x (subst (Allows (plain log) (state_of log)) is g.allowed);
             written = written_instead (plain log) c p q key (own.named ∙ number) (state_of log) t x (Slot t x) new (subst (λ (e : Exchange (Stored K V)). IsWritten (plain log) c (state_of log) (Slot t x) new (after_exchange (state_of log) e)) is g.written);
           }
 
-      may_replace : IsGranted log (Some kinds.Replace) hands (Slot t x) new → MayPut (Some kinds.Replace)
-      may_replace g =
-          let r = g.asked.0 in let p = g.asked.1 in let live = g.asked.2 in let own = g.asked.3 in let is = g.asked.4 in let key = keys p own.made in record {
+      may_replace : HasKeyAt log t x (key_of q) → IsGranted log (Some kinds.Replace) hands (Slot t x) new → MayPut (Some kinds.Replace)
+      may_replace there g =
+          let r = g.asked.0 in let p = g.asked.1 in let live = g.asked.2 in let own = g.asked.3 in let is = g.asked.5 in
+          let names_it : Some r ≡ Some there.0 = ap named (sym live) ∙ there.1 in
+          let one : r ≡ there.0 = cc names_it in
+          let both : Some (key_of p) ≡ Some (key_of r) = g.asked.4 in
+          let same : key_of p ≡ key_of r = cc both in
+          let kept : key_of q ≡ key_of r = sym there.2 ∙ ap key_of (sym one) in
+          let key : key_of p ≡ key_of q = same ∙ sym kept in record {
             step = steps.Replace t x r q;
-            meant = record { asked = inl (r, q, live, record { made = inl refl; named = sym number }, refl); with_it = refl };
+            meant = record { asked = inl (r, q, live, record { made = inl refl; named = sym number }, kept, refl); with_it = refl };
             allowed = replaced_instead (plain log) c p q key (own.named ∙ number) (state_of log) t x r (subst (Allows (plain log) (state_of log)) is g.allowed);
             written = written_instead (plain log) c p q key (own.named ∙ number) (state_of log) t x (Slot t x) new (subst (λ (e : Exchange (Stored K V)). IsWritten (plain log) c (state_of log) (Slot t x) new (after_exchange (state_of log) e)) is g.written);
           }
 
-      may_put : (kind : Option StepKind) → IsPutting kind → IsGranted log kind hands (Slot t x) new → MayPut kind
-      may_put kind (inl is) g = subst MayPut (sym is) (may_claim (subst (λ (z : Option StepKind). IsGranted log z hands (Slot t x) new) is g))
-      may_put kind (inr is) g = subst MayPut (sym is) (may_replace (subst (λ (z : Option StepKind). IsGranted log z hands (Slot t x) new) is g))
+      may_put : (kind : Option StepKind) → IsPutting kind → IsKeyFor log kind t x (key_of q) → IsGranted log kind hands (Slot t x) new → MayPut kind
+      may_put kind (inl is) for g = subst MayPut (sym is) (may_claim (for.0 is) (subst (λ (z : Option StepKind). IsGranted log z hands (Slot t x) new) is g))
+      may_put kind (inr is) for g = subst MayPut (sym is) (may_replace (for.1 is) (subst (λ (z : Option StepKind). IsGranted log z hands (Slot t x) new) is g))
 
     -- a pair is taken out
     abbrev MayBury : Option StepKind → Type 0
@@ -248,11 +270,43 @@ module _ {K V S H : Type 0} (eq : K → K → Bool) (input : K → List (List �
           written = subst (λ (e : Exchange (Stored K V)). IsWritten (plain log) c (state_of log) (Slot t x) new (after_exchange (state_of log) e)) by g.written;
         })
 
+  -- which it may later too, since the key of a filled slot stays
+  key_for_stays : (v log : List (Event K V S)) → IsLawfulLog eq hash b log → IsPrefix v log → (kind : Option StepKind) (t x : ℕ) (key : K) → IsKeyFor v kind t x key → IsKeyFor log kind t x key
+  key_for_stays v log l pre kind t x key for = (for.0, λ is. key_at_stays eq input build write finish classes respects b v log l pre t x key (for.1 is))
+
   module _ (v : List (Event K V S)) (l : IsLawfulLog eq hash b v) (m : Machine) (hands : Hands (Stored K V)) (r : IsResting v m hands) (t x old new : ℕ) (asks : ask_of m ≡ Ask_exchange (Slot t x) old new) where
-    -- An exchange that puts a pair in may be tried with any pair that the call made and that has the number asked for.
-    pub can_put : IsPutting (kind_of_ask m) → (q : Stored K V) → IsOneOf hands.made q → pair_of new ≡ q.index → CanExchange eq hash b (Slot t x) (kind_of_ask m) old new (Some q) (names.Pair q) v
-    can_put kind q one number log pre l' stands = may_put log hands t x new q number (λ p own. one_key v m hands r p q own one) (kind_of_ask m) kind (can_exchange v l m hands r (Slot t x) old new asks log pre l' stands)
+    -- An exchange that puts a pair in may be tried with any pair that has the number asked for and the right key.
+    pub can_put : IsPutting (kind_of_ask m) → (q : Stored K V) → IsKeyFor v (kind_of_ask m) t x (key_of q) → pair_of new ≡ q.index → CanExchange eq hash b (Slot t x) (kind_of_ask m) old new (Some q) (names.Pair q) v
+    can_put kind q for number log pre l' stands =
+        may_put log hands t x new q number (kind_of_ask m) kind (key_for_stays v log l' pre (kind_of_ask m) t x (key_of q) for) (can_exchange v l m hands r (Slot t x) old new asks log pre l' stands)
 
     -- An exchange that takes a pair out may be tried with no pair, whatever the call has made.
     pub can_bury : kind_of_ask m ≡ Some kinds.Bury → CanExchange eq hash b (Slot t x) (kind_of_ask m) old new None names.Nothing v
     can_bury kind log pre l' stands = may_bury log hands t x new (kind_of_ask m) kind (can_exchange v l m hands r (Slot t x) old new asks log pre l' stands)
+
+  module _ (log : List (Event K V S)) (hands : Hands (Stored K V)) (new : ℕ) (by : Exchange (Stored K V)) (allowed : Allows (plain log) (state_of log) by) (written : IsWritten (plain log) c (state_of log) Made new (after_exchange (state_of log) by)) where
+    -- a number is taken
+    may_take : (kind : Option StepKind) → IsAsked (wide log) coded k kind Made new (state_of log) hands by → MayStep eq hash b Made kind new None names.Nothing log
+    may_take None asked = absurd asked
+    may_take (Some kinds.Open) asked = absurd asked
+    may_take (Some kinds.Claim) asked = absurd asked
+    may_take (Some kinds.Replace) asked = absurd asked
+    may_take (Some kinds.Bury) asked = absurd asked
+    may_take (Some kinds.Link) asked = absurd asked
+    may_take (Some kinds.Mark) asked = absurd asked
+    may_take (Some kinds.Close) asked = absurd asked
+    may_take (Some kinds.Place) asked = absurd asked
+    may_take (Some kinds.Finish) asked = absurd asked
+    may_take (Some kinds.Advance) asked = absurd asked
+    may_take (Some kinds.Promote) asked = absurd asked
+    may_take (Some kinds.Abort) asked = absurd asked
+    may_take (Some kinds.Take) asked = record {
+      step = steps.Take (state_of log).made;
+      meant = record { asked = inl refl; with_it = refl };
+      allowed = subst (Allows (plain log) (state_of log)) asked allowed;
+      written = subst (λ (e : Exchange (Stored K V)). IsWritten (plain log) c (state_of log) Made new (after_exchange (state_of log) e)) asked written;
+    }
+
+  -- A number for a pair may be taken whenever so many were taken as the machine was told.
+  pub can_take : (v : List (Event K V S)) → IsLawfulLog eq hash b v → (m : Machine) (hands : Hands (Stored K V)) → IsResting v m hands → (old new : ℕ) → ask_of m ≡ Ask_exchange Made old new → CanExchange eq hash b Made (kind_of_ask m) old new None names.Nothing v
+  can_take v l m hands r old new asks log pre l' stands = let g = can_exchange v l m hands r Made old new asks log pre l' stands in may_take log hands new g.by g.allowed g.written (kind_of_ask m) g.asked

@@ -1,5 +1,6 @@
 -- what machines are told
 pub mod AskedPairs
+pub mod KeptKeys
 pub mod Namesakes
 pub mod Driving
 pub mod Replies
@@ -12,3 +13,6 @@ pub mod Comparing
 pub mod Moments
 pub mod LookupReplies
 pub mod Turning
+-- the search of the root alone
+pub mod Slots
+pub mod Nearing

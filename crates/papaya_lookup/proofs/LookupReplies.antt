@@ -11,21 +11,22 @@ use Rattle.papaya_call.specs.declared.machine.Machine.{Machine}
 use Rattle.papaya_call.specs.declared.machine.State.{State as Stage}
 use Rattle.papaya_call.specs.declared.machine.State.TheVariants.{AtRoot, Making, Opening, Searching, Writing, Offering, Showing, Pairing, Putting, Burying, Counting, Noting, Uncounting, Leaving, Growing, Ended}
 use Rattle.papaya_ask.specs.declared.search.Search.TheVariants.{Sizing, Looking, Reading, Comparing}
-use Rattle.papaya_call.specs.declared.write.Made.{Made}
+use Rattle.papaya_call.specs.declared.made.Made.{Made}
 use Rattle.papaya_law.specs.Code.{Coding}
 use Rattle.papaya_law.specs.Exchange.{Exchange, Setting}
-use Rattle.papaya_call.specs.Machine.{IsStanding, IsStandingState, ask_of, asks}
+use Rattle.papaya_call.specs.Machine.{IsStandingState, ask_of, asks}
 use Rattle.papaya_rests.specs.Rests.{IsReply, RestsStage, WasAtMoment}
 use Rattle.papaya_rests.specs.Told.{Hands}
 use Rattle.papaya_book.specs.Sheets.{Sheet}
 use Rattle.papaya_book.specs.declared.rule.entry.Begun.{Begun}
 use Rattle.papaya_book.specs.declared.rule.entry.Event.{Event}
 use Rattle.papaya_book.specs.Hashes.{hash_of}
+use Rattle.papaya_book.proofs.Logs.{prefix_trans}
 use Rattle.papaya_lookup.specs.History.{Change, history_of, key_of}
 use Rattle.papaya_book.specs.Logs.{Stored, exchanges_of}
 use Rattle.papaya_lookup.specs.declared.lookup.Hit.{Hit}
 use Rattle.papaya_lookup.specs.Answers.{IsAnsweredBetween, IsFoundBetween, IsHitAnsweredBetween, IsPairAnsweredBetween}
-use Rattle.papaya_lookup.proofs.Answering.{Rested, stands_get}
+use Rattle.papaya_lookup.proofs.Answering.{Rested}
 use Rattle.papaya_lookup.proofs.Moments.{IsHistory, matched_history}
 use Rattle.papaya_lookup.proofs.Readings.{IsQuery, coding, setting}
 
@@ -67,7 +68,7 @@ module _ {K P : Type 0} (g : Setting K P) (c : Coding K P) (begun since : List (
 
 module _ {K V S H : Type 0} (eq : K → K → Bool) (input : K → List (List ℕ)) (build : S → H) (write : H → List ℕ → H) (finish : H → ℕ) (classes : IsEquivalence eq) (respects : (x y : K) → eq x y ≡ true → input x ≡ input y)
     (b : Begun K V S) (matches : K → Bool) (query : List (List ℕ)) (lawful : IsQuery eq input matches query) (old began : List (Event K V S)) (pre : IsPrefix old began)
-    (log : List (Event K V S)) (m : Machine) (table : Option (Bor Sheet)) (pair : Option (Stored K V)) (r : Rested eq input build write finish classes respects b matches query lawful (exchanges_of began) log m table pair) (stands : IsStanding m) where
+    (log : List (Event K V S)) (m : Machine) (table : Option (Bor Sheet)) (pair : Option (Stored K V)) (r : Rested eq input build write finish classes respects b matches query lawful (exchanges_of began) log m table pair) (stands : IsStandingState Get m.state) where
   abbrev hash : S → K → ℕ
   hash = hash_of input build write finish
 
@@ -78,7 +79,7 @@ module _ {K V S H : Type 0} (eq : K → K → Bool) (input : K → List (List �
   -- a pair was found, and is the one that is held
   pub found_answer : (n : ℕ) → ask_of m ≡ Done (Found n) → (q : Stored K V) → pair ≡ Some q → (hit : Hit K V S H) → hit.key.now ≡ key_of q → hit.value.now ≡ q.value.value → IsHitAnsweredBetween eq matches (history_of old) (history_of log) (Some hit)
   found_answer n e q has hit key_is value_is =
-      let last = r.found n (done_state m.made m.hash m.state (stands_get m r.task_is stands) (Found n) e) in
+      let last = r.found n (done_state m.made m.hash m.state (stands) (Found n) e) in
       let p = last.0 in
       let h = history_then (Some p) last.2 in
       let match' = h.found p refl in
@@ -89,7 +90,7 @@ module _ {K V S H : Type 0} (eq : K → K → Bool) (input : K → List (List �
   pub absent_answer : (reply : Reply) → ask_of m ≡ Done reply → ((n : ℕ) → reply ≡ Found n → ⊥) → IsHitAnsweredBetween {S = S} {H = H} eq matches (history_of old) (history_of log) None
   absent_answer reply e none =
       let g = setting eq input build write finish classes respects b matches query lawful log in let c = coding eq input build write finish classes respects b matches query lawful in
-      let ended = done_state m.made m.hash m.state (stands_get m r.task_is stands) reply e in
+      let ended = done_state m.made m.hash m.state (stands) reply e in
       let stage : RestsStage g c (exchanges_of began) r.since None r.hands Get (Ended reply) = subst (λ z. RestsStage g c (exchanges_of began) r.since None r.hands Get z) ended (subst (λ t. RestsStage g c (exchanges_of began) r.since None r.hands t m.state) r.task_is r.rests.stage) in
       let h = history_then None (get_reply g c (exchanges_of began) r.since None r.hands reply stage none) in record { seen = h.seen; since = h.since; until = h.until; is = h.had }
 
@@ -110,3 +111,7 @@ module _ {K V : Type 0} (eq : K → K → Bool) (matches : K → Bool) (old new 
   -- and its key too
   pub pair_answer : {S H : Type 0} (answer : Option (Hit K V S H)) (pair : Option (Bor K × Bor V)) → option_map (λ hit. (hit.key, hit.value)) answer ≡ pair → IsHitAnsweredBetween eq matches old new answer → IsPairAnsweredBetween eq matches old new pair
   pair_answer = found_as (λ hit p. (hit.key.now ≡ key_of p) × (hit.value.now ≡ p.value.value)) (λ pair p. (pair.0.now ≡ key_of p) × (pair.1.now ≡ p.value.value)) (λ hit. (hit.key, hit.value)) (λ hit p is. is) eq matches old new
+
+-- what was answered since more was seen
+pub answered_since : {K V A : Type 0} (is_of : A → Stored K V → Type 0) (eq : K → K → Bool) (matches : K → Bool) (old mid new : List (Change K (Stored K V))) (answer : Option A) → IsPrefix old mid → IsFoundBetween is_of eq matches mid new answer → IsFoundBetween is_of eq matches old new answer
+answered_since is_of eq matches old mid new answer pre f = record { seen = f.seen; since = prefix_trans old mid f.seen pre f.since; until = f.until; is = f.is }

@@ -37,7 +37,7 @@ module _ {K V S H : Type 0} (eq : K → K → Bool) (input : K → List (List �
 
   -- the setting without the further key, and with it
   abbrev plain : Setting K (Stored K V)
-  plain = setting_of eq hash b.mode log
+  plain = setting_of eq hash b.mode b.limit log
 
   abbrev wide : Setting (Option K) (Stored K V)
   wide = setting eq input build write finish classes respects b matches query lawful log

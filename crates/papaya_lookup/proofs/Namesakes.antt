@@ -2,7 +2,7 @@
 use Rattle.std.proofs.Common.{◌≡◌, ℕ, ◌==◌, ◌&&◌, Bool, true, false, cond, refl, sym, ◌∙◌, subst}
 use Rattle.papaya_words.specs.Word.{live_word}
 use Rattle.papaya_ask.specs.declared.ask.At.{At}
-use Rattle.papaya_ask.specs.declared.ask.At.TheVariants.{Root, Next, Aborted, Done, Slot}
+use Rattle.papaya_ask.specs.declared.ask.At.TheVariants.{Root, Next, Aborted, Done, Slot, Made}
 use Rattle.papaya_law.specs.Allows.{Allows}
 use Rattle.papaya_law.specs.Exchange.{Setting, State, Word, Live, Claim, Replace, slot_put}
 use Rattle.papaya_law.specs.Code.{Coding, code}
@@ -26,6 +26,7 @@ module _ {K P : Type 0} (g : Setting K P) (c : Coding K P) (p q : P) (key : g.ke
   same_words s t x (Aborted u) = refl
   same_words s t x (Done u chunk) = refl
   same_words s t x (Slot u y) = same_cond ((u == t) && (y == x)) (s.slot u y)
+  same_words s t x Made = refl
 
   pub written_instead : (s : State P) (t x : ℕ) (at : At) (new : ℕ) → IsWritten g c s at new (slot_put s t x (Live p)) → IsWritten g c s at new (slot_put s t x (Live q))
   written_instead s t x at new w = record {
@@ -41,4 +42,4 @@ module _ {K P : Type 0} (g : Setting K P) (c : Coding K P) (p q : P) (key : g.ke
   }
 
   pub replaced_instead : (s : State P) (t x : ℕ) (r : P) → Allows g s (Replace t x r p) → Allows g s (Replace t x r q)
-  replaced_instead s t x r may = record { live = may.live; reached = may.reached; same = subst (λ k. g.same (g.key r) k ≡ true) key may.same }
+  replaced_instead s t x r may = record { live = may.live; reached = may.reached; same = subst (λ k. g.same (g.key r) k ≡ true) key may.same; kept = sym key ∙ may.kept }

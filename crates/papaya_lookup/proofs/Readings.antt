@@ -71,7 +71,7 @@ module _ {K V S H : Type 0} (eq : K → K → Bool) (input : K → List (List �
   coding = coding_for hash b.hasher fed
 
   -- it is a lawful further key
-  pub key_form : (log : List (Event K V S)) → IsLawfulKey (setting_of eq (hash b.hasher) b.mode log) (coding_of (hash b.hasher)) matches fed
+  pub key_form : (log : List (Event K V S)) → IsLawfulKey (setting_of eq (hash b.hasher) b.mode b.limit log) (coding_of (hash b.hasher)) matches fed
   key_form log = record {
     class = λ k h l. lawful.class k l h;
     hash_is = λ k h. ap (λ z. finish (fold write (build b.hasher) z) % 2 ^ 64) (lawful.feeds k h);
@@ -79,10 +79,10 @@ module _ {K V S H : Type 0} (eq : K → K → Bool) (input : K → List (List �
   }
 
   pub hashed_with : (log : List (Event K V S)) → IsLawfulLog eq hash b log → IsHashed (setting log) coding
-  hashed_with log l = key_lawful (setting_of eq (hash b.hasher) b.mode log) matches fed (coding_of (hash b.hasher)) (is_hashed eq input build write finish classes respects b log l) (key_form log) (some_slot (entries_of log) l.sized)
+  hashed_with log l = key_lawful (setting_of eq (hash b.hasher) b.mode b.limit log) matches fed (coding_of (hash b.hasher)) (is_hashed eq input build write finish classes respects b log l) (key_form log) (some_slot (entries_of log) l.sized)
 
   pub allowed_with : (log : List (Event K V S)) → IsLawfulLog eq hash b log → AllAllowed (setting log) start (exchanges_of log)
-  allowed_with log l = all_alike (setting_of eq (hash b.hasher) b.mode log) (setting log) (key_alike (setting_of eq (hash b.hasher) b.mode log) matches fed) (exchanges_of log) start l.allowed
+  allowed_with log l = all_alike (setting_of eq (hash b.hasher) b.mode b.limit log) (setting log) (key_alike (setting_of eq (hash b.hasher) b.mode b.limit log) matches fed) (exchanges_of log) start l.allowed
 
   -- the machine rests on the exchanges of the log, since the call began
   pub record RestsOn (begun : List (Exchange (Stored K V))) (log : List (Event K V S)) (m : Machine) (hands : Hands (Stored K V)) : Type 0 where
@@ -100,7 +100,7 @@ module _ {K V S H : Type 0} (eq : K → K → Bool) (input : K → List (List �
         let es = exchanges_of pre.0 in
         let is : begun ++ (r.since ++ es) ≡ exchanges_of log' = sym (append_assoc begun r.since es) ∙ (ap (λ (z : List (Exchange (Stored K V))). z ++ es) r.is ∙ (sym (exchanges_of-append log pre.0) ∙ ap exchanges_of pre.1)) in
         let agree : Agrees (IsOn (state_of log).first (state_of log).next) (setting log) (setting log') =
-        key_agrees (IsOn (state_of log).first (state_of log).next) (setting_of eq (hash b.hasher) b.mode log) (setting_of eq (hash b.hasher) b.mode log') (agrees_later eq input build write finish classes respects b log l log' pre) matches fed in
+        key_agrees (IsOn (state_of log).first (state_of log).next) (setting_of eq (hash b.hasher) b.mode b.limit log) (setting_of eq (hash b.hasher) b.mode b.limit log') (agrees_later eq input build write finish classes respects b log l log' pre) matches fed in
         let agree' : Agrees (IsOn (run (begun ++ r.since) start).first (run (begun ++ r.since) start).next) (setting log) (setting log') =
         subst (λ (z : List (Exchange (Stored K V))). Agrees (IsOn (run z start).first (run z start).next) (setting log) (setting log')) (sym r.is) agree in
         let carried = rests_carries (setting log) (setting log') coding (hashed_with log l) begun r.since may None agree' m hands r.rests in

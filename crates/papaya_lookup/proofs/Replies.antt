@@ -36,6 +36,7 @@ brought_or_not (steps.Finish u x p) t = inr (refl, refl)
 brought_or_not (steps.Advance u a) t = inr (refl, refl)
 brought_or_not (steps.Promote u n) t = inr (refl, refl)
 brought_or_not (steps.Abort u) t = inr (refl, refl)
+brought_or_not (steps.Take m) t = inr (refl, refl)
 
 -- the size that a log gives a table is the table's own
 pub table_size : {K V : Type 0} (es : List (Step K V)) (t : ℕ) (w : Where Sheet) → table_in es t ≡ Some w → (size_in (map entry_of es) t ≡ length w.value.slots) × (places_in (map entry_of es) t ≡ w.value.limit + 1)
@@ -58,7 +59,7 @@ table_size (f ∷ es) t w e =
 
 module _ {K V S : Type 0} (eq : K → K → Bool) (hash : S → K → ℕ) (b : Begun K V S) (log : List (Event K V S)) (k : K) (kind : Option StepKind) (hands : Hands (Stored K V)) where
   -- a table's size is what a machine is to be told of it
-  pub size_told : (t : ℕ) (sheet : Sheet) → IsTable log t sheet → IsTold (setting_of eq (hash b.hasher) b.mode log) (coding_of (hash b.hasher)) k (state_of log) kind hands (SizeOf t) (Size (length sheet.slots) sheet.limit) [] hands
+  pub size_told : (t : ℕ) (sheet : Sheet) → IsTable log t sheet → IsTold (setting_of eq (hash b.hasher) b.mode b.limit log) (coding_of (hash b.hasher)) k (state_of log) kind hands (SizeOf t) (Size (length sheet.slots) sheet.limit) [] hands
   size_told t sheet h =
       let size = table_size (steps_of log) t h.0 h.1 in (
         (
@@ -70,10 +71,10 @@ module _ {K V S : Type 0} (eq : K → K → Bool) (hash : S → K → ℕ) (b : 
       )
 
   -- so is the number of the root
-  pub root_answer : (name : Book) (found : ℕ) (table : Option (Bor Sheet)) → IsRoot eq hash b name found log table → IsTold (setting_of eq (hash b.hasher) b.mode log) (coding_of (hash b.hasher)) k (state_of log) kind hands (Load Root) (Word_read found) [] hands
+  pub root_answer : (name : Book) (found : ℕ) (table : Option (Bor Sheet)) → IsRoot eq hash b name found log table → IsTold (setting_of eq (hash b.hasher) b.mode b.limit log) (coding_of (hash b.hasher)) k (state_of log) kind hands (Load Root) (Word_read found) [] hands
   root_answer name found table r = (ap Word_read (sym r.is), refl, refl)
 
   -- and the word of a slot: the pair that it names is the one last told of
   pub slot_answer : (name : Book) (t x found : ℕ) (pair : Option (Stored K V)) → IsSlot eq hash b name t x found log pair
-      → IsTold (setting_of eq (hash b.hasher) b.mode log) (coding_of (hash b.hasher)) k (state_of log) kind hands (Load (Slot t x)) (Word_read found) [] (record { last = or_last pair hands.last; made = hands.made })
+      → IsTold (setting_of eq (hash b.hasher) b.mode b.limit log) (coding_of (hash b.hasher)) k (state_of log) kind hands (Load (Slot t x)) (Word_read found) [] (record { last = or_last pair hands.last; made = hands.made })
   slot_answer name t x found pair r = (ap Word_read (sym r.is), refl, ap (λ (o : Option (Stored K V)). record { last = or_last o hands.last; made = hands.made }) (sym r.names))

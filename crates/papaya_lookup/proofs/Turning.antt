@@ -19,7 +19,7 @@ use Rattle.papaya_ask.specs.declared.search.Search.TheVariants.{Sizing, Looking,
 use Rattle.papaya_ask.specs.declared.search.Seen.{Seen}
 use Rattle.papaya_ask.specs.declared.search.Seen.TheVariants.{On, Empty, Here, Over}
 use Rattle.papaya_call.specs.Compute.{nothing}
-use Rattle.papaya_call.specs.Machine.{IsStanding, IsStandingState, goes_as, passes, started}
+use Rattle.papaya_call.specs.Machine.{goes_as, passes, started}
 use Rattle.papaya_ask.specs.Search.{IsSeen, IsSize, IsWithin, at_yes, first_place, go_on, hinted, look, look_at, match_at, next_place}
 use Rattle.papaya_rests.specs.Told.{or_last}
 use Rattle.papaya_rests.proofs.LoadsLeft.{chosen}
@@ -70,7 +70,7 @@ onward_hinted at hash hint =
     chosen (λ seen. ((a : Place) → seen ≡ On (Reading a) → ⊥) → IsOnward seen) (may_hold hint hash) (On (Reading at)) (go_on at) (λ e none. absurd (none at refl)) (λ e none. onward_on at)
 
 -- a word that is loaded is that of the place
-read_not : (at a : Place) → go_on at ≡ On (Reading a) → ⊥
+pub read_not : (at a : Place) → go_on at ≡ On (Reading a) → ⊥
 read_not at a = chosen (λ s. s ≡ On (Reading a) → ⊥) (nat_lt at.probe.len at.limit) (On (Looking (next_place at))) (Over at.table) (λ e h. cc h) (λ e h. cc h)
 
 pub read_hinted : (at : Place) (hash hint : ℕ) (a : Place) → hinted at hash hint ≡ On (Reading a) → hinted at hash hint ≡ On (Reading at)
@@ -111,7 +111,7 @@ pub record IsCompared (kind : Kind) (seen : Seen) (at : Place) (word : ℕ) : Ty
   pub shut : kind ≡ kinds.Closed → ⊥
   pub is : seen ≡ On (Comparing at word)
 
-on_not : (at a : Place) (w : ℕ) → go_on at ≡ On (Comparing a w) → ⊥
+pub on_not : (at a : Place) (w : ℕ) → go_on at ≡ On (Comparing a w) → ⊥
 on_not at a w = chosen (λ s. s ≡ On (Comparing a w) → ⊥) (nat_lt at.probe.len at.limit) (On (Looking (next_place at))) (Over at.table) (λ e h. cc h) (λ e h. cc h)
 
 pub compared_look : (kind : Kind) (at : Place) (word : ℕ) (a : Place) (w : ℕ) → look_at kind at word ≡ On (Comparing a w) → IsCompared kind (look_at kind at word) at word
@@ -122,7 +122,7 @@ compared_look kinds.Copied at word a w h = record { some = λ e. cc e; shut = λ
 compared_look kinds.Buried at word a w h = absurd (on_not at a w h)
 compared_look kinds.Closed at word a w h = absurd (on_not at a w h)
 
-here_not : (at a : Place) (w : ℕ) → go_on at ≡ Here a w → ⊥
+pub here_not : (at a : Place) (w : ℕ) → go_on at ≡ Here a w → ⊥
 here_not at a w = chosen (λ s. s ≡ Here a w → ⊥) (nat_lt at.probe.len at.limit) (On (Looking (next_place at))) (Over at.table) (λ e h. cc h) (λ e h. cc h)
 
 -- a pair is found where its key matches
@@ -175,16 +175,13 @@ numbered_none n e = ap numbered e
 -- A lookup was told this number, and holds the table.
 pub record IsHeld {K V S H : Type 0} (eq : K → K → Bool) (hash : S → K → ℕ) (matches : K → Bool) (query : S → ℕ) (begun : List (Exchange (Stored K V))) (h : ℕ) (book : Book K V S H) (log : List (Event K V S)) (number : ℕ) (held : Option (Bor Sheet)) : Type 0 where
   pub pair : Option (Stored K V)
-  pub reading : IsReading eq hash (begun_of book.parts) matches (query book.parts.hasher) begun log (lookup_at h book.parts.mode (numbered number)) held pair
+  pub reading : IsReading eq hash (begun_of book.parts) matches (query book.parts.hasher) begun log (lookup_at h book.parts.mode book.parts.limit (numbered number)) held pair
   pub names : MatchOption held (number ≡ 0) (λ r. IsTable log number r.now × (r.now.book ≡ book.begun.book))
 
 -- the pair that is held is the one last told of
 holds_or : {K V S : Type 0} (b : Begun K V S) (name : Name) (last pair told : Option (Stored K V)) → IsPlaced b (Some name) (pair_named told) → HoldsPair b last pair → HoldsPair b (or_last told last) (or_last told pair)
 holds_or b name last pair None placed h = h
 holds_or b name last pair (Some p) placed h = (refl, placed)
-
-standing : (h : ℕ) (mode : ResizeMode) (stage : Stage) → IsStandingState Get stage → IsStanding (lookup_at h mode stage)
-standing h mode stage s = record { made = tt; remembered = record { fill = tt; choice = tt }; state = s }
 
 module _ {K V S H : Type 0} (eq : K → K → Bool) (input : K → List (List ℕ)) (build : S → H) (write : H → List ℕ → H) (finish : H → ℕ) (classes : IsEquivalence eq) (respects : (x y : K) → eq x y ≡ true → input x ≡ input y)
     (b : Begun K V S) (matches : K → Bool) (query : List (List ℕ)) (lawful : IsQuery eq input matches query) (begun : List (Exchange (Stored K V))) (h : ℕ) (name : Name) where
@@ -195,7 +192,7 @@ module _ {K V S H : Type 0} (eq : K → K → Bool) (input : K → List (List �
   fed_to = fed eq input build write finish classes respects b matches query lawful
 
   abbrev Reads : List (Event K V S) → Stage → Bor Sheet → Option (Stored K V) → Type 0
-  Reads log stage lent pair = Rested eq input build write finish classes respects b matches query lawful begun log (lookup_at h b.mode stage) (Some lent) pair
+  Reads log stage lent pair = Rested eq input build write finish classes respects b matches query lawful begun log (lookup_at h b.mode b.limit stage) (Some lent) pair
 
   -- a turn led the machine on, and less is left
   abbrev pub Goes : List (Event K V S) → Stage → Sheet → Turn (Met K V) (Bor K × Bor V) → Type 0
@@ -222,14 +219,14 @@ module _ {K V S H : Type 0} (eq : K → K → Bool) (input : K → List (List �
     pub hint_there : IsTable log at.table table × (at.probe.i < length table.slots)
     hint_there =
         subst (λ (z : Sheet). IsTable log at.table z × (at.probe.i < length z.slots)) r.1
-        (hint_held eq input build write finish classes respects b matches query lawful begun log (lookup_at h b.mode (Searching (Looking at))) (Some r.0) r.2 r.3 (standing h b.mode (Searching (Looking at)) within) at.table at.probe.i r.0 refl refl)
+        (hint_held eq input build write finish classes respects b matches query lawful begun log (lookup_at h b.mode b.limit (Searching (Looking at))) (Some r.0) r.2 r.3 within at.table at.probe.i r.0 refl refl)
 
     -- its hint was loaded
     module _ (log' : List (Event K V S)) (pre : IsPrefix log log') (hint : ℕ) (told : IsSlotHint eq hash b at.table at.probe.i hint log') where
       -- so the machine was answered
       hint_answered : Reads log' (goes_as Get b.mode nothing (hinted at h hint)) r.0 r.2 × (left_of (goes_as Get b.mode nothing (hinted at h hint)) < left_of (Searching (Looking at)))
       hint_answered =
-          let all = hint_read eq input build write finish classes respects b matches query lawful begun log log' pre told.lawful (lookup_at h b.mode (Searching (Looking at))) (Some r.0) r.2 r.3 (standing h b.mode (Searching (Looking at)) within) at.table at.probe.i hint refl told in
+          let all = hint_read eq input build write finish classes respects b matches query lawful begun log log' pre told.lawful (lookup_at h b.mode b.limit (Searching (Looking at))) (Some r.0) r.2 r.3 within at.table at.probe.i hint refl told in
           (all.reading, all.fewer)
 
       -- the word is not loaded
@@ -245,7 +242,7 @@ module _ {K V S H : Type 0} (eq : K → K → Bool) (input : K → List (List �
     pub place_there : IsTable log at.table table × (at.probe.i < length table.slots)
     place_there =
         subst (λ (z : Sheet). IsTable log at.table z × (at.probe.i < length z.slots)) r.1
-        (slot_held eq input build write finish classes respects b matches query lawful begun log (lookup_at h b.mode (Searching (Reading at))) (Some r.0) r.2 r.3 (standing h b.mode (Searching (Reading at)) within) at.table at.probe.i r.0 refl refl)
+        (slot_held eq input build write finish classes respects b matches query lawful begun log (lookup_at h b.mode b.limit (Searching (Reading at))) (Some r.0) r.2 r.3 within at.table at.probe.i r.0 refl refl)
 
     -- its word was loaded
     module _ (log' : List (Event K V S)) (pre : IsPrefix log log') (word : ℕ) (state : Option (Named K V)) (told : IsSlotWord eq hash b name at.table at.probe.i word log' state) where
@@ -253,7 +250,7 @@ module _ {K V S H : Type 0} (eq : K → K → Bool) (input : K → List (List �
       pub passed : IsSeen (look at word) → ((a : Place) (w : ℕ) → look at word ≡ On (Comparing a w) → ⊥) → Goes log' (Searching (Reading at)) table (turn_of (look at word))
       passed seen none =
           let o = named ((state_of log').slot at.table at.probe.i) in
-          let looked = slot_read eq input build write finish classes respects b matches query lawful begun log log' pre told.read.lawful (lookup_at h b.mode (Searching (Reading at))) (Some r.0) r.2 r.3 (standing h b.mode (Searching (Reading at)) within)
+          let looked = slot_read eq input build write finish classes respects b matches query lawful begun log log' pre told.read.lawful (lookup_at h b.mode b.limit (Searching (Reading at))) (Some r.0) r.2 r.3 within
           at.table at.probe.i word o (or_last o r.2) refl told.read.is refl (λ last held. holds_or b name last r.2 o told.placed held) in
           goes_on log' (Searching (Reading at)) table r.0 r.1 (or_last o r.2) (look at word) seen (onward_look (kind_of word) at word none) looked.reading looked.fewer
 
@@ -272,7 +269,7 @@ module _ {K V S H : Type 0} (eq : K → K → Bool) (input : K → List (List �
           -- its key is to be compared
           comparing : Reads log' (Searching (Comparing at word)) r.0 (Some p) × (left_of (Searching (Comparing at word)) < left_of (Searching (Reading at)))
           comparing =
-              let looked = slot_read eq input build write finish classes respects b matches query lawful begun log log' pre told.read.lawful (lookup_at h b.mode (Searching (Reading at))) (Some r.0) r.2 r.3 (standing h b.mode (Searching (Reading at)) within)
+              let looked = slot_read eq input build write finish classes respects b matches query lawful begun log log' pre told.read.lawful (lookup_at h b.mode b.limit (Searching (Reading at))) (Some r.0) r.2 r.3 within
               at.table at.probe.i word (Some p) (Some p) refl told.read.is stands (λ last held. (refl, pair_placed)) in
               let seen = (compared_look (kind_of word) at word a w e).is in
               (subst (λ (s : Seen). Reads log' (goes_as Get b.mode nothing s) r.0 (Some p)) seen looked.reading, subst (λ (s : Seen). left_of (goes_as Get b.mode nothing s) < left_of (Searching (Reading at))) seen looked.fewer)
@@ -288,7 +285,7 @@ module _ {K V S H : Type 0} (eq : K → K → Bool) (input : K → List (List �
           module _ (same : Bool) (same_is : same ≡ matches (key_of p)) where
             compared : Reads log' (goes_as Get b.mode nothing (at_yes (Comparing at word) same)) r.0 (Some p) × (left_of (goes_as Get b.mode nothing (at_yes (Comparing at word) same)) < left_of (Searching (Reading at)))
             compared =
-                let all = same_read eq input build write finish classes respects b matches query lawful begun log' (lookup_at h b.mode (Searching (Comparing at word))) (Some r.0) (Some p) comparing.0 (standing h b.mode (Searching (Comparing at word)) within) (pair_of word) p same refl same_is refl in
+                let all = same_read eq input build write finish classes respects b matches query lawful begun log' (lookup_at h b.mode b.limit (Searching (Comparing at word))) (Some r.0) (Some p) comparing.0 within (pair_of word) p same refl same_is refl in
                 let before : left_of (Searching (Comparing at word)) < left_of (Searching (Reading at)) = comparing.1 in
                 let less : left_of (goes_as Get b.mode nothing (at_yes (Comparing at word) same)) < left_of (Searching (Comparing at word)) = all.fewer in
                 (all.reading, omega (arith, before, less))
@@ -336,7 +333,7 @@ module _ {K V S H : Type 0} (eq : K → K → Bool) (input : K → List (List �
   b = begun_of book.parts
 
   abbrev Reads_with : List (Event K V S) → Stage → Option (Bor Sheet) → Option (Stored K V) → Type 0
-  Reads_with log stage held pair = Rested eq input build write finish classes respects b matches query lawful (exchanges_of began) log (lookup_at h b.mode stage) held pair
+  Reads_with log stage held pair = Rested eq input build write finish classes respects b matches query lawful (exchanges_of began) log (lookup_at h b.mode b.limit stage) held pair
 
   abbrev pub Turned : List (Event K V S) → Sheet → Turn (Met K V) (Bor K × Bor V) → Type 0
   Turned log table turn = IsTurned eq hash_in b book.begun.book matches (fed eq input build write finish classes respects b matches query lawful) (exchanges_of began) h log table turn
@@ -344,8 +341,8 @@ module _ {K V S H : Type 0} (eq : K → K → Bool) (input : K → List (List �
   -- the number of the root was loaded
   pub root_held : IsLawfulLog eq hash_in b began → h ≡ fed eq input build write finish classes respects b matches query lawful → (log : List (Event K V S)) → IsPrefix began log → (word : ℕ) (held : Option (Bor Sheet)) → IsRoot eq hash_in b book.begun.book word log held → Reads_with log (numbered word) held None
   root_held l h_is log after word held told =
-      let first = begins eq hash_in b matches (fed eq input build write finish classes respects b matches query lawful) began l (lookup_at h b.mode AtRoot) (ap (λ (z : ℕ). started Get z b.mode 0) h_is) in
-      (root_read eq input build write finish classes respects b matches query lawful (exchanges_of began) began log after told.lawful (lookup_at h b.mode AtRoot) None None first (standing h b.mode AtRoot tt) book.begun.book word held refl told).reading
+      let first = begins eq hash_in b matches (fed eq input build write finish classes respects b matches query lawful) began l (lookup_at h b.mode b.limit AtRoot) (ap (λ (z : ℕ). started Get z b.mode 0 b.limit) h_is) in
+      (root_read eq input build write finish classes respects b matches query lawful (exchanges_of began) began log after told.lawful (lookup_at h b.mode b.limit AtRoot) None None first tt book.begun.book word held refl told).reading
 
   -- a table that is held was asked for its size
   pub first_looked : (log : List (Event K V S)) (number : ℕ) (held : Option (Bor Sheet)) (pair : Option (Stored K V)) → Reads_with log (numbered number) held pair → MatchOption held (number ≡ 0) (λ z. IsTable log number z.now × (z.now.book ≡ book.begun.book)) → (lent : Bor Sheet) → held ≡ Some lent
@@ -355,7 +352,7 @@ module _ {K V S H : Type 0} (eq : K → K → Bool) (input : K → List (List �
       let came = subst (λ (o : Option (Bor Sheet)). MatchOption o (number ≡ 0) (λ z. IsTable log number z.now × (z.now.book ≡ book.begun.book))) has named in
       let state = numbered_some log number lent.now came.0 in
       let r = subst (λ (s : Stage). Reads_with log s (Some lent) pair) state (subst (λ (o : Option (Bor Sheet)). Reads_with log (numbered number) o pair) has reading) in
-      let all = size_read eq input build write finish classes respects b matches query lawful (exchanges_of began) log (lookup_at h b.mode (Searching (Sizing number))) (Some lent) pair r (standing h b.mode (Searching (Sizing number)) tt) number lent.now came.0 slots limit slots_is limit_is size refl in
+      let all = size_read eq input build write finish classes respects b matches query lawful (exchanges_of began) log (lookup_at h b.mode b.limit (Searching (Sizing number))) (Some lent) pair r tt number lent.now came.0 slots limit slots_is limit_is size refl in
       let looks : Reads_with log (Searching (Looking at)) (Some lent) pair = subst (λ (p : Place). Reads_with log (Searching (Looking p)) (Some lent) pair) (sym at_is) all.reading in
       let less : left_of (Searching (Looking at)) < left_of (Searching (Sizing number)) = subst (λ (p : Place). left_of (Searching (Looking p)) < left_of (Searching (Sizing number))) (sym at_is) all.fewer in
       ((lent, refl, pair, looks), subst (λ (s : Stage). left_of (Searching (Looking at)) < left_of s) (sym state) less)
@@ -366,17 +363,17 @@ module _ {K V S H : Type 0} (eq : K → K → Bool) (input : K → List (List �
   next_held log log' after table t chunk mode turned word held told =
       let leads : passes Get b.mode None t ≡ Leaving t = ap (λ (z : ResizeMode). passes Get z None t) mode in
       let r : Reads_with log (Leaving t) (Some turned.lent) turned.pair = subst (λ (s : Stage). Reads_with log s (Some turned.lent) turned.pair) leads turned.reading in
-      let all = next_read eq input build write finish classes respects b matches query lawful (exchanges_of began) log log' after told.lawful (lookup_at h b.mode (Leaving t)) (Some turned.lent) turned.pair r (standing h b.mode (Leaving t) tt) book.begun.book t word held refl told in
+      let all = next_read eq input build write finish classes respects b matches query lawful (exchanges_of began) log log' after told.lawful (lookup_at h b.mode b.limit (Leaving t)) (Some turned.lent) turned.pair r tt book.begun.book t word held refl told in
       (turned.pair, all.reading, subst (λ (s : Stage). left_of (numbered word) < left_of s) (sym leads) all.fewer)
 
   -- what the lookup answers: the pair that was found
   pub answers_found : (log : List (Event K V S)) (table : Sheet) (met : Met K V) (entry : Bor K × Bor V) → Turned log table (turns.Found met entry) → (lent : Bor Sheet) → IsHitAnsweredBetween {S = S} {H = H} eq matches (history_of old) (history_of log) (Some (record { table = lent; met = met; key = entry.0; value = entry.1 }))
   answers_found log table met entry turned lent =
       let f = turned.found met entry refl in
-      found_answer eq input build write finish classes respects b matches query lawful old began pre log (lookup_at h b.mode (Ended (replies.Found turned.number))) (Some turned.lent) turned.pair turned.reading (standing h b.mode (Ended (replies.Found turned.number)) tt) turned.number refl met.stored f.0 (record { table = lent; met = met; key = entry.0; value = entry.1 }) f.1 f.2
+      found_answer eq input build write finish classes respects b matches query lawful old began pre log (lookup_at h b.mode b.limit (Ended (replies.Found turned.number))) (Some turned.lent) turned.pair turned.reading tt turned.number refl met.stored f.0 (record { table = lent; met = met; key = entry.0; value = entry.1 }) f.1 f.2
 
   absent : (log : List (Event K V S)) (held : Option (Bor Sheet)) (pair : Option (Stored K V)) → Reads_with log (Ended replies.Absent) held pair → IsHitAnsweredBetween {S = S} {H = H} eq matches (history_of old) (history_of log) None
-  absent log held pair r = absent_answer eq input build write finish classes respects b matches query lawful old began pre log (lookup_at h b.mode (Ended replies.Absent)) held pair r (standing h b.mode (Ended replies.Absent) tt) replies.Absent refl (λ n e. cc e)
+  absent log held pair r = absent_answer eq input build write finish classes respects b matches query lawful old began pre log (lookup_at h b.mode b.limit (Ended replies.Absent)) held pair r tt replies.Absent refl (λ n e. cc e)
 
   -- none, where a search ended so
   pub answers_absent : (log : List (Event K V S)) (table : Sheet) → Turned log table turns.Absent → IsHitAnsweredBetween {S = S} {H = H} eq matches (history_of old) (history_of log) None

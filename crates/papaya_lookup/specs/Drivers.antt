@@ -1,17 +1,20 @@
 -- What a lookup rests on, and what a caller has seen and made, by what it sees of the map.
-use Rattle.std.specs.Prelude.{◌≡◌, ℕ, List}
+use Rattle.std.specs.Prelude.{◌≡◌, ℕ, MatchOption, List}
 use mathlib.Core.List.{IsPrefix}
 use denote.Bor.{Bor}
+use Rattle.papaya_ask.specs.declared.search.Place.{Place}
 use Rattle.papaya_call.specs.declared.machine.State.{State as Stage}
 use Rattle.papaya_book.specs.declared.rule.entry.Event.{Event}
 use Rattle.papaya_book.specs.declared.keyed.Keyed as keyed
 use Rattle.papaya_book.specs.declared.window.Window.{Window}
 use Rattle.papaya_book.specs.Keys.{Query}
+use Rattle.logbook.specs.Pages.{Named as Word}
 use Rattle.papaya_book.specs.Logs.{Stored, exchanges_of}
 use Rattle.papaya_book.specs.Parts.{begun_of}
 use Rattle.papaya_book.specs.Sheets.{Sheet}
 use Rattle.papaya_lookup.specs.declared.lookup.Hit.{Hit}
 use Rattle.papaya_lookup.specs.declared.lookup.Met.{Met}
+use Rattle.papaya_lookup.specs.declared.near.Near.{Near}
 use Rattle.papaya_lookup.specs.declared.lookup.Turn.{Turn}
 use Rattle.papaya_lookup.specs.History.{Change, changes_by, history_of, key_of}
 use Rattle.papaya_lookup.specs.Lookups as lookups
@@ -29,6 +32,9 @@ module _ {K V S H : Type 0} {d : keyed.Ghosts S K H} where
   abbrev pub left_after : Window K V S H d → Turn (Met K V) (Bor K × Bor V) → ℕ
   left_after w turn = lookups.left_of (lookups.led_to w.book.now.parts.mode 0 turn)
 
+  abbrev pub IsSlotAt : Window K V S H d → (number place : ℕ) → Word → Type 0
+  IsSlotAt w = lookups.IsSlotAt w.sight.log
+
   module _ (query : Query K S) (began : List (Event K V S)) where
     -- the lookup that began at this log would stand here, with this table
     abbrev pub IsReadingAt : Window K V S H d → ℕ → Stage → Sheet → Type 0
@@ -41,6 +47,12 @@ module _ {K V S H : Type 0} {d : keyed.Ghosts S K H} where
     IsTurned w hash table turn = lookups.IsTurned d.keys.eq d.keys.hash (begun_of w.book.now.parts)
         w.book.now.begun.book query.matches (query.hash w.book.now.parts.hasher)
         (exchanges_of began) hash w.sight.log table turn
+
+    -- where a place leads, a turn led it on, as is seen by now
+    abbrev pub IsNear : Window K V S H d → ℕ → Sheet → Place → Near (Met K V) (Bor K × Bor V)
+        → Type 0
+    IsNear w hash table at near = MatchOption (lookups.turn_near at near) (Unit {0})
+        (IsTurned w hash table)
 
     -- a search that began at this log met this pair, as is seen by now
     abbrev pub HasHit : Window K V S H d → Hit K V S H → Type 0

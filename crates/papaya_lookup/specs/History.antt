@@ -44,11 +44,12 @@ module _ {K P : Type 0} where
     replay cs = replay_from (λ k. None) cs
 
     -- A change takes out what the map has there, puts in or takes out a pair at least, and puts in
-    -- a pair of its class.
+    -- a pair of its class. Where it takes one out and puts one in, the stored key stays.
     pub record IsLegalChange (key : P → K) (m : K → Option P) (c : Change K P) : Type 0 where
       pub taken_is : m c.class ≡ c.taken
       pub some : c.taken ≡ None → c.put ≡ None → ⊥
       pub of_class : (q : P) → c.put ≡ Some q → same c.class (key q) ≡ true
+      pub kept : (p q : P) → c.taken ≡ Some p → c.put ≡ Some q → key q ≡ key p
 
     abbrev pub AllLegalChanges : (P → K) → (K → Option P) → List (Change K P) → Type 0
     AllLegalChanges key m [] = Unit {0}
@@ -71,15 +72,17 @@ abbrev pub changes_by : {K V : Type 0} → List (Step K V) → List (Change K (S
 changes_by es = changes_of key_of (map exchange_of es)
 
 -- What a pass shows: the book of the map that it was made by, the history that it has seen, and of
--- its changes those that were made by this pass, oldest first. And how many slots each table has that
--- it has seen come, oldest first; and where its last changing call was refused for want of room, the
--- number that a log gave or the sum that the count gave.
+-- its changes those that were made by this pass, oldest first. And how many slots each table has
+-- that it has seen come, oldest first; where its last changing call was refused for want of room,
+-- the number that a log gave or the sum that the count gave; and how many numbers were taken for
+-- pairs.
 pub record Past (K V : Type 0) : Type 0 where
   pub book : Book
   pub history : List (Change K (Stored K V))
   pub made : List (Change K (Stored K V))
   pub tables : List ℕ
   pub given : List Given
+  pub taken : ℕ
 
 -- What a call made: where it changed the map, one change, which is the last of the history that is
 -- seen then; and else none.

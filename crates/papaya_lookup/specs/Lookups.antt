@@ -1,7 +1,7 @@
 -- What a lookup on the shared map holds and rests on, and what it answers.
-use Rattle.std.specs.Prelude.{◌≡◌, ℕ, ◌+◌, ◌*◌, ◌-◌, ◌^◌, Bool, true, Option, None, Some, List, ◌++◌}
+use Rattle.std.specs.Prelude.{◌≡◌, ℕ, ◌+◌, ◌*◌, ◌-◌, ◌^◌, Bool, true, Option, None, Some, List, ◌++◌, slice_get}
 use denote.Bor.{Bor}
-use Rattle.logbook.specs.Pages.{Book}
+use Rattle.logbook.specs.Pages.{Book, Named as Word}
 use Rattle.papaya_ask.specs.declared.call.Reply.TheVariants.{Absent, Found}
 use Rattle.papaya_ask.specs.declared.call.Task.TheVariants.{Get}
 use Rattle.papaya_call.specs.declared.machine.Machine.{Machine}
@@ -11,7 +11,7 @@ use Rattle.papaya_ask.specs.declared.search.Place.{Place}
 use Rattle.papaya_ask.specs.declared.search.Search.TheVariants.{Sizing, Looking, Reading, Comparing}
 use Rattle.papaya_ask.specs.declared.search.Seen.{Seen}
 use Rattle.papaya_ask.specs.declared.search.Seen.TheVariants.{On, Over}
-use Rattle.papaya_ask.specs.Search.{IsWithin}
+use Rattle.papaya_ask.specs.Search.{IsWithin, go_on}
 use Rattle.papaya_words.specs.declared.probe.ResizeMode.{ResizeMode}
 use Rattle.papaya_law.specs.Exchange.{Exchange, Setting}
 use Rattle.papaya_law.specs.Code.{Coding}
@@ -19,7 +19,7 @@ use Rattle.papaya_law.specs.Further.{coding_with, with_key}
 use Rattle.papaya_call.specs.Machine.{passes, started}
 use Rattle.papaya_rests.specs.Rests.{HasMet, Rests, WasAtMoment}
 use Rattle.papaya_rests.specs.Told.{Hands}
-use Rattle.papaya_book.specs.Sheets.{Sheet}
+use Rattle.papaya_book.specs.Sheets.{Sheet, word_named}
 use Rattle.papaya_book.specs.declared.rule.entry.Begun.{Begun}
 use Rattle.papaya_book.specs.declared.rule.entry.Event.{Event}
 use Rattle.papaya_book.specs.declared.rule.entry.Named.TheVariants.{Pair}
@@ -28,6 +28,8 @@ use Rattle.papaya_book.specs.Logs.{Stored, coding_of, exchanges_of, pair_named, 
 use Rattle.papaya_book.specs.Rule.{IsLawfulLog, IsPlaced}
 use Rattle.papaya_lookup.specs.History.{key_of}
 use Rattle.papaya_lookup.specs.declared.lookup.Met.{Met}
+use Rattle.papaya_lookup.specs.declared.near.Near.{Near}
+use Rattle.papaya_lookup.specs.declared.near.Near.TheVariants as nears
 use Rattle.papaya_lookup.specs.declared.lookup.Turn.{Turn}
 use Rattle.papaya_lookup.specs.declared.lookup.Turn.TheVariants as turns
 
@@ -70,8 +72,8 @@ module _ {K V S : Type 0} where
   -- the setting of a log, with what is looked up as a further key
   abbrev pub setting_for : (K → K → Bool) → (S → K → ℕ) → Begun K V S → (K → Bool) → ℕ
       → List (Event K V S) → Setting (Option K) (Stored K V)
-  setting_for eq hash b matches fed log = with_key (setting_of eq (hash b.hasher) b.mode log)
-      matches fed
+  setting_for eq hash b matches fed log =
+      with_key (setting_of eq (hash b.hasher) b.mode b.limit log) matches fed
 
 abbrev pub coding_for : {K V S : Type 0} → (S → K → ℕ) → S → ℕ → Coding (Option K) (Stored K V)
 coding_for hash hasher fed = coding_with (coding_of (hash hasher)) fed
@@ -96,8 +98,8 @@ pub record IsReading {K V S : Type 0} (eq : K → K → Bool) (hash : S → K �
       (Some p)
 
 -- the machine of a lookup that stands here
-abbrev pub lookup_at : (hash : ℕ) → ResizeMode → Stage → Machine
-lookup_at hash mode stage = record (started Get hash mode 0) { state = stage }
+abbrev pub lookup_at : (hash : ℕ) → ResizeMode → (limit : Option ℕ) → Stage → Machine
+lookup_at hash mode limit stage = record (started Get hash mode 0 limit) { state = stage }
 
 -- The lookup's machine, that nothing runs, would stand here by now. It rests on this table, and on
 -- some pair that it was told of last.
@@ -105,13 +107,25 @@ abbrev pub IsReadingAt : {K V S : Type 0} → (K → K → Bool) → (S → K �
     → ℕ → List (Exchange (Stored K V)) → ℕ → List (Event K V S) → Stage → Sheet → Type 0
 IsReadingAt {K} {V} eq hash b matches fed begun h log stage table = (lent : Bor Sheet)
     × (lent.now ≡ table) × (pair : Option (Stored K V))
-    × IsReading eq hash b matches fed begun log (lookup_at h b.mode stage) (Some lent) pair
+    × IsReading eq hash b matches fed begun log (lookup_at h b.mode b.limit stage) (Some lent) pair
+
+-- the table of this number has come, and this is the word of its slot x
+abbrev pub IsSlotAt : {K V S : Type 0} → List (Event K V S) → (t x : ℕ) → Word → Type 0
+IsSlotAt log t x word = (sheet : Sheet) × IsTable log t sheet × (k : ℕ)
+    × (slice_get sheet.slots x ≡ Some k) × (word ≡ word_named sheet.book k)
 
 -- where a search goes on that has found no pair
 abbrev pub turn_of : {M E : Type 0} → Seen → Turn M E
 turn_of (On (Looking at)) = turns.Next at
 turn_of (Over t) = turns.Over t
 turn_of _ = turns.Absent
+
+-- the turn that the search has made where it has looked at one place of a table, if it is known
+abbrev pub turn_near : {M E : Type 0} → Place → Near M E → Option (Turn M E)
+turn_near at nears.On = Some (turn_of (go_on at))
+turn_near at (nears.Found met entry) = Some (turns.Found met entry)
+turn_near at nears.Absent = Some turns.Absent
+turn_near at nears.Aside = None
 
 -- where a turn leads the lookup's machine, with the number of the pair that was found
 abbrev pub led_to : {M E : Type 0} → ResizeMode → ℕ → Turn M E → Stage
@@ -146,7 +160,7 @@ pub record IsTurned {K V S : Type 0} (eq : K → K → Bool) (hash : S → K →
   pub pair : Option (Stored K V)
   pub number : ℕ
   pub reading : IsReading eq hash b matches fed begun log
-      (lookup_at h b.mode (led_to b.mode number turn)) (Some lent) pair
+      (lookup_at h b.mode b.limit (led_to b.mode number turn)) (Some lent) pair
   pub within : (at : Place) → turn ≡ turns.Next at → IsWithin at
   pub found : (met : Met K V) (entry : Bor K × Bor V) → turn ≡ turns.Found met entry
       → (pair ≡ Some met.stored) × (entry.0.now ≡ key_of met.stored)

@@ -4,3 +4,4 @@
 
 pub mod history;
 pub mod lookup;
+mod near;

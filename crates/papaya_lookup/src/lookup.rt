@@ -1,20 +1,26 @@
 //! Lookups, by atomic loads alone. The machine of a lookup stands in the proof: it is answered by
 //! what is loaded.
-ghost use Rattle.std.specs.Prelude.{◌≡◌, ◌<◌, ◌≤◌, Some};
+ghost use Rattle.std.specs.Prelude.{◌≡◌, ◌<◌, ◌≤◌, MatchOption, Some};
+ghost use mathlib.Core.List.{IsPrefix};
 ghost use Rattle.papaya_ask.specs.Search.{IsWithin};
 ghost use Rattle.papaya_call.specs.declared.machine.State.TheVariants.{Searching};
 ghost use Rattle.papaya_ask.specs.declared.search.Search.TheVariants.{Looking, Reading};
+ghost use Rattle.papaya_book.specs.Books.{IsLawfulLog};
 ghost use Rattle.papaya_book.specs.Windows.{IsLawful, Sees};
 ghost use Rattle.papaya_lookup.specs.Answers.{IsAnsweredBetween, IsHitAnsweredBetween};
 ghost use Rattle.papaya_lookup.specs.Answers.{IsPairAnsweredBetween};
+ghost use Rattle.papaya_lookup.specs.History.{history_of};
 ghost use Rattle.papaya_lookup.specs.Drivers.{Hits, IsReadingAt, IsTurned, left_after, past};
 ghost use Rattle.papaya_lookup.specs.Lookups.{left_of, turn_of};
 ghost use Rattle.papaya_lookup.specs.declared.lookup.Turn.TheVariants.{Next};
 
+use crate::near::search_near;
 use papaya_ask::search::{Place, Search, Seen};
+use papaya_book::book::Book;
 use papaya_book::book::gains::named_pair;
-use papaya_book::keyed::{Asked, Hashed};
+use papaya_book::keyed::{Asked, Hashed, Keyed};
 use papaya_book::rule::entry::Stored;
+use papaya_book::rule::own::Own;
 use papaya_book::rule::trade::Sight;
 use papaya_book::table::Table;
 use papaya_book::window::Window;
@@ -94,12 +100,12 @@ fn read_at<'a, K: Hash + Eq, V, S: BuildHasher, Q: Equivalent<K>>(
             let book = window.book;
             let stored = named_pair(word, trade);
             let pair = book.pair(&stored);
-            let stored_key = book.key(pair);
+            let (stored_key, value) = book.entry(pair);
             let same = key.equivalent(stored_key);
             let compared = Search::Comparing(at, word).at_yes(same);
             match compared {
                 Seen::Here(..) => {
-                    let entry = (stored_key, pair.value());
+                    let entry = (stored_key, value);
                     let met = Met {
                         place: at,
                         word,
@@ -238,6 +244,33 @@ pub fn look_up_pair<'a, K: Hash + Eq, V, S: BuildHasher, Q: Equivalent<K>>(
     }
 }
 
+/// The value of what `key` matches, by the whole search from the root that is found now. It takes no
+/// window, so that those who call it keep theirs in registers.
+#[cold]
+#[inline(never)]
+fn look_up_anew<'a, K: Hash + Eq, V, S: BuildHasher, Q: Equivalent<K>>(
+    book: &'a Book<K, V, S>,
+    key: &Q,
+    sight: &mut Sight<K, V, S>,
+) -> Option<&'a V>
+    requires { sight.old.book ≡ book.now.begun.book }
+    ensures book { sight.new.book ≡ sight.old.book }
+    ensures seen { IsPrefix sight.old.log sight.new.log }
+    ensures lawful { IsLawfulLog ⟦<S as Keyed<K>>⟧.keys book.now sight.new.log }
+    ensures answered { IsAnsweredBetween K.eq (Q.matches key.now) (history_of sight.old.log)
+        (history_of sight.new.log) result }
+{
+    let kept = book.keep_root();
+    let own = Own::nothing();
+    let mut window = Window::new(book, &kept, sight, &own);
+    let found = look_up_pair(&mut window, key);
+    *sight = window.sight;
+    match found {
+        Some((_, value)) => Some(value),
+        None => None,
+    }
+}
+
 /// Looks up what `key` matches, as [`find`] does, and answers its value alone.
 #[inline(always)]
 pub fn look_up<'a, K: Hash + Eq, V, S: BuildHasher, Q: Equivalent<K>>(
@@ -250,9 +283,14 @@ pub fn look_up<'a, K: Hash + Eq, V, S: BuildHasher, Q: Equivalent<K>>(
     ensures answered { IsAnsweredBetween K.eq (Q.matches key.now) (past window.old)
         (past window.new) result }
 {
-    match look_up_pair(window, key) {
-        Some((_, value)) => Some(value),
-        None => None,
+    match search_near(window, key) {
+        Some(found) => found,
+        None => {
+            let mut sight = window.sight.again();
+            let found = look_up_anew(window.book, key, &mut sight);
+            window.sight = sight;
+            found
+        }
     }
 }
 

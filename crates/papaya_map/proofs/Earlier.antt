@@ -50,7 +50,7 @@ module _ {K V : Type 0} (old new : History K V) where
     held w = record { seen = w.seen; since = since_first w.seen; until = w.until; is = w.is }
 
   pub change : {matches : K → Bool} {taken put : Option (Stored K V)} → IsChangeOf matches old new taken put → IsChangeOf matches [] new taken put
-  change c = record { before = c.before; change = c.change; since = since_first c.before; is = c.is; class_is = c.class_is; taken_is = c.taken_is; put_is = c.put_is }
+  change c = record { before = c.before; change = c.change; since = since_first c.before; is = c.is; class_is = c.class_is; taken_is = c.taken_is; put_is = c.put_is; kept = c.kept }
 
   module _ (eq : K → K → Bool) where
     pub put : (key : K) (value : V) (answer : Option (Bor V)) → IsPut eq key value old new answer → IsPut eq key value [] new answer

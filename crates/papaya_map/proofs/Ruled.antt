@@ -9,7 +9,7 @@ use Rattle.papaya_lookup.specs.History.{Change, IsLegalHistory, key_of}
 use Rattle.papaya_map.specs.Plain.{IsOfHistory}
 use Rattle.papaya_change.specs.Changes.{IsChangeOf}
 use Rattle.papaya_change.specs.Showings.{HasNoNone, HasSaid, IsNoneOnce, IsSamePair, WasHeld, WasLast}
-use Rattle.papaya_change.specs.Writing.{IsMemoryOrCapacity}
+use Rattle.papaya_change.specs.Writing.{IsMemoryCapacityOrLimit}
 use Rattle.papaya_change.proofs.Showings.{said_so, shown_each}
 use Rattle.papaya_compute.specs.Computing.{value_in}
 use Rattle.papaya_compute.specs.Deciding.{IsDecided, IsDecidedOf, Wishes}
@@ -142,11 +142,11 @@ module _ (K : Type 0) {V G : Type 0} (gives : G → V → Type 0) where
           inr (o.0, (r.0, r.1, subst (gives s) (sym r.2) o.1.1)))
           (none_or d.heard)
 
-    pub give_refused : (cause : Cause) → answer ≡ Err cause → IsMemoryOrCapacity cause
+    pub give_refused : (cause : Cause) → answer ≡ Err cause → IsMemoryCapacityOrLimit cause
     give_refused cause is = decided_as (Err cause) is
 
 -- a pair took the place of one with the value of the one that was shown
-in_place : {K V F : Type 0} (eq : K → K → Bool) (key : K) (old new : List (Change K (Stored K V))) (computes : F → V → V → Type 0) (f : F) (p q shown : Stored K V) → IsSamePair shown p → (w : V) × computes f shown.value.value w × ◌≡◌ {A = Wish V} (operation.Insert q.value.value) (operation.Insert w) → IsChangeOf (eq key) old new (Some p) (Some q) → key_of q ≡ key → (v : Bor V) → v.now ≡ q.value.value → IsInPlace eq key old new (computes f) v
+in_place : {K V F : Type 0} (eq : K → K → Bool) (key : K) (old new : List (Change K (Stored K V))) (computes : F → V → V → Type 0) (f : F) (p q shown : Stored K V) → IsSamePair shown p → (w : V) × computes f shown.value.value w × ◌≡◌ {A = Wish V} (operation.Insert q.value.value) (operation.Insert w) → IsChangeOf (eq key) old new (Some p) (Some q) → key_of q ≡ key_of p → (v : Bor V) → v.now ≡ q.value.value → IsInPlace eq key old new (computes f) v
 in_place eq key old new computes f p q shown same said change own v is =
     let value : q.value.value ≡ said.0 = let e = said.2 in cc e in
     (p, q, change, own, subst (λ z. computes f z q.value.value) (ap (λ z. z.value) same.1) (subst (computes f shown.value.value) (sym value) said.1), is)
@@ -193,7 +193,7 @@ module _ (K : Type 0) {V F : Type 0} (computes : F → V → V → Type 0) where
         held_none None said was = was
         held_none (Some p) said was = let e = said.2 in absurd (cc e)
 
-    pub update_refused : (cause : Cause) → answer ≡ Err cause → IsMemoryOrCapacity cause
+    pub update_refused : (cause : Cause) → answer ≡ Err cause → IsMemoryCapacityOrLimit cause
     update_refused cause is = update_as (Err cause) is
 
 module _ (K : Type 0) {V F G : Type 0} (computes : F → V → V → Type 0) (gives : G → V → Type 0) where
@@ -255,7 +255,7 @@ module _ (K : Type 0) {V F G : Type 0} (computes : F → V → V → Type 0) (gi
         never None m = let o = (upserted_once (operation.Abort tt) m).1 in let e = o.2 in cc e
         never (Some p) m = let o = replaces (Some p) (operation.Abort tt) m in let e = o.2 in cc e
 
-    pub upsert_refused : (cause : Cause) → answer ≡ Err cause → IsMemoryOrCapacity cause
+    pub upsert_refused : (cause : Cause) → answer ≡ Err cause → IsMemoryCapacityOrLimit cause
     upsert_refused cause is = upsert_as (Err cause) is
 
 -- what became of a value that was handed in

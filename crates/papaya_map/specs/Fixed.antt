@@ -1,5 +1,5 @@
 -- What of a map is fixed when it is made.
-use Rattle.std.specs.Prelude.{◌≡◌, ℕ, ◌<◌, List}
+use Rattle.std.specs.Prelude.{◌≡◌, ℕ, ◌<◌, List, Option}
 use Rattle.std.specs.Int.{IsNextPowerOfTwo}
 use Rattle.logbook.specs.Pages.{Book}
 use Rattle.papaya_words.specs.Probe.{IsEntriesFor}
@@ -28,14 +28,17 @@ pub record Pinned (K V S : Type 0) : Type 0 where
   pub map : Fixed K V S
   pub seen : List (Change K (Stored K V))
 
--- It resizes so, is made for so many pairs, and counts over the next power of two shards. Where there
--- are to be pairs, it had a table for them when it was made.
-abbrev pub IsFor : {K V S : Type 0} → ResizeMode → (capacity shards : ℕ) → Fixed K V S → Type 0
-IsFor mode capacity shards map = (map.begun.mode ≡ mode) × IsEntriesFor capacity map.initial
+-- It resizes so, is made for so many pairs, counts over the next power of two shards, and logs no more
+-- pairs than the limit, if there is one. Where there are to be pairs, it had a table for them when it
+-- was made.
+abbrev pub IsFor : {K V S : Type 0} → ResizeMode → (capacity shards : ℕ) → (limit : Option ℕ)
+    → Fixed K V S → Type 0
+IsFor mode capacity shards limit map = (map.begun.mode ≡ mode) × IsEntriesFor capacity map.initial
     × IsNextPowerOfTwo shards map.shards × (0 < capacity → HasTableFrom map.initial map.opened)
+    × (map.begun.limit ≡ limit)
 
--- the second resizes as the first, has its initial capacity, counts over as many shards, and takes the
--- same guards
+-- the second resizes as the first, has its limit and its initial capacity, counts over as many shards,
+-- and takes the same guards
 abbrev pub HasSettingsOf : {K V S : Type 0} → (old new : Fixed K V S) → Type 0
-HasSettingsOf old new = (new.begun.mode ≡ old.begun.mode) × (new.initial ≡ old.initial)
-    × (new.shards ≡ old.shards) × (new.collector ≡ old.collector)
+HasSettingsOf old new = (new.begun.mode ≡ old.begun.mode) × (new.begun.limit ≡ old.begun.limit)
+    × (new.initial ≡ old.initial) × (new.shards ≡ old.shards) × (new.collector ≡ old.collector)

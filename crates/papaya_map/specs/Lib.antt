@@ -7,3 +7,5 @@ pub mod Plain
 pub mod Storing
 -- what is asked for of a map before it is built
 pub mod Wanted
+-- why a call is refused that makes a pair
+pub mod Limited

@@ -32,11 +32,11 @@ module _ {K V : Type 0} (eq : K → K → Bool) (key : K)
   IsStored gives v = (q : Stored K V) × IsChangeOf (eq key) old new None (Some q)
       × (key_of q ≡ key) × gives q.value.value × (v.now ≡ q.value.value)
 
-  -- The call put in such a pair in the place of another. `computes` says which value it may have,
-  -- by the value of that one.
+  -- The call put in a pair in the place of another, with the key that this one had. `computes` says
+  -- which value it may have, by the value of the other.
   abbrev pub IsInPlace : (V → V → Type 0) → Bor V → Type 0
   IsInPlace computes v = (p : Stored K V) × (q : Stored K V)
-      × IsChangeOf (eq key) old new (Some p) (Some q) × (key_of q ≡ key)
+      × IsChangeOf (eq key) old new (Some p) (Some q) × (key_of q ≡ key_of p)
       × computes p.value.value q.value.value × (v.now ≡ q.value.value)
 
   -- the value was stored; or the one that is there, and the value that was handed in

@@ -1,10 +1,10 @@
 //! The builder of a map, which asks for its parts one by one.
-ghost use Rattle.std.specs.Prelude.{◌≡◌, [], IfErr, IfOk};
+ghost use Rattle.std.specs.Prelude.{◌≡◌, [], IfErr, IfOk, None, Some};
 ghost use Rattle.std.specs.Arc.{arc_value};
 ghost use Rattle.papaya_words.specs.declared.limits.TheConstants.{DEFAULT_CHUNK, DEFAULT_SHARDS};
 ghost use Rattle.papaya_keys.specs.Sizes.{IsAllowed, IsSizeRefusal};
 ghost use Rattle.papaya_timeline.specs.Content.{content};
-ghost use Rattle.papaya_timeline.specs.New.{IsNew};
+ghost use Rattle.papaya_timeline.specs.New.{IsNewLimited};
 ghost use Rattle.papaya_seq.specs.Map.{core_of};
 ghost use Rattle.papaya_map.specs.Fixed.{IsFor};
 
@@ -28,6 +28,7 @@ pub struct HashMapBuilder<K, V, S = BuildHasherDefault<FoldHasher>> {
     capacity: usize,
     mode: ResizeMode,
     shards: usize,
+    limit: Option<u64>,
     pairs: PhantomData<(K, V)>,
 }
 
@@ -42,17 +43,20 @@ impl<K, V, S> Model for HashMapBuilder<K, V, S> {
       capacity = b.capacity;
       mode = b.mode;
       shards = b.shards;
+      limit = b.limit;
     } };
 }
 
 impl<K: Hash + Eq, V> HashMap<K, V, BuildHasherDefault<FoldHasher>> {
     /// A builder of a map for no pairs, which resizes as [`ResizeMode::default`] says, counts its
-    /// pairs over [`DEFAULT_SHARDS`] shards, and has a collector of number 0: `builder` of 0.2.5.
+    /// pairs over [`DEFAULT_SHARDS`] shards, has no limit on the pairs that it logs, and has a
+    /// collector of number 0: `builder` of 0.2.5.
     pub fn builder() -> HashMapBuilder<K, V, BuildHasherDefault<FoldHasher>>
         ensures collector { result.collector ≡ 0 }
         ensures capacity { result.capacity ≡ 0 }
         ensures mode { result.mode ≡ ResizeMode.Incremental DEFAULT_CHUNK }
         ensures shards { result.shards ≡ DEFAULT_SHARDS }
+        ensures limit { result.limit ≡ None }
     {
         HashMapBuilder {
             hasher: BuildHasherDefault::new(),
@@ -60,6 +64,7 @@ impl<K: Hash + Eq, V> HashMap<K, V, BuildHasherDefault<FoldHasher>> {
             capacity: 0,
             mode: ResizeMode::default(),
             shards: DEFAULT_SHARDS,
+            limit: None,
             pairs: PhantomData,
         }
     }
@@ -74,6 +79,7 @@ impl<K, V, S: Drop> HashMapBuilder<K, V, S> {
           capacity = self.capacity;
           mode = self.mode;
           shards = self.shards;
+          limit = self.limit;
         } }
     {
         let HashMapBuilder {
@@ -82,6 +88,7 @@ impl<K, V, S: Drop> HashMapBuilder<K, V, S> {
             capacity,
             mode,
             shards,
+            limit,
             pairs,
         } = self;
         HashMapBuilder {
@@ -90,6 +97,7 @@ impl<K, V, S: Drop> HashMapBuilder<K, V, S> {
             capacity,
             mode,
             shards,
+            limit,
             pairs,
         }
     }
@@ -104,6 +112,7 @@ impl<K, V, S> HashMapBuilder<K, V, S> {
           capacity = self.capacity;
           mode = self.mode;
           shards = self.shards;
+          limit = self.limit;
         } }
     {
         HashMapBuilder { collector, ..self }
@@ -120,6 +129,7 @@ impl<K, V, S> HashMapBuilder<K, V, S> {
           capacity = self.capacity;
           mode = self.mode;
           shards = self.shards;
+          limit = self.limit;
         } }
     {
         let number = collector.number();
@@ -134,6 +144,7 @@ impl<K, V, S> HashMapBuilder<K, V, S> {
           capacity = capacity;
           mode = self.mode;
           shards = self.shards;
+          limit = self.limit;
         } }
     {
         HashMapBuilder { capacity, ..self }
@@ -147,6 +158,7 @@ impl<K, V, S> HashMapBuilder<K, V, S> {
           capacity = self.capacity;
           mode = mode;
           shards = self.shards;
+          limit = self.limit;
         } }
     {
         HashMapBuilder { mode, ..self }
@@ -161,9 +173,29 @@ impl<K, V, S> HashMapBuilder<K, V, S> {
           capacity = self.capacity;
           mode = self.mode;
           shards = shards;
+          limit = self.limit;
         } }
     {
         HashMapBuilder { shards, ..self }
+    }
+
+    /// Asks for a limit on the pairs that the map logs, those that were replaced or removed among
+    /// them: a call that would log one more is refused `Refused::Limit`. `reclaim` leaves just the
+    /// pairs that are there to be counted. With 0 no pair is ever stored. 0.2.5 has no such limit.
+    pub fn pair_limit(self, pairs: u64) -> HashMapBuilder<K, V, S>
+        ensures { result ≡ record {
+          hasher = self.hasher;
+          collector = self.collector;
+          capacity = self.capacity;
+          mode = self.mode;
+          shards = self.shards;
+          limit = Some pairs;
+        } }
+    {
+        HashMapBuilder {
+            limit: Some(pairs),
+            ..self
+        }
     }
 }
 
@@ -171,7 +203,7 @@ impl<K: Hash + Eq + Drop, V: Drop, S: BuildHasher + Drop> HashMapBuilder<K, V, S
     /// The map: `build` of 0.2.5. Refused as [`HashMap::with_parts`].
     pub fn build<R: Wait>(self, rt: &R, alloc: Global) -> Result<HashMap<K, V, S>, Refused>
         ensures ok { IfOk result (λ map. IsAllowed self.mode self.capacity self.shards) }
-        ensures made { IfOk result (IsFor self.mode self.capacity self.shards) }
+        ensures made { IfOk result (IsFor self.mode self.capacity self.shards self.limit) }
         ensures hasher { IfOk result (λ map. map.begun.hasher ≡ self.hasher) }
         ensures collector { IfOk result (λ map. map.collector ≡ self.collector) }
         ensures err { IfErr result (λ e. IsSizeRefusal self.mode self.capacity self.shards e) }
@@ -182,16 +214,17 @@ impl<K: Hash + Eq + Drop, V: Drop, S: BuildHasher + Drop> HashMapBuilder<K, V, S
             capacity,
             mode,
             shards,
+            limit,
             pairs: _,
         } = self;
-        HashMap::with_collector(rt, alloc, mode, capacity, shards, hasher, collector)
+        HashMap::with_collector(rt, alloc, mode, capacity, shards, hasher, limit, collector)
     }
 
     /// A map of the same parts for one caller, which has no need of a collector; 0.2.5 has none such.
     /// Refused as [`seq::HashMap::with_parts`].
     pub fn build_seq(self, alloc: Global) -> Result<seq::HashMap<K, V, S>, Refused>
         ensures ok { IfOk result (λ map. IsAllowed self.mode self.capacity self.shards
-            × IsNew {A = Unit {0}} self.mode self.capacity self.shards self.hasher
+            × IsNewLimited {A = Unit {0}} self.mode self.capacity self.shards self.hasher self.limit
             (core_of map)) }
         ensures empty { IfOk result (λ map. content K.eq map.store ≡ []) }
         ensures err { IfErr result (IsSizeRefusal self.mode self.capacity self.shards) }
@@ -201,9 +234,10 @@ impl<K: Hash + Eq + Drop, V: Drop, S: BuildHasher + Drop> HashMapBuilder<K, V, S
             capacity,
             mode,
             shards,
+            limit,
             ..
         } = self;
-        seq::HashMap::with_parts(alloc, mode, capacity, shards, hasher)
+        seq::HashMap::with_parts(alloc, mode, capacity, shards, hasher, limit)
     }
 }
 

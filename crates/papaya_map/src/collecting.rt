@@ -2,11 +2,12 @@
 //!
 //! Each is made of the calls for one pair. Other threads may change the maps between these, so what the maps
 //! have then is no clause of theirs.
-ghost use Rattle.std.specs.Prelude.{◌≡◌, ℕ, IfOk, IfErr};
+ghost use Rattle.std.specs.Prelude.{◌≡◌, ℕ, IfOk, IfErr, None};
 ghost use Rattle.std.specs.Iterator.{IsFiniteIterable};
 ghost use Rattle.papaya_words.specs.declared.limits.TheConstants.{DEFAULT_CHUNK, DEFAULT_SHARDS};
 ghost use Rattle.papaya_change.specs.Writing.{IsMemoryOrCapacity};
 ghost use Rattle.papaya_map.specs.Fixed.{HasSettingsOf, IsFor};
+ghost use Rattle.papaya_map.specs.Limited.{IsPlainRefusal};
 
 use crate::map::HashMap;
 use papaya_words::probe::{Refused, ResizeMode};
@@ -16,8 +17,8 @@ use std::sync::Wait;
 
 impl<K: Hash + Eq + Drop, V: Drop, S: BuildHasher> HashMap<K, V, S> {
     /// Stores pairs in the order in which they come: what the trait `Extend` does in 0.2.5. Of two
-    /// pairs with equal keys the later one stays. No room is made ahead, so for no pairs nothing is
-    /// done at all. Calls of others go on between the pairs.
+    /// pairs with equal keys the first one's key stays, and the later one's value. No room is made
+    /// ahead, so for no pairs nothing is done at all. Calls of others go on between the pairs.
     ///
     /// Refused as [`HashMapRef::insert_as`](crate::map::HashMapRef::insert_as) is for a pair. The pairs
     /// before it were stored then, and those after it were not asked for.
@@ -30,7 +31,7 @@ impl<K: Hash + Eq + Drop, V: Drop, S: BuildHasher> HashMap<K, V, S> {
         U::IntoIter: Drop,
         requires { IsFiniteIterable U.into_iter_gives U.IntoIter.can_next U.IntoIter.remaining
             iter }
-        ensures { IfErr result IsMemoryOrCapacity }
+        ensures { IfErr result (IsPlainRefusal self.now.begun.limit) }
     {
         let mut pass = self.pass();
         for (key, value) in iter {
@@ -56,7 +57,7 @@ impl<K: Hash + Eq + Copy + Drop, V: Copy + Drop, S: BuildHasher> HashMap<K, V, S
         U::IntoIter: Drop,
         requires { IsFiniteIterable U.into_iter_gives U.IntoIter.can_next U.IntoIter.remaining
             iter }
-        ensures { IfErr result IsMemoryOrCapacity }
+        ensures { IfErr result (IsPlainRefusal self.now.begun.limit) }
     {
         let mut pass = self.pass();
         for (key, value) in iter {
@@ -70,8 +71,8 @@ impl<K: Hash + Eq + Copy + Drop, V: Copy + Drop, S: BuildHasher> HashMap<K, V, S
 
 impl<K: Hash + Eq + Drop, V: Drop, S: BuildHasher + Default + Drop> HashMap<K, V, S> {
     /// A map of these pairs: what the trait `FromIterator` makes in 0.2.5. Of two pairs with equal
-    /// keys it has the later one, and of no pairs it has no table. It resizes and counts as one of
-    /// [`HashMap::with_hasher`] does.
+    /// keys it has the first one's key and the later one's value, and of no pairs it has no table. It
+    /// resizes and counts as one of [`HashMap::with_hasher`] does.
     ///
     /// `Refused::Memory` where the map was not made; else refused as [`HashMap::extend`].
     pub fn from_iter<R: Wait, U: IntoIterator<Item = (K, V)>>(
@@ -85,7 +86,7 @@ impl<K: Hash + Eq + Drop, V: Drop, S: BuildHasher + Default + Drop> HashMap<K, V
         requires { IsFiniteIterable U.into_iter_gives U.IntoIter.can_next U.IntoIter.remaining
             iter }
         ensures made { IfOk result (IsFor (ResizeMode.Incremental DEFAULT_CHUNK) 0
-            DEFAULT_SHARDS) }
+            DEFAULT_SHARDS None) }
         ensures refused { IfErr result IsMemoryOrCapacity }
     {
         let map = HashMap::with_hasher(rt, alloc, S::default())?;
@@ -96,7 +97,7 @@ impl<K: Hash + Eq + Drop, V: Drop, S: BuildHasher + Default + Drop> HashMap<K, V
 
 impl<K: Hash + Eq + Drop, V: Drop> HashMap<K, V, BuildHasherDefault<FoldHasher>> {
     /// A map of the pairs of an array: what `From<[(K, V); N]>` makes in 0.2.5. Of two pairs with
-    /// equal keys it has the later one.
+    /// equal keys it has the first one's key and the later one's value.
     ///
     /// `Refused::Memory` where the map was not made, or the array had no room in memory; else
     /// refused as [`HashMap::extend`].
@@ -106,7 +107,7 @@ impl<K: Hash + Eq + Drop, V: Drop> HashMap<K, V, BuildHasherDefault<FoldHasher>>
         pairs: [(K, V); N],
     ) -> Result<HashMap<K, V, BuildHasherDefault<FoldHasher>>, Refused>
         ensures made { IfOk result (IsFor (ResizeMode.Incremental DEFAULT_CHUNK) 0
-            DEFAULT_SHARDS) }
+            DEFAULT_SHARDS None) }
         ensures refused { IfErr result IsMemoryOrCapacity }
     {
         match Vec::from_array(alloc, pairs) {
@@ -151,7 +152,7 @@ impl<K: Hash + Eq + Clone + Drop, V: Clone + Drop, S: BuildHasher> HashMap<K, V,
     /// Stores clones of this map's pairs in another one. `Refused::Memory` also where a clone was not
     /// made.
     fn copy_into<R: Wait>(&self, rt: &R, copy: &HashMap<K, V, S>) -> Result<(), Refused>
-        ensures { IfErr result IsMemoryOrCapacity }
+        ensures { IfErr result (IsPlainRefusal copy.now.begun.limit) }
     {
         let mut pass = copy.pass();
         for (key, value) in self.pin().iter(rt)? {
@@ -172,8 +173,8 @@ impl<K: Hash + Eq + Clone + Drop, V: Clone + Drop, S: BuildHasher> HashMap<K, V,
 impl<K: Hash + Eq + Clone + Drop, V: Clone + Drop, S: BuildHasher + Clone + Drop> HashMap<K, V, S> {
     /// A map of clones of this one's pairs: what the trait `Clone` makes in 0.2.5. As there, it has a
     /// clone of the hasher, room for as many pairs as were counted, and else what a map of
-    /// [`HashMap::with_capacity_and_hasher`] has: neither this one's mode nor its collector. A pair that
-    /// is stored, replaced or removed meanwhile may be copied or not.
+    /// [`HashMap::with_capacity_and_hasher`] has: neither this one's mode nor its collector, and no limit
+    /// on pairs. A pair that is stored, replaced or removed meanwhile may be copied or not.
     ///
     /// A key's clone has to be equal to it. Where it is not, the copy may have fewer pairs.
     ///
@@ -182,7 +183,7 @@ impl<K: Hash + Eq + Clone + Drop, V: Clone + Drop, S: BuildHasher + Clone + Drop
     /// its pairs then.
     pub fn try_clone<R: Wait>(&self, rt: &R, alloc: Global) -> Result<HashMap<K, V, S>, Refused>
         ensures made { IfOk result (λ map. (pairs : ℕ)
-            × IsFor (ResizeMode.Incremental DEFAULT_CHUNK) pairs DEFAULT_SHARDS map) }
+            × IsFor (ResizeMode.Incremental DEFAULT_CHUNK) pairs DEFAULT_SHARDS None map) }
         ensures hasher { IfOk result (λ map. S.is_clone self.now.begun.hasher map.begun.hasher) }
         ensures refused { IfErr result IsMemoryOrCapacity }
     {
@@ -196,8 +197,9 @@ impl<K: Hash + Eq + Clone + Drop, V: Clone + Drop, S: BuildHasher + Clone + Drop
 
     /// Makes the map anew of clones of its pairs, and gives back the memory of all keys and pairs that
     /// it had before: of those that were replaced or removed, too. 0.2.5 frees those while the map is
-    /// shared, and has no such call; here they stay until this one. Mode, initial capacity, collector
-    /// and shards stay, and the hasher is a clone of what it was.
+    /// shared, and has no such call; here they stay until this one. Mode, limit, initial capacity, collector
+    /// and shards stay, and the hasher is a clone of what it was. Just the pairs that are kept count
+    /// against the limit then, so it is not met here: that is tested, and no clause says it.
     ///
     /// The map takes `&mut self`, so no other thread, no pinned map and no reference to a key or a value
     /// outlasts the call. A [`Pass`](crate::map::Pass) of before is of no use after it, since it has
@@ -212,7 +214,7 @@ impl<K: Hash + Eq + Clone + Drop, V: Clone + Drop, S: BuildHasher + Clone + Drop
         ensures ok { IfOk result (λ _. HasSettingsOf self.old self.new) }
         ensures hasher { IfOk result (λ _. S.is_clone self.old.begun.hasher
             self.new.begun.hasher) }
-        ensures err { IfErr result (λ refused. IsMemoryOrCapacity refused
+        ensures err { IfErr result (λ refused. IsPlainRefusal self.old.begun.limit refused
             × (self.new ≡ self.old)) }
     {
         let fresh = self.anew(rt)?;

@@ -2,7 +2,7 @@
 //! map's collector, and is then the call of that name of [`HashMapRef`](crate::map::HashMapRef).
 //! With another guard it is refused, and changes nothing.
 ghost use Rattle.std.specs.Prelude.{◌≡◌, ◌⊎◌, [], true, Ok, Err, Option, is_ok, is_some};
-ghost use Rattle.std.specs.Prelude.{IfErr, IfOk};
+ghost use Rattle.std.specs.Prelude.{IfErr, IfOk, IsSome};
 ghost use Rattle.std.specs.Borrow.{Bor, sem};
 ghost use mathlib.Core.List.{IsPrefix};
 ghost use Rattle.papaya_book.specs.contracts.rule.entry.Event.{the_row as EventOf};
@@ -12,6 +12,7 @@ ghost use Rattle.papaya_change.specs.RemovalAnswers.{IsEntryRemoved, IsRemovalBy
 ghost use Rattle.papaya_change.specs.Showings.{Judges, Operates};
 ghost use Rattle.papaya_compute.specs.ComputeAnswers.{IsComputeBy};
 ghost use Rattle.papaya_lookup.specs.History.{IsLegalHistory, history_of, key_of};
+ghost use Rattle.papaya_map.specs.Limited.{IsPlainRefusal};
 ghost use Rattle.papaya_map.specs.Plain.{IsContained, IsDone, IsOfHistory};
 ghost use Rattle.papaya_map.specs.Plain.{of_its_history, rule_of, unpinned};
 
@@ -381,8 +382,7 @@ impl<K: Hash + Eq + Drop, V: Drop, S: BuildHasher> HashMap<K, V, S> {
         ensures put { IfOk result.answer (IsPut K.eq key value self.now.seen
             (history_of result.log)) }
         ensures right { G.collector_number guard.now ≡ self.now.collector
-            → IfErr result.answer (λ refused. (refused ≡ Refused.Memory) ⊎
-            (refused ≡ Refused.Capacity)) }
+            → IfErr result.answer (IsPlainRefusal self.now.begun.limit) }
         ensures wrong { (G.collector_number guard.now ≡ self.now.collector → ⊥)
             → result.answer ≡ Err Refused.WrongGuard }
     {
@@ -396,8 +396,8 @@ impl<K: Hash + Eq + Drop, V: Drop, S: BuildHasher> HashMap<K, V, S> {
         }
     }
 
-    /// Stores a pair, and answers the value that its key had: `insert` of 0.2.5. As there, the new
-    /// key takes the old one's place too. Refused for a wrong guard, and as
+    /// Stores a pair, and answers the value that its key had: `insert` of 0.2.5. As its text
+    /// says, a key that is stored stays. Refused for a wrong guard, and as
     /// [`HashMapRef::insert_as`](crate::map::HashMapRef::insert_as).
     pub fn insert<'g, R: Wait, G: Guard>(
         &'g self,
@@ -412,8 +412,7 @@ impl<K: Hash + Eq + Drop, V: Drop, S: BuildHasher> HashMap<K, V, S> {
         ensures put { IfOk result (λ answer. IsOfHistory K.eq
             (λ h. IsPut K.eq key value [] h answer)) }
         ensures right { G.collector_number guard.now ≡ self.now.collector
-            → IfErr result (λ refused.
-            (refused ≡ Refused.Memory) ⊎ (refused ≡ Refused.Capacity)) }
+            → IfErr result (IsPlainRefusal self.now.begun.limit) }
         ensures wrong { (G.collector_number guard.now ≡ self.now.collector → ⊥)
             → result ≡ Err Refused.WrongGuard }
     {
@@ -443,6 +442,7 @@ impl<K: Hash + Eq + Drop, V: Drop, S: BuildHasher> HashMap<K, V, S> {
         ensures right { G.collector_number guard.now ≡ self.now.collector
             → IsComputeBy K.eq key self.now.seen (history_of result.log)
             (Operates F.FnMut) f result.answer }
+        ensures limited { result.answer ≡ Err Refused.Limit → IsSome self.now.begun.limit }
         ensures wrong { (G.collector_number guard.now ≡ self.now.collector → ⊥)
             → result.answer ≡ Err Refused.WrongGuard }
     {
@@ -472,6 +472,7 @@ impl<K: Hash + Eq + Drop, V: Drop, S: BuildHasher> HashMap<K, V, S> {
         ensures right { G.collector_number guard.now ≡ self.now.collector
             → IsOfHistory K.eq
             (λ h. IsComputeBy K.eq key [] h (Operates F.FnMut) f result) }
+        ensures limited { result ≡ Err Refused.Limit → IsSome self.now.begun.limit }
         ensures wrong { (G.collector_number guard.now ≡ self.now.collector → ⊥)
             → result ≡ Err Refused.WrongGuard }
     {

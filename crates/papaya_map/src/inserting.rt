@@ -5,8 +5,8 @@ ghost use mathlib.Core.List.{IsPrefix};
 ghost use Rattle.papaya_book.specs.contracts.rule.entry.Event.{the_row as EventOf};
 ghost use Rattle.papaya_book.specs.Limits.{HasNoRoom};
 ghost use Rattle.papaya_keys.specs.declared.occupied.NotInserted.TheVariants.{Logged, Value};
-ghost use Rattle.papaya_change.specs.Writing.{IsMemoryOrCapacity};
 ghost use Rattle.papaya_lookup.specs.History.{IsLegalHistory, Makes, history_of, key_of};
+ghost use Rattle.papaya_map.specs.Limited.{IsPlainRefusal, IsWriteRefusal};
 ghost use Rattle.papaya_map.specs.Plain.{IsOfHistory, of_its_history, rule_of, unpinned};
 ghost use Rattle.papaya_map.specs.Storing.{IsThere, IsThereBy, IsTried, IsTriedWith, stored};
 
@@ -55,7 +55,7 @@ impl<'a, K: Hash + Eq + Drop, V: Drop, S: BuildHasher> HashMapRef<'a, K, V, S> {
         ensures tables { IsPrefix pass.old.tables pass.new.tables }
         ensures made { Makes (stored result) pass.old.made pass.new.made pass.new.history }
         ensures tried { IfOk result (IsTried K.eq key pass.old.history pass.new.history value) }
-        ensures refused { IfErr result IsMemoryOrCapacity }
+        ensures refused { IfErr result (IsWriteRefusal self.now.map.begun.limit pass.new.taken) }
         ensures crowded { result ≡ Err Refused.Capacity → HasNoRoom self.now.map.initial
             pass.new.tables pass.new.given }
     {
@@ -96,7 +96,7 @@ impl<'a, K: Hash + Eq + Drop, V: Drop, S: BuildHasher> HashMapRef<'a, K, V, S> {
         ensures made { Makes (stored result) pass.old.made pass.new.made pass.new.history }
         ensures tried { IfOk result (IsTriedWith K.eq key pass.old.history pass.new.history
             (F.post f)) }
-        ensures refused { IfErr result IsMemoryOrCapacity }
+        ensures refused { IfErr result (IsWriteRefusal self.now.map.begun.limit pass.new.taken) }
         ensures crowded { result ≡ Err Refused.Capacity → HasNoRoom self.now.map.initial
             pass.new.tables pass.new.given }
     {
@@ -134,7 +134,7 @@ impl<'a, K: Hash + Eq + Drop, V: Drop, S: BuildHasher> HashMapRef<'a, K, V, S> {
         ensures tables { IsPrefix pass.old.tables pass.new.tables }
         ensures there { IsThereBy K.eq key pass.old.history pass.new.history (λ w. w ≡ value)
             pass.old.made pass.new.made result }
-        ensures refused { IfErr result IsMemoryOrCapacity }
+        ensures refused { IfErr result (IsWriteRefusal self.now.map.begun.limit pass.new.taken) }
         ensures crowded { result ≡ Err Refused.Capacity → HasNoRoom self.now.map.initial
             pass.new.tables pass.new.given }
     {
@@ -161,7 +161,7 @@ impl<'a, K: Hash + Eq + Drop, V: Drop, S: BuildHasher> HashMapRef<'a, K, V, S> {
         ensures tables { IsPrefix pass.old.tables pass.new.tables }
         ensures there { IsThereBy K.eq key pass.old.history pass.new.history (F.post f)
             pass.old.made pass.new.made result }
-        ensures refused { IfErr result IsMemoryOrCapacity }
+        ensures refused { IfErr result (IsWriteRefusal self.now.map.begun.limit pass.new.taken) }
         ensures crowded { result ≡ Err Refused.Capacity → HasNoRoom self.now.map.initial
             pass.new.tables pass.new.given }
     {
@@ -185,7 +185,7 @@ impl<'a, K: Hash + Eq + Drop, V: Drop, S: BuildHasher> HashMapRef<'a, K, V, S> {
         ensures seen { IsPrefix self.now.seen (history_of result.log) }
         ensures tried { IfOk result.answer (IsTried K.eq key self.now.seen (history_of result.log)
             value) }
-        ensures refused { IfErr result.answer IsMemoryOrCapacity }
+        ensures refused { IfErr result.answer (IsPlainRefusal self.now.map.begun.limit) }
     {
         let mut pass = self.begun(self.map.number());
         let answer = self.try_insert_as(rt, key, value, &mut pass);
@@ -207,7 +207,7 @@ impl<'a, K: Hash + Eq + Drop, V: Drop, S: BuildHasher> HashMapRef<'a, K, V, S> {
             (λ h. IfOk result (IsTried K.eq key self.now.seen h value))) }
         ensures tried { IfOk result (λ tried. IsOfHistory K.eq (λ h. IsTried K.eq key [] h value
             tried)) }
-        ensures refused { IfErr result IsMemoryOrCapacity }
+        ensures refused { IfErr result (IsPlainRefusal self.now.map.begun.limit) }
     {
         let Told { answer, marker: _ } = self.try_insert_told(rt, key, value);
         answer
@@ -227,7 +227,7 @@ impl<'a, K: Hash + Eq + Drop, V: Drop, S: BuildHasher> HashMapRef<'a, K, V, S> {
         ensures seen { IsPrefix self.now.seen (history_of result.log) }
         ensures tried { IfOk result.answer (IsTriedWith K.eq key self.now.seen (history_of
             result.log) (F.post f)) }
-        ensures refused { IfErr result.answer IsMemoryOrCapacity }
+        ensures refused { IfErr result.answer (IsPlainRefusal self.now.map.begun.limit) }
     {
         let mut pass = self.begun(self.map.number());
         let answer = self.try_insert_with_as(rt, key, f, &mut pass);
@@ -250,7 +250,7 @@ impl<'a, K: Hash + Eq + Drop, V: Drop, S: BuildHasher> HashMapRef<'a, K, V, S> {
             (λ h. IfOk result (IsTriedWith K.eq key self.now.seen h (F.post f)))) }
         ensures tried { IfOk result (λ tried. IsOfHistory K.eq (λ h. IsTriedWith K.eq key [] h
             (F.post f) tried)) }
-        ensures refused { IfErr result IsMemoryOrCapacity }
+        ensures refused { IfErr result (IsPlainRefusal self.now.map.begun.limit) }
     {
         let Told { answer, marker: _ } = self.try_insert_with_told(rt, key, f);
         answer
@@ -269,7 +269,7 @@ impl<'a, K: Hash + Eq + Drop, V: Drop, S: BuildHasher> HashMapRef<'a, K, V, S> {
         ensures seen { IsPrefix self.now.seen (history_of result.log) }
         ensures there { IfOk result.answer (IsThere K.eq key self.now.seen (history_of result.log)
             (λ w. w ≡ value)) }
-        ensures refused { IfErr result.answer IsMemoryOrCapacity }
+        ensures refused { IfErr result.answer (IsPlainRefusal self.now.map.begun.limit) }
     {
         let mut pass = self.begun(self.map.number());
         let answer = self.get_or_insert_as(rt, key, value, &mut pass);
@@ -285,7 +285,7 @@ impl<'a, K: Hash + Eq + Drop, V: Drop, S: BuildHasher> HashMapRef<'a, K, V, S> {
             (λ h. IfOk result (IsThere K.eq key self.now.seen h (λ w. w ≡ value)))) }
         ensures there { IfOk result (λ there. IsOfHistory K.eq (λ h. IsThere K.eq key [] h
             (λ w. w ≡ value) there)) }
-        ensures refused { IfErr result IsMemoryOrCapacity }
+        ensures refused { IfErr result (IsPlainRefusal self.now.map.begun.limit) }
     {
         let Told { answer, marker: _ } = self.get_or_insert_told(rt, key, value);
         answer
@@ -305,7 +305,7 @@ impl<'a, K: Hash + Eq + Drop, V: Drop, S: BuildHasher> HashMapRef<'a, K, V, S> {
         ensures seen { IsPrefix self.now.seen (history_of result.log) }
         ensures there { IfOk result.answer (IsThere K.eq key self.now.seen (history_of result.log)
             (F.post f)) }
-        ensures refused { IfErr result.answer IsMemoryOrCapacity }
+        ensures refused { IfErr result.answer (IsPlainRefusal self.now.map.begun.limit) }
     {
         let mut pass = self.begun(self.map.number());
         let answer = self.get_or_insert_with_as(rt, key, f, &mut pass);
@@ -328,7 +328,7 @@ impl<'a, K: Hash + Eq + Drop, V: Drop, S: BuildHasher> HashMapRef<'a, K, V, S> {
             (λ h. IfOk result (IsThere K.eq key self.now.seen h (F.post f)))) }
         ensures there { IfOk result (λ there. IsOfHistory K.eq (λ h. IsThere K.eq key [] h
             (F.post f) there)) }
-        ensures refused { IfErr result IsMemoryOrCapacity }
+        ensures refused { IfErr result (IsPlainRefusal self.now.map.begun.limit) }
     {
         let Told { answer, marker: _ } = self.get_or_insert_with_told(rt, key, f);
         answer
@@ -351,7 +351,7 @@ impl<K: Hash + Eq + Drop, V: Drop, S: BuildHasher> HashMap<K, V, S> {
         ensures tried { IfOk result.answer (λ tried. IsTried K.eq key self.now.seen
             (history_of result.log) value tried) }
         ensures right { G.collector_number guard.now ≡ self.now.collector
-            → IfErr result.answer IsMemoryOrCapacity }
+            → IfErr result.answer (IsPlainRefusal self.now.begun.limit) }
         ensures wrong { (G.collector_number guard.now ≡ self.now.collector → ⊥)
             → result.answer ≡ Err Refused.WrongGuard }
     {
@@ -380,7 +380,7 @@ impl<K: Hash + Eq + Drop, V: Drop, S: BuildHasher> HashMap<K, V, S> {
         ensures tried { IfOk result (λ tried. IsOfHistory K.eq (λ h. IsTried K.eq key [] h value
             tried)) }
         ensures right { G.collector_number guard.now ≡ self.now.collector
-            → IfErr result IsMemoryOrCapacity }
+            → IfErr result (IsPlainRefusal self.now.begun.limit) }
         ensures wrong { (G.collector_number guard.now ≡ self.now.collector → ⊥)
             → result ≡ Err Refused.WrongGuard }
     {
@@ -404,7 +404,7 @@ impl<K: Hash + Eq + Drop, V: Drop, S: BuildHasher> HashMap<K, V, S> {
         ensures tried { IfOk result.answer (λ tried. IsTriedWith K.eq key self.now.seen
             (history_of result.log) (F.post f) tried) }
         ensures right { G.collector_number guard.now ≡ self.now.collector
-            → IfErr result.answer IsMemoryOrCapacity }
+            → IfErr result.answer (IsPlainRefusal self.now.begun.limit) }
         ensures wrong { (G.collector_number guard.now ≡ self.now.collector → ⊥)
             → result.answer ≡ Err Refused.WrongGuard }
     {
@@ -435,7 +435,7 @@ impl<K: Hash + Eq + Drop, V: Drop, S: BuildHasher> HashMap<K, V, S> {
         ensures tried { IfOk result (λ tried. IsOfHistory K.eq (λ h. IsTriedWith K.eq key [] h
             (F.post f) tried)) }
         ensures right { G.collector_number guard.now ≡ self.now.collector
-            → IfErr result IsMemoryOrCapacity }
+            → IfErr result (IsPlainRefusal self.now.begun.limit) }
         ensures wrong { (G.collector_number guard.now ≡ self.now.collector → ⊥)
             → result ≡ Err Refused.WrongGuard }
     {
@@ -458,7 +458,7 @@ impl<K: Hash + Eq + Drop, V: Drop, S: BuildHasher> HashMap<K, V, S> {
         ensures there { IfOk result.answer (IsThere K.eq key self.now.seen (history_of result.log)
             (λ w. w ≡ value)) }
         ensures right { G.collector_number guard.now ≡ self.now.collector
-            → IfErr result.answer IsMemoryOrCapacity }
+            → IfErr result.answer (IsPlainRefusal self.now.begun.limit) }
         ensures wrong { (G.collector_number guard.now ≡ self.now.collector → ⊥)
             → result.answer ≡ Err Refused.WrongGuard }
     {
@@ -487,7 +487,7 @@ impl<K: Hash + Eq + Drop, V: Drop, S: BuildHasher> HashMap<K, V, S> {
         ensures there { IfOk result (λ there. IsOfHistory K.eq (λ h. IsThere K.eq key [] h
             (λ w. w ≡ value) there)) }
         ensures right { G.collector_number guard.now ≡ self.now.collector
-            → IfErr result IsMemoryOrCapacity }
+            → IfErr result (IsPlainRefusal self.now.begun.limit) }
         ensures wrong { (G.collector_number guard.now ≡ self.now.collector → ⊥)
             → result ≡ Err Refused.WrongGuard }
     {
@@ -511,7 +511,7 @@ impl<K: Hash + Eq + Drop, V: Drop, S: BuildHasher> HashMap<K, V, S> {
         ensures there { IfOk result.answer (IsThere K.eq key self.now.seen (history_of result.log)
             (F.post f)) }
         ensures right { G.collector_number guard.now ≡ self.now.collector
-            → IfErr result.answer IsMemoryOrCapacity }
+            → IfErr result.answer (IsPlainRefusal self.now.begun.limit) }
         ensures wrong { (G.collector_number guard.now ≡ self.now.collector → ⊥)
             → result.answer ≡ Err Refused.WrongGuard }
     {
@@ -541,7 +541,7 @@ impl<K: Hash + Eq + Drop, V: Drop, S: BuildHasher> HashMap<K, V, S> {
         ensures there { IfOk result (λ there. IsOfHistory K.eq (λ h. IsThere K.eq key [] h
             (F.post f) there)) }
         ensures right { G.collector_number guard.now ≡ self.now.collector
-            → IfErr result IsMemoryOrCapacity }
+            → IfErr result (IsPlainRefusal self.now.begun.limit) }
         ensures wrong { (G.collector_number guard.now ≡ self.now.collector → ⊥)
             → result ≡ Err Refused.WrongGuard }
     {

@@ -2,8 +2,10 @@
 ghost use Rattle.std.specs.Prelude.{◌≡◌, ◌⊎◌, true, is_ok, [], Err, IfErr, IfOk};
 ghost use Rattle.std.specs.Int.{IsPowerOfTwo};
 ghost use mathlib.Core.List.{IsPrefix};
+ghost use Rattle.papaya_map.specs.Limited.{IsWriteRefusal};
 ghost use Rattle.papaya_map.specs.Fixed.{Fixed, Pinned};
 ghost use Rattle.papaya_map.specs.Powers.{IsPowerOfTwo-prop};
+ghost use Rattle.papaya_book.specs.Logs.{state_of};
 ghost use Rattle.papaya_book.specs.Parts.{begun_of};
 ghost use Rattle.papaya_book.specs.Limits.{HasNoRoom, tables_of};
 ghost use Rattle.papaya_change.specs.Changes.{IsPut};
@@ -84,7 +86,8 @@ impl<K: Hash + Eq, V, S: BuildHasher> Model for HashMap<K, V, S> {
 /// history, which is legal, the changes that were made by this pass, oldest first, and which book
 /// they are of. They see how many slots each table has that it has seen come, oldest first. Where its
 /// last change was refused for want of room, they see the number that a full log gave, or the sum of
-/// the map's count by which the table after one of those would be too long.
+/// the map's count by which the table after one of those would be too long. And of a map with a limit
+/// on pairs they see how many numbers were taken for pairs.
 ///
 /// Each call by a pass stands in the history after all that the pass had seen before, and
 /// afterwards the pass has seen the call's own moment. A call that changes the map makes one change
@@ -106,6 +109,7 @@ impl<K: Hash + Eq, V, S: BuildHasher> Model for Pass<K, V, S> {
       made = changes_by p.own.done;
       tables = tables_of p.sight.log;
       given = p.given.done;
+      taken = (state_of p.sight.log).made;
     } };
 
     ghost invariant = { λ p. IsLegalHistory K.eq key_of (history_of p.sight.log) };
@@ -562,14 +566,15 @@ impl<'a, K: Hash + Eq, V, S: BuildHasher> HashMapRef<'a, K, V, S> {
 }
 
 impl<'a, K: Hash + Eq + Drop, V: Drop, S: BuildHasher> HashMapRef<'a, K, V, S> {
-    /// Stores a pair, and answers the value that its key had: `insert` of 0.2.5. As there, the new
-    /// key takes the old one's place too.
+    /// Stores a pair, and answers the value that its key had: `insert` of 0.2.5. As its text
+    /// says, a key that is stored stays: the one that was handed in is dropped then.
     ///
     /// Where the key finds no place in the table, the call makes a further one, to which the pairs
     /// are copied. `Refused::Memory` where a growth was refused. `Refused::Capacity` where the log of
     /// pairs or that of tables is full: it gave a number past its limit, which the pass shows then. Or
     /// where the further table would be too long, by the sum of the count that the pass shows then and
-    /// the length of a table that it has seen.
+    /// the length of a table that it has seen. `Refused::Limit` where the map has a limit on pairs, and
+    /// as many were logged, or were about to be.
     /// Refused, the pass makes no change, and else this one.
     pub fn insert_as<R: Wait>(
         &self,
@@ -585,8 +590,7 @@ impl<'a, K: Hash + Eq + Drop, V: Drop, S: BuildHasher> HashMapRef<'a, K, V, S> {
         ensures made { Makes (is_ok result) pass.old.made pass.new.made pass.new.history }
         ensures put { IfOk result (λ answer. IsPut K.eq key value pass.old.history pass.new.history
             answer) }
-        ensures refused { IfErr result (λ refused. (refused ≡ Refused.Memory)
-            ⊎ (refused ≡ Refused.Capacity)) }
+        ensures refused { IfErr result (IsWriteRefusal self.now.map.begun.limit pass.new.taken) }
         ensures crowded { result ≡ Err Refused.Capacity → HasNoRoom self.now.map.initial
             pass.new.tables pass.new.given }
     {
@@ -636,6 +640,8 @@ impl<'a, K: Hash + Eq + Drop, V: Drop, S: BuildHasher> HashMapRef<'a, K, V, S> {
         ensures made { Makes (changes result) pass.old.made pass.new.made pass.new.history }
         ensures crowded { result ≡ Err Refused.Capacity → HasNoRoom self.now.map.initial
             pass.new.tables pass.new.given }
+        ensures spent { result ≡ Err Refused.Limit → self.now.map.begun.limit
+            ≡ Some pass.new.taken }
         ensures computed { IsComputeBy K.eq key pass.old.history pass.new.history (Operates F.FnMut)
             f result }
     {
@@ -677,6 +683,8 @@ impl<'a, K: Hash + Eq + Drop, V: Drop, S: BuildHasher> HashMapRef<'a, K, V, S> {
         ensures made { Makes (changes result) pass.old.made pass.new.made pass.new.history }
         ensures crowded { result ≡ Err Refused.Capacity → HasNoRoom self.now.map.initial
             pass.new.tables pass.new.given }
+        ensures spent { result ≡ Err Refused.Limit → self.now.map.begun.limit
+            ≡ Some pass.new.taken }
         ensures computed { IsComputeBy K.eq key pass.old.history pass.new.history (Operates F.FnMut)
             f result }
     {
@@ -718,6 +726,8 @@ impl<'a, K: Hash + Eq + Drop, V: Drop, S: BuildHasher> HashMapRef<'a, K, V, S> {
             rule.new result }
         ensures crowded { result ≡ Err Refused.Capacity → HasNoRoom self.now.map.initial
             pass.new.tables pass.new.given }
+        ensures spent { result ≡ Err Refused.Limit → self.now.map.begun.limit
+            ≡ Some pass.new.taken }
     {
         let map: &'a HashMap<K, V, S> = self.map;
         let shard = map.count.shard(pass.number);

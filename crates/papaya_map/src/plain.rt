@@ -1,7 +1,7 @@
 //! The calls that take no pass. Each is the call of that name by a pass made for it alone, so what
 //! it says is so of a history that no caller is shown. `remove_entry_as`, which takes one, stands
 //! beside the call that is made of it.
-ghost use Rattle.std.specs.Prelude.{◌≡◌, [], true, is_some, Option, Err, IfOk, IfErr, ◌⊎◌};
+ghost use Rattle.std.specs.Prelude.{◌≡◌, [], true, is_some, IsSome, Option, Err, IfOk, IfErr, ◌⊎◌};
 ghost use Rattle.std.specs.Borrow.{Bor, sem};
 ghost use mathlib.Core.List.{IsPrefix};
 ghost use Rattle.papaya_book.specs.Limits.{HasNoRoom};
@@ -12,6 +12,7 @@ ghost use Rattle.papaya_change.specs.Changes.{IsPut};
 ghost use Rattle.papaya_change.specs.RemovalAnswers.{IsEntryRemoved, IsRemovalBy, IsRemoved, took};
 ghost use Rattle.papaya_change.specs.Showings.{Judges, Operates};
 ghost use Rattle.papaya_compute.specs.ComputeAnswers.{IsComputeBy};
+ghost use Rattle.papaya_map.specs.Limited.{IsPlainRefusal};
 ghost use Rattle.papaya_map.specs.Plain.{IsContained, IsOfHistory, of_its_history, rule_of};
 
 use crate::map::{HashMap, HashMapRef, Pass};
@@ -59,7 +60,7 @@ impl<'a, K: Hash + Eq, V, S: BuildHasher> HashMapRef<'a, K, V, S> {
     }
 
     /// The value of a key: `get` of 0.2.5. It waits for nobody, and takes no lock and no memory.
-    #[inline]
+    #[inline(always)]
     pub fn get<Q: Equivalent<K>>(&self, key: &Q) -> Option<&'a V>
         ensures* own { sem 𝓛 (of_its_history (EventOf K.row V.row S.row).coded.code
             (rule_of ⟦<Law<K, V, S> as Rule<Event<K, V, S>, Named<K, V>>>⟧) self.now K.eq
@@ -90,7 +91,7 @@ impl<'a, K: Hash + Eq, V, S: BuildHasher> HashMapRef<'a, K, V, S> {
 
     /// The stored key and the value of a key: `get_key_value` of 0.2.5. As [`HashMapRef::get`], it
     /// waits for nobody, and takes no lock and no memory.
-    #[inline]
+    #[inline(always)]
     pub fn get_key_value<Q: Equivalent<K>>(&self, key: &Q) -> Option<(&'a K, &'a V)>
         ensures* own { sem 𝓛 (of_its_history (EventOf K.row V.row S.row).coded.code
             (rule_of ⟦<Law<K, V, S> as Rule<Event<K, V, S>, Named<K, V>>>⟧) self.now K.eq
@@ -117,7 +118,7 @@ impl<'a, K: Hash + Eq, V, S: BuildHasher> HashMapRef<'a, K, V, S> {
     }
 
     /// Has a key a value? `contains_key` of 0.2.5. It waits for nobody, as [`HashMapRef::get`].
-    #[inline]
+    #[inline(always)]
     pub fn contains_key<Q: Equivalent<K>>(&self, key: &Q) -> bool
         ensures* own { sem 𝓛 (of_its_history (EventOf K.row V.row S.row).coded.code
             (rule_of ⟦<Law<K, V, S> as Rule<Event<K, V, S>, Named<K, V>>>⟧) self.now K.eq
@@ -290,16 +291,15 @@ impl<'a, K: Hash + Eq + Drop, V: Drop, S: BuildHasher> HashMapRef<'a, K, V, S> {
         ensures seen { IsPrefix self.now.seen (history_of result.log) }
         ensures put { IfOk result.answer (IsPut K.eq key value self.now.seen (history_of
             result.log)) }
-        ensures refused { IfErr result.answer (λ refused. (refused ≡ Refused.Memory)
-            ⊎ (refused ≡ Refused.Capacity)) }
+        ensures refused { IfErr result.answer (IsPlainRefusal self.now.map.begun.limit) }
     {
         let mut pass = self.begun(self.map.number());
         let answer = self.insert_as(rt, key, value, &mut pass);
         pass.tell(answer)
     }
 
-    /// Stores a pair, and answers the value that its key had: `insert` of 0.2.5. As there, the new
-    /// key takes the old one's place too.
+    /// Stores a pair, and answers the value that its key had: `insert` of 0.2.5. As its text
+    /// says, a key that is stored stays: the one that was handed in is dropped then.
     ///
     /// Refused as [`HashMapRef::insert_as`] is, and then it changes nothing.
     pub fn insert<R: Wait>(&self, rt: &R, key: K, value: V) -> Result<Option<&'a V>, Refused>
@@ -308,8 +308,7 @@ impl<'a, K: Hash + Eq + Drop, V: Drop, S: BuildHasher> HashMapRef<'a, K, V, S> {
             (λ h. IfOk result (IsPut K.eq key value self.now.seen h))) }
         ensures put { IfOk result (λ answer. IsOfHistory K.eq (λ h. IsPut K.eq key value [] h
             answer)) }
-        ensures refused { IfErr result (λ refused. (refused ≡ Refused.Memory)
-            ⊎ (refused ≡ Refused.Capacity)) }
+        ensures refused { IfErr result (IsPlainRefusal self.now.map.begun.limit) }
     {
         let Told { answer, marker: _ } = self.insert_told(rt, key, value);
         answer
@@ -329,6 +328,7 @@ impl<'a, K: Hash + Eq + Drop, V: Drop, S: BuildHasher> HashMapRef<'a, K, V, S> {
         ensures seen { IsPrefix self.now.seen (history_of result.log) }
         ensures computed { IsComputeBy K.eq key self.now.seen (history_of result.log) (Operates
             F.FnMut) f result.answer }
+        ensures limited { result.answer ≡ Err Refused.Limit → IsSome self.now.map.begun.limit }
     {
         let mut pass = self.begun(self.map.number());
         let answer = self.compute_as(rt, key, f, &mut pass);
@@ -350,6 +350,7 @@ impl<'a, K: Hash + Eq + Drop, V: Drop, S: BuildHasher> HashMapRef<'a, K, V, S> {
             (λ h. IsComputeBy K.eq key self.now.seen h (Operates F.FnMut) f result)) }
         ensures computed { IsOfHistory K.eq (λ h. IsComputeBy K.eq key [] h (Operates F.FnMut) f
             result) }
+        ensures limited { result ≡ Err Refused.Limit → IsSome self.now.map.begun.limit }
     {
         let Told { answer, marker: _ } = self.compute_told(rt, key, f);
         answer

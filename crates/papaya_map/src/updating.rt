@@ -6,8 +6,8 @@ ghost use mathlib.Core.List.{IsPrefix};
 ghost use Rattle.papaya_book.specs.contracts.rule.entry.Event.{the_row as EventOf};
 ghost use Rattle.papaya_book.specs.Limits.{HasNoRoom};
 ghost use Rattle.papaya_change.specs.RemovalAnswers.{took};
-ghost use Rattle.papaya_change.specs.Writing.{IsMemoryOrCapacity};
 ghost use Rattle.papaya_lookup.specs.History.{IsLegalHistory, Makes, history_of, key_of};
+ghost use Rattle.papaya_map.specs.Limited.{IsPlainRefusal, IsWriteRefusal};
 ghost use Rattle.papaya_map.specs.Plain.{IsOfHistory, of_its_history, rule_of, unpinned};
 ghost use Rattle.papaya_map.specs.Storing.{IsUpdated, IsUpserted};
 
@@ -45,7 +45,7 @@ impl<'a, K: Hash + Eq + Drop, V: Drop, S: BuildHasher> HashMapRef<'a, K, V, S> {
         ensures made { Makes (took result) pass.old.made pass.new.made pass.new.history }
         ensures updated { IfOk result (IsUpdated K.eq key pass.old.history pass.new.history
             (FnReturnsAt F.Fn f)) }
-        ensures refused { IfErr result IsMemoryOrCapacity }
+        ensures refused { IfErr result (IsWriteRefusal self.now.map.begun.limit pass.new.taken) }
         ensures crowded { result ≡ Err Refused.Capacity → HasNoRoom self.now.map.initial
             pass.new.tables pass.new.given }
     {
@@ -77,7 +77,7 @@ impl<'a, K: Hash + Eq + Drop, V: Drop, S: BuildHasher> HashMapRef<'a, K, V, S> {
         ensures made { Makes (is_ok result) pass.old.made pass.new.made pass.new.history }
         ensures upserted { IfOk result (IsUpserted K.eq key pass.old.history pass.new.history
             (FnReturnsAt F.Fn update) (G.gives supply)) }
-        ensures refused { IfErr result IsMemoryOrCapacity }
+        ensures refused { IfErr result (IsWriteRefusal self.now.map.begun.limit pass.new.taken) }
         ensures crowded { result ≡ Err Refused.Capacity → HasNoRoom self.now.map.initial
             pass.new.tables pass.new.given }
     {
@@ -111,7 +111,7 @@ impl<'a, K: Hash + Eq + Drop, V: Drop, S: BuildHasher> HashMapRef<'a, K, V, S> {
         ensures made { Makes (is_ok result) pass.old.made pass.new.made pass.new.history }
         ensures upserted { IfOk result (IsUpserted K.eq key pass.old.history pass.new.history
             (FnReturnsAt F.Fn update) (λ w. w ≡ value)) }
-        ensures refused { IfErr result IsMemoryOrCapacity }
+        ensures refused { IfErr result (IsWriteRefusal self.now.map.begun.limit pass.new.taken) }
         ensures crowded { result ≡ Err Refused.Capacity → HasNoRoom self.now.map.initial
             pass.new.tables pass.new.given }
     {
@@ -137,7 +137,7 @@ impl<'a, K: Hash + Eq + Drop, V: Drop, S: BuildHasher> HashMapRef<'a, K, V, S> {
         ensures made { Makes (is_ok result) pass.old.made pass.new.made pass.new.history }
         ensures upserted { IfOk result (IsUpserted K.eq key pass.old.history pass.new.history
             (FnReturnsAt U.Fn update) (F.post f)) }
-        ensures refused { IfErr result IsMemoryOrCapacity }
+        ensures refused { IfErr result (IsWriteRefusal self.now.map.begun.limit pass.new.taken) }
         ensures crowded { result ≡ Err Refused.Capacity → HasNoRoom self.now.map.initial
             pass.new.tables pass.new.given }
     {
@@ -158,7 +158,7 @@ impl<'a, K: Hash + Eq + Drop, V: Drop, S: BuildHasher> HashMapRef<'a, K, V, S> {
         ensures seen { IsPrefix self.now.seen (history_of result.log) }
         ensures updated { IfOk result.answer (IsUpdated K.eq key self.now.seen (history_of
             result.log) (FnReturnsAt F.Fn f)) }
-        ensures refused { IfErr result.answer IsMemoryOrCapacity }
+        ensures refused { IfErr result.answer (IsPlainRefusal self.now.map.begun.limit) }
     {
         let mut pass = self.begun(self.map.number());
         let answer = self.update_as(rt, key, f, &mut pass);
@@ -182,7 +182,7 @@ impl<'a, K: Hash + Eq + Drop, V: Drop, S: BuildHasher> HashMapRef<'a, K, V, S> {
             (λ h. IfOk result (IsUpdated K.eq key self.now.seen h (FnReturnsAt F.Fn f)))) }
         ensures updated { IfOk result (λ updated. IsOfHistory K.eq (λ h. IsUpdated K.eq key [] h
             (FnReturnsAt F.Fn f) updated)) }
-        ensures refused { IfErr result IsMemoryOrCapacity }
+        ensures refused { IfErr result (IsPlainRefusal self.now.map.begun.limit) }
     {
         let Told { answer, marker: _ } = self.update_told(rt, key, f);
         answer
@@ -204,7 +204,7 @@ impl<'a, K: Hash + Eq + Drop, V: Drop, S: BuildHasher> HashMapRef<'a, K, V, S> {
         ensures upserted { IfOk result.answer (IsUpserted K.eq key self.now.seen (history_of
             result.log) (FnReturnsAt F.Fn update)
             (λ w. w ≡ value)) }
-        ensures refused { IfErr result.answer IsMemoryOrCapacity }
+        ensures refused { IfErr result.answer (IsPlainRefusal self.now.map.begun.limit) }
     {
         let mut pass = self.begun(self.map.number());
         let answer = self.update_or_insert_as(rt, key, update, value, &mut pass);
@@ -228,7 +228,7 @@ impl<'a, K: Hash + Eq + Drop, V: Drop, S: BuildHasher> HashMapRef<'a, K, V, S> {
             (λ w. w ≡ value)))) }
         ensures upserted { IfOk result (λ stored. IsOfHistory K.eq (λ h. IsUpserted K.eq key [] h
             (FnReturnsAt F.Fn update) (λ w. w ≡ value) stored)) }
-        ensures refused { IfErr result IsMemoryOrCapacity }
+        ensures refused { IfErr result (IsPlainRefusal self.now.map.begun.limit) }
     {
         let Told { answer, marker: _ } = self.update_or_insert_told(rt, key, update, value);
         answer
@@ -251,7 +251,7 @@ impl<'a, K: Hash + Eq + Drop, V: Drop, S: BuildHasher> HashMapRef<'a, K, V, S> {
         ensures upserted { IfOk result.answer (IsUpserted K.eq key self.now.seen (history_of
             result.log) (FnReturnsAt U.Fn update)
             (F.post f)) }
-        ensures refused { IfErr result.answer IsMemoryOrCapacity }
+        ensures refused { IfErr result.answer (IsPlainRefusal self.now.map.begun.limit) }
     {
         let mut pass = self.begun(self.map.number());
         let answer = self.update_or_insert_with_as(rt, key, update, f, &mut pass);
@@ -277,7 +277,7 @@ impl<'a, K: Hash + Eq + Drop, V: Drop, S: BuildHasher> HashMapRef<'a, K, V, S> {
             (F.post f)))) }
         ensures upserted { IfOk result (λ stored. IsOfHistory K.eq (λ h. IsUpserted K.eq key [] h
             (FnReturnsAt U.Fn update) (F.post f) stored)) }
-        ensures refused { IfErr result IsMemoryOrCapacity }
+        ensures refused { IfErr result (IsPlainRefusal self.now.map.begun.limit) }
     {
         let Told { answer, marker: _ } = self.update_or_insert_with_told(rt, key, update, f);
         answer
@@ -301,7 +301,7 @@ impl<K: Hash + Eq + Drop, V: Drop, S: BuildHasher> HashMap<K, V, S> {
         ensures updated { IfOk result.answer (IsUpdated K.eq key self.now.seen
             (history_of result.log) (FnReturnsAt F.Fn f)) }
         ensures right { G.collector_number guard.now ≡ self.now.collector
-            → IfErr result.answer IsMemoryOrCapacity }
+            → IfErr result.answer (IsPlainRefusal self.now.begun.limit) }
         ensures wrong { (G.collector_number guard.now ≡ self.now.collector → ⊥)
             → result.answer ≡ Err Refused.WrongGuard }
     {
@@ -331,7 +331,7 @@ impl<K: Hash + Eq + Drop, V: Drop, S: BuildHasher> HashMap<K, V, S> {
         ensures updated { IfOk result (λ updated. IsOfHistory K.eq (λ h. IsUpdated K.eq key [] h
             (FnReturnsAt F.Fn f) updated)) }
         ensures right { G.collector_number guard.now ≡ self.now.collector
-            → IfErr result IsMemoryOrCapacity }
+            → IfErr result (IsPlainRefusal self.now.begun.limit) }
         ensures wrong { (G.collector_number guard.now ≡ self.now.collector → ⊥)
             → result ≡ Err Refused.WrongGuard }
     {
@@ -356,7 +356,7 @@ impl<K: Hash + Eq + Drop, V: Drop, S: BuildHasher> HashMap<K, V, S> {
         ensures upserted { IfOk result.answer (IsUpserted K.eq key self.now.seen
             (history_of result.log) (FnReturnsAt F.Fn update) (λ w. w ≡ value)) }
         ensures right { G.collector_number guard.now ≡ self.now.collector
-            → IfErr result.answer IsMemoryOrCapacity }
+            → IfErr result.answer (IsPlainRefusal self.now.begun.limit) }
         ensures wrong { (G.collector_number guard.now ≡ self.now.collector → ⊥)
             → result.answer ≡ Err Refused.WrongGuard }
     {
@@ -390,7 +390,7 @@ impl<K: Hash + Eq + Drop, V: Drop, S: BuildHasher> HashMap<K, V, S> {
         ensures upserted { IfOk result (λ stored. IsOfHistory K.eq (λ h. IsUpserted K.eq key [] h
             (FnReturnsAt F.Fn update) (λ w. w ≡ value) stored)) }
         ensures right { G.collector_number guard.now ≡ self.now.collector
-            → IfErr result IsMemoryOrCapacity }
+            → IfErr result (IsPlainRefusal self.now.begun.limit) }
         ensures wrong { (G.collector_number guard.now ≡ self.now.collector → ⊥)
             → result ≡ Err Refused.WrongGuard }
     {
@@ -416,7 +416,7 @@ impl<K: Hash + Eq + Drop, V: Drop, S: BuildHasher> HashMap<K, V, S> {
         ensures upserted { IfOk result.answer (IsUpserted K.eq key self.now.seen
             (history_of result.log) (FnReturnsAt U.Fn update) (F.post f)) }
         ensures right { G.collector_number guard.now ≡ self.now.collector
-            → IfErr result.answer IsMemoryOrCapacity }
+            → IfErr result.answer (IsPlainRefusal self.now.begun.limit) }
         ensures wrong { (G.collector_number guard.now ≡ self.now.collector → ⊥)
             → result.answer ≡ Err Refused.WrongGuard }
     {
@@ -451,7 +451,7 @@ impl<K: Hash + Eq + Drop, V: Drop, S: BuildHasher> HashMap<K, V, S> {
         ensures upserted { IfOk result (λ stored. IsOfHistory K.eq (λ h. IsUpserted K.eq key [] h
             (FnReturnsAt U.Fn update) (F.post f) stored)) }
         ensures right { G.collector_number guard.now ≡ self.now.collector
-            → IfErr result IsMemoryOrCapacity }
+            → IfErr result (IsPlainRefusal self.now.begun.limit) }
         ensures wrong { (G.collector_number guard.now ≡ self.now.collector → ⊥)
             → result ≡ Err Refused.WrongGuard }
     {

@@ -25,6 +25,8 @@ pub enum Asked {
     Mode(ResizeMode),
     /// Of this number.
     Collector(u64),
+    /// On the pairs that are logged.
+    Limit(u64),
     /// Each part.
     All,
 }
@@ -44,6 +46,7 @@ fn whole() -> Builder {
         .capacity(10)
         .resize_mode(ResizeMode::Blocking)
         .shards(4)
+        .pair_limit(100)
 }
 
 /// One that is asked for this.
@@ -54,6 +57,7 @@ fn asking(asked: Asked) -> Builder {
         Asked::Shards(shards) => builder().shards(shards),
         Asked::Mode(mode) => builder().resize_mode(mode),
         Asked::Collector(number) => builder().collector(Collector::new(number)),
+        Asked::Limit(pairs) => builder().pair_limit(pairs),
         Asked::All => whole(),
     }
 }
@@ -189,8 +193,9 @@ fn slots_for(alloc: Global, asked: Asked) -> Result<usize, Refused> {
 }
 
 /// What is asked for, and the slots that a map for one caller has then.
-const SLOTS: [(Asked, Result<usize, Refused>); 3] = [
+const SLOTS: [(Asked, Result<usize, Refused>); 4] = [
     (Asked::Nothing, Ok(0)),
+    (Asked::Limit(0), Ok(0)),
     (Asked::Capacity(10), Ok(16)),
     (
         Asked::Mode(ResizeMode::Incremental(0)),

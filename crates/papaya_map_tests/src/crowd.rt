@@ -2,6 +2,7 @@
 use crate::answers::Answer;
 use crate::board::Board;
 use crate::held::looks_anew;
+use crate::limits::fills_up;
 use crate::seen::Says;
 use crate::shared::Shared;
 use crate::steps::{Calls, Step, answer, has_below, inserts};
@@ -20,6 +21,8 @@ pub enum Job {
     Insert(u64, u64),
     /// Does so, each with a new pass.
     Grow(u64, u64),
+    /// Does so, where some of them may be refused at the map's limit.
+    FillUp(u64, u64),
     /// Stores each key below this one anew, with itself, 20 times.
     Rewrite(u64),
     /// Inserts and removes the absent keys of a range, one after another, 20 times.
@@ -251,6 +254,7 @@ fn meets<R: Wait, C: Calls>(rt: &R, map: &mut C, job: Job, board: &Board) -> boo
         Job::Churn(thread) => churn(rt, map, board, thread),
         Job::Draw(tells) => draw(rt, map, board, tells),
         Job::TakeLeft => take_left(map, board.taken.as_slice()),
+        Job::FillUp(from, end) => fills_up(rt, map, from, end),
         Job::Gated(call, wanted) => is_gated(rt, map, call, wanted, &board.crossing.gate),
         Job::Replace => is_replaced(rt, map, &board.crossing.gate),
         Job::LookAnew => looks_anew(map, &board.crossing.gate),

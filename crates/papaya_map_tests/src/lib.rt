@@ -26,6 +26,8 @@ mod guards;
 #[cfg(test)]
 mod held;
 #[cfg(test)]
+mod limits;
+#[cfg(test)]
 mod numbers;
 #[cfg(test)]
 mod passes;

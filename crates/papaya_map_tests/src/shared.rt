@@ -28,6 +28,8 @@ use std::thread::Threads;
 pub enum Making {
     /// In this mode, for so many pairs, with this hasher.
     Parts(ResizeMode, usize, Times),
+    /// In this mode, for so many logged pairs at most.
+    Limited(ResizeMode, u64),
     /// With a hasher alone.
     Hasher,
     /// For so many pairs, with a hasher.
@@ -108,6 +110,9 @@ pub trait Shared: Sized {
     /// The map itself.
     fn numbers(&self) -> &Numbers;
 
+    /// By `reclaim`.
+    fn made_anew<R: Wait>(&mut self, rt: &R) -> Result<(), Refused>;
+
     /// The map is filled, and a call is made with the request of this number refused.
     fn tries<R: Wait>(
         &self,
@@ -123,7 +128,10 @@ impl Shared for Numbers {
     fn made<R: Wait>(rt: &R, alloc: Global, making: Making) -> Result<Self, Refused> {
         match making {
             Making::Parts(mode, capacity, hasher) => {
-                HashMap::with_parts(rt, alloc, mode, capacity, 4, hasher)
+                HashMap::with_parts(rt, alloc, mode, capacity, 4, hasher, None)
+            }
+            Making::Limited(mode, pairs) => {
+                HashMap::with_parts(rt, alloc, mode, 0, 4, APART, Some(pairs))
             }
             Making::Hasher => HashMap::with_hasher(rt, alloc, APART),
             Making::Capacity(pairs) => HashMap::with_capacity_and_hasher(rt, alloc, pairs, APART),
@@ -180,6 +188,10 @@ impl Shared for Numbers {
 
     fn numbers(&self) -> &Numbers {
         self
+    }
+
+    fn made_anew<R: Wait>(&mut self, rt: &R) -> Result<(), Refused> {
+        self.reclaim(rt)
     }
 
     fn tries<R: Wait>(

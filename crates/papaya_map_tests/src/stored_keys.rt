@@ -113,14 +113,14 @@ impl Labels for HashMap<Labelled, u64, Times> {
     }
 }
 
-/// An insertion that replaces a value stores its own key. So does one after a removal. A new pass finds
-/// the same, and a guard of the map, but none of another collector.
+/// An insertion that replaces a value leaves the key that is stored. One after a removal stores its
+/// own. A new pass finds the same, and a guard of the map, but none of another collector.
 fn finds_the_stored<R: Wait + Abort, L: Labels>(rt: &R, map: &L) {
     answers(rt, 0, 0, map.get(), Absent);
     answers(rt, 0, 1, map.insert(rt, 1, 10), Absent);
     answers(rt, 0, 2, map.get(), Pair(1, 10));
     answers(rt, 0, 3, map.insert(rt, 2, 20), Number(10));
-    answers(rt, 0, 4, map.get(), Pair(2, 20));
+    answers(rt, 0, 4, map.get(), Pair(1, 20));
     answers(rt, 0, 5, map.remove(rt), Number(20));
     answers(rt, 0, 6, map.get(), Absent);
     answers(rt, 0, 7, map.insert(rt, 3, 30), Absent);

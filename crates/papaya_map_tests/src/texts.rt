@@ -34,7 +34,7 @@ const NO_MEMORY: Answer = Answer::Refused(Refused::Memory);
 impl Texts for HashMap<String, u64, BuildHasherDefault<FoldHasher>> {
     fn made<R: Wait>(rt: &R, alloc: Global) -> Result<Self, Refused> {
         let hasher = BuildHasherDefault::default();
-        HashMap::with_parts(rt, alloc, ResizeMode::Blocking, 0, 4, hasher)
+        HashMap::with_parts(rt, alloc, ResizeMode::Blocking, 0, 4, hasher, None)
     }
 
     fn insert<R: Wait>(&self, rt: &R, alloc: Global, key: &str, to: u64) -> Answer {

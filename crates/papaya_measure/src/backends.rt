@@ -1,7 +1,8 @@
 //! The maps and sets that the workloads are run on.
 use crate::collections::{Collection, Shared, all, run, run_in_threads};
+use crate::idle::Idle;
 use crate::{rivals, seq, shared};
-use papaya_plan::plan::Plan;
+use papaya_plan::plan::{Plan, Workload};
 use papaya_shell::failure::Failure;
 use std::alloc::Global;
 use std::rt::Clock;
@@ -12,6 +13,8 @@ use std::time::Instant;
 /// What a workload is run on.
 #[derive(Clone, Copy)]
 pub enum Backend {
+    /// None: the loop alone.
+    Loop,
     /// The map for one caller.
     Seq,
     /// The shared map, pinned by one thread.
@@ -20,6 +23,8 @@ pub enum Backend {
     Threads,
     /// The shared map, by a session of one thread.
     Session,
+    /// The shared map, pinned by one thread for each call.
+    PinACall,
     /// The kit's hash map.
     Std,
     /// That behind a lock of readers and a writer, by one thread.
@@ -44,12 +49,16 @@ pub struct Measure {
 }
 
 impl Backend {
+    /// The loop, which is timed before the maps.
+    pub const LOOP: &'static [Backend] = &[Backend::Loop];
+
     /// The maps, in the order in which they are run.
     pub const MAPS: &'static [Backend] = &[
         Backend::Seq,
         Backend::Shared,
         Backend::Threads,
         Backend::Session,
+        Backend::PinACall,
         Backend::Std,
         Backend::RwLock,
         Backend::RwLockThreads,
@@ -63,10 +72,12 @@ impl Backend {
     /// The name in what is printed.
     pub fn name(self) -> &'static str {
         match self {
+            Backend::Loop => "loop",
             Backend::Seq => "seq",
             Backend::Shared => "shared",
             Backend::Threads => "threads",
             Backend::Session => "session",
+            Backend::PinACall => "pin-a-call",
             Backend::Std => "std",
             Backend::RwLock => "rwlock",
             Backend::RwLockThreads => "rwlock-threads",
@@ -74,6 +85,35 @@ impl Backend {
             Backend::MutexThreads => "mutex-threads",
             Backend::SeqSet => "seq-set",
             Backend::Set => "set",
+        }
+    }
+
+    /// Is this workload run on it?
+    pub fn does(self, workload: Workload) -> bool {
+        match workload {
+            // a set has no values
+            Workload::UpdateOrInsert => !matches!(self, Backend::SeqSet | Backend::Set),
+            // nor has the kit's map this call
+            Workload::Compute => matches!(
+                self,
+                Backend::Loop
+                    | Backend::Seq
+                    | Backend::Shared
+                    | Backend::Threads
+                    | Backend::Session
+                    | Backend::PinACall
+            ),
+            // a walk is one thread's, and needs one pin
+            Workload::Iterate => matches!(
+                self,
+                Backend::Seq
+                    | Backend::Shared
+                    | Backend::Session
+                    | Backend::Std
+                    | Backend::SeqSet
+                    | Backend::Set
+            ),
+            _ => true,
         }
     }
 
@@ -85,10 +125,12 @@ impl Backend {
         plan: Plan,
     ) -> Result<Measure, Failure> {
         match self {
+            Backend::Loop => by_one::<R, Idle>(rt, alloc, plan),
             Backend::Seq => by_one::<R, seq::Map>(rt, alloc, plan),
             Backend::Shared => by_one::<R, shared::Map>(rt, alloc, plan),
             Backend::Threads => by_several::<R, shared::Map>(rt, alloc, plan),
             Backend::Session => by_one::<R, shared::BySession>(rt, alloc, plan),
+            Backend::PinACall => by_one::<R, shared::PinACall>(rt, alloc, plan),
             Backend::Std => by_one::<R, rivals::Map>(rt, alloc, plan),
             Backend::RwLock => by_one::<R, RwLock<rivals::Map>>(rt, alloc, plan),
             Backend::RwLockThreads => by_several::<R, RwLock<rivals::Map>>(rt, alloc, plan),

@@ -2,6 +2,7 @@
 use crate::steps::Work;
 use papaya_plan::plan::{Part, Plan, THREADS};
 use papaya_shell::failure::Failure;
+use papaya_words::probe::ResizeMode;
 use std::alloc::Global;
 use std::sync::Wait;
 use std::thread;
@@ -14,6 +15,12 @@ pub(crate) trait Collection: Drop {
 
     /// Does the work of the one thread that has it.
     fn alone<R: Wait>(&mut self, rt: &R, work: Work) -> Result<u64, Failure>;
+}
+
+/// A map that grows in either resize mode.
+pub(crate) trait Growing: Collection {
+    /// An empty one, which makes its first table at its first insertion.
+    fn empty_in<R: Wait>(rt: &R, alloc: Global, mode: ResizeMode) -> Result<Self, Failure>;
 }
 
 /// One that threads share.

@@ -23,7 +23,7 @@ struct Growth {
 
 /// Inserts so many keys into an empty map of this mode, and looks at the clock round each.
 fn grow<R: Clock>(rt: &R, alloc: Global, mode: ResizeMode, keys: u32) -> Result<Growth, Failure> {
-    let mut map: Map = HashMap::with_parts(alloc, mode, 0, 1, BuildHasherDefault::new())?;
+    let mut map: Map = HashMap::with_parts(alloc, mode, 0, 1, BuildHasherDefault::new(), None)?;
     let mut greatest: u128 = 0;
     let first = now(rt)?;
     for number in 0..u64::from(keys) {

@@ -5,6 +5,7 @@
 mod backends;
 mod collections;
 pub mod growth;
+mod idle;
 pub mod reclaim;
 mod rivals;
 pub mod run;

@@ -1,9 +1,10 @@
 //! Maps that are filled from empty, or with room and then reclaimed: what each of these takes.
 use crate::backends::{Backend, elapsed, now};
-use crate::collections::Collection;
+use crate::collections::{Collection, Growing};
 use crate::steps::Work;
 use crate::{rivals, seq, shared};
 use papaya_shell::failure::Failure;
+use papaya_words::probe::ResizeMode;
 use std::alloc::Global;
 use std::io::Write;
 use std::rt::Clock;
@@ -50,7 +51,28 @@ fn time_growing<R: Clock + Wait, C: Collection, W: Write>(
     )
 }
 
-/// Prints lines of a map for one caller, a shared one and the kit's: what it takes to fill each from
+/// The same in `Blocking`.
+fn time_blocking<R: Clock + Wait, M: Growing, W: Write>(
+    rt: &R,
+    alloc: Global,
+    backend: Backend,
+    keys: u32,
+    output: &mut W,
+) -> Result<(), Failure> {
+    let start = now(rt)?;
+    let mut map = M::empty_in(rt, alloc, ResizeMode::Blocking)?;
+    map.alone(rt, Work::Fill(keys))?;
+    print(
+        "from-empty-blocking",
+        backend,
+        keys,
+        u64::from(keys),
+        elapsed(rt, start)?,
+        output,
+    )
+}
+
+/// Prints lines of a map for one caller, the kit's, and a shared one: what it takes to fill each from
 /// empty with so many keys.
 pub fn time_from_empty<R: Clock + Wait, W: Write>(
     rt: &R,
@@ -60,7 +82,11 @@ pub fn time_from_empty<R: Clock + Wait, W: Write>(
 ) -> Result<(), Failure> {
     time_growing::<R, seq::Map, W>(rt, alloc, Backend::Seq, keys, output)?;
     time_growing::<R, shared::Map, W>(rt, alloc, Backend::Shared, keys, output)?;
-    time_growing::<R, rivals::Map, W>(rt, alloc, Backend::Std, keys, output)
+    time_growing::<R, rivals::Map, W>(rt, alloc, Backend::Std, keys, output)?;
+    time_growing::<R, shared::BySession, W>(rt, alloc, Backend::Session, keys, output)?;
+    time_growing::<R, shared::PinACall, W>(rt, alloc, Backend::PinACall, keys, output)?;
+    time_blocking::<R, seq::Map, W>(rt, alloc, Backend::Seq, keys, output)?;
+    time_blocking::<R, shared::Map, W>(rt, alloc, Backend::Shared, keys, output)
 }
 
 /// Fills a map, made for so many keys, with these keys in so many rounds. Then reclaims it.

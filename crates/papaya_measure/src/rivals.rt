@@ -1,6 +1,6 @@
 //! The kit's own hash map: alone, and behind a lock that each call takes.
 use crate::collections::{Collection, Shared};
-use crate::steps::{Target, Work};
+use crate::steps::{Target, Work, one_more};
 use papaya_plan::answers::weight;
 use papaya_shell::failure::Failure;
 use std::alloc::Global;
@@ -26,6 +26,26 @@ impl Target for Map {
     fn take_out<R: Wait>(&mut self, _rt: &R, key: u64) -> Result<u64, Failure> {
         Ok(weight(self.remove(&key).as_ref()))
     }
+
+    /// The kit's map has no `update_or_insert`, and the key is there.
+    #[inline(always)]
+    fn count_up<R: Wait>(&mut self, _rt: &R, key: u64) -> Result<u64, Failure> {
+        match self.get_mut(&key) {
+            Some(count) => {
+                *count = one_more(count);
+                Ok(*count)
+            }
+            None => Ok(0),
+        }
+    }
+
+    fn walk<R: Wait>(&mut self, _rt: &R) -> Result<u64, Failure> {
+        let mut sum: u64 = 0;
+        for (_, value) in self.iter() {
+            sum = sum.wrapping_add(*value);
+        }
+        Ok(sum)
+    }
 }
 
 impl Target for &RwLock<Map> {
@@ -43,6 +63,11 @@ impl Target for &RwLock<Map> {
     fn take_out<R: Wait>(&mut self, rt: &R, key: u64) -> Result<u64, Failure> {
         self.write(rt).take_out(rt, key)
     }
+
+    #[inline(always)]
+    fn count_up<R: Wait>(&mut self, rt: &R, key: u64) -> Result<u64, Failure> {
+        self.write(rt).count_up(rt, key)
+    }
 }
 
 impl Target for &Mutex<Map> {
@@ -59,6 +84,11 @@ impl Target for &Mutex<Map> {
     #[inline(always)]
     fn take_out<R: Wait>(&mut self, rt: &R, key: u64) -> Result<u64, Failure> {
         self.lock(rt).take_out(rt, key)
+    }
+
+    #[inline(always)]
+    fn count_up<R: Wait>(&mut self, rt: &R, key: u64) -> Result<u64, Failure> {
+        self.lock(rt).count_up(rt, key)
     }
 }
 

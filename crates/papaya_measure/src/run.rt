@@ -27,7 +27,7 @@ const CHECKED: (u32, u32) = (64, 2);
 /// How many keys a map has where it is timed, and in how many rounds.
 const TIMED: [(u32, u32); 2] = [(0x1000, 64), (0x1_0000, 4)];
 
-/// How many keys a map grows by.
+/// How many keys a map grows by that is filled from empty.
 const GROWN: u32 = 0x1_0000;
 
 /// How many keys each map grows by, where growth alone is asked for.
@@ -36,7 +36,7 @@ const GROWN_TO: [u32; 3] = [0x1000, 0x1_0000, 0x10_0000];
 /// How many keys a map has that is reclaimed, and in how many rounds they were inserted.
 const RECLAIMED: [(u32, u32); 2] = [(0x1_0000, 1), (1000, 1001)];
 
-/// Prints what these backends' answers to one workload sum to. The sums are equal, or it fails.
+/// Prints what the answers of these backends to one workload sum to, of those that do it. The sums are equal, or it fails.
 fn check_workload<R: Clock + Threads + Wait + Sync, W: Write>(
     rt: &R,
     alloc: Global,
@@ -52,7 +52,7 @@ fn check_workload<R: Clock + Threads + Wait + Sync, W: Write>(
     };
     write!(output, "{}:", workload.name()).map_err(|_| Failure::Output)?;
     let mut sums = Vec::new(alloc);
-    for backend in backends {
+    for backend in backends.iter().filter(|backend| backend.does(workload)) {
         let sum = backend.measure(rt, alloc, plan)?.checksum;
         write!(output, " {} {sum}", backend.name()).map_err(|_| Failure::Output)?;
         sums.push(sum)?;
@@ -72,19 +72,25 @@ fn check<R: Clock + Threads + Wait + Sync, W: Write>(
 ) -> Result<(), Failure> {
     for workload in Workload::ALL {
         check_workload(rt, alloc, Backend::MAPS, workload, output)?;
-        check_workload(rt, alloc, Backend::SETS, workload, output)?;
+        if Backend::SETS.iter().any(|set| set.does(workload)) {
+            check_workload(rt, alloc, Backend::SETS, workload, output)?;
+        }
     }
     output.flush().map_err(|_| Failure::Output)
 }
 
-/// Prints a line of the time that each backend takes for one workload.
+/// Prints a line of the time that each backend takes for one workload, if it does it.
 pub fn time_workload<R: Clock + Threads + Wait + Sync, W: Write>(
     rt: &R,
     alloc: Global,
     plan: Plan,
     output: &mut W,
 ) -> Result<(), Failure> {
-    for backend in Backend::MAPS.iter().chain(Backend::SETS) {
+    let all = Backend::LOOP
+        .iter()
+        .chain(Backend::MAPS)
+        .chain(Backend::SETS);
+    for backend in all.filter(|backend| backend.does(plan.workload)) {
         let measure = backend.measure(rt, alloc, plan)?;
         writeln!(
             output,

@@ -1,12 +1,14 @@
 //! The map and the set for one caller.
-use crate::collections::Collection;
+use crate::collections::{Collection, Growing};
 use crate::reclaim::Reclaimed;
-use crate::steps::{Target, Work};
+use crate::steps::{Target, Work, counted_up, one_more, stored};
 use papaya_plan::answers::weight;
 use papaya_seq::seq::HashMap;
 use papaya_set::seq::HashSet;
 use papaya_shell::failure::Failure;
+use papaya_words::probe::ResizeMode;
 use std::alloc::Global;
+use std::hash::BuildHasherDefault;
 use std::sync::Wait;
 
 /// The map.
@@ -30,6 +32,24 @@ impl Target for Map {
     fn take_out<R: Wait>(&mut self, _rt: &R, key: u64) -> Result<u64, Failure> {
         Ok(weight(self.remove(&key)?))
     }
+
+    #[inline(always)]
+    fn count_up<R: Wait>(&mut self, _rt: &R, key: u64) -> Result<u64, Failure> {
+        Ok(*self.update_or_insert(key, one_more, 1)?)
+    }
+
+    #[inline(always)]
+    fn work_out<R: Wait>(&mut self, _rt: &R, key: u64) -> Result<u64, Failure> {
+        Ok(stored(self.compute(key, counted_up)?))
+    }
+
+    fn walk<R: Wait>(&mut self, _rt: &R) -> Result<u64, Failure> {
+        let mut sum: u64 = 0;
+        for (_, value) in self.iter() {
+            sum = sum.wrapping_add(*value);
+        }
+        Ok(sum)
+    }
 }
 
 impl Target for Set {
@@ -46,6 +66,14 @@ impl Target for Set {
     #[inline(always)]
     fn take_out<R: Wait>(&mut self, _rt: &R, key: u64) -> Result<u64, Failure> {
         Ok(u64::from(self.remove(&key)?))
+    }
+
+    fn walk<R: Wait>(&mut self, _rt: &R) -> Result<u64, Failure> {
+        let mut keys: u64 = 0;
+        for _ in self.iter() {
+            keys = keys.wrapping_add(1);
+        }
+        Ok(keys)
     }
 }
 
@@ -66,6 +94,13 @@ impl Collection for Set {
 
     fn alone<R: Wait>(&mut self, rt: &R, work: Work) -> Result<u64, Failure> {
         work.at(rt, self)
+    }
+}
+
+impl Growing for Map {
+    fn empty_in<R: Wait>(_rt: &R, alloc: Global, mode: ResizeMode) -> Result<Map, Failure> {
+        let hasher = BuildHasherDefault::new();
+        Ok(HashMap::with_parts(alloc, mode, 0, 1, hasher, None)?)
     }
 }
 

@@ -1,12 +1,15 @@
-//! The shared map, by the calls of a map that is pinned or of a session, and the shared set.
-use crate::collections::{Collection, Shared};
+//! The shared map, by the calls of a map that is pinned once or for each call, or of a session, and
+//! the shared set.
+use crate::collections::{Collection, Growing, Shared};
 use crate::reclaim::Reclaimed;
-use crate::steps::{Target, Work};
+use crate::steps::{Target, Work, counted_up, one_more, stored};
 use papaya_map::map::{HashMap, HashMapRef};
 use papaya_plan::answers::weight;
 use papaya_session::session::Session;
 use papaya_set::set::{HashSet, HashSetRef};
 use papaya_shell::failure::Failure;
+use papaya_words::limits::DEFAULT_SHARDS;
+use papaya_words::probe::ResizeMode;
 use std::alloc::Global;
 use std::hash::{BuildHasherDefault, FoldHasher};
 use std::sync::Wait;
@@ -19,6 +22,10 @@ pub(crate) type Map = HashMap<u64, u64>;
 /// The map, of which each thread makes a session.
 #[derive(Drop)]
 pub(crate) struct BySession(Map);
+
+/// The map, pinned anew for each call.
+#[derive(Drop)]
+pub(crate) struct PinACall(Map);
 
 /// The set.
 pub(crate) type Set = HashSet<u64>;
@@ -38,6 +45,24 @@ impl Target for HashMapRef<'_, u64, u64, Hasher> {
     fn take_out<R: Wait>(&mut self, rt: &R, key: u64) -> Result<u64, Failure> {
         Ok(weight(self.remove(rt, &key)?))
     }
+
+    #[inline(always)]
+    fn count_up<R: Wait>(&mut self, rt: &R, key: u64) -> Result<u64, Failure> {
+        Ok(*self.update_or_insert(rt, key, one_more, 1)?)
+    }
+
+    #[inline(always)]
+    fn work_out<R: Wait>(&mut self, rt: &R, key: u64) -> Result<u64, Failure> {
+        Ok(stored(self.compute(rt, key, counted_up)?))
+    }
+
+    fn walk<R: Wait>(&mut self, rt: &R) -> Result<u64, Failure> {
+        let mut sum: u64 = 0;
+        for (_, value) in self.iter(rt)? {
+            sum = sum.wrapping_add(*value);
+        }
+        Ok(sum)
+    }
 }
 
 impl Target for Session<'_, u64, u64> {
@@ -55,6 +80,51 @@ impl Target for Session<'_, u64, u64> {
     fn take_out<R: Wait>(&mut self, rt: &R, key: u64) -> Result<u64, Failure> {
         Ok(weight(self.remove(rt, &key)?))
     }
+
+    #[inline(always)]
+    fn count_up<R: Wait>(&mut self, rt: &R, key: u64) -> Result<u64, Failure> {
+        Ok(*self.update_or_insert(rt, key, one_more, 1)?)
+    }
+
+    #[inline(always)]
+    fn work_out<R: Wait>(&mut self, rt: &R, key: u64) -> Result<u64, Failure> {
+        Ok(stored(self.compute(rt, key, counted_up)?))
+    }
+
+    fn walk<R: Wait>(&mut self, rt: &R) -> Result<u64, Failure> {
+        let mut sum: u64 = 0;
+        for (_, value) in self.iter(rt)? {
+            sum = sum.wrapping_add(*value);
+        }
+        Ok(sum)
+    }
+}
+
+impl Target for &PinACall {
+    #[inline(always)]
+    fn look_up<R: Wait>(&mut self, _rt: &R, key: u64) -> u64 {
+        weight(self.0.pin().get(&key))
+    }
+
+    #[inline(always)]
+    fn put_in<R: Wait>(&mut self, rt: &R, key: u64, value: u64) -> Result<u64, Failure> {
+        Ok(weight(self.0.pin().insert(rt, key, value)?))
+    }
+
+    #[inline(always)]
+    fn take_out<R: Wait>(&mut self, rt: &R, key: u64) -> Result<u64, Failure> {
+        Ok(weight(self.0.pin().remove(rt, &key)?))
+    }
+
+    #[inline(always)]
+    fn count_up<R: Wait>(&mut self, rt: &R, key: u64) -> Result<u64, Failure> {
+        self.0.pin().count_up(rt, key)
+    }
+
+    #[inline(always)]
+    fn work_out<R: Wait>(&mut self, rt: &R, key: u64) -> Result<u64, Failure> {
+        self.0.pin().work_out(rt, key)
+    }
 }
 
 impl Target for HashSetRef<'_, u64, Hasher> {
@@ -71,6 +141,14 @@ impl Target for HashSetRef<'_, u64, Hasher> {
     #[inline(always)]
     fn take_out<R: Wait>(&mut self, rt: &R, key: u64) -> Result<u64, Failure> {
         Ok(u64::from(self.remove(rt, &key)?))
+    }
+
+    fn walk<R: Wait>(&mut self, rt: &R) -> Result<u64, Failure> {
+        let mut keys: u64 = 0;
+        for _ in self.iter(rt)? {
+            keys = keys.wrapping_add(1);
+        }
+        Ok(keys)
     }
 }
 
@@ -100,6 +178,17 @@ impl Collection for BySession {
     }
 }
 
+impl Collection for PinACall {
+    fn empty<R: Wait>(rt: &R, alloc: Global, capacity: usize) -> Result<PinACall, Failure> {
+        Ok(PinACall(HashMap::with_capacity(rt, alloc, capacity)?))
+    }
+
+    fn alone<R: Wait>(&mut self, rt: &R, work: Work) -> Result<u64, Failure> {
+        let mut map: &PinACall = self;
+        work.at(rt, &mut map)
+    }
+}
+
 impl Collection for Set {
     fn empty<R: Wait>(rt: &R, alloc: Global, capacity: usize) -> Result<Set, Failure> {
         Ok(HashSet::with_capacity(rt, alloc, capacity)?)
@@ -107,6 +196,14 @@ impl Collection for Set {
 
     fn alone<R: Wait>(&mut self, rt: &R, work: Work) -> Result<u64, Failure> {
         work.at(rt, &mut self.pin())
+    }
+}
+
+impl Growing for Map {
+    fn empty_in<R: Wait>(rt: &R, alloc: Global, mode: ResizeMode) -> Result<Map, Failure> {
+        let hasher = BuildHasherDefault::new();
+        let shards = DEFAULT_SHARDS;
+        Ok(HashMap::with_parts(rt, alloc, mode, 0, shards, hasher, None)?)
     }
 }
 

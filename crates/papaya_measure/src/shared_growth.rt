@@ -1,16 +1,14 @@
 //! The shared map while it grows: what its insertions take, by one thread and by several, and gets
 //! beside them.
 use crate::backends::{elapsed, now};
+use crate::collections::Growing;
 use crate::growth::name_of;
 use crate::shared::Map;
-use papaya_map::map::HashMap;
 use papaya_plan::percentile::place_of;
 use papaya_plan::plan::{Part, Plan, THREADS, Workload, key_of};
 use papaya_shell::failure::Failure;
-use papaya_words::limits::DEFAULT_SHARDS;
-use papaya_words::probe::{Refused, ResizeMode};
+use papaya_words::probe::ResizeMode;
 use std::alloc::Global;
-use std::hash::BuildHasherDefault;
 use std::io::Write;
 use std::rt::Clock;
 use std::sync::Wait;
@@ -23,18 +21,6 @@ const READERS: u64 = THREADS - 1;
 
 /// How often a writer looks at most whether the readers have begun.
 const LOOKS: u32 = 100_000;
-
-/// A map that makes its first table at its first insertion.
-fn empty<R: Wait>(rt: &R, alloc: Global, mode: ResizeMode) -> Result<Map, Refused> {
-    HashMap::with_parts(
-        rt,
-        alloc,
-        mode,
-        0,
-        DEFAULT_SHARDS,
-        BuildHasherDefault::new(),
-    )
-}
 
 /// The plan whose parts the threads insert.
 fn plan_of(keys: u32) -> Plan {
@@ -137,7 +123,7 @@ fn by_one<R: Clock + Wait, W: Write>(
     keys: u32,
     output: &mut W,
 ) -> Result<(), Failure> {
-    let map = empty(rt, alloc, mode)?;
+    let map = Map::empty_in(rt, alloc, mode)?;
     let start = now(rt)?;
     let times = insert_part(rt, alloc, &map, Part::whole(plan_of(keys)))?;
     let nanoseconds = elapsed(rt, start)?;
@@ -152,7 +138,7 @@ fn by_threads<R: Clock + Threads + Wait + Sync, W: Write>(
     keys: u32,
     output: &mut W,
 ) -> Result<(), Failure> {
-    let map = empty(rt, alloc, mode)?;
+    let map = Map::empty_in(rt, alloc, mode)?;
     let start = now(rt)?;
     let times = insert_in_threads(rt, alloc, &map, plan_of(keys))?;
     let nanoseconds = elapsed(rt, start)?;
@@ -255,7 +241,7 @@ fn read_beside<R: Clock + Threads + Wait + Sync>(
     mode: ResizeMode,
     keys: u32,
 ) -> Result<(Gets, u128), Failure> {
-    let map = empty(rt, alloc, mode)?;
+    let map = Map::empty_in(rt, alloc, mode)?;
     let gate = Gate {
         ready: AtomicU64::new(0),
         done: AtomicBool::new(false),

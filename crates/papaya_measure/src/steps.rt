@@ -1,16 +1,56 @@
 //! What one thread does at a map, a set, or a lock round a map.
+use papaya_call::answers::Operation;
+use papaya_keys::compute::Compute;
 use papaya_plan::action::Action;
-use papaya_plan::plan::{Part, Plan, key_of};
+use papaya_plan::plan::{Part, Plan, Workload, key_of};
 use papaya_shell::failure::Failure;
 use std::sync::Wait;
 
 /// What calls are made at. Each makes one call, and answers the weight of what that finds.
+/// [`crate::backends::Backend::does`] says which have those that are refused here.
 pub(crate) trait Target {
     fn look_up<R: Wait>(&mut self, rt: &R, key: u64) -> u64;
 
     fn put_in<R: Wait>(&mut self, rt: &R, key: u64, value: u64) -> Result<u64, Failure>;
 
     fn take_out<R: Wait>(&mut self, rt: &R, key: u64) -> Result<u64, Failure>;
+
+    /// Counts the value of a key one up by `update_or_insert`, and answers it.
+    fn count_up<R: Wait>(&mut self, _rt: &R, _key: u64) -> Result<u64, Failure> {
+        Err(Failure::Arguments)
+    }
+
+    /// Counts it one up by `compute`, and answers it.
+    fn work_out<R: Wait>(&mut self, _rt: &R, _key: u64) -> Result<u64, Failure> {
+        Err(Failure::Arguments)
+    }
+
+    /// Walks over all pairs: the sum of their values, or how many keys a set has.
+    fn walk<R: Wait>(&mut self, _rt: &R) -> Result<u64, Failure> {
+        Err(Failure::Arguments)
+    }
+}
+
+/// A count after one more.
+pub(crate) fn one_more(count: &u64) -> u64 {
+    count.wrapping_add(1)
+}
+
+/// What a compute does where it is shown this: it counts one up.
+pub(crate) fn counted_up(shown: Option<(&u64, &u64)>) -> Operation<u64, ()> {
+    match shown {
+        Some((_, count)) => Operation::Insert(one_more(count)),
+        None => Operation::Insert(1),
+    }
+}
+
+/// The value that a compute has stored, or 0 where it has stored none.
+pub(crate) fn stored(computed: Compute<'_, u64, u64, ()>) -> u64 {
+    match computed {
+        Compute::Inserted(_, value) => *value,
+        Compute::Updated { new, .. } => *new.1,
+        Compute::Removed(..) | Compute::Aborted(()) => 0,
+    }
 }
 
 /// What one thread is to do.
@@ -27,7 +67,11 @@ impl Work {
     pub(crate) fn at<R: Wait, T: Target>(self, rt: &R, target: &mut T) -> Result<u64, Failure> {
         match self {
             Work::Fill(keys) => fill(rt, target, keys),
-            Work::Rounds(plan, part) => rounds(rt, target, plan, part),
+            Work::Rounds(plan, part) => match plan.workload {
+                Workload::UpdateOrInsert | Workload::Compute => counts(rt, target, plan, part),
+                Workload::Iterate => walks(rt, target, plan),
+                _ => rounds(rt, target, plan, part),
+            },
         }
     }
 }
@@ -69,4 +113,39 @@ fn step<R: Wait, T: Target>(rt: &R, target: &mut T, action: Action) -> Result<u6
             Ok(removed.wrapping_add(target.put_in(rt, key, number)?))
         }
     }
+}
+
+/// Rounds in which each key's value is counted up. They stand apart, as walks do, so that the loop
+/// of other rounds takes what it would without them.
+#[inline(never)]
+fn counts<R: Wait, T: Target>(
+    rt: &R,
+    target: &mut T,
+    plan: Plan,
+    part: Part,
+) -> Result<u64, Failure> {
+    let mut sum: u64 = 0;
+    let (_, rounds) = plan.maps();
+    for _ in 0..rounds {
+        for turn in part.start..part.end {
+            let key = key_of(plan.number_at(turn));
+            let counted = match plan.workload {
+                Workload::Compute => target.work_out(rt, key)?,
+                _ => target.count_up(rt, key)?,
+            };
+            sum = sum.wrapping_add(counted);
+        }
+    }
+    Ok(sum)
+}
+
+/// Rounds that are walks, which one thread makes.
+#[inline(never)]
+fn walks<R: Wait, T: Target>(rt: &R, target: &mut T, plan: Plan) -> Result<u64, Failure> {
+    let mut sum: u64 = 0;
+    let (_, rounds) = plan.maps();
+    for _ in 0..rounds {
+        sum = sum.wrapping_add(target.walk(rt)?);
+    }
+    Ok(sum)
 }

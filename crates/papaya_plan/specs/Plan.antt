@@ -11,3 +11,6 @@ uses_up workload.InsertFresh = true
 uses_up workload.InsertReplace = false
 uses_up workload.RemoveInsert = true
 uses_up workload.Mixed = false
+uses_up workload.UpdateOrInsert = false
+uses_up workload.Compute = false
+uses_up workload.Iterate = false

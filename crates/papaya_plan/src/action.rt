@@ -20,7 +20,7 @@ pub enum Action {
 }
 
 impl Plan {
-    /// What the step at the key of this number does in this round.
+    /// What the step at the key of this number does in this round, by whichever call.
     #[inline(always)]
     pub fn action_at(self, number: u64, round: u32) -> Action
         ensures hit { self.workload ≡ workload.GetHit → result ≡ Get number }
@@ -33,12 +33,19 @@ impl Plan {
         ensures read { self.workload ≡ workload.Mixed → number % 10 ≢ 0 → result ≡ Get number }
         ensures write { self.workload ≡ workload.Mixed → number % 10 ≡ 0
             → result ≡ Insert number ((number + (round + 1)) % 2 ^ 64) }
+        ensures count { self.workload ≡ workload.UpdateOrInsert
+            → result ≡ Insert number ((number + (round + 1)) % 2 ^ 64) }
+        ensures compute { self.workload ≡ workload.Compute
+            → result ≡ Insert number ((number + (round + 1)) % 2 ^ 64) }
+        ensures walk { self.workload ≡ workload.Iterate → result ≡ Get number }
     {
         match self.workload {
-            Workload::GetHit => Action::Get(number),
+            Workload::GetHit | Workload::Iterate => Action::Get(number),
             Workload::GetMiss => Action::Get(number.wrapping_add(u64::from(self.keys))),
             Workload::InsertFresh => Action::Insert(number, number),
-            Workload::InsertReplace => Action::Insert(number, value_after(number, round)),
+            Workload::InsertReplace | Workload::UpdateOrInsert | Workload::Compute => {
+                Action::Insert(number, value_after(number, round))
+            }
             Workload::RemoveInsert => Action::Renew(number),
             Workload::Mixed => {
                 if number % MIXED == 0 {

@@ -22,17 +22,26 @@ pub enum Workload {
     RemoveInsert,
     /// Inserts one in ten of the keys that it has, and looks the others up.
     Mixed,
+    /// Counts a key that it has one up, by `update_or_insert`.
+    UpdateOrInsert,
+    /// Counts a key that it has one up, by `compute`.
+    Compute,
+    /// Finds all keys that it has, by a walk in each round.
+    Iterate,
 }
 
 impl Workload {
     /// All workloads, in the order in which they are run.
-    pub const ALL: [Workload; 6] = [
+    pub const ALL: [Workload; 9] = [
         Workload::GetHit,
         Workload::GetMiss,
         Workload::InsertFresh,
         Workload::InsertReplace,
         Workload::RemoveInsert,
         Workload::Mixed,
+        Workload::UpdateOrInsert,
+        Workload::Compute,
+        Workload::Iterate,
     ];
 
     /// The name in what is printed.
@@ -44,6 +53,9 @@ impl Workload {
             Workload::InsertReplace => "insert-replace",
             Workload::RemoveInsert => "remove-insert",
             Workload::Mixed => "mixed",
+            Workload::UpdateOrInsert => "update-or-insert",
+            Workload::Compute => "compute",
+            Workload::Iterate => "iterate",
         }
     }
 }

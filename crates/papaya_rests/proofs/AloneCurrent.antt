@@ -1,5 +1,5 @@
 -- What a machine has read stands there still after each answer, where nobody else changes the words.
-use Rattle.std.proofs.Common.{◌≡◌, ⊎_elim, ℕ, ◌<◌, ◌%◌, ◌==◌, nat_lt, Bool, true, false, Option, Some, None, refl, sym, ap, ◌∙◌, subst, arith}
+use Rattle.std.proofs.Common.{◌≡◌, ⊎_elim, ℕ, ◌+◌, ◌<◌, ◌%◌, ◌==◌, nat_lt, Bool, true, false, Option, Some, None, refl, sym, ap, ◌∙◌, subst, arith}
 use Rattle.std.proofs.lemmas.Bool.{cond_both, eqb-true, cases_eq}
 use Rattle.papaya_words.specs.Word.{kind_of, kind_of_code, pair_of, filled_word, may_hold, live_word}
 use Rattle.papaya_words.specs.declared.probe.Refused.{Refused}
@@ -8,7 +8,10 @@ use Rattle.papaya_words.specs.declared.probe.ResizeMode.TheVariants.{Incremental
 use Rattle.papaya_words.specs.declared.word.Kind.{Kind}
 use Rattle.papaya_words.specs.declared.word.Kind.TheVariants as word_kinds
 use Rattle.papaya_ask.specs.declared.ask.At.{At}
-use Rattle.papaya_ask.specs.declared.ask.At.TheVariants.{Root, Next, Slot}
+use Rattle.papaya_ask.specs.declared.ask.At.TheVariants.{Root, Next, Slot, Made as Made_word}
+use Rattle.papaya_ask.specs.declared.ask.Ask.{Ask}
+use Rattle.papaya_ask.specs.declared.ask.Ask.TheVariants.{MakeKey, MakeValue, MakePair, MakePairOf}
+use Rattle.papaya_ask.specs.declared.ask.Ask.TheVariants as ask_kinds
 use Rattle.papaya_ask.specs.declared.ask.Answer.{Answer}
 use Rattle.papaya_ask.specs.declared.ask.Answer.TheVariants.{Word as Word_read, Exchanged, Yes, Op, Made as Made_number, Refused as Was_refused}
 use Rattle.papaya_ask.specs.declared.ask.OpKind.{OpKind}
@@ -29,20 +32,25 @@ use Rattle.papaya_ask.specs.declared.search.Place.{Place}
 use Rattle.papaya_ask.specs.declared.search.Search.TheVariants.{Sizing, Looking, Reading, Comparing}
 use Rattle.papaya_ask.specs.declared.search.Seen.{Seen}
 use Rattle.papaya_ask.specs.declared.search.Seen.TheVariants as seen
-use Rattle.papaya_call.specs.declared.write.Made.{Made}
-use Rattle.papaya_call.specs.declared.write.Made.TheVariants.{Nothing, Key, Pair}
+use Rattle.papaya_call.specs.declared.made.Made.{Made}
+use Rattle.papaya_rests.proofs.Makings.{IsMakeAsk, make_asks, numbered_leads, paired_leads}
 use Rattle.papaya_call.specs.declared.write.Write.{Write}
 use Rattle.papaya_call.specs.declared.machine.Machine.{Machine}
 use Rattle.papaya_call.specs.declared.machine.State.{State}
 use Rattle.papaya_call.specs.declared.machine.State.TheVariants.{AtRoot, Making, Opening, Searching, Writing, Offering, Showing, Pairing, Putting, Burying, Counting, Noting, Uncounting, Leaving, Growing, Ended}
 use Rattle.papaya_ask.specs.Search.{next_place, go_on, look_at, match_at, look, at_yes as search_compared, hinted}
 use Rattle.papaya_call.specs.Remove.{grave_word}
-use Rattle.papaya_call.specs.Compute.{fills, lacks, offered, chosen, provides, recalls}
-use Rattle.papaya_call.specs.Machine.{after, ask_of, asks, absent, at_root, left as next_or_end, passes, replaces, removes, computes, goes_as, written, agreed}
-use Rattle.papaya_rests.specs.Alone.{IsSame, IsPut, IsMaking, IsSaying, IsPrompt, IsBare, IsRead, IsGapRead, IsPurposeRead, IsCurrent, word_of_place}
+use Rattle.papaya_call.specs.declared.made.Grown.{Grown}
+use Rattle.papaya_call.specs.declared.made.Grown.TheVariants.{On, Pair}
+use Rattle.papaya_call.specs.declared.made.Number.{Number}
+use Rattle.papaya_call.specs.declared.made.Number.TheVariants.{Wanted, Free, Taken}
+use Rattle.papaya_call.specs.Made.{answered, grown, grown_as, make_ask, number_ask, of_grown, own_grown, pair_ask, serves_at, taken, taken_as, told as told_count, told_as, told_limit, wanted}
+use Rattle.papaya_call.specs.Compute.{fills, in_place_of, lacks, offered, chosen, provides, recalled, recalls}
+use Rattle.papaya_call.specs.Machine.{after, ask_of, asks, absent, at_root, exchanged, left as next_or_end, made_to_pair, number_told, passes, refuses, replaces, removes, computes, goes_as, write_made, write_taken, write_told, written, agreed}
+use Rattle.papaya_rests.specs.Alone.{IsSame, IsPut, IsMaking, IsSaying, IsPrompt, IsBare, IsRead, IsGapRead, IsPurposeRead, IsCurrent, IsNumberRead, word_of_place}
 use Rattle.papaya_rests.proofs.AloneSteps.{exchange_done, by_saying}
 use Rattle.papaya_rests.proofs.Leads.{occupies_leads}
-use Rattle.papaya_call.specs.Write.{claimed_by}
+use Rattle.papaya_call.specs.Write.{claimed_by, made_of, made_to_write, served_ask, serves, write_grown}
 
 -- the word of a pair is that of no empty slot
 filled_kind : (code pair : ℕ) → code < 8 → kind_of (filled_word code pair) ≡ kind_of_code code
@@ -65,6 +73,10 @@ module _ (words words' : At → ℕ) (bare : IsBare words) where
   -- the root is no slot
   root_put_bare : (new : ℕ) → IsPut words Root new words' → IsBare words'
   root_put_bare new put t i e = bare_there t i (put.others (Slot t i) (λ (h : Slot t i ≡ Root). cc)) e
+
+  -- nor is the count of numbers
+  number_put_bare : (new : ℕ) → IsPut words Made_word new words' → IsBare words'
+  number_put_bare new put t i e = bare_there t i (put.others (Slot t i) (λ (h : Slot t i ≡ Made_word). cc)) e
 
   -- a slot is filled
   slot_put_bare : (u j new : ℕ) → (kind_of new ≡ word_kinds.Empty → ⊥) → IsPut words (Slot u j) new words' → IsBare words'
@@ -131,8 +143,10 @@ module _ (words : At → ℕ) where
   recalls_read : (choice : Option Choice) (at : Place) (word n : ℕ) → word_of_place words at ≡ word → IsRead words (recalls choice at word n)
   recalls_read None at word n read = read
   recalls_read (Some (choices.Replace old new)) at word n read =
-      let put : Put = record { write = record { place = at; old = word }; pair = new } in
-      cond_both (old == n) (Putting put) (Showing (record { place = at; word = word })) (IsRead words) (λ _. read) (λ _. read)
+      let write : Write = record { place = at; old = word } in
+      cond_both (old == n) (recalled new at word) (Showing (record { place = at; word = word })) (IsRead words)
+      (λ _. cond_both (serves_at new at.table at.probe.i) (Putting (record { write = write; pair = new.pair })) (Pairing (purposes.Again write)) (IsRead words) (λ _. read) (λ _. read))
+      (λ _. read)
   recalls_read (Some (choices.Remove old)) at word n read =
       let removal : Removal = record { place = at; word = word } in
       cond_both (old == n) (Burying removal) (Showing removal) (IsRead words) (λ _. read) (λ _. read)
@@ -212,25 +226,22 @@ module _ (words : At → ℕ) where
   provides_read : (purpose : Purpose) (n : ℕ) → IsPurposeRead words purpose → IsRead words (provides purpose n)
   provides_read (purposes.Fill gap) n read = fills_read gap n read
   provides_read (purposes.Replace write) n read = read
+  provides_read (purposes.Again write) n read = read
 
 module _ (words words' : At → ℕ) (m : Machine) (bare : IsBare words) where
   -- after this answer what the machine has read stands there still
   abbrev Stays : Made → State → Answer → Type 0
-  Stays made s answer = IsCurrent words' (after (record m { made = made; state = s }) answer).state
+  Stays made s answer = IsCurrent words' (after (record m { made = made; state = s }) answer)
+
+  -- as many numbers were taken as before
+  number_there : (number : Number) → words' Made_word ≡ words Made_word → IsNumberRead words number → IsNumberRead words' number
+  number_there Wanted same read = read
+  number_there (Free count) same read = same ∙ read
+  number_there Taken same read = read
 
   -- where no word is changed
-  quiet : (made : Made) (s : State) (answer told : Answer) → answer ≡ told → IsSame words words' → IsRead words' (after (record m { made = made; state = s }) told).state → Stays made s answer
-  quiet made s answer told e same read = subst (Stays made s) (sym e) (record { bare = same_bare words words' bare same; read = read })
-
-  making_stays : (made : Made) (s : State) (answer : Answer) → IsMaking answer × IsSame words words' → ((n : ℕ) → IsRead words' (after (record m { made = made; state = s }) (Made_number n)).state) → ((refused : Refused) → IsRead words' (after (record m { made = made; state = s }) (Was_refused refused)).state) → Stays made s answer
-  making_stays made s answer told by_made by_refused =
-      ⊎_elim
-      (λ (h : (n : ℕ) × (answer ≡ Made_number n)). quiet made s answer (Made_number h.0) h.1 told.1 (by_made h.0))
-      (λ (h : (refused : Refused) × (answer ≡ Was_refused refused)). quiet made s answer (Was_refused h.0) h.1 told.1 (by_refused h.0))
-      told.0
-
-  size_stays : (made : Made) (t : ℕ) (answer : Answer) → IsPrompt m.task words (asks made m.hash (Searching (Sizing t))) answer words' → Stays made (Searching (Sizing t)) answer
-  size_stays made t answer ((slots, limit, size, e), same) = quiet made (Searching (Sizing t)) answer _ e same tt
+  quiet : (made : Made) (s : State) (answer told : Answer) → answer ≡ told → IsSame words words' → IsNumberRead words' (after (record m { made = made; state = s }) told).made.number → IsRead words' (after (record m { made = made; state = s }) told).state → Stays made s answer
+  quiet made s answer told e same number read = subst (Stays made s) (sym e) (record { bare = same_bare words words' bare same; number = number; read = read })
 
   -- the word of a place that was not changed
   there : (at : Place) (word : ℕ) → IsSame words words' → word_of_place words at ≡ word → word_of_place words' at ≡ word
@@ -245,92 +256,219 @@ module _ (words words' : At → ℕ) (m : Machine) (bare : IsBare words) where
   purpose_there : (purpose : Purpose) → IsSame words words' → IsPurposeRead words purpose → IsPurposeRead words' purpose
   purpose_there (purposes.Fill gap) same read = gap_there gap same read
   purpose_there (purposes.Replace write) same read = there write.place write.old same read
+  purpose_there (purposes.Again write) same read = there write.place write.old same read
 
-  -- an insertion's key is made, then its pair, then it is written
-  writing_stays : (made : Made) (write : Write) (answer : Answer) → IsRead words (Writing write) → IsPrompt m.task words (asks made m.hash (Writing write)) answer words' → Stays made (Writing write) answer
-  writing_stays Nothing write answer read told = making_stays Nothing (Writing write) answer told (λ n. there write.place write.old told.1 read) (λ refused. tt)
-  writing_stays Key write answer read told = making_stays Key (Writing write) answer told (λ n. there write.place write.old told.1 read) (λ refused. tt)
-  writing_stays (Pair n) write answer read told =
-      let at : At = Slot write.place.table write.place.probe.i in
-      let done : (answer ≡ Exchanged) × IsPut words at (live_word n) words' = exchange_done _ _ (words at) write.old read told in
-      subst (Stays (Pair n) (Writing write)) (sym done.0) (record {
-        bare = slot_put_bare words words' bare write.place.table write.place.probe.i (live_word n) (new_filled n) done.1;
-        read = written_read words' write n;
-      })
+  module _ (made : Made) (number : IsNumberRead words made.number) where
+    -- what the machine knows of the numbers
+    known : IsSame words words' → IsNumberRead words' made.number
+    known same = number_there made.number (same Made_word) number
 
-  -- the pair that a compute made is written
-  putting_stays : (made : Made) (put : Put) (answer : Answer) → IsRead words (Putting put) → IsPrompt m.task words (asks made m.hash (Putting put)) answer words' → Stays made (Putting put) answer
-  putting_stays made put answer read told =
-      let at : At = Slot put.write.place.table put.write.place.probe.i in
-      let done : (answer ≡ Exchanged) × IsPut words at (live_word put.pair) words' = exchange_done _ _ (words at) put.write.old read told in
-      subst (Stays made (Putting put)) (sym done.0) (record {
-        bare = slot_put_bare words words' bare put.write.place.table put.write.place.probe.i (live_word put.pair) (new_filled put.pair) done.1;
-        read = written_read words' put.write put.pair;
-      })
+    making_stays : (answer : Answer) → IsMaking answer × IsSame words words' → words Root ≡ 0 → Stays made Making answer
+    making_stays answer told read =
+        ⊎_elim
+        (λ (h : (n : ℕ) × (answer ≡ Made_number n)). quiet made Making answer (Made_number h.0) h.1 told.1 (known told.1) (told.1 Root ∙ read))
+        (λ (h : (refused : Refused) × (answer ≡ Was_refused refused)). quiet made Making answer (Was_refused h.0) h.1 told.1 (known told.1) tt)
+        told.0
 
-  -- a compute's key is made, once, and then its pair
-  pairing_stays : (made : Made) (purpose : Purpose) (answer : Answer) → IsRead words (Pairing purpose) → IsPrompt m.task words (asks made m.hash (Pairing purpose)) answer words' → Stays made (Pairing purpose) answer
-  pairing_stays Nothing purpose answer read told = making_stays Nothing (Pairing purpose) answer told (λ n. purpose_there purpose told.1 read) (λ refused. tt)
-  pairing_stays Key purpose answer read told = making_stays Key (Pairing purpose) answer told (λ n. provides_read words' purpose n (purpose_there purpose told.1 read)) (λ refused. tt)
-  pairing_stays (Pair k) purpose answer read told = making_stays (Pair k) (Pairing purpose) answer told (λ n. provides_read words' purpose n (purpose_there purpose told.1 read)) (λ refused. tt)
+    size_stays : (t : ℕ) (answer : Answer) → IsPrompt m.task words (asks made m.hash (Searching (Sizing t))) answer words' → Stays made (Searching (Sizing t)) answer
+    size_stays t answer ((slots, limit, size, e), same) = quiet made (Searching (Sizing t)) answer _ e same (known same) tt
 
-  -- a closure was shown a pair
-  showing_stays : (made : Made) (removal : Removal) (answer : Answer) → word_of_place words' removal.place ≡ removal.word → IsSaying m.task answer → IsRead words' (after (record m { made = made; state = Showing removal }) answer).state
-  showing_stays made removal answer read told =
-      by_saying (λ task said. IsRead words' (after (record m { task = task; made = made; state = Showing removal }) said).state)
-      (λ agrees. agreed_read words' removal agrees read) (λ kind. chosen_read words' removal kind read) m.task answer told
+    -- a slot was exchanged
+    slot_put : (s : State) (at : Place) (new : ℕ) → (kind_of new ≡ word_kinds.Empty → ⊥) → IsPut words (Slot at.table at.probe.i) new words' → (next : Made) → next.number ≡ made.number → IsRead words' s → IsCurrent words' (record m { made = next; state = s })
+    slot_put s at new filled put next same read = record {
+      bare = slot_put_bare words words' bare at.table at.probe.i new filled put;
+      number = subst (IsNumberRead words') (sym same) (number_there made.number (put.others Made_word (λ (h : Made_word ≡ Slot at.table at.probe.i). cc)) number);
+      read = read;
+    }
 
-  -- a removed pair is buried
-  burying_stays : (made : Made) (removal : Removal) (answer : Answer) → IsRead words (Burying removal) → IsPrompt m.task words (asks made m.hash (Burying removal)) answer words' → Stays made (Burying removal) answer
-  burying_stays made removal answer read told =
-      let at : At = Slot removal.place.table removal.place.probe.i in
-      let done : (answer ≡ Exchanged) × IsPut words at (grave_word removal.word) words' = exchange_done _ _ (words at) removal.word read told in
-      subst (Stays made (Burying removal)) (sym done.0) (record {
-        bare = slot_put_bare words words' bare removal.place.table removal.place.probe.i (grave_word removal.word) (grave_filled removal.word) done.1;
-        read = tt;
-      })
+    -- the pair that a compute made is written
+    putting_stays : (put : Put) (answer : Answer) → IsRead words (Putting put) → IsPrompt m.task words (asks made m.hash (Putting put)) answer words' → Stays made (Putting put) answer
+    putting_stays put answer read told =
+        let at : At = Slot put.write.place.table put.write.place.probe.i in
+        let done : (answer ≡ Exchanged) × IsPut words at (live_word put.pair) words' = exchange_done _ _ (words at) put.write.old read told in
+        subst (Stays made (Putting put)) (sym done.0) (slot_put (written put.write put.pair) put.write.place (live_word put.pair) (new_filled put.pair) done.1 made refl (written_read words' put.write put.pair))
 
-  -- the hint of a place was loaded
-  looking_stays : (made : Made) (at : Place) (answer : Answer) → IsPrompt m.task words (asks made m.hash (Searching (Looking at))) answer words' → Stays made (Searching (Looking at)) answer
-  looking_stays made at answer told =
-      let hint : ℕ = told.0.0 in
-      quiet made (Searching (Looking at)) answer (Word_read hint) told.0.1 told.1
-      (goes_read words' m.task m.mode m.remembered (hinted at m.hash hint) (hinted_there words' at m.hash hint))
+    -- a closure was shown a pair
+    showing_stays : (removal : Removal) (answer : Answer) → IsSame words words' → word_of_place words' removal.place ≡ removal.word → IsSaying m.task answer → Stays made (Showing removal) answer
+    showing_stays removal answer same read told =
+        by_saying (λ task said. IsCurrent words' (after (record m { task = task; made = made; state = Showing removal }) said))
+        (λ agrees. record { bare = same_bare words words' bare same; number = known same; read = agreed_read words' removal agrees read })
+        (λ kind. record { bare = same_bare words words' bare same; number = answered_known kind same; read = chosen_read words' removal kind read })
+        m.task answer told
+      where
+        answered_known : (kind : OpKind) → IsSame words words' → IsNumberRead words' (answered kind made).number
+        answered_known op_kinds.Insert same' = known same'
+        answered_known op_kinds.Remove same' = known same'
+        answered_known (op_kinds.Abort t) same' = known same'
 
-  -- its word was loaded
-  reading_stays : (made : Made) (at : Place) (answer : Answer) → IsPrompt m.task words (asks made m.hash (Searching (Reading at))) answer words' → Stays made (Searching (Reading at)) answer
-  reading_stays made at answer told =
-      let word : ℕ = word_of_place words at in
-      quiet made (Searching (Reading at)) answer (Word_read word) told.0 told.1
-      (goes_read words' m.task m.mode m.remembered (look at word) (look_there words' (kind_of word) at word (there at word told.1 refl) (bare at.table at.probe.i)))
+    -- or that there is none
+    offering_stays : (gap : Gap) (kind : OpKind) (answer : Answer) → answer ≡ Op kind → IsSame words words' → IsGapRead words gap → Stays made (Offering gap) answer
+    offering_stays gap op_kinds.Insert answer e same read = quiet made (Offering gap) answer (Op op_kinds.Insert) e same (known same) (offered_read words' gap op_kinds.Insert (gap_there gap same read))
+    offering_stays gap op_kinds.Remove answer e same read = quiet made (Offering gap) answer (Op op_kinds.Remove) e same (known same) (offered_read words' gap op_kinds.Remove (gap_there gap same read))
+    offering_stays gap (op_kinds.Abort t) answer e same read = quiet made (Offering gap) answer (Op (op_kinds.Abort t)) e same (known same) (offered_read words' gap (op_kinds.Abort t) (gap_there gap same read))
 
-  -- in each state
-  stays_in : (made : Made) (s : State) (answer : Answer) → IsRead words s → IsPrompt m.task words (asks made m.hash s) answer words' → Stays made s answer
-  stays_in made AtRoot answer read told = quiet made AtRoot answer _ told.0 told.1 (root_read words' m.task m.remembered.fill (words Root) (told.1 Root))
-  stays_in made Making answer read told = making_stays made Making answer told (λ n. told.1 Root ∙ read) (λ refused. tt)
-  stays_in made (Opening t) answer read told =
-      let done : (answer ≡ Exchanged) × IsPut words Root t words' = exchange_done _ _ (words Root) 0 read told in
-      subst (Stays made (Opening t)) (sym done.0) (record { bare = root_put_bare words words' bare t done.1; read = tt })
-  stays_in made (Searching (Sizing t)) answer read told = size_stays made t answer told
-  stays_in made (Searching (Looking at)) answer read told = looking_stays made at answer told
-  stays_in made (Searching (Reading at)) answer read told = reading_stays made at answer told
-  stays_in made (Searching (Comparing at word)) answer read told =
-      quiet made (Searching (Comparing at word)) answer (Yes told.0.0) told.0.1 told.1
-      (goes_read words' m.task m.mode m.remembered (search_compared (Comparing at word) told.0.0) (compared_there words' at word told.0.0 (there at word told.1 read)))
-  stays_in made (Writing write) answer read told = writing_stays made write answer read told
-  stays_in made (Offering gap) answer read told = quiet made (Offering gap) answer (Op told.0.0) told.0.1 told.1 (offered_read words' gap told.0.0 (gap_there gap told.1 read))
-  stays_in made (Showing removal) answer read told =
-      record { bare = same_bare words words' bare told.1; read = showing_stays made removal answer (there removal.place removal.word told.1 read) told.0 }
-  stays_in made (Pairing purpose) answer read told = pairing_stays made purpose answer read told
-  stays_in made (Putting put) answer read told = putting_stays made put answer read told
-  stays_in made (Burying removal) answer read told = burying_stays made removal answer read told
-  stays_in made (Counting n) answer read told = quiet made (Counting n) answer _ told.0 told.1 tt
-  stays_in made (Noting n) answer read told = quiet made (Noting n) answer _ told.0 told.1 tt
-  stays_in made (Uncounting n) answer read told = quiet made (Uncounting n) answer _ told.0 told.1 tt
-  stays_in made (Leaving t) answer read told = quiet made (Leaving t) answer _ told.0 told.1 (next_read words' m.task m.remembered.fill t (words (Next t)))
-  stays_in made (Growing t) answer read told = quiet made (Growing t) answer _ told.0 told.1 tt
-  stays_in made (Ended reply) answer read told = absurd told
+    -- a removed pair is buried
+    burying_stays : (removal : Removal) (answer : Answer) → IsRead words (Burying removal) → IsPrompt m.task words (asks made m.hash (Burying removal)) answer words' → Stays made (Burying removal) answer
+    burying_stays removal answer read told =
+        let at : At = Slot removal.place.table removal.place.probe.i in
+        let done : (answer ≡ Exchanged) × IsPut words at (grave_word removal.word) words' = exchange_done _ _ (words at) removal.word read told in
+        subst (Stays made (Burying removal)) (sym done.0) (slot_put (Uncounting (pair_of removal.word)) removal.place (grave_word removal.word) (grave_filled removal.word) done.1 made refl tt)
+
+    -- the hint of a place was loaded
+    looking_stays : (at : Place) (answer : Answer) → IsPrompt m.task words (asks made m.hash (Searching (Looking at))) answer words' → Stays made (Searching (Looking at)) answer
+    looking_stays at answer told =
+        let hint : ℕ = told.0.0 in
+        quiet made (Searching (Looking at)) answer (Word_read hint) told.0.1 told.1 (known told.1) (goes_read words' m.task m.mode m.remembered (hinted at m.hash hint) (hinted_there words' at m.hash hint))
+
+    -- its word was loaded
+    reading_stays : (at : Place) (answer : Answer) → IsPrompt m.task words (asks made m.hash (Searching (Reading at))) answer words' → Stays made (Searching (Reading at)) answer
+    reading_stays at answer told =
+        let word : ℕ = word_of_place words at in
+        quiet made (Searching (Reading at)) answer (Word_read word) told.0 told.1 (known told.1)
+        (goes_read words' m.task m.mode m.remembered (look at word) (look_there words' (kind_of word) at word (there at word told.1 refl) (bare at.table at.probe.i)))
+
+    -- what is told of the numbers
+    limit_known : (count : ℕ) → words' Made_word ≡ count → IsNumberRead words' made.number → (limit : Option ℕ) → IsNumberRead words' (number_told (told_limit made limit count) made).number
+    limit_known count is here None = tt
+    limit_known count is here (Some most) = cond_both (nat_lt count most) (Some (record made { number = Free count })) None (λ o. IsNumberRead words' (number_told o made).number) (λ _. is) (λ _. here)
+
+    told_known : (number : Number) (count : ℕ) → words' Made_word ≡ count → IsNumberRead words' made.number → IsNumberRead words' (number_told (told_as made number count) made).number
+    told_known Wanted count is here = limit_known count is here made.limit
+    told_known (Free n) count is here = limit_known count is here made.limit
+    told_known Taken count is here = here
+
+    -- a call that makes a pair: s is its stage, which stays as it is or ends
+    module _ (s : State) (old : ℕ) (answer : Answer)
+        (loaded : (count : ℕ) → IsSame words words' → IsNumberRead words' (number_told (told_count made count) made).number → Stays made s (Word_read count))
+        (took : IsBare words' → IsNumberRead words' (taken made).number → IsPut words Made_word (words' Made_word) words' → Stays made s Exchanged)
+        (logged : (n : ℕ) → IsSame words words' → Stays made s (Made_number n))
+        (refused : (refused : Refused) → IsSame words words' → Stays made s (Was_refused refused)) where
+      logs : IsMaking answer × IsSame words words' → Stays made s answer
+      logs told_so =
+          ⊎_elim
+          (λ (h : (n : ℕ) × (answer ≡ Made_number n)). subst (Stays made s) (sym h.1) (logged h.0 told_so.1))
+          (λ (h : (refused : Refused) × (answer ≡ Was_refused refused)). subst (Stays made s) (sym h.1) (refused h.0 told_so.1))
+          told_so.0
+
+      make_stays : (ask : Ask) → IsMakeAsk ask → IsPrompt m.task words ask answer words' → Stays made s answer
+      make_stays MakeKey h told_so = logs told_so
+      make_stays MakeValue h told_so = logs told_so
+      make_stays MakePair h told_so = logs told_so
+      make_stays (MakePairOf n) h told_so = logs told_so
+      make_stays (ask_kinds.Load at) h told_so = absurd h
+      make_stays (ask_kinds.Exchange at was new) h told_so = absurd h
+      make_stays (ask_kinds.LoadHint t x) h told_so = absurd h
+      make_stays (ask_kinds.WriteHint t x hint) h told_so = absurd h
+      make_stays (ask_kinds.SameKey n) h told_so = absurd h
+      make_stays ask_kinds.ShowNone h told_so = absurd h
+      make_stays (ask_kinds.ShowPair n) h told_so = absurd h
+      make_stays (ask_kinds.SizeOf t) h told_so = absurd h
+      make_stays (ask_kinds.MakeTable slots limit chunks) h told_so = absurd h
+      make_stays (ask_kinds.AddToShard by) h told_so = absurd h
+      make_stays (ask_kinds.Done reply) h told_so = absurd h
+
+      number_stays : (n : Number) → made.number ≡ n → IsNumberRead words n → IsPrompt m.task words (number_ask n made old) answer words' → Stays made s answer
+      number_stays Wanted is read told_so = subst (Stays made s) (sym told_so.0) (loaded (words Made_word) told_so.1 (told_known made.number (words Made_word) (told_so.1 Made_word) (known told_so.1)))
+      number_stays (Free count) is read told_so =
+          let done : (answer ≡ Exchanged) × IsPut words Made_word (count + 1) words' = exchange_done _ _ (words Made_word) count read told_so in
+          subst (Stays made s) (sym done.0)
+          (took (number_put_bare words words' bare (count + 1) done.1) (subst (λ y. IsNumberRead words' (taken_as made y).number) (sym is) tt) (record { here = refl; others = done.1.others }))
+      number_stays Taken is read told_so = make_stays (make_ask made old) (make_asks made old) told_so
+
+      pair_stays : IsPrompt m.task words (pair_ask made old) answer words' → Stays made s answer
+      pair_stays told_so = number_stays made.number refl number told_so
+
+    -- what is logged leaves the numbers but for a pair, whose next needs one
+    own_known : (keyed valued : Bool) → IsNumberRead words' made.number → IsNumberRead words' (made_to_pair (own_grown keyed valued made)).number
+    own_known false valued here = here
+    own_known true false here = here
+    own_known true true here = wanted_known made.limit
+      where
+        wanted_known : (limit : Option ℕ) → IsNumberRead words' (wanted limit)
+        wanted_known None = tt
+        wanted_known (Some most) = tt
+
+    of_known : (valued : Bool) → IsNumberRead words' made.number → IsNumberRead words' (made_to_pair (of_grown valued made)).number
+    of_known false here = here
+    of_known true here = wanted_known made.limit
+      where
+        wanted_known : (limit : Option ℕ) → IsNumberRead words' (wanted limit)
+        wanted_known None = tt
+        wanted_known (Some most) = tt
+
+    grown_known : (n : Number) (old : ℕ) → IsNumberRead words' made.number → IsNumberRead words' (made_to_pair (grown_as n made old)).number
+    grown_known Wanted old here = here
+    grown_known (Free count) old here = here
+    grown_known Taken old here = cond_both (old == 0) (own_grown made.keyed made.valued made) (of_grown made.valued made) (λ G. IsNumberRead words' (made_to_pair G).number) (λ _. own_known made.keyed made.valued here) (λ _. of_known made.valued here)
+
+    -- a compute that makes a pair
+    pairing_stays : (purpose : Purpose) (answer : Answer) → IsRead words (Pairing purpose) → IsPrompt m.task words (asks made m.hash (Pairing purpose)) answer words' → Stays made (Pairing purpose) answer
+    pairing_stays purpose answer read told_so =
+        pair_stays (Pairing purpose) (in_place_of purpose) answer
+        (λ count same n. record { bare = same_bare words words' bare same; number = n; read = numbered_leads (IsRead words') tt (Pairing purpose) (purpose_there purpose same read) (told_count made count) })
+        (λ still n put. record { bare = still; number = n; read = purpose_put purpose put read })
+        (λ n same. record { bare = same_bare words words' bare same; number = grown_known made.number (in_place_of purpose) (known same); read = paired_leads (IsRead words') purpose n (purpose_there purpose same read) (provides_read words' purpose n (purpose_there purpose same read)) (grown made (in_place_of purpose)) })
+        (λ refused same. record { bare = same_bare words words' bare same; number = known same; read = tt })
+        told_so
+      where
+        gap_put : (gap : Gap) → IsPut words Made_word (words' Made_word) words' → IsGapRead words gap → IsGapRead words' gap
+        gap_put gaps.NoRoot put there_so = put.others Root (λ (h : Root ≡ Made_word). cc) ∙ there_so
+        gap_put (gaps.At at) put there_so = put.others (Slot at.table at.probe.i) (λ (h : Slot at.table at.probe.i ≡ Made_word). cc) ∙ there_so
+        gap_put (gaps.After t) put there_so = tt
+
+        purpose_put : (purpose : Purpose) → IsPut words Made_word (words' Made_word) words' → IsPurposeRead words purpose → IsPurposeRead words' purpose
+        purpose_put (purposes.Fill gap) put there_so = gap_put gap put there_so
+        purpose_put (purposes.Replace write) put there_so = put.others (Slot write.place.table write.place.probe.i) (λ (h : Slot write.place.table write.place.probe.i ≡ Made_word). cc) ∙ there_so
+        purpose_put (purposes.Again write) put there_so = put.others (Slot write.place.table write.place.probe.i) (λ (h : Slot write.place.table write.place.probe.i ≡ Made_word). cc) ∙ there_so
+
+    -- an insertion that makes its pair and writes it
+    writing_stays : (write : Write) (served : Option ℕ) → serves made write ≡ served → (answer : Answer) → IsRead words (Writing write) → IsPrompt m.task words (served_ask served write made) answer words' → Stays made (Writing write) answer
+    writing_stays write None is answer read told_so =
+        pair_stays (Writing write) write.old answer
+        (λ count same n. subst (λ o. IsCurrent words' (record m { made = write_made o made count; state = write_told o made write count })) (sym is)
+        (record { bare = same_bare words words' bare same; number = n; read = numbered_leads (IsRead words') tt (Writing write) (there write.place write.old same read) (told_count made count) }))
+        (λ still n put. subst (λ o. IsCurrent words' (record m { made = write_taken o made; state = exchanged o write })) (sym is)
+        (record { bare = still; number = n; read = put.others (Slot write.place.table write.place.probe.i) (λ (h : Slot write.place.table write.place.probe.i ≡ Made_word). cc) ∙ read }))
+        (λ n same. subst (λ o. IsCurrent words' (record m { made = write_grown o made write n; state = Writing write })) (sym is)
+        (record { bare = same_bare words words' bare same; number = write_known write n (grown made write.old) (grown_known made.number write.old (known same)); read = there write.place write.old same read }))
+        (λ refused same. subst (λ o. IsCurrent words' (record m { made = made; state = refuses o refused write })) (sym is) (record { bare = same_bare words words' bare same; number = known same; read = tt }))
+        told_so
+      where
+        write_known : (write : Write) (n : ℕ) (G : Grown) → IsNumberRead words' (made_to_pair G).number → IsNumberRead words' (made_to_write G write n).number
+        write_known write n (On next) here = here
+        write_known write n (Pair next) here = cond_both (write.old == 0) (record next { own = Some n }) (record next { of = Some (made_of write n) }) (λ (y : Made). IsNumberRead words' y.number) (λ _. here) (λ _. here)
+    writing_stays write (Some n) is answer read told_so =
+        let at : At = Slot write.place.table write.place.probe.i in
+        let done : (answer ≡ Exchanged) × IsPut words at (live_word n) words' = exchange_done _ _ (words at) write.old read told_so in
+        subst (Stays made (Writing write)) (sym done.0)
+        (subst (λ o. IsCurrent words' (record m { made = write_taken o made; state = exchanged o write })) (sym is) (slot_put (written write n) write.place (live_word n) (new_filled n) done.1 made refl (written_read words' write n)))
+
+    -- in each state
+    stays_in : (s : State) (answer : Answer) → IsRead words s → IsPrompt m.task words (asks made m.hash s) answer words' → Stays made s answer
+    stays_in AtRoot answer read told = quiet made AtRoot answer _ told.0 told.1 (known told.1) (root_read words' m.task m.remembered.fill (words Root) (told.1 Root))
+    stays_in Making answer read told = making_stays answer told read
+    stays_in (Opening t) answer read told =
+        let done : (answer ≡ Exchanged) × IsPut words Root t words' = exchange_done _ _ (words Root) 0 read told in
+        subst (Stays made (Opening t)) (sym done.0) (record { bare = root_put_bare words words' bare t done.1; number = number_there made.number (done.1.others Made_word (λ (h : Made_word ≡ Root). cc)) number; read = tt })
+    stays_in (Searching (Sizing t)) answer read told = size_stays t answer told
+    stays_in (Searching (Looking at)) answer read told = looking_stays at answer told
+    stays_in (Searching (Reading at)) answer read told = reading_stays at answer told
+    stays_in (Searching (Comparing at word)) answer read told =
+        quiet made (Searching (Comparing at word)) answer (Yes told.0.0) told.0.1 told.1 (known told.1)
+        (goes_read words' m.task m.mode m.remembered (search_compared (Comparing at word) told.0.0) (compared_there words' at word told.0.0 (there at word told.1 read)))
+    stays_in (Writing write) answer read told = writing_stays write (serves made write) refl answer read told
+    stays_in (Offering gap) answer read told = offering_stays gap told.0.0 answer told.0.1 told.1 read
+    stays_in (Showing removal) answer read told = showing_stays removal answer told.1 (there removal.place removal.word told.1 read) told.0
+    stays_in (Pairing purpose) answer read told = pairing_stays purpose answer read told
+    stays_in (Putting put) answer read told = putting_stays put answer read told
+    stays_in (Burying removal) answer read told = burying_stays removal answer read told
+    stays_in (Counting n) answer read told = quiet made (Counting n) answer _ told.0 told.1 (known told.1) tt
+    stays_in (Noting n) answer read told = quiet made (Noting n) answer _ told.0 told.1 (known told.1) tt
+    stays_in (Uncounting n) answer read told = quiet made (Uncounting n) answer _ told.0 told.1 (known told.1) tt
+    stays_in (Leaving t) answer read told = quiet made (Leaving t) answer _ told.0 told.1 (known told.1) (next_read words' m.task m.remembered.fill t (words (Next t)))
+    stays_in (Growing t) answer read told = quiet made (Growing t) answer _ told.0 told.1 (known told.1) tt
+    stays_in (Ended reply) answer read told = absurd told
 
   -- of the machine
-  pub machine_stays : (answer : Answer) → IsRead words m.state → IsPrompt m.task words (ask_of m) answer words' → IsCurrent words' (after m answer).state
-  machine_stays answer read told = stays_in m.made m.state answer read told
+  pub machine_stays : (answer : Answer) → IsNumberRead words m.made.number → IsRead words m.state → IsPrompt m.task words (ask_of m) answer words' → IsCurrent words' (after m answer)
+  machine_stays answer number read told = stays_in m.made number m.state answer read told

@@ -4,7 +4,7 @@ use Rattle.std.proofs.lemmas.Bool.{and_parts, cases_Bool, cond-true, cond-false}
 use Rattle.papaya_words.specs.Word.{kind_of, pair_of, live_word, marked_word, copied_word}
 use Rattle.papaya_words.specs.declared.word.Kind.TheVariants as word_kinds
 use Rattle.papaya_ask.specs.declared.ask.At.{At}
-use Rattle.papaya_ask.specs.declared.ask.At.TheVariants.{Root, Next, Aborted, Done, Slot as Slot_word}
+use Rattle.papaya_ask.specs.declared.ask.At.TheVariants.{Root, Next, Aborted, Done, Slot as Slot_word, Made as Made_word}
 use Rattle.papaya_ask.specs.declared.ask.StepKind.{StepKind}
 use Rattle.papaya_ask.specs.declared.ask.StepKind.TheVariants as kinds
 use Rattle.papaya_copy.specs.declared.carry.Carry.{Carry}
@@ -78,6 +78,7 @@ module _ {K P : Type 0} (g : Setting K P) (c : Coding K P) (s : State P) where
       others (Next u) different = refl
       others (Aborted u) different = refl
       others (Done u b) different = refl
+      others Made_word different = refl
       others (Slot_word u y) different = ap (code g c) (put_elsewhere s t x w u y (λ e. different (ap (λ a. Slot_word a y) (sym e.0) ∙ ap (Slot_word t) (sym e.1))))
 
   next_written : (t n : ℕ) → IsWritten g c s (Next t) n (after s (Link_to t n))
@@ -88,6 +89,7 @@ module _ {K P : Type 0} (g : Setting K P) (c : Coding K P) (s : State P) where
       others (Next u) different = put_other s.next t n u (λ e. different (ap Next e))
       others (Aborted u) different = refl
       others (Done u b) different = refl
+      others Made_word different = refl
       others (Slot_word u y) different = refl
 
   done_written : (n d : ℕ) → IsWritten g c s (Done n d) 1 (after s (Advance n d))
@@ -97,6 +99,7 @@ module _ {K P : Type 0} (g : Setting K P) (c : Coding K P) (s : State P) where
       others Root different = refl
       others (Next u) different = refl
       others (Aborted u) different = refl
+      others Made_word different = refl
       others (Done u b) different = ap (λ b. cond b 1 0) (done_other s.done n d u b (λ e. different (ap (λ y. Done y b) e.0 ∙ ap (Done n) e.1)))
       others (Slot_word u y) different = refl
 
@@ -108,6 +111,7 @@ module _ {K P : Type 0} (g : Setting K P) (c : Coding K P) (s : State P) where
       others (Next u) different = refl
       others (Aborted u) different = refl
       others (Done u b) different = refl
+      others Made_word different = refl
       others (Slot_word u y) different = refl
 
   aborted_written : (n : ℕ) → IsWritten g c s (Aborted n) 1 (after s (Abort n))
@@ -118,6 +122,7 @@ module _ {K P : Type 0} (g : Setting K P) (c : Coding K P) (s : State P) where
       others (Next u) different = refl
       others (Aborted u) different = ap (λ b. cond b 1 0) (put_other s.aborted n true u (λ e. different (ap Aborted e)))
       others (Done u b) different = refl
+      others Made_word different = refl
       others (Slot_word u y) different = refl
 
 module _ {K P : Type 0} (g : Setting K P) (c : Coding K P) (hashed : IsHashed g c) where

@@ -1,5 +1,5 @@
 -- Which table a machine names, and what it asks.
-use Rattle.std.proofs.Common.{◌≡◌, ◌⊎◌, inl, inr, ℕ, ◌==◌, nat_lt, Bool, true, false, cond, Option, None, Some, refl, sym, ap, ◌∙◌}
+use Rattle.std.proofs.Common.{◌≡◌, ◌⊎◌, inl, inr, ℕ, ◌==◌, nat_lt, Bool, true, false, cond, Option, None, Some, refl, sym, ap, ◌∙◌, subst}
 use Rattle.std.proofs.lemmas.Bool.{cond_both}
 use Rattle.papaya_words.specs.Word.{kind_of, may_hold, pair_of}
 use Rattle.papaya_words.specs.declared.probe.ResizeMode.{ResizeMode}
@@ -21,7 +21,7 @@ use Rattle.papaya_call.specs.declared.compute.Choice.TheVariants.{Replace as To_
 use Rattle.papaya_call.specs.declared.compute.Gap.{Gap}
 use Rattle.papaya_call.specs.declared.compute.Gap.TheVariants.{NoRoot, At, After}
 use Rattle.papaya_call.specs.declared.compute.Purpose.{Purpose}
-use Rattle.papaya_call.specs.declared.compute.Purpose.TheVariants.{Fill, Replace}
+use Rattle.papaya_call.specs.declared.compute.Purpose.TheVariants.{Fill, Replace, Again}
 use Rattle.papaya_call.specs.declared.compute.Remembered.{Remembered}
 use Rattle.papaya_call.specs.declared.remove.Removal.{Removal}
 use Rattle.papaya_ask.specs.declared.search.Place.{Place}
@@ -29,16 +29,19 @@ use Rattle.papaya_ask.specs.declared.search.Search.{Search}
 use Rattle.papaya_ask.specs.declared.search.Search.TheVariants.{Sizing, Looking, Reading, Comparing}
 use Rattle.papaya_ask.specs.declared.search.Seen.{Seen}
 use Rattle.papaya_ask.specs.declared.search.Seen.TheVariants as seen
-use Rattle.papaya_call.specs.declared.write.Made.{Made}
-use Rattle.papaya_call.specs.declared.write.Made.TheVariants.{Nothing, Key, Pair}
+use Rattle.papaya_call.specs.declared.made.Made.{Made}
+use Rattle.papaya_rests.proofs.Makings.{HoldsOfPairAsks, IsPairAsk, IsWriteAsk, exchanged_leads, lost_leads, numbered_leads, pair_holds, paired_leads, pairing_asks, refuses_leads, told_leads, write_asks, write_holds}
 use Rattle.papaya_call.specs.declared.write.Write.{Write}
 use Rattle.papaya_call.specs.declared.machine.Machine.{Machine}
 use Rattle.papaya_call.specs.declared.machine.State.{State}
 use Rattle.papaya_call.specs.declared.machine.State.TheVariants.{AtRoot, Making, Opening, Searching, Writing, Offering, Showing, Pairing, Putting, Burying, Counting, Noting, Uncounting, Leaving, Growing, Ended}
-use Rattle.papaya_call.specs.Compute.{chosen, fills, lacks, offered, provides, recalls}
+use Rattle.papaya_call.specs.declared.made.Number.{Number}
+use Rattle.papaya_call.specs.declared.made.Number.TheVariants.{Wanted, Free, Taken}
+use Rattle.papaya_call.specs.Made.{grown, number_ask, number_kind, of_ask, own_ask, serves_at, told}
+use Rattle.papaya_call.specs.Compute.{chosen, fills, in_place_of, lacks, offered, provides, recalled, recalls}
 use Rattle.papaya_rests.specs.Followed.{IsAtTable, IsCounting, IsGapAt, IsPurposeAt, MayAsk, table_asked, table_of, told_table}
-use Rattle.papaya_call.specs.Machine.{HasClosure, IsChanger, IsStanding, IsStandingState, MayInsert, after, absent, ask_of, asks, at_root, beaten_as, beaten_by, computes, decided, goes_as, judged, kind_asked, kind_of_ask, left, needed, paired, passes, removes, replaces, written}
-use Rattle.papaya_call.specs.Write.{claimed_by}
+use Rattle.papaya_call.specs.Machine.{HasClosure, IsChanger, IsStanding, IsStandingState, MayInsert, after, absent, ask_of, asks, at_root, beaten_as, beaten_by, computes, decided, goes_as, judged, kind_asked, kind_of_ask, left, needed, passes, removes, served_kind, replaces, written}
+use Rattle.papaya_call.specs.Write.{claimed_by, served_ask, serves}
 use Rattle.papaya_rests.specs.Rests.{change_in}
 use Rattle.papaya_ask.specs.Search.{at_size, at_word, at_yes, go_on, hinted, look, look_at, match_at, next_place}
 use Rattle.papaya_rests.proofs.Standing.{computer_inserts, writer_inserts}
@@ -109,7 +112,10 @@ absent_at n Compute fill gap is = lacks_at n fill gap is
 -- and one that met a pair
 recalls_at : (n : ℕ) (choice : Option Choice) (at : Place) → at.table ≡ n → (word i : ℕ) → IsAtTable n (recalls choice at word i)
 recalls_at n None at is word i = is
-recalls_at n (Some (To_replace old new)) at is word i = cond_both (old == i) (Putting (record { write = record { place = at; old = word }; pair = new })) (Showing (record { place = at; word = word })) (IsAtTable n) (λ _. is) (λ _. is)
+recalls_at n (Some (To_replace old new)) at is word i =
+    cond_both (old == i) (recalled new at word) (Showing (record { place = at; word = word })) (IsAtTable n)
+    (λ _. cond_both (serves_at new at.table at.probe.i) (Putting (record { write = record { place = at; old = word }; pair = new.pair })) (Pairing (Again (record { place = at; old = word }))) (IsAtTable n) (λ _. is) (λ _. is))
+    (λ _. is)
 recalls_at n (Some (To_remove old)) at is word i = cond_both (old == i) (Burying (record { place = at; word = word })) (Showing (record { place = at; word = word })) (IsAtTable n) (λ _. is) (λ _. is)
 
 computes_at : (n : ℕ) (kind : Kind) (held : Remembered) (at : Place) → at.table ≡ n → (word : ℕ) → IsAtTable n (computes kind held at word)
@@ -205,11 +211,7 @@ offered_at n gap is (ops.Abort t) = tt
 provides_at : (n : ℕ) (purpose : Purpose) (i : ℕ) → IsPurposeAt n purpose → IsAtTable n (provides purpose i)
 provides_at n (Fill gap) i is = fills_at n gap i is
 provides_at n (Replace write) i is = is
-
-paired_at : (n : ℕ) (made : Made) (purpose : Purpose) (i : ℕ) → IsPurposeAt n purpose → IsAtTable n (paired made purpose i)
-paired_at n Nothing purpose i is = is
-paired_at n Key purpose i is = provides_at n purpose i is
-paired_at n (Pair j) purpose i is = provides_at n purpose i is
+provides_at n (Again write) i is = is
 
 beaten_at : (n : ℕ) (m : Machine) (kind : Kind) (at : Place) → at.table ≡ n → (word : ℕ) → IsAtTable n (beaten_by kind m at word)
 beaten_at n m word_kinds.Buried at is word = tt
@@ -226,6 +228,10 @@ beaten_as_at n m RemoveIf at is word = beaten_at n m (kind_of word) at is word
 beaten_as_at n m Compute at is word = goes_at n m.task m.mode m.remembered (look at word) (look_kind n at is (kind_of word) word)
 
 module _ (m : Machine) (n : ℕ) where
+  -- what is asked leaves the table that was told last
+  abbrev HasNoTable : Answer → Type 0
+  HasNoTable answer = HoldsOfPairAsks (λ ask. told_table ask answer n ≡ n)
+
   -- where an answer leads a machine in a stage
   abbrev Leads : Made → State → Answer → Type 0
   Leads made s answer = IsAtTable n s → IsAtTable (told_table (asks made m.hash s) answer n) (after (record m { made = made; state = s }) answer).state
@@ -244,19 +250,39 @@ module _ (m : Machine) (n : ℕ) where
 
   -- a write
   writing_at : (made : Made) (write : Write) (answer : Answer) → write.place.table ≡ n → IsAtTable n (after (record m { made = made; state = Writing write }) answer).state
-  writing_at made write (Word_read word) is = is
-  writing_at Nothing write Exchanged is = is
-  writing_at Key write Exchanged is = is
-  writing_at (Pair i) write Exchanged is = written_at n write i is
-  writing_at made write (Found_instead word) is = goes_at n m.task m.mode m.remembered (look write.place word) (look_kind n write.place is (kind_of word) word)
+  writing_at made write (Word_read word) is = told_leads (IsAtTable n) tt write is (serves made write) made word
+  writing_at made write Exchanged is = exchanged_leads (IsAtTable n) write is (λ i. written_at n write i is) (serves made write)
+  writing_at made write (Found_instead word) is =
+      let machine : Machine = record m { made = made; state = Writing write } in
+      lost_leads (IsAtTable n) tt write is machine word (goes_at n m.task m.mode m.remembered (look write.place word) (look_kind n write.place is (kind_of word) word)) (serves made write)
   writing_at made write (Yes same) is = is
   writing_at made write (Op kind) is = is
   writing_at made write (Size slots limit) is = is
   writing_at made write (Made_number i) is = is
   writing_at made write Ok_done is = is
-  writing_at Nothing write (Was_refused refused) is = tt
-  writing_at Key write (Was_refused refused) is = tt
-  writing_at (Pair i) write (Was_refused refused) is = is
+  writing_at made write (Was_refused refused) is = refuses_leads (IsAtTable n) write refused is tt (serves made write)
+
+  -- what is asked for a pair tells no table
+  untold : (answer : Answer) → HasNoTable answer
+  untold answer = record { loads = refl; takes = λ count. refl; key = refl; value = refl; pair = refl; pair_of = λ i. refl }
+
+  write_untold : (made : Made) (write : Write) (answer : Answer) → told_table (asks made m.hash (Writing write)) answer n ≡ n
+  write_untold made write answer = write_holds (λ ask. told_table ask answer n ≡ n) (untold answer) write (λ i. refl) made
+
+  pairing_untold : (made : Made) (purpose : Purpose) (answer : Answer) → told_table (asks made m.hash (Pairing purpose)) answer n ≡ n
+  pairing_untold made purpose answer = pair_holds (λ ask. told_table ask answer n ≡ n) (untold answer) made (in_place_of purpose)
+
+  -- a compute that makes a pair
+  pairing_at : (made : Made) (purpose : Purpose) (answer : Answer) → IsPurposeAt n purpose → IsAtTable n (after (record m { made = made; state = Pairing purpose }) answer).state
+  pairing_at made purpose (Word_read word) is = numbered_leads (IsAtTable n) tt (Pairing purpose) is (told made word)
+  pairing_at made purpose Exchanged is = is
+  pairing_at made purpose (Found_instead word) is = numbered_leads (IsAtTable n) tt (Pairing purpose) is (told made word)
+  pairing_at made purpose (Yes same) is = is
+  pairing_at made purpose (Op kind) is = is
+  pairing_at made purpose (Size slots limit) is = is
+  pairing_at made purpose (Made_number i) is = paired_leads (IsAtTable n) purpose i is (provides_at n purpose i is) (grown made (in_place_of purpose))
+  pairing_at made purpose Ok_done is = is
+  pairing_at made purpose (Was_refused refused) is = tt
 
   leads : (made : Made) (s : State) (answer : Answer) → Leads made s answer
   leads made AtRoot (Word_read word) is = root_at m.task m.remembered.fill n word
@@ -290,9 +316,7 @@ module _ (m : Machine) (n : ℕ) where
   leads made (Searching (Looking at)) answer is = searching_at made (Looking at) answer is
   leads made (Searching (Reading at)) answer is = searching_at made (Reading at) answer is
   leads made (Searching (Comparing at word)) answer is = searching_at made (Comparing at word) answer is
-  leads Nothing (Writing write) answer is = writing_at Nothing write answer is
-  leads Key (Writing write) answer is = writing_at Key write answer is
-  leads (Pair i) (Writing write) answer is = writing_at (Pair i) write answer is
+  leads made (Writing write) answer is = subst (λ t. IsAtTable t (after (record m { made = made; state = Writing write }) answer).state) (sym (write_untold made write answer)) (writing_at made write answer is)
   leads made (Offering gap) (Word_read word) is = is
   leads made (Offering gap) Exchanged is = is
   leads made (Offering gap) (Found_instead word) is = is
@@ -302,33 +326,7 @@ module _ (m : Machine) (n : ℕ) where
   leads made (Offering gap) (Made_number i) is = is
   leads made (Offering gap) Ok_done is = is
   leads made (Offering gap) (Was_refused refused) is = is
-  leads Nothing (Pairing purpose) (Word_read word) is = is
-  leads Key (Pairing purpose) (Word_read word) is = is
-  leads (Pair j) (Pairing purpose) (Word_read word) is = is
-  leads Nothing (Pairing purpose) Exchanged is = is
-  leads Key (Pairing purpose) Exchanged is = is
-  leads (Pair j) (Pairing purpose) Exchanged is = is
-  leads Nothing (Pairing purpose) (Found_instead word) is = is
-  leads Key (Pairing purpose) (Found_instead word) is = is
-  leads (Pair j) (Pairing purpose) (Found_instead word) is = is
-  leads Nothing (Pairing purpose) (Yes same) is = is
-  leads Key (Pairing purpose) (Yes same) is = is
-  leads (Pair j) (Pairing purpose) (Yes same) is = is
-  leads Nothing (Pairing purpose) (Op kind) is = is
-  leads Key (Pairing purpose) (Op kind) is = is
-  leads (Pair j) (Pairing purpose) (Op kind) is = is
-  leads Nothing (Pairing purpose) (Size slots limit) is = is
-  leads Key (Pairing purpose) (Size slots limit) is = is
-  leads (Pair j) (Pairing purpose) (Size slots limit) is = is
-  leads Nothing (Pairing purpose) (Made_number i) is = paired_at n Nothing purpose i is
-  leads Key (Pairing purpose) (Made_number i) is = paired_at n Key purpose i is
-  leads (Pair j) (Pairing purpose) (Made_number i) is = paired_at n (Pair j) purpose i is
-  leads Nothing (Pairing purpose) Ok_done is = is
-  leads Key (Pairing purpose) Ok_done is = is
-  leads (Pair j) (Pairing purpose) Ok_done is = is
-  leads Nothing (Pairing purpose) (Was_refused refused) is = tt
-  leads Key (Pairing purpose) (Was_refused refused) is = tt
-  leads (Pair j) (Pairing purpose) (Was_refused refused) is = tt
+  leads made (Pairing purpose) answer is = subst (λ t. IsAtTable t (after (record m { made = made; state = Pairing purpose }) answer).state) (sym (pairing_untold made purpose answer)) (pairing_at made purpose answer is)
   leads made (Putting put) (Word_read word) is = is
   leads made (Putting put) Exchanged is = written_at n put.write put.pair is
   leads made (Putting put) (Found_instead word) is = goes_at n m.task m.mode m.remembered (look put.write.place word) (look_kind n put.write.place is (kind_of word) word)
@@ -423,14 +421,10 @@ named_in made hash (Searching (Sizing u)) n t is e = let j : u ≡ t = cc e in s
 named_in made hash (Searching (Looking at)) n t is e = let j : at.table ≡ t = cc e in sym j ∙ is
 named_in made hash (Searching (Reading at)) n t is e = let j : at.table ≡ t = cc e in sym j ∙ is
 named_in made hash (Searching (Comparing at word)) n t is e = absurd cc
-named_in Nothing hash (Writing write) n t is e = absurd cc
-named_in Key hash (Writing write) n t is e = absurd cc
-named_in (Pair i) hash (Writing write) n t is e = let j : write.place.table ≡ t = cc e in sym j ∙ is
+named_in made hash (Writing write) n t is e = write_holds (λ ask. table_asked ask ≡ Some t → t ≡ n) (record { loads = λ f. absurd cc; takes = λ count f. absurd cc; key = λ f. absurd cc; value = λ f. absurd cc; pair = λ f. absurd cc; pair_of = λ i f. absurd cc }) write (λ i f. let j : write.place.table ≡ t = cc f in sym j ∙ is) made e
 named_in made hash (Offering gap) n t is e = absurd cc
 named_in made hash (Showing removal) n t is e = absurd cc
-named_in Nothing hash (Pairing purpose) n t is e = absurd cc
-named_in Key hash (Pairing purpose) n t is e = absurd cc
-named_in (Pair i) hash (Pairing purpose) n t is e = absurd cc
+named_in made hash (Pairing purpose) n t is e = pair_holds (λ ask. table_asked ask ≡ Some t → t ≡ n) (record { loads = λ f. absurd cc; takes = λ count f. absurd cc; key = λ f. absurd cc; value = λ f. absurd cc; pair = λ f. absurd cc; pair_of = λ i f. absurd cc }) made (in_place_of purpose) e
 named_in made hash (Putting put) n t is e = let j : put.write.place.table ≡ t = cc e in sym j ∙ is
 named_in made hash (Burying removal) n t is e = let j : removal.place.table ≡ t = cc e in sym j ∙ is
 named_in made hash (Counting i) n t is e = absurd cc
@@ -458,6 +452,25 @@ closure_changes (Insert replace) has = tt
 closure_changes RemoveIf has = tt
 closure_changes Compute has = tt
 
+-- what is asked for a pair, by a call that may insert
+own_may : (task : Task) → MayInsert task → (keyed valued : Bool) → MayAsk task None (own_ask keyed valued)
+own_may task may false valued = may
+own_may task may true false = may
+own_may task may true true = may
+
+of_may : (task : Task) → MayInsert task → (valued : Bool) (old : ℕ) → MayAsk task None (of_ask valued old)
+of_may task may false old = may
+of_may task may true old = may
+
+number_may : (task : Task) (number : Number) (made : Made) (old : ℕ) → MayInsert task → MayAsk task (number_kind number) (number_ask number made old)
+number_may task Wanted made old may = may
+number_may task (Free count) made old may = (may, refl, refl)
+number_may task Taken made old may = cond_both (old == 0) (own_ask made.keyed made.valued) (of_ask made.valued old) (MayAsk task None) (λ _. own_may task may made.keyed made.valued) (λ _. of_may task may made.valued old)
+
+write_may : (task : Task) (made : Made) (write : Write) → MayInsert task → (served : Option ℕ) → MayAsk task (served_kind served made write) (served_ask served write made)
+write_may task made write may None = number_may task made.number made write.old may
+write_may task made write may (Some i) = inl (may, write_kinds write)
+
 asks_in : (task : Task) (made : Made) (hash : ℕ) (s : State) → IsStandingState task s → MayAsk task (kind_asked made s) (asks made hash s)
 asks_in task made hash AtRoot stands = tt
 asks_in task made hash Making stands = stands
@@ -466,13 +479,9 @@ asks_in task made hash (Searching (Sizing u)) stands = tt
 asks_in task made hash (Searching (Looking at)) stands = tt
 asks_in task made hash (Searching (Reading at)) stands = tt
 asks_in task made hash (Searching (Comparing at word)) stands = tt
-asks_in task Nothing hash (Writing write) stands = writer_inserts task stands.0
-asks_in task Key hash (Writing write) stands = writer_inserts task stands.0
-asks_in task (Pair i) hash (Writing write) stands = inl (writer_inserts task stands.0, write_kinds write)
+asks_in task made hash (Writing write) stands = write_may task made write (writer_inserts task stands.0) (serves made write)
 asks_in task made hash (Offering gap) stands = stands.0
-asks_in task Nothing hash (Pairing purpose) stands = computer_inserts task stands.0
-asks_in task Key hash (Pairing purpose) stands = computer_inserts task stands.0
-asks_in task (Pair i) hash (Pairing purpose) stands = computer_inserts task stands.0
+asks_in task made hash (Pairing purpose) stands = number_may task made.number made (in_place_of purpose) (computer_inserts task stands.0)
 asks_in task made hash (Putting put) stands = inl (computer_inserts task stands.0, write_kinds put.write)
 asks_in task made hash (Showing removal) stands = stands.0
 asks_in task made hash (Burying removal) stands = inr (stands.0, refl)
@@ -497,14 +506,10 @@ opens_in m made (Searching (Sizing u)) answer t n e a f = cc e
 opens_in m made (Searching (Looking at)) answer t n e a f = cc e
 opens_in m made (Searching (Reading at)) answer t n e a f = cc e
 opens_in m made (Searching (Comparing at word)) answer t n e a f = cc e
-opens_in m Nothing (Writing write) answer t n e a f = cc e
-opens_in m Key (Writing write) answer t n e a f = cc e
-opens_in m (Pair i) (Writing write) answer t n e a f = cc e
+opens_in m made (Writing write) answer t n e a f = subst IsWriteAsk e (write_asks made write)
 opens_in m made (Offering gap) answer t n e a f = cc e
 opens_in m made (Showing removal) answer t n e a f = cc e
-opens_in m Nothing (Pairing purpose) answer t n e a f = cc e
-opens_in m Key (Pairing purpose) answer t n e a f = cc e
-opens_in m (Pair i) (Pairing purpose) answer t n e a f = cc e
+opens_in m made (Pairing purpose) answer t n e a f = subst IsPairAsk e (pairing_asks made purpose)
 opens_in m made (Putting put) answer t n e a f = cc e
 opens_in m made (Burying removal) answer t n e a f = cc e
 opens_in m made (Counting i) answer t n e a f = cc e

@@ -1,7 +1,7 @@
 -- One further key: the numbers that stand at the places are what they were.
 use Rattle.std.proofs.Common.{◌≡◌, ℕ, Bool, refl}
 use Rattle.papaya_ask.specs.declared.ask.At.{At}
-use Rattle.papaya_ask.specs.declared.ask.At.TheVariants.{Root, Next, Aborted, Done, Slot}
+use Rattle.papaya_ask.specs.declared.ask.At.TheVariants.{Root, Next, Aborted, Done, Slot, Made}
 use Rattle.papaya_law.specs.Exchange.{Setting, State}
 use Rattle.papaya_law.specs.Code.{Coding}
 use Rattle.papaya_law.specs.Further.{with_key, coding_with}
@@ -15,4 +15,5 @@ module _ {K P : Type 0} (g : Setting K P) (matches : K → Bool) (hash : ℕ) wh
   key_word c s (Next t) = refl
   key_word c s (Aborted t) = refl
   key_word c s (Done t chunk) = refl
+  key_word c s Made = refl
   key_word c s (Slot t x) = key_code g matches hash c (s.slot t x)

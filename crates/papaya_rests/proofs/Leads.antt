@@ -14,7 +14,7 @@ use Rattle.papaya_call.specs.declared.compute.Choice.TheVariants.{Replace as To_
 use Rattle.papaya_call.specs.declared.compute.Gap.{Gap}
 use Rattle.papaya_call.specs.declared.compute.Gap.TheVariants.{NoRoot, At as At_place, After}
 use Rattle.papaya_call.specs.declared.compute.Purpose.{Purpose}
-use Rattle.papaya_call.specs.declared.compute.Purpose.TheVariants.{Fill, Replace as For_replace}
+use Rattle.papaya_call.specs.declared.compute.Purpose.TheVariants.{Fill, Replace as For_replace, Again}
 use Rattle.papaya_call.specs.declared.compute.Put.{Put}
 use Rattle.papaya_call.specs.declared.compute.Remembered.{Remembered}
 use Rattle.papaya_call.specs.declared.remove.Removal.{Removal}
@@ -26,8 +26,10 @@ use Rattle.papaya_ask.specs.declared.search.Seen.TheVariants as seen
 use Rattle.papaya_call.specs.declared.write.Write.{Write}
 use Rattle.papaya_call.specs.declared.machine.Machine.{Machine}
 use Rattle.papaya_call.specs.declared.machine.State.{State}
-use Rattle.papaya_call.specs.declared.machine.State.TheVariants.{Making, Searching, Writing, Offering, Showing, Putting, Burying, Leaving, Growing, Ended}
-use Rattle.papaya_call.specs.Compute.{fills, lacks, provides, recalls}
+use Rattle.papaya_call.specs.declared.machine.State.TheVariants.{Making, Searching, Writing, Offering, Showing, Pairing, Putting, Burying, Leaving, Growing, Ended}
+use Rattle.papaya_call.specs.declared.made.Of.{Of}
+use Rattle.papaya_call.specs.Made.{serves_at}
+use Rattle.papaya_call.specs.Compute.{fills, lacks, provides, recalled, recalls}
 use Rattle.papaya_call.specs.Machine.{absent, at_root, beaten, beaten_as, beaten_by, computes, found, copied_from, goes_as, left, occupies, passes, removes, replaces}
 use Rattle.papaya_ask.specs.Search.{look as look_seen}
 use Rattle.papaya_call.specs.declared.need.Need.{Need}
@@ -43,6 +45,7 @@ pub record HoldsOfLeads (Holds : State → Type 0) : Type 0 where
   pub writing : (write : Write) → Holds (Writing write)
   pub offering : (gap : Gap) → Holds (Offering gap)
   pub showing : (removal : Removal) → Holds (Showing removal)
+  pub pairing : (purpose : Purpose) → Holds (Pairing purpose)
   pub putting : (put : Put) → Holds (Putting put)
   pub burying : (removal : Removal) → Holds (Burying removal)
   pub leaving : (t : ℕ) → Holds (Leaving t)
@@ -69,6 +72,7 @@ module _ (Holds : State → Type 0) (each : HoldsOfLeads Holds) where
   pub provides_leads : (purpose : Purpose) (n : ℕ) → Holds (provides purpose n)
   provides_leads (Fill gap) n = fills_leads gap n
   provides_leads (For_replace write) n = each.putting (record { write = write; pair = n })
+  provides_leads (Again write) n = each.putting (record { write = write; pair = n })
 
   -- a compute whose key is absent
   lacks_leads : (fill : Option ℕ) (gap : Gap) → Holds (lacks fill gap)
@@ -116,12 +120,19 @@ module _ (Holds : State → Type 0) (each : HoldsOfLeads Holds) where
   removes_leads word_kinds.Buried at word = each.growing (Pair_at at.table at.probe.i)
   removes_leads word_kinds.Closed at word = each.growing (Pair_at at.table at.probe.i)
 
+  -- a pair of which one was made before
+  recalled_leads : (new : Of) (at : Place) (word : ℕ) → Holds (recalled new at word)
+  recalled_leads new at word =
+      cond_both (serves_at new at.table at.probe.i) (Putting (record { write = record { place = at; old = word }; pair = new.pair })) (Pairing (Again (record { place = at; old = word }))) Holds
+      (λ _. each.putting (record { write = record { place = at; old = word }; pair = new.pair }))
+      (λ _. each.pairing (Again (record { place = at; old = word })))
+
   -- a pair to which a compute may have an answer
   recalls_leads : (choice : Option Choice) (at : Place) (word n : ℕ) → Holds (recalls choice at word n)
   recalls_leads None at word n = each.showing (record { place = at; word = word })
   recalls_leads (Some (To_replace old new)) at word n =
-      cond_both (old == n) (Putting (record { write = record { place = at; old = word }; pair = new })) (Showing (record { place = at; word = word })) Holds
-      (λ _. each.putting (record { write = record { place = at; old = word }; pair = new }))
+      cond_both (old == n) (recalled new at word) (Showing (record { place = at; word = word })) Holds
+      (λ _. recalled_leads new at word)
       (λ _. each.showing (record { place = at; word = word }))
   recalls_leads (Some (To_remove old)) at word n =
       cond_both (old == n) (Burying (record { place = at; word = word })) (Showing (record { place = at; word = word })) Holds

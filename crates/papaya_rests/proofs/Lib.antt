@@ -11,14 +11,18 @@ pub mod RestsLearnMoments
 pub mod RestsLearnPlaces
 pub mod RestsLearnLook
 pub mod RestsLearnHands
+pub mod RestsLearnPairs
 pub mod RestsLearnComputes
 pub mod RestsLearnGoes
+pub mod RestsServed
 pub mod RestsExchange
 pub mod RestsLearnWrites
 pub mod RestsLearnRemovals
 pub mod RestsLearn
 -- where a load or a search leads
 pub mod Leads
+-- what it asks that makes a pair, and where that leads
+pub mod Makings
 -- its task stays
 pub mod Tasks
 -- what it changes, and its refusals
@@ -33,6 +37,7 @@ pub mod SaysSaid
 pub mod SaysChanges
 pub mod SaysOnce
 pub mod SaysOver
+pub mod SaysValues
 pub mod Silent
 -- how much a lookup loads
 pub mod LoadsBound
@@ -50,6 +55,7 @@ pub mod FurtherWords
 -- which table it names, and what it asks
 pub mod Followed
 pub mod RestsHeld
+pub mod RestsCopied
 -- what a copier rests on
 pub mod CopierStays
 pub mod CopierTables

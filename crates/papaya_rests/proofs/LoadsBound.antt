@@ -1,5 +1,5 @@
 -- A lookup's loads are bounded: by induction over the answers.
-use Rattle.std.proofs.Common.{◌≡◌, ⊎_elim, ℕ, ◌≤◌, None, List, [], ◌∷◌, sym, subst, refl, arith, true, false}
+use Rattle.std.proofs.Common.{◌≡◌, ⊎_elim, ℕ, ◌≤◌, Option, None, List, [], ◌∷◌, sym, subst, refl, arith, true, false}
 use Rattle.std.specs.List.{All}
 use Rattle.std.proofs.lemmas.List.Elements.{All-cons, All-nil}
 use Rattle.papaya_words.specs.Word.{kind_of, may_hold}
@@ -9,8 +9,8 @@ use Rattle.papaya_ask.specs.declared.ask.Answer.{Answer}
 use Rattle.papaya_ask.specs.declared.ask.Answer.TheVariants as answers
 use Rattle.papaya_ask.specs.declared.call.Task.TheVariants.{Get}
 use Rattle.papaya_ask.specs.declared.search.Search.TheVariants.{Sizing, Looking, Reading, Comparing}
-use Rattle.papaya_call.specs.declared.write.Made.{Made}
-use Rattle.papaya_call.specs.declared.write.Made.TheVariants.{Nothing}
+use Rattle.papaya_call.specs.declared.made.Made.{Made}
+use Rattle.papaya_call.specs.Made.{nothing_made}
 use Rattle.papaya_call.specs.declared.machine.State.{State}
 use Rattle.papaya_call.specs.declared.machine.State.TheVariants.{AtRoot, Making, Opening, Searching, Writing, Offering, Showing, Pairing, Putting, Burying, Counting, Noting, Uncounting, Leaving, Growing, Ended}
 use Rattle.papaya_call.specs.declared.machine.Machine.{Machine}
@@ -118,9 +118,9 @@ module _ (limit : ℕ → ℕ) (hash initial : ℕ) (mode : ResizeMode) where
       run_more s by.to (ask_of (standing made s)) (asked (after (standing made s) answer) given) by.step (subst (λ m. IsRun by.to (asked m given)) (sym by.is) further)
 
   -- a lookup from its start
-  pub lookup_bounded : (given : List Answer) → AreAnswers limit (started Get hash mode initial) given → IsBounded limit (asked (started Get hash mode initial) given)
-  lookup_bounded given fit =
-      let run : IsRun AtRoot (asked (standing Nothing AtRoot) given) = runs given Nothing AtRoot tt fit in
+  pub lookup_bounded : (most : Option ℕ) (given : List Answer) → AreAnswers limit (started Get hash mode initial most) given → IsBounded limit (asked (started Get hash mode initial most) given)
+  lookup_bounded most given fit =
+      let run : IsRun AtRoot (asked (standing (nothing_made most) AtRoot) given) = runs given (nothing_made most) AtRoot tt fit in
       record {
         loads = run.loads;
         hints = run.hints;

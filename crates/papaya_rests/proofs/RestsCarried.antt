@@ -1,5 +1,5 @@
 -- What a machine rests on, by its parts: where each part is carried over, all of it is.
-use Rattle.std.proofs.Common.{◌≡◌, ℕ, Bool, true, false, Option, None, Some, List, sym, ap, ◌∙◌, subst}
+use Rattle.std.proofs.Common.{◌≡◌, inl, inr, ⊎_elim, ℕ, ◌<◌, ◌==◌, MatchBool, MatchOption, Bool, true, false, Option, None, Some, List, sym, ap, ◌∙◌, subst}
 use Rattle.papaya_ask.specs.declared.call.Reply.{Reply}
 use Rattle.papaya_ask.specs.declared.call.Reply.TheVariants.{Absent, Found, Inserted, Replaced, Occupied, Removed, Kept, Aborted, Done as Reply_done, Refused as Reply_refused}
 use Rattle.papaya_ask.specs.declared.call.Task.{Task}
@@ -9,14 +9,16 @@ use Rattle.papaya_call.specs.declared.compute.Choice.TheVariants.{Replace as To_
 use Rattle.papaya_call.specs.declared.compute.Gap.{Gap}
 use Rattle.papaya_call.specs.declared.compute.Gap.TheVariants.{NoRoot, At as At_place, After}
 use Rattle.papaya_call.specs.declared.compute.Purpose.{Purpose}
-use Rattle.papaya_call.specs.declared.compute.Purpose.TheVariants.{Fill, Replace as For_replace}
+use Rattle.papaya_call.specs.declared.compute.Purpose.TheVariants.{Fill, Replace as For_replace, Again}
 use Rattle.papaya_call.specs.declared.compute.Remembered.{Remembered}
 use Rattle.papaya_call.specs.declared.remove.Removal.{Removal}
 use Rattle.papaya_ask.specs.declared.search.Place.{Place}
 use Rattle.papaya_ask.specs.declared.search.Search.{Search}
 use Rattle.papaya_ask.specs.declared.search.Search.TheVariants.{Sizing, Looking, Reading, Comparing}
-use Rattle.papaya_call.specs.declared.write.Made.{Made}
-use Rattle.papaya_call.specs.declared.write.Made.TheVariants.{Nothing, Key, Pair}
+use Rattle.papaya_call.specs.declared.made.Made.{Made}
+use Rattle.papaya_call.specs.declared.made.Number.{Number}
+use Rattle.papaya_call.specs.declared.made.Number.TheVariants.{Wanted, Free, Taken}
+use Rattle.papaya_call.specs.declared.made.Of.{Of}
 use Rattle.papaya_call.specs.declared.write.Write.{Write}
 use Rattle.papaya_call.specs.declared.machine.State.{State as Stage}
 use Rattle.papaya_call.specs.declared.machine.State.TheVariants.{AtRoot, Making, Opening, Searching, Writing, Offering, Showing, Pairing, Putting, Burying, Counting, Noting, Uncounting, Leaving, Growing, Ended}
@@ -24,21 +26,23 @@ use Rattle.papaya_call.specs.declared.machine.Machine.{Machine}
 use Rattle.papaya_law.specs.Exchange.{Setting, Exchange}
 use Rattle.papaya_law.specs.View.{look, IsPassed}
 use Rattle.papaya_law.specs.Code.{Coding}
+use Rattle.papaya_law.specs.Later.{IsOfKey}
 use Rattle.papaya_rests.specs.Told.{Hands}
-use Rattle.papaya_rests.specs.Rests.{now, IsModeOf, HasComeTo, IsAt, HasMet, MayRemove, MayWrite, WasAtMoment, RestsWriting, RestsMade, RestsFill, RestsChoice, RestsHands, RestsGap, RestsPurpose, RestsSearch, RestsLeaving, RestsNeed, HadPair, IsReply, RestsStage, Rests, HasClaimed}
+use Rattle.papaya_rests.specs.Rests.{now, IsModeOf, HasComeTo, IsAt, HasMet, MayRemove, MayWrite, WasAtMoment, IsOwnPair, IsPairAt, IsPairFor, RestsWriting, RestsNumber, RestsFill, RestsOf, RestsChoice, RestsHands, RestsGap, RestsPurpose, RestsSearch, RestsLeaving, RestsNeed, HadPair, IsReply, RestsStage, Rests, HasClaimed}
 use Rattle.papaya_call.specs.declared.need.Need.{Need}
 use Rattle.papaya_call.specs.declared.write.Claimed.{Claimed}
 
 -- each part is carried from one setting, and the exchanges of a call so far, to another setting and more of them
 pub record AreCarried {K P : Type 0} (g g' : Setting K P) (c : Coding K P) (begun since since' : List (Exchange P)) (k : K) (hands : Hands P) : Type 0 where
   pub mode : g'.blocking ≡ g.blocking
+  pub most : g'.most ≡ g.most
   pub key : (p : P) → g'.key p ≡ g.key p
   pub same : (k k' : K) → g'.same k k' ≡ g.same k k'
   pub moment : (value : Option P) → WasAtMoment g c begun since k value → WasAtMoment g' c begun since' k value
   pub come : (t : ℕ) → HasComeTo g c begun since k t → HasComeTo g' c begun since' k t
   pub stands : (at : Place) → IsAt g c begun since k at → IsAt g' c begun since' k at
   pub met : (at : Place) (word : ℕ) (p : P) → HasMet g c begun since k at word p → HasMet g' c begun since' k at word p
-  pub write : (replace : Bool) (write : Write) → MayWrite g c begun since k replace write → MayWrite g' c begun since' k replace write
+  pub of_key : (t x : ℕ) (key : K) → IsOfKey g ((now g c begun since k).slot t x) key → IsOfKey g' ((now g' c begun since' k).slot t x) key
   pub passed : (t : ℕ) → HasComeTo g c begun since k t → IsPassed g.places (look g (now g c begun since k) k) t → IsPassed g'.places (look g' (now g' c begun since' k) k) t
   pub leaving : (task : Task) (t : ℕ) → RestsLeaving g c begun since k task t → RestsLeaving g' c begun since' k task t
   pub need : (need : Need) → RestsNeed g c begun since k need → RestsNeed g' c begun since' k need
@@ -52,23 +56,11 @@ module _ {K P : Type 0} (g g' : Setting K P) (c : Coding K P) (begun since since
   search_carried (Reading at) r = carried.stands at r
   search_carried (Comparing at word) r = (r.0, r.1, carried.met at word r.0 r.2)
 
-  -- the write of a task
-  writing_carried : (task : Task) (write : Write) → RestsWriting g c begun since k task write → RestsWriting g' c begun since' k task write
-  writing_carried Get write r = r
-  writing_carried (Insert replace) write r = carried.write replace write r
-  writing_carried RemoveIf write r = r
-  writing_carried Compute write r = r
-
   -- the gap where the key is absent
   gap_carried : (gap : Gap) → RestsGap g c begun since k gap → RestsGap g' c begun since' k gap
   gap_carried NoRoot r = r
   gap_carried (At_place at) r = carried.stands at r
   gap_carried (After t) r = (carried.come t r.0, carried.passed t r.0 r.1)
-
-  -- what a pair is made for
-  purpose_carried : (purpose : Purpose) → RestsPurpose g c begun since k purpose → RestsPurpose g' c begun since' k purpose
-  purpose_carried (Fill gap) r = gap_carried gap r
-  purpose_carried (For_replace write) r = carried.write true write r
 
   -- the removal of a pair
   removal_carried : (removal : Removal) → MayRemove g c begun since k hands removal → MayRemove g' c begun since' k hands removal
@@ -76,6 +68,43 @@ module _ {K P : Type 0} (g g' : Setting K P) (c : Coding K P) (begun since since
     where
       same_carried : (p : P) → g'.same k (g'.key p) ≡ g.same k (g.key p)
       same_carried p = carried.same k (g'.key p) ∙ ap (λ key. g.same k key) (carried.key p)
+
+  -- what a write takes the place of
+  write_carried : (replace : Bool) (write : Write) → MayWrite g c begun since k hands replace write → MayWrite g' c begun since' k hands replace write
+  write_carried replace write r = record {
+    stands = carried.stands write.place r.stands;
+    old = ⊎_elim (λ e. inl e) (λ h. inr (h.0, removal_carried (record { place = write.place; word = write.old }) h.1)) r.old;
+  }
+
+  -- the write of a task
+  writing_carried : (task : Task) (write : Write) → RestsWriting g c begun since k hands task write → RestsWriting g' c begun since' k hands task write
+  writing_carried Get write r = r
+  writing_carried (Insert replace) write r = write_carried replace write r
+  writing_carried RemoveIf write r = r
+  writing_carried Compute write r = r
+
+  -- what a pair is made for
+  purpose_carried : (purpose : Purpose) → RestsPurpose g c begun since k hands purpose → RestsPurpose g' c begun since' k hands purpose
+  purpose_carried (Fill gap) r = gap_carried gap r
+  purpose_carried (For_replace write) r = removal_carried (record { place = write.place; word = write.old }) r
+  purpose_carried (Again write) r = removal_carried (record { place = write.place; word = write.old }) r
+
+  -- the call's own pairs
+  own_carried : (n : ℕ) → IsOwnPair g c begun since k hands n → IsOwnPair g' c begun since' k hands n
+  own_carried n r = (r.0, r.1, r.2, carried.key r.0 ∙ r.3)
+
+  -- and those of a key that was met in a slot
+  at_carried : (n t x : ℕ) → IsPairAt g c begun since k hands n t x → IsPairAt g' c begun since' k hands n t x
+  at_carried n t x r = (r.0, r.1, r.2, subst (IsOfKey g' ((now g' c begun since' k).slot t x)) (sym (carried.key r.0)) (carried.of_key t x (g.key r.0) r.3))
+
+  -- a pair that was made for a place
+  for_carried : (write : Write) (n : ℕ) → IsPairFor g c begun since k hands write n → IsPairFor g' c begun since' k hands write n
+  for_carried write n r = by_old (write.old == 0) r
+    where
+      by_old : (b : Bool) → MatchBool b (IsOwnPair g c begun since k hands n) (IsPairAt g c begun since k hands n write.place.table write.place.probe.i)
+          → MatchBool b (IsOwnPair g' c begun since' k hands n) (IsPairAt g' c begun since' k hands n write.place.table write.place.probe.i)
+      by_old true h = own_carried n h
+      by_old false h = at_carried n write.place.table write.place.probe.i h
 
   -- the map had the pair
   had_carried : (n : ℕ) → HadPair g c begun since k n → HadPair g' c begun since' k n
@@ -95,7 +124,7 @@ module _ {K P : Type 0} (g g' : Setting K P) (c : Coding K P) (begun since since
   reply_carried Get (Reply_refused refused) r = r
   reply_carried (Insert replace) Absent r = r
   reply_carried (Insert replace) (Found n) r = r
-  reply_carried (Insert replace) (Inserted n) r = r
+  reply_carried (Insert replace) (Inserted n) r = own_carried n r
   reply_carried (Insert true) (Replaced m n) r = r
   reply_carried (Insert false) (Replaced m n) r = r
   reply_carried (Insert true) (Occupied n) r = r
@@ -117,7 +146,7 @@ module _ {K P : Type 0} (g g' : Setting K P) (c : Coding K P) (begun since since
   reply_carried RemoveIf (Reply_refused refused) r = r
   reply_carried Compute Absent r = r
   reply_carried Compute (Found n) r = r
-  reply_carried Compute (Inserted n) r = r
+  reply_carried Compute (Inserted n) r = own_carried n r
   reply_carried Compute (Replaced m n) r = r
   reply_carried Compute (Occupied n) r = r
   reply_carried Compute (Removed n) r = r
@@ -136,7 +165,7 @@ module _ {K P : Type 0} (g g' : Setting K P) (c : Coding K P) (begun since since
   stage_carried task (Offering gap) r = (r.0, gap_carried gap r.1, carried.moment None r.2)
   stage_carried task (Showing removal) r = (r.0, removal_carried removal r.1)
   stage_carried task (Pairing purpose) r = (r.0, purpose_carried purpose r.1)
-  stage_carried task (Putting put) r = (r.0, carried.write true put.write r.1, r.2)
+  stage_carried task (Putting put) r = (r.0, write_carried true put.write r.1, for_carried put.write put.pair r.2)
   stage_carried task (Burying removal) r = (r.0, removal_carried removal r.1)
   stage_carried task (Counting claimed) r = (r.0, carried.claimed claimed r.1)
   stage_carried task (Noting claimed) r = (r.0, carried.claimed claimed r.1)
@@ -145,28 +174,36 @@ module _ {K P : Type 0} (g g' : Setting K P) (c : Coding K P) (begun since since
   stage_carried task (Growing need) r = (r.0, carried.need need r.1)
   stage_carried task (Ended reply) r = reply_carried task reply r
 
-  -- what the call made
-  made_carried : (made : Made) → RestsMade g c begun since k hands made → RestsMade g' c begun since' k hands made
-  made_carried Nothing r = r
-  made_carried Key r = r
-  made_carried (Pair n) r = r
+  -- a number that is free
+  number_carried : (number : Number) → RestsNumber g c begun since k number → RestsNumber g' c begun since' k number
+  number_carried Wanted r = r
+  number_carried (Free count) r = subst (λ o. MatchOption o (Unit {0}) (λ most. count < most)) (sym carried.most) r
+  number_carried Taken r = r
 
   -- the pair for an absent key
   fill_carried : (fill : Option ℕ) → RestsFill g c begun since k hands fill → RestsFill g' c begun since' k hands fill
   fill_carried None r = r
-  fill_carried (Some n) r = r
+  fill_carried (Some n) r = own_carried n r
+
+  -- the one for a slot
+  of_carried : (of : Option Of) → RestsOf g c begun since k hands of → RestsOf g' c begun since' k hands of
+  of_carried None r = r
+  of_carried (Some of) r = at_carried of.pair of.table of.index r
 
   -- what a closure chose
   choice_carried : (choice : Option Choice) → RestsChoice g c begun since k hands choice → RestsChoice g' c begun since' k hands choice
   choice_carried None r = r
-  choice_carried (Some (To_replace old new)) r = r
+  choice_carried (Some (To_replace old new)) r = of_carried (Some new) r
   choice_carried (Some (To_remove old)) r = r
 
-  -- the pairs that the call made are of its key
+  -- the pairs that the call made are of its class
   hands_carried : (made : Made) (held : Remembered) → RestsHands g c begun since k hands made held → RestsHands g' c begun since' k hands made held
   hands_carried made held r = record {
-    keys = λ q one. carried.key q ∙ r.keys q one;
-    made_is = made_carried made r.made_is;
+    keys = λ q one. (carried.same k (g'.key q) ∙ ap (λ key. g.same k key) (carried.key q)) ∙ r.keys q one;
+    limit = r.limit ∙ sym carried.most;
+    number_is = number_carried made.number r.number_is;
+    own_is = fill_carried made.own r.own_is;
+    of_is = of_carried made.of r.of_is;
     fill_is = fill_carried held.fill r.fill_is;
     choice_is = choice_carried held.choice r.choice_is;
   }

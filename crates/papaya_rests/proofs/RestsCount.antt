@@ -1,11 +1,11 @@
 -- What a machine has yet to add after an answer is what the map grew by.
-use Rattle.std.proofs.Common.{◌≡◌, ⊎_elim, ℕ, ℤ, pos, negsuc, ◌==◌, Bool, true, false, cond, Some, List, ◌∷◌, [], refl, sym, ◌∙◌, subst}
+use Rattle.std.proofs.Common.{◌≡◌, ⊎_elim, ℕ, ◌+◌, ℤ, pos, negsuc, ◌==◌, Bool, true, false, cond, Option, None, Some, List, ◌∷◌, [], refl, sym, ap, ◌∙◌, subst}
 use Rattle.papaya_words.specs.Word.{pair_of, live_word}
 use Rattle.papaya_words.specs.declared.probe.Refused.{Refused}
 use Rattle.papaya_words.specs.declared.probe.ResizeMode.{ResizeMode}
 use Rattle.papaya_ask.specs.declared.ask.Answer.{Answer}
 use Rattle.papaya_ask.specs.declared.ask.Answer.TheVariants.{Exchanged, Found as Found_instead, Yes, Op, Ok as Ok_done, Refused as Was_refused}
-use Rattle.papaya_ask.specs.declared.ask.At.TheVariants.{Root, Slot}
+use Rattle.papaya_ask.specs.declared.ask.At.TheVariants.{Root, Slot, Made as Made_word}
 use Rattle.papaya_ask.specs.declared.ask.OpKind.{OpKind}
 use Rattle.papaya_ask.specs.declared.ask.OpKind.TheVariants as ops
 use Rattle.papaya_ask.specs.declared.ask.StepKind.TheVariants as kinds
@@ -18,21 +18,26 @@ use Rattle.papaya_call.specs.declared.remove.Removal.{Removal}
 use Rattle.papaya_ask.specs.declared.search.Place.{Place}
 use Rattle.papaya_ask.specs.declared.search.Search.TheVariants.{Sizing, Looking, Reading, Comparing}
 use Rattle.papaya_ask.specs.declared.search.Seen.{Seen}
-use Rattle.papaya_call.specs.declared.write.Made.{Made}
-use Rattle.papaya_call.specs.declared.write.Made.TheVariants.{Nothing, Key, Pair}
+use Rattle.papaya_call.specs.declared.made.Made.{Made}
+use Rattle.papaya_rests.proofs.Makings.{HoldsOfPairAsks, pair_holds, pairing_leads, unserved_leads, write_holds, write_then, write_then_is}
 use Rattle.papaya_call.specs.declared.machine.Machine.{Machine}
 use Rattle.papaya_call.specs.declared.machine.State.{State as Stage}
 use Rattle.papaya_call.specs.declared.machine.State.TheVariants.{AtRoot, Making, Opening, Searching, Writing, Offering, Showing, Pairing, Putting, Burying, Counting, Noting, Uncounting, Leaving, Growing, Ended}
 use Rattle.papaya_law.specs.Exchange.{Setting, State, Exchange}
 use Rattle.papaya_law.specs.Code.{Coding, code}
-use Rattle.papaya_call.specs.Compute.{chosen, offered}
-use Rattle.papaya_call.specs.Machine.{after, agreed, ask_of, asks, decided, goes_as, judged, kind_asked, kind_of_ask}
+use Rattle.papaya_call.specs.declared.made.Number.{Number}
+use Rattle.papaya_call.specs.declared.made.Number.TheVariants.{Wanted, Free, Taken}
+use Rattle.papaya_call.specs.Made.{number_ask, number_kind, of_ask, own_ask}
+use Rattle.papaya_call.specs.Compute.{chosen, in_place_of, offered}
+use Rattle.papaya_call.specs.Machine.{after, agreed, ask_of, asks, decided, goes_as, judged, kind_asked, kind_of_ask, served_kind}
 use Rattle.papaya_rests.specs.Owed.{owed_by, grows_by, grows_of}
 use Rattle.papaya_call.specs.Remove.{grave_word}
 use Rattle.papaya_ask.specs.Search.{hinted, look as look_seen, at_yes as search_compared}
 use Rattle.papaya_rests.specs.Told.{IsAsked, IsTold, IsUnmade, IsSaying, Hands, told_of}
 use Rattle.papaya_call.specs.declared.write.Write.{Write}
-use Rattle.papaya_call.specs.Write.{claimed_by}
+use Rattle.papaya_call.specs.Write.{claimed_by, served_ask, serves}
+use Rattle.papaya_ask.specs.declared.ask.Ask.TheVariants.{Exchange as Ask_exchange}
+use Rattle.std.proofs.lemmas.Bool.{cond_both}
 use Rattle.papaya_rests.proofs.Leads.{HoldsOfLeads, beaten_leads, goes_leads, left_leads, provides_leads, root_leads}
 use Rattle.papaya_rests.proofs.RestsLearn.{by_test}
 
@@ -55,6 +60,10 @@ owed_in (Leaving t) = pos 0
 owed_in (Growing t) = pos 0
 owed_in (Ended reply) = pos 0
 
+-- what is asked for a pair owes nothing
+pairs_owe : HoldsOfPairAsks (λ ask. owed_by ask ≡ pos 0)
+pairs_owe = record { loads = refl; takes = λ count. refl; key = refl; value = refl; pair = refl; pair_of = λ n. refl }
+
 -- its ask is what it owes
 asked_in : (made : Made) (hash : ℕ) (stage : Stage) → owed_by (asks made hash stage) ≡ owed_in stage
 asked_in made hash AtRoot = refl
@@ -64,14 +73,10 @@ asked_in made hash (Searching (Sizing t)) = refl
 asked_in made hash (Searching (Looking at)) = refl
 asked_in made hash (Searching (Reading at)) = refl
 asked_in made hash (Searching (Comparing at word)) = refl
-asked_in Nothing hash (Writing write) = refl
-asked_in Key hash (Writing write) = refl
-asked_in (Pair n) hash (Writing write) = refl
+asked_in made hash (Writing write) = write_holds (λ ask. owed_by ask ≡ pos 0) pairs_owe write (λ n. refl) made
 asked_in made hash (Offering gap) = refl
 asked_in made hash (Showing removal) = refl
-asked_in Nothing hash (Pairing purpose) = refl
-asked_in Key hash (Pairing purpose) = refl
-asked_in (Pair n) hash (Pairing purpose) = refl
+asked_in made hash (Pairing purpose) = pair_holds (λ ask. owed_by ask ≡ pos 0) pairs_owe made (in_place_of purpose)
 asked_in made hash (Putting put) = refl
 asked_in made hash (Burying removal) = refl
 asked_in made hash (Counting n) = refl
@@ -92,6 +97,7 @@ leads_owe = record {
   writing = λ write. refl;
   offering = λ gap. refl;
   showing = λ removal. refl;
+  pairing = λ purpose. refl;
   putting = λ put. refl;
   burying = λ removal. refl;
   leaving = λ t. refl;
@@ -165,13 +171,53 @@ module _ {K P : Type 0} (g : Setting K P) (c : Coding K P) (k : K) (s : State P)
   compared_owes made at word (Yes same) = goes_owes m.task m.mode m.remembered (search_compared (Comparing at word) same)
   compared_owes made at word answer = refl
 
+  -- the map doesn't grow by what is asked for a pair
+  taken_grows : (count : ℕ) (answer : Answer) → grows_by (Some kinds.Take) (Ask_exchange Made_word count (count + 1)) answer ≡ pos 0
+  taken_grows count Exchanged = refl
+  taken_grows count answer = refl
+
+  own_grows : (keyed valued : Bool) (answer : Answer) → grows_by None (own_ask keyed valued) answer ≡ pos 0
+  own_grows false valued answer = refl
+  own_grows true false answer = refl
+  own_grows true true answer = refl
+
+  of_grows : (valued : Bool) (old : ℕ) (answer : Answer) → grows_by None (of_ask valued old) answer ≡ pos 0
+  of_grows false old answer = refl
+  of_grows true old answer = refl
+
+  number_grows : (number : Number) (made : Made) (old : ℕ) (answer : Answer) → grows_by (number_kind number) (number_ask number made old) answer ≡ pos 0
+  number_grows Wanted made old answer = refl
+  number_grows (Free count) made old answer = taken_grows count answer
+  number_grows Taken made old answer =
+      cond_both (old == 0) (own_ask made.keyed made.valued) (of_ask made.valued old) (λ ask. grows_by None ask answer ≡ pos 0) (λ _. own_grows made.keyed made.valued answer) (λ _. of_grows made.valued old answer)
+
+  -- nothing is owed by a stage
+  abbrev OwesNone : Stage → Type 0
+  OwesNone stage = owed_in stage ≡ pos 0
+
+  -- a write owes what its exchange lets the map grow by
+  write_owes : (made : Made) (write : Write) (served : Option ℕ) (answer : Answer) → IsTold g c k s (served_kind served made write) hands (served_ask served write made) answer es hands'
+      → owed_in (write_then m served made write answer) ≡ grows_by (served_kind served made write) (served_ask served write made) answer
+  write_owes made write None answer h = unserved_leads m OwesNone (λ refused. refl) made write refl answer ∙ sym (number_grows made.number made write.old answer)
+  write_owes made write (Some i) answer h =
+      let t : ℕ = write.place.table in
+      let x : ℕ = write.place.probe.i in
+      let word : ℕ = code g c (s.slot t x) in
+      let Is : Answer → Type 0 = λ a. owed_in (write_then m (Some i) made write a) ≡ grows_by (Some (cond (write.old == 0) kinds.Claim kinds.Replace)) (Ask_exchange (Slot t x) write.old (live_word i)) a in
+      by_test (word == write.old)
+      ((answer ≡ Exchanged) × ((e : Exchange P) × IsAsked g c k (Some (cond (write.old == 0) kinds.Claim kinds.Replace)) (Slot t x) (live_word i) s hands e × (es ≡ e ∷ [])) × (hands' ≡ hands))
+      ((answer ≡ Found_instead word) × (es ≡ []) × (hands' ≡ told_of s (Slot t x) hands))
+      (Is answer) h
+      (λ _ h'. subst Is (sym h'.0) (written_owes (write.old == 0) write i))
+      (λ _ h'. subst Is (sym h'.0) (goes_owes m.task m.mode m.remembered (look_seen write.place word)))
+
   -- in each stage
   owes_in : (made : Made) (stage : Stage) (answer : Answer) → IsTold g c k s (kind_asked made stage) hands (asks made m.hash stage) answer es hands' → Owes made stage answer
   owes_in made AtRoot answer h = subst (Owes made AtRoot) (sym h.0) (root_leads (λ stage. owed_in stage ≡ pos 0) leads_owe m.task m.remembered.fill s.root)
   owes_in made Making answer h = ⊎_elim (λ u. unmade_owes made Making answer u (λ refused. refl) refl) (λ t. subst (Owes made Making) (sym t.2) refl) h.0
   owes_in made (Opening t) answer h =
       by_test (s.root == 0)
-      ((answer ≡ Exchanged) × ((e : Exchange P) × IsAsked c (Some kinds.Open) Root t s hands e × (es ≡ e ∷ [])) × (hands' ≡ hands))
+      ((answer ≡ Exchanged) × ((e : Exchange P) × IsAsked g c k (Some kinds.Open) Root t s hands e × (es ≡ e ∷ [])) × (hands' ≡ hands))
       ((answer ≡ Found_instead s.root) × (es ≡ []) × (hands' ≡ hands))
       (Owes made (Opening t) answer) h
       (λ _ h'. subst (Owes made (Opening t)) (sym h'.0) refl)
@@ -182,32 +228,16 @@ module _ {K P : Type 0} (g : Setting K P) (c : Coding K P) (k : K) (s : State P)
       let word : ℕ = code g c (s.slot at.table at.probe.i) in
       subst (Owes made (Searching (Reading at))) (sym h.0) (goes_owes m.task m.mode m.remembered (look_seen at word))
   owes_in made (Searching (Comparing at word)) answer h = compared_owes made at word answer
-  owes_in Nothing (Writing write) answer h = ⊎_elim (λ u. unmade_owes Nothing (Writing write) answer u (λ refused. refl) refl) (λ i. subst (Owes Nothing (Writing write)) (sym i.1) refl) h.0
-  owes_in Key (Writing write) answer h = ⊎_elim (λ u. unmade_owes Key (Writing write) answer u.0 (λ refused. refl) refl) (λ q. subst (Owes Key (Writing write)) (sym q.2) refl) h
-  owes_in (Pair i) (Writing write) answer h =
-      let t : ℕ = write.place.table in
-      let x : ℕ = write.place.probe.i in
-      let word : ℕ = code g c (s.slot t x) in
-      by_test (word == write.old)
-      ((answer ≡ Exchanged) × ((e : Exchange P) × IsAsked c (Some (cond (write.old == 0) kinds.Claim kinds.Replace)) (Slot t x) (live_word i) s hands e × (es ≡ e ∷ [])) × (hands' ≡ hands))
-      ((answer ≡ Found_instead word) × (es ≡ []) × (hands' ≡ told_of s (Slot t x) hands))
-      (Owes (Pair i) (Writing write) answer) h
-      (λ _ h'. subst (Owes (Pair i) (Writing write)) (sym h'.0) (written_owes (write.old == 0) write i))
-      (λ _ h'. subst (Owes (Pair i) (Writing write)) (sym h'.0) (goes_owes m.task m.mode m.remembered (look_seen write.place word)))
+  owes_in made (Writing write) answer h = ap owed_in (write_then_is m made write answer) ∙ write_owes made write (serves made write) answer h
   owes_in made (Offering gap) answer h = said_owes made (Offering gap) answer h.0 (λ _. refl) (λ kind. offered_owes gap kind) refl
   owes_in made (Showing removal) answer h = said_owes made (Showing removal) answer h.0 (λ agrees. judged_owes m.task removal agrees) (λ kind. decided_owes m.task removal kind) refl
-  owes_in Nothing (Pairing purpose) answer h =
-      ⊎_elim (λ u. unmade_owes Nothing (Pairing purpose) answer u (λ refused. refl) refl) (λ i. subst (Owes Nothing (Pairing purpose)) (sym i.1) refl) h.0
-  owes_in Key (Pairing purpose) answer h =
-      ⊎_elim (λ u. unmade_owes Key (Pairing purpose) answer u.0 (λ refused. refl) refl) (λ q. subst (Owes Key (Pairing purpose)) (sym q.2) (provides_leads (λ stage. owed_in stage ≡ pos 0) leads_owe purpose (c.number q.0))) h
-  owes_in (Pair i) (Pairing purpose) answer h =
-      ⊎_elim (λ u. unmade_owes (Pair i) (Pairing purpose) answer u.0 (λ refused. refl) refl) (λ q. subst (Owes (Pair i) (Pairing purpose)) (sym q.2) (provides_leads (λ stage. owed_in stage ≡ pos 0) leads_owe purpose (c.number q.0))) h
+  owes_in made (Pairing purpose) answer h = pairing_leads m OwesNone (λ refused. refl) made purpose refl (λ n. provides_leads OwesNone leads_owe purpose n) answer ∙ sym (number_grows made.number made (in_place_of purpose) answer)
   owes_in made (Putting put) answer h =
       let t : ℕ = put.write.place.table in
       let x : ℕ = put.write.place.probe.i in
       let word : ℕ = code g c (s.slot t x) in
       by_test (word == put.write.old)
-      ((answer ≡ Exchanged) × ((e : Exchange P) × IsAsked c (Some (cond (put.write.old == 0) kinds.Claim kinds.Replace)) (Slot t x) (live_word put.pair) s hands e × (es ≡ e ∷ [])) × (hands' ≡ hands))
+      ((answer ≡ Exchanged) × ((e : Exchange P) × IsAsked g c k (Some (cond (put.write.old == 0) kinds.Claim kinds.Replace)) (Slot t x) (live_word put.pair) s hands e × (es ≡ e ∷ [])) × (hands' ≡ hands))
       ((answer ≡ Found_instead word) × (es ≡ []) × (hands' ≡ told_of s (Slot t x) hands))
       (Owes made (Putting put) answer) h
       (λ _ h'. subst (Owes made (Putting put)) (sym h'.0) (written_owes (put.write.old == 0) put.write put.pair))
@@ -217,7 +247,7 @@ module _ {K P : Type 0} (g : Setting K P) (c : Coding K P) (k : K) (s : State P)
       let x : ℕ = removal.place.probe.i in
       let word : ℕ = code g c (s.slot t x) in
       by_test (word == removal.word)
-      ((answer ≡ Exchanged) × ((e : Exchange P) × IsAsked c (Some kinds.Bury) (Slot t x) (grave_word removal.word) s hands e × (es ≡ e ∷ [])) × (hands' ≡ hands))
+      ((answer ≡ Exchanged) × ((e : Exchange P) × IsAsked g c k (Some kinds.Bury) (Slot t x) (grave_word removal.word) s hands e × (es ≡ e ∷ [])) × (hands' ≡ hands))
       ((answer ≡ Found_instead word) × (es ≡ []) × (hands' ≡ told_of s (Slot t x) hands))
       (Owes made (Burying removal) answer) h
       (λ _ h'. subst (Owes made (Burying removal)) (sym h'.0) refl)

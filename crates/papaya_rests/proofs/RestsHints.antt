@@ -4,8 +4,8 @@ use Rattle.papaya_words.specs.Word.{hint_of}
 use Rattle.papaya_ask.specs.declared.ask.Ask.TheVariants.{WriteHint}
 use Rattle.papaya_ask.specs.declared.call.Task.{Task}
 use Rattle.papaya_ask.specs.declared.search.Search.TheVariants.{Sizing, Looking, Reading, Comparing}
-use Rattle.papaya_call.specs.declared.write.Made.{Made}
-use Rattle.papaya_call.specs.declared.write.Made.TheVariants.{Nothing, Key, Pair}
+use Rattle.papaya_call.specs.declared.made.Made.{Made}
+use Rattle.papaya_rests.proofs.Makings.{IsPairAsk, IsWriteAsk, pairing_asks, write_asks}
 use Rattle.papaya_call.specs.declared.machine.Machine.{Machine}
 use Rattle.papaya_call.specs.declared.machine.State.{State as Stage}
 use Rattle.papaya_call.specs.declared.machine.State.TheVariants.{AtRoot, Making, Opening, Searching, Writing, Offering, Showing, Pairing, Putting, Burying, Counting, Noting, Uncounting, Leaving, Growing, Ended}
@@ -27,14 +27,10 @@ module _ {K P : Type 0} (g : Setting K P) (c : Coding K P) (begun since : List (
     may_hint_in made (Searching (Looking at)) r e = absurd cc
     may_hint_in made (Searching (Reading at)) r e = absurd cc
     may_hint_in made (Searching (Comparing at word)) r e = absurd cc
-    may_hint_in Nothing (Writing write) r e = absurd cc
-    may_hint_in Key (Writing write) r e = absurd cc
-    may_hint_in (Pair i) (Writing write) r e = absurd cc
+    may_hint_in made (Writing write) r e = absurd (subst IsWriteAsk e (write_asks made write))
     may_hint_in made (Offering gap) r e = absurd cc
     may_hint_in made (Showing removal) r e = absurd cc
-    may_hint_in Nothing (Pairing purpose) r e = absurd cc
-    may_hint_in Key (Pairing purpose) r e = absurd cc
-    may_hint_in (Pair i) (Pairing purpose) r e = absurd cc
+    may_hint_in made (Pairing purpose) r e = absurd (subst IsPairAsk e (pairing_asks made purpose))
     may_hint_in made (Putting put) r e = absurd cc
     may_hint_in made (Burying removal) r e = absurd cc
     may_hint_in made (Counting claimed) r e = absurd cc

@@ -12,16 +12,15 @@ use Rattle.papaya_ask.specs.declared.search.Place.{Place}
 use Rattle.papaya_ask.specs.declared.search.Seen.{Seen}
 use Rattle.papaya_ask.specs.declared.search.Seen.TheVariants as seen
 use Rattle.papaya_law.specs.Exchange.{Word, Live, Marked, Copied, Setting, State, Exchange, run, start}
-use Rattle.papaya_law.specs.View.{Foreign, Here, Leaving, Gone, look, own, held, view}
+use Rattle.papaya_law.specs.View.{Foreign, Here, Leaving, Gone, own, held, view}
 use Rattle.papaya_law.specs.Allows.{AllAllowed}
 use Rattle.papaya_law.specs.Code.{Coding, code}
 use Rattle.papaya_call.specs.Machine.{goes_as, computes, found, occupies, removes, replaces}
 use Rattle.papaya_rests.specs.Told.{Hands}
 use Rattle.papaya_law.specs.Code.{IsHashed}
-use Rattle.papaya_rests.specs.Rests.{HadPair, HasMet, IsAt, IsMovingFrom, IsModeOf, MayRemove, MayWrite, RestsChoice, RestsFill, RestsStage, WasAtMoment}
+use Rattle.papaya_rests.specs.Rests.{HadPair, HasMet, IsAt, IsMovingFrom, IsModeOf, MayRemove, RestsChoice, RestsFill, RestsStage, WasAtMoment}
 use Rattle.papaya_law.proofs.Codes.{code_kind, code_pair}
-use Rattle.papaya_law.proofs.Later.{own_sees, sees_later}
-use Rattle.papaya_rests.proofs.RestsLearnComputes.{lacks_rests, recalls_rests}
+use Rattle.papaya_rests.proofs.RestsLearnComputes.{lacks_rests, recalls_rests, replaceable}
 use Rattle.papaya_rests.proofs.RestsLearnMoments.{empty_here, over_blocking}
 use Rattle.papaya_rests.proofs.RestsLearnPlaces.{RestsSeen, sees}
 use Rattle.papaya_rests.proofs.RestsLearnLook.{became_of}
@@ -48,13 +47,6 @@ module _ {K P : Type 0} (g : Setting K P) (c : Coding K P) (hashed : IsHashed g 
       h.had (⊎_elim (λ l. ap held (shows_live l)) (λ m. ap held (shows_marked m)) e),
     )
 
-    -- where it stood Live the key's word still stands there
-    own_now : h.was ≡ Live p → own (look g now k at.table at.probe.len) ≡ true
-    own_now e =
-        let w : Word P = now.slot at.table at.probe.i in
-        ap own (sees g c hashed begun since k at h.stands w refl)
-        ∙ own_sees (view g k h.was) (view g k w) (sees_later g hashed.lawful k h.was w h.became) (ap own (shows_live e))
-
     -- where it stood Marked the pair is being copied, or was
     moving : h.was ≡ Marked p → IsMovingFrom g c begun since k at.table at.probe.i
     moving e =
@@ -71,18 +63,14 @@ module _ {K P : Type 0} (g : Setting K P) (c : Coding K P) (hashed : IsHashed g 
     marked_kind : h.was ≡ Marked p → kind_of word ≡ kinds.Marked
     marked_kind e = ap kind_of (h.loaded ∙ ap (code g c) e) ∙ code_kind g c (Marked p)
 
-    -- the key's word may be replaced
-    pub replaceable : h.was ≡ Live p → MayWrite g c begun since k true (record { place = at; old = word })
-    replaceable e = record { stands = h.stands; old = inr (refl, live_kind e, own_now e) }
-
     -- its pair may be removed
     removable : (hands : Hands P) → hands.last ≡ Some p → h.was ≡ Live p → MayRemove g c begun since k hands (record { place = at; word = word })
     removable hands last e = record { pair = p; last = last; met = h; live = live_kind e; same = same }
 
     -- an insertion that replaces
-    replacing : (hands : Hands P) → (h.was ≡ Live p) ⊎ (h.was ≡ Marked p) → RestsStage g c begun since k hands (Insert true) (replaces (kind_of word) at word)
-    replacing hands (inl e) = subst (λ y. RestsStage g c begun since k hands (Insert true) (replaces y at word)) (sym (live_kind e)) (replaceable e)
-    replacing hands (inr e) =
+    replacing : (hands : Hands P) → hands.last ≡ Some p → (h.was ≡ Live p) ⊎ (h.was ≡ Marked p) → RestsStage g c begun since k hands (Insert true) (replaces (kind_of word) at word)
+    replacing hands last (inl e) = subst (λ y. RestsStage g c begun since k hands (Insert true) (replaces y at word)) (sym (live_kind e)) (replaceable g c begun since k hands (record { place = at; old = word }) (removable hands last e))
+    replacing hands last (inr e) =
         subst (λ y. RestsStage g c begun since k hands (Insert true) (replaces y at word)) (sym (marked_kind e)) (tt, (h.stands.come, moving e))
 
     -- one that replaces nothing
@@ -102,7 +90,7 @@ module _ {K P : Type 0} (g : Setting K P) (c : Coding K P) (hashed : IsHashed g 
         → RestsStage g c begun since k hands Compute (computes (kind_of word) held at word)
     computing hands last held own (inl e) =
         subst (λ y. RestsStage g c begun since k hands Compute (computes y held at word)) (sym (live_kind e))
-        (recalls_rests g c begun since k hands at word (replaceable e) (removable hands last e) held.choice own (pair_of word))
+        (recalls_rests g c begun since k hands at word (removable hands last e) held.choice own (pair_of word))
     computing hands last held own (inr e) =
         subst (λ y. RestsStage g c begun since k hands Compute (computes y held at word)) (sym (marked_kind e)) (tt, (h.stands.come, moving e))
 
@@ -111,7 +99,7 @@ module _ {K P : Type 0} (g : Setting K P) (c : Coding K P) (hashed : IsHashed g 
         → RestsStage g c begun since k hands task (found task held at word)
     finds hands last held own Get e = had_pair e
     finds hands last held own (Insert false) e = trying hands e
-    finds hands last held own (Insert true) e = replacing hands e
+    finds hands last held own (Insert true) e = replacing hands last e
     finds hands last held own RemoveIf e = removing hands last e
     finds hands last held own Compute e = computing hands last held own e
 

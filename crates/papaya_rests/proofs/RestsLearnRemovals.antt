@@ -19,10 +19,10 @@ use Rattle.papaya_call.specs.Machine.{HasClosure, agreed, beaten_as, beaten_by, 
 use Rattle.papaya_ask.specs.Search.{look as look_seen}
 use Rattle.papaya_rests.specs.Told.{Hands}
 use Rattle.papaya_law.specs.Code.{IsHashed}
-use Rattle.papaya_rests.specs.Rests.{MayRemove, MayWrite, RestsStage, WasAtMoment}
+use Rattle.papaya_rests.specs.Rests.{MayRemove, RestsStage, WasAtMoment}
 use Rattle.papaya_law.proofs.CodeViews.{word_of_kind}
 use Rattle.papaya_rests.proofs.RestsExchange.{may_bury}
-use Rattle.papaya_rests.proofs.RestsLearnGoes.{had_pair, replaceable}
+use Rattle.papaya_rests.proofs.RestsLearnGoes.{had_pair}
 use Rattle.papaya_rests.proofs.RestsLearnLook.{became_of}
 use Rattle.papaya_rests.proofs.RestsLearnMoments.{buried_here}
 use Rattle.papaya_rests.proofs.RestsLearnWrites.{IsSlotAsked, one_more}
@@ -54,7 +54,7 @@ module _ {K P : Type 0} (g : Setting K P) (c : Coding K P) (hashed : IsHashed g 
 
     -- a Live word there is still the key's
     same_now : (q : P) → now.slot removal.place.table removal.place.probe.i ≡ Live q → g.same k (g.key q) ≡ true
-    same_now q is = hashed.lawful.through k (g.key r.pair) (g.key q) r.same (subst (Becomes g (Live r.pair)) is became)
+    same_now q is = let kept : g.key q ≡ g.key r.pair = subst (Becomes g (Live r.pair)) is became in subst (λ l. g.same k l ≡ true) (sym kept) r.same
 
     -- the burial that was asked for is allowed
     pub buries : (new : ℕ) (es : List (Exchange P)) → IsSlotAsked g c hashed begun since may k (Some kinds.Bury) removal.place new hands es → AllAllowed g start (begun ++ (since ++ es))
@@ -62,10 +62,6 @@ module _ {K P : Type 0} (g : Setting K P) (c : Coding K P) (hashed : IsHashed g 
         let p : P = (h.1).0 in
         let allows : Allows g now h.0 = subst (Allows g now) (sym (h.1).2) (may_bury g c hashed begun since may k removal.place r.met.stands p (h.1).1 (same_now p (h.1).1)) in
         subst (λ l. AllAllowed g start (begun ++ (since ++ l))) (sym h.2) (one_more g c hashed begun since may k h.0 allows)
-
-    -- another pair of the key may take the place of the one that was shown
-    pub shown_replaceable : MayWrite g c begun since k true (record { place = removal.place; old = removal.word })
-    shown_replaceable = replaceable g c hashed begun since may k removal.place removal.word r.pair r.met r.same was_live
 
     -- where the closure agrees the pair is to be buried, and where it doesn't, the map had the pair
     agreed_rests : (agrees : Bool) → RestsStage g c begun since k hands RemoveIf (agreed removal agrees)

@@ -1,5 +1,5 @@
 -- After an exchange of its own a machine rests again, and the exchange was allowed.
-use Rattle.std.proofs.Common.{◌≡◌, ⊎_elim, ℕ, ◌<◌, ◌==◌, eqb-true, eq-eqb, Bool, true, false, cond, Option, Some, List, [], ◌∷◌, ◌++◌, append_assoc, refl, sym, ap, ◌∙◌, subst}
+use Rattle.std.proofs.Common.{◌≡◌, ⊎_elim, ℕ, ◌<◌, ◌==◌, eqb-true, eq-eqb, Bool, true, false, cond, MatchBool, Option, Some, List, [], ◌∷◌, ◌++◌, append_assoc, refl, sym, ap, ◌∙◌, subst}
 use Rattle.papaya_words.specs.Word.{pair_of, hint_of}
 use Rattle.papaya_ask.specs.declared.ask.At.TheVariants.{Root, Slot}
 use Rattle.papaya_ask.specs.declared.ask.StepKind.{StepKind}
@@ -15,15 +15,15 @@ use Rattle.papaya_law.specs.Exchange.{Live, Setting, State, Exchange, Open, Clai
 use Rattle.papaya_law.specs.Allows.{AllAllowed, Allows}
 use Rattle.papaya_law.specs.Code.{Coding, code}
 use Rattle.papaya_call.specs.Machine.{IsComputer, written}
-use Rattle.papaya_rests.specs.Told.{IsAsked, IsOneOf, Hands}
+use Rattle.papaya_rests.specs.Told.{IsAsked, Hands}
 use Rattle.papaya_law.specs.Code.{IsHashed}
-use Rattle.papaya_rests.specs.Rests.{HasClaimed, HasComeTo, IsOwnPair, MayWrite, RestsStage, RestsWriting}
+use Rattle.papaya_rests.specs.Rests.{HasClaimed, HasComeTo, IsOwnPair, IsPairAt, IsPairFor, MayWrite, RestsStage, RestsWriting}
 use Rattle.papaya_call.specs.Write.{claimed_by, write_kind}
 use Rattle.papaya_law.proofs.Hints.{hint_fills}
 use Rattle.papaya_law.proofs.Moments.{run-append, allowed_append}
 use Rattle.papaya_law.proofs.Slots.{put_there}
 use Rattle.papaya_rests.proofs.RestsStay.{at_stays}
-use Rattle.papaya_rests.proofs.RestsExchange.{may_claim, may_replace}
+use Rattle.papaya_rests.proofs.RestsExchange.{live_same, may_claim, may_replace}
 use Rattle.papaya_rests.proofs.RestsLearnMoments.{root_come}
 use Rattle.papaya_law.specs.Hints.{IsHint}
 
@@ -49,7 +49,7 @@ module _ {K P : Type 0} (g : Setting K P) (c : Coding K P) (hashed : IsHashed g 
       subst (λ y. AllAllowed g start (begun ++ (since ++ y ∷ [])) × HasComeTo g c begun (since ++ y ∷ []) k t) (sym is) (all, come)
 
   -- what was asked for at the root
-  pub opens : (t : ℕ) → 0 < t → now.root ≡ 0 → (hands : Hands P) (es : List (Exchange P)) → ((e : Exchange P) × IsAsked c (Some kinds.Open) Root t now hands e × (es ≡ e ∷ []))
+  pub opens : (t : ℕ) → 0 < t → now.root ≡ 0 → (hands : Hands P) (es : List (Exchange P)) → ((e : Exchange P) × IsAsked g c k (Some kinds.Open) Root t now hands e × (es ≡ e ∷ []))
       → AllAllowed g start (begun ++ (since ++ es)) × HasComeTo g c begun (since ++ es) k t
   opens t some none hands es h = subst (λ l. AllAllowed g start (begun ++ (since ++ l)) × HasComeTo g c begun (since ++ l) k t) (sym h.2) (opened t some none h.0 h.1)
 
@@ -59,20 +59,16 @@ module _ {K P : Type 0} (g : Setting K P) (c : Coding K P) (hashed : IsHashed g 
 
   -- what was exchanged there is what was asked for
   abbrev pub IsSlotAsked : Option StepKind → Place → ℕ → Hands P → List (Exchange P) → Type 0
-  IsSlotAsked kind at new hands es = (e : Exchange P) × IsAsked c kind (Slot at.table at.probe.i) new now hands e × (es ≡ e ∷ [])
+  IsSlotAsked kind at new hands es = (e : Exchange P) × IsAsked g c k kind (Slot at.table at.probe.i) new now hands e × (es ≡ e ∷ [])
 
-  -- the pairs that the call made are of its key
-  abbrev AreOwn : Hands P → Type 0
-  AreOwn hands = (q : P) → IsOneOf hands.made q → g.key q ≡ k
-
-  module _ (hands : Hands P) (keys : AreOwn hands) (new : ℕ) (replace : Bool) (write : Write) (r : MayWrite g c begun since k replace write) (old : word_at write.place ≡ write.old) where
+  module _ (hands : Hands P) (new : ℕ) (replace : Bool) (write : Write) (r : MayWrite g c begun since k hands replace write) (old : word_at write.place ≡ write.old) where
     -- an exchange of a slot that was asked for where a machine writes is allowed
-    allowed_write : (b : Bool) → (write.old == 0) ≡ b → (e : Exchange P) → IsAsked c (Some (cond b kinds.Claim kinds.Replace)) (Slot write.place.table write.place.probe.i) new now hands e → Allows g now e
-    allowed_write true is e h = subst (Allows g now) (sym h.2) (may_claim g c hashed begun since may k write.place r.stands h.0 (keys h.0 h.1.made) (old ∙ eqb-true write.old 0 is))
+    allowed_write : (b : Bool) → (write.old == 0) ≡ b → (e : Exchange P) → IsAsked g c k (Some (cond b kinds.Claim kinds.Replace)) (Slot write.place.table write.place.probe.i) new now hands e → Allows g now e
+    allowed_write true is e h = subst (Allows g now) (sym h.3) (may_claim g c hashed begun since may k write.place r.stands h.0 h.2 (old ∙ eqb-true write.old 0 is))
     allowed_write false is e h =
         ⊎_elim
         (λ none. absurd (let some = eq-eqb write.old 0 none in cc (some, is)))
-        (λ o. subst (Allows g now) (sym h.4) (may_replace g c hashed begun since may k write.place r.stands h.1 (keys h.1 h.3.made) h.0 h.2 o.2))
+        (λ o. subst (Allows g now) (sym h.5) (may_replace g c hashed begun since may k write.place r.stands h.0 h.1 h.2 (live_same g c hashed begun since may k hands (record { place = write.place; word = write.old }) o.1 h.0 h.2) h.4))
         r.old
 
     -- so it may follow what was exchanged
@@ -80,63 +76,66 @@ module _ {K P : Type 0} (g : Setting K P) (c : Coding K P) (hashed : IsHashed g 
     allowed_slot es h = subst (λ l. AllAllowed g start (begun ++ (since ++ l))) (sym h.2) (one_more h.0 (allowed_write (write.old == 0) refl h.0 h.1))
 
   -- the new pair stands where it was claimed, and is of the key
-  claimed_there : (hands : Hands P) → AreOwn hands → (new : ℕ) (write : Write) → (es : List (Exchange P)) → IsSlotAsked (Some kinds.Claim) write.place new hands es
+  claimed_there : (hands : Hands P) (new : ℕ) (write : Write) → (es : List (Exchange P)) → IsSlotAsked (Some kinds.Claim) write.place new hands es
       → IsHint g c (run (begun ++ (since ++ es)) start) write.place.table write.place.probe.i (hint_of (c.hash k))
-  claimed_there hands keys new write es (e, (q, own, is), one) =
+  claimed_there hands new write es (e, (q, own, mine, is), one) =
       let t : ℕ = write.place.table in
       let x : ℕ = write.place.probe.i in
-      let mine : g.key q ≡ k = keys q own.made in
       let there : (run (begun ++ (since ++ Claim t x q ∷ [])) start).slot t x ≡ Live q = ap (λ s. s.slot t x) (after_more (Claim t x q)) ∙ (put_there now t x (Live q) t x (refl, refl)).0 in
       let same : g.same k (g.key q) ≡ true = subst (λ l. g.same k l ≡ true) (sym mine) (hashed.lawful.itself k) in
       subst (λ l. IsHint g c (run (begun ++ (since ++ l)) start) t x (hint_of (c.hash k))) (sym (one ∙ ap (λ y. y ∷ []) is))
       (hint_fills g c hashed.coding k ((run (begun ++ (since ++ Claim t x q ∷ [])) start).slot t x) q there same)
 
   -- the claimed pair, its place and its hint
-  has_claimed : (hands : Hands P) → AreOwn hands → (n new : ℕ) → IsOwnPair g c begun since k hands n → (replace : Bool) (write : Write) → MayWrite g c begun since k replace write
+  has_claimed : (hands : Hands P) → (n new : ℕ) → IsOwnPair g c begun since k hands n → (replace : Bool) (write : Write) → MayWrite g c begun since k hands replace write
       → (es : List (Exchange P)) → AllAllowed g start (begun ++ (since ++ es)) → IsSlotAsked (Some kinds.Claim) write.place new hands es → HasClaimed g c begun (since ++ es) k hands (claimed_by write n)
-  has_claimed hands keys n new own replace write r es all h = record {
+  has_claimed hands n new own replace write r es all h = record {
     pair = own;
     stands = at_stays g c hashed begun since es all k write.place r.stands;
-    hint = claimed_there hands keys new write es h;
+    hint = claimed_there hands new write es h;
   }
 
+  -- a pair was made for the place
+  abbrev IsPairBy : Hands P → Write → ℕ → Bool → Type 0
+  IsPairBy hands write n b = MatchBool b (IsOwnPair g c begun since k hands n) (IsPairAt g c begun since k hands n write.place.table write.place.probe.i)
+
   -- an insertion that replaces has replaced, and another one has claimed
-  has_written : (hands : Hands P) → AreOwn hands → (n new : ℕ) → IsOwnPair g c begun since k hands n → (replace : Bool) (write : Write) → MayWrite g c begun since k replace write
-      → (es : List (Exchange P)) → AllAllowed g start (begun ++ (since ++ es)) → (b : Bool) → (write.old == 0) ≡ b → IsSlotAsked (Some (cond b kinds.Claim kinds.Replace)) write.place new hands es
+  has_written : (hands : Hands P) → (n new : ℕ) → (replace : Bool) (write : Write) → MayWrite g c begun since k hands replace write
+      → (es : List (Exchange P)) → AllAllowed g start (begun ++ (since ++ es)) → (b : Bool) → (write.old == 0) ≡ b → IsPairBy hands write n b → IsSlotAsked (Some (cond b kinds.Claim kinds.Replace)) write.place new hands es
       → RestsStage g c begun (since ++ es) k hands (Insert replace) (cond b (Counting (claimed_by write n)) (Ended (Replaced (pair_of write.old) n)))
-  has_written hands keys n new own replace write r es all true is h = (tt, has_claimed hands keys n new own replace write r es all h)
-  has_written hands keys n new own true write r es all false is h = own
-  has_written hands keys n new own false write r es all false is h =
+  has_written hands n new replace write r es all true is own h = (tt, has_claimed hands n new own replace write r es all h)
+  has_written hands n new true write r es all false is own h = (own.0, own.1, own.2)
+  has_written hands n new false write r es all false is own h =
       ⊎_elim
       (λ none. absurd (let some = eq-eqb write.old 0 none in cc (some, is)))
       (λ o. absurd (let replaces = o.0 in cc replaces))
       r.old
 
   -- what was asked for at a slot
-  pub writes : (hands : Hands P) → AreOwn hands → (n new : ℕ) → IsOwnPair g c begun since k hands n → (task : Task) (write : Write) → RestsWriting g c begun since k task write
+  pub writes : (hands : Hands P) → (n new : ℕ) → (task : Task) (write : Write) → IsPairFor g c begun since k hands write n → RestsWriting g c begun since k hands task write
       → word_at write.place ≡ write.old → (es : List (Exchange P)) → IsSlotAsked (Some (write_kind write)) write.place new hands es
       → AllAllowed g start (begun ++ (since ++ es)) × RestsStage g c begun (since ++ es) k hands task (written write n)
-  writes hands keys n new own Get write r old es h = absurd r
-  writes hands keys n new own RemoveIf write r old es h = absurd r
-  writes hands keys n new own Compute write r old es h = absurd r
-  writes hands keys n new own (Insert replace) write r old es h =
-      let all = allowed_slot hands keys new replace write r old es h in
-      (all, has_written hands keys n new own replace write r es all (write.old == 0) refl h)
+  writes hands n new Get write own r old es h = absurd r
+  writes hands n new RemoveIf write own r old es h = absurd r
+  writes hands n new Compute write own r old es h = absurd r
+  writes hands n new (Insert replace) write own r old es h =
+      let all = allowed_slot hands new replace write r old es h in
+      (all, has_written hands n new replace write r es all (write.old == 0) refl own h)
 
   -- a compute has claimed or replaced
-  has_put : (hands : Hands P) → AreOwn hands → (task : Task) → IsComputer task → (n new : ℕ) → IsOwnPair g c begun since k hands n → (write : Write) → MayWrite g c begun since k true write
-      → (es : List (Exchange P)) → AllAllowed g start (begun ++ (since ++ es)) → (b : Bool) → IsSlotAsked (Some (cond b kinds.Claim kinds.Replace)) write.place new hands es
+  has_put : (hands : Hands P) → (task : Task) → IsComputer task → (n new : ℕ) (write : Write) → MayWrite g c begun since k hands true write
+      → (es : List (Exchange P)) → AllAllowed g start (begun ++ (since ++ es)) → (b : Bool) → IsPairBy hands write n b → IsSlotAsked (Some (cond b kinds.Claim kinds.Replace)) write.place new hands es
       → RestsStage g c begun (since ++ es) k hands task (cond b (Counting (claimed_by write n)) (Ended (Replaced (pair_of write.old) n)))
-  has_put hands keys Get is n new own write r es all b h = absurd is
-  has_put hands keys (Insert replace) is n new own write r es all b h = absurd is
-  has_put hands keys RemoveIf is n new own write r es all b h = absurd is
-  has_put hands keys Compute is n new own write r es all true h = (tt, has_claimed hands keys n new own true write r es all h)
-  has_put hands keys Compute is n new own write r es all false h = own
+  has_put hands Get is n new write r es all b own h = absurd is
+  has_put hands (Insert replace) is n new write r es all b own h = absurd is
+  has_put hands RemoveIf is n new write r es all b own h = absurd is
+  has_put hands Compute is n new write r es all true own h = (tt, has_claimed hands n new own true write r es all h)
+  has_put hands Compute is n new write r es all false own h = (own.0, own.1, own.2)
 
   -- where it puts the pair that it made
-  pub puts : (hands : Hands P) → AreOwn hands → (task : Task) → IsComputer task → (put : Put) → IsOwnPair g c begun since k hands put.pair → (new : ℕ) → MayWrite g c begun since k true put.write
+  pub puts : (hands : Hands P) → (task : Task) → IsComputer task → (put : Put) → IsPairFor g c begun since k hands put.write put.pair → (new : ℕ) → MayWrite g c begun since k hands true put.write
       → word_at put.write.place ≡ put.write.old → (es : List (Exchange P)) → IsSlotAsked (Some (write_kind put.write)) put.write.place new hands es
       → AllAllowed g start (begun ++ (since ++ es)) × RestsStage g c begun (since ++ es) k hands task (written put.write put.pair)
-  puts hands keys task is put own new r old es h =
-      let all = allowed_slot hands keys new true put.write r old es h in
-      (all, has_put hands keys task is put.pair new own put.write r es all (put.write.old == 0) h)
+  puts hands task is put own new r old es h =
+      let all = allowed_slot hands new true put.write r old es h in
+      (all, has_put hands task is put.pair new put.write r es all (put.write.old == 0) own h)

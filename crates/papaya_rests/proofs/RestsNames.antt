@@ -7,8 +7,9 @@ use Rattle.papaya_ask.specs.declared.call.Task.{Task}
 use Rattle.papaya_ask.specs.declared.call.Task.TheVariants.{Get, Insert, RemoveIf, Compute}
 use Rattle.papaya_ask.specs.declared.search.Place.{Place}
 use Rattle.papaya_ask.specs.declared.search.Search.TheVariants.{Sizing, Looking, Reading, Comparing}
-use Rattle.papaya_call.specs.declared.write.Made.{Made}
-use Rattle.papaya_call.specs.declared.write.Made.TheVariants.{Nothing, Key, Pair}
+use Rattle.papaya_call.specs.declared.made.Made.{Made}
+use Rattle.papaya_call.specs.Compute.{in_place_of}
+use Rattle.papaya_rests.proofs.Makings.{HoldsOfPairAsks, pair_holds, write_holds}
 use Rattle.papaya_call.specs.declared.write.Write.{Write}
 use Rattle.papaya_call.specs.declared.machine.State.{State as Stage}
 use Rattle.papaya_call.specs.declared.machine.State.TheVariants.{AtRoot, Making, Opening, Searching, Writing, Offering, Showing, Pairing, Putting, Burying, Counting, Noting, Uncounting, Leaving, Growing, Ended}
@@ -81,16 +82,20 @@ module _ {K P : Type 0} (g : Setting K P) (c : Coding K P) (h : IsHashed g c) (b
   IsNamed (WriteHint t x hint) = HasSlot t x
   IsNamed _ = Unit {0}
 
+  -- what is asked for a pair names no table
+  pair_named : HoldsOfPairAsks IsNamed
+  pair_named = record { loads = tt; takes = λ count. tt; key = tt; value = tt; pair = tt; pair_of = λ n. tt }
+
   -- the place of a search
   place_within : (at : Place) → IsAt g c begun since k at → HasSlot at.table at.probe.i
   place_within at r = (come_on at.table r.come, subst (λ y. y < g.size at.table) (sym r.slot) (h.lawful.within k at.table at.probe.len r.within))
 
   -- the place of a write
-  write_within : (task : Task) (write : Write) → RestsWriting g c begun since k task write → HasSlot write.place.table write.place.probe.i
-  write_within Get write r = absurd r
-  write_within (Insert replace) write r = place_within write.place r.stands
-  write_within RemoveIf write r = absurd r
-  write_within Compute write r = absurd r
+  write_within : (hands : Hands P) (task : Task) (write : Write) → RestsWriting g c begun since k hands task write → HasSlot write.place.table write.place.probe.i
+  write_within hands Get write r = absurd r
+  write_within hands (Insert replace) write r = place_within write.place r.stands
+  write_within hands RemoveIf write r = absurd r
+  write_within hands Compute write r = absurd r
 
   module _ (hands : Hands P) (task : Task) (hash : ℕ) where
     -- of each stage's ask
@@ -102,14 +107,10 @@ module _ {K P : Type 0} (g : Setting K P) (c : Coding K P) (h : IsHashed g c) (b
     ask_named made (Searching (Looking at)) r = place_within at r
     ask_named made (Searching (Reading at)) r = place_within at r
     ask_named made (Searching (Comparing at word)) r = tt
-    ask_named Nothing (Writing write) r = tt
-    ask_named Key (Writing write) r = tt
-    ask_named (Pair n) (Writing write) r = write_within task write r
+    ask_named made (Writing write) r = write_holds IsNamed pair_named write (λ n. write_within hands task write r) made
     ask_named made (Offering gap) r = tt
     ask_named made (Showing removal) r = tt
-    ask_named Nothing (Pairing purpose) r = tt
-    ask_named Key (Pairing purpose) r = tt
-    ask_named (Pair n) (Pairing purpose) r = tt
+    ask_named made (Pairing purpose) r = pair_holds IsNamed pair_named made (in_place_of purpose)
     ask_named made (Putting put) r = place_within put.write.place (r.1).stands
     ask_named made (Burying removal) r = place_within removal.place (r.1).met.stands
     ask_named made (Counting n) r = tt

@@ -5,7 +5,7 @@ use Rattle.papaya_words.specs.Word.{pair_of}
 use Rattle.papaya_words.specs.declared.limits.TheConstants.{FIRST_TABLE_LEN, FIRST_TABLE_LIMIT}
 use Rattle.papaya_words.specs.declared.probe.ResizeMode.{ResizeMode}
 use Rattle.papaya_ask.specs.declared.ask.Answer.{Answer}
-use Rattle.papaya_ask.specs.declared.ask.Answer.TheVariants.{Word as Word_read, Exchanged, Found as Found_instead, Yes, Op, Made as Made_number, Ok as Ok_done}
+use Rattle.papaya_ask.specs.declared.ask.Answer.TheVariants.{Word as Word_read, Exchanged, Found as Found_instead, Yes, Op, Made as Made_number, Ok as Ok_done, Refused as Was_refused}
 use Rattle.papaya_ask.specs.declared.ask.Ask.{Ask}
 use Rattle.papaya_ask.specs.declared.ask.Ask.TheVariants.{Exchange as Ask_exchange, MakeTable}
 use Rattle.papaya_ask.specs.declared.ask.At.TheVariants.{Root}
@@ -19,17 +19,18 @@ use Rattle.papaya_call.specs.declared.compute.Remembered.{Remembered}
 use Rattle.papaya_call.specs.declared.remove.Removal.{Removal}
 use Rattle.papaya_ask.specs.declared.search.Search.TheVariants.{Sizing, Looking, Reading, Comparing}
 use Rattle.papaya_ask.specs.declared.search.Seen.{Seen}
-use Rattle.papaya_call.specs.declared.write.Made.{Made}
-use Rattle.papaya_call.specs.declared.write.Made.TheVariants.{Nothing, Key, Pair}
+use Rattle.papaya_call.specs.declared.made.Made.{Made}
+use Rattle.papaya_rests.proofs.Makings.{HoldsOfPairAsks, exchanged_leads, lost_leads, numbered_leads, pair_holds, paired_leads, refuses_leads, told_leads, write_holds}
 use Rattle.papaya_call.specs.declared.write.Write.{Write}
 use Rattle.papaya_call.specs.declared.machine.Machine.{Machine}
 use Rattle.papaya_call.specs.declared.machine.State.{State as Stage}
 use Rattle.papaya_call.specs.declared.machine.State.TheVariants.{AtRoot, Making, Opening, Searching, Writing, Offering, Showing, Pairing, Putting, Burying, Counting, Noting, Uncounting, Leaving, Growing, Ended}
-use Rattle.papaya_call.specs.Compute.{offered, provides}
-use Rattle.papaya_call.specs.Machine.{after, ask_of, asks, at_root, beaten, decided, goes_as, judged, left, written}
+use Rattle.papaya_call.specs.Compute.{in_place_of, offered}
+use Rattle.papaya_call.specs.Made.{grown, told}
+use Rattle.papaya_call.specs.Machine.{after, ask_of, asks, at_root, beaten, decided, exchanged, goes_as, judged, left, numbered, paired, refuses, write_lost, write_told, written}
 use Rattle.papaya_ask.specs.Search.{look as look_seen, at_word as search_loaded, at_yes as search_compared}
 use Rattle.papaya_rests.proofs.Leads.{HoldsOfLeads, beaten_leads, goes_leads, left_leads, provides_leads, root_leads}
-use Rattle.papaya_call.specs.Write.{claimed_by}
+use Rattle.papaya_call.specs.Write.{claimed_by, serves}
 
 -- the table that is to be the root
 abbrev opening_in : Stage → Option ℕ
@@ -41,6 +42,10 @@ abbrev opening_of : Ask → Option ℕ
 opening_of (Ask_exchange Root old t) = Some t
 opening_of _ = None
 
+-- what is asked for a pair opens nothing
+pairs_open_none : HoldsOfPairAsks (λ ask. opening_of ask ≡ None)
+pairs_open_none = record { loads = refl; takes = λ count. refl; key = refl; value = refl; pair = refl; pair_of = λ n. refl }
+
 -- its ask tells
 opening_asked : (made : Made) (hash : ℕ) (stage : Stage) → opening_of (asks made hash stage) ≡ opening_in stage
 opening_asked made hash AtRoot = refl
@@ -50,14 +55,10 @@ opening_asked made hash (Searching (Sizing t)) = refl
 opening_asked made hash (Searching (Looking at)) = refl
 opening_asked made hash (Searching (Reading at)) = refl
 opening_asked made hash (Searching (Comparing at word)) = refl
-opening_asked Nothing hash (Writing write) = refl
-opening_asked Key hash (Writing write) = refl
-opening_asked (Pair n) hash (Writing write) = refl
+opening_asked made hash (Writing write) = write_holds (λ ask. opening_of ask ≡ None) pairs_open_none write (λ n. refl) made
 opening_asked made hash (Offering gap) = refl
 opening_asked made hash (Showing removal) = refl
-opening_asked Nothing hash (Pairing purpose) = refl
-opening_asked Key hash (Pairing purpose) = refl
-opening_asked (Pair n) hash (Pairing purpose) = refl
+opening_asked made hash (Pairing purpose) = pair_holds (λ ask. opening_of ask ≡ None) pairs_open_none made (in_place_of purpose)
 opening_asked made hash (Putting put) = refl
 opening_asked made hash (Burying removal) = refl
 opening_asked made hash (Counting n) = refl
@@ -82,6 +83,7 @@ leads_open_none = record {
   writing = λ write. refl;
   offering = λ gap. refl;
   showing = λ removal. refl;
+  pairing = λ purpose. refl;
   putting = λ put. refl;
   burying = λ removal. refl;
   leaving = λ t. refl;
@@ -142,23 +144,23 @@ module _ (m : Machine) (t : ℕ) where
   opened_in made (Searching place) (Yes same) e =
       none_opened (Searching place) (Yes same) (opening_in (goes_as m.task m.mode m.remembered (search_compared place same))) (goes_open_none m.task m.mode m.remembered (search_compared place same)) e
   opened_in made (Searching place) answer e = absurd cc
+  opened_in made (Writing write) (Word_read word) e = none_opened (Writing write) (Word_read word) (opening_in (write_told (serves made write) made write word)) (told_leads OpensNone refl write refl (serves made write) made word) e
   opened_in made (Writing write) (Found_instead word) e =
-      none_opened (Writing write) (Found_instead word) (opening_in (goes_as m.task m.mode m.remembered (look_seen write.place word))) (goes_open_none m.task m.mode m.remembered (look_seen write.place word)) e
-  opened_in (Pair n) (Writing write) Exchanged e = none_opened (Writing write) Exchanged (opening_in (written write n)) (written_opens_none write n) e
-  opened_in Nothing (Writing write) answer e = absurd cc
-  opened_in Key (Writing write) answer e = absurd cc
-  opened_in (Pair n) (Writing write) answer e = absurd cc
+      let machine : Machine = record m { made = made; state = Writing write } in
+      none_opened (Writing write) (Found_instead word) (opening_in (write_lost (serves made write) machine write word)) (lost_leads OpensNone refl write refl machine word (goes_open_none m.task m.mode m.remembered (look_seen write.place word)) (serves made write)) e
+  opened_in made (Writing write) Exchanged e = none_opened (Writing write) Exchanged (opening_in (exchanged (serves made write) write)) (exchanged_leads OpensNone write refl (written_opens_none write) (serves made write)) e
+  opened_in made (Writing write) (Was_refused refused) e = none_opened (Writing write) (Was_refused refused) (opening_in (refuses (serves made write) refused write)) (refuses_leads OpensNone write refused refl refl (serves made write)) e
+  opened_in made (Writing write) answer e = absurd cc
   opened_in made (Offering gap) (Op kind) e = none_opened (Offering gap) (Op kind) (opening_in (offered gap kind)) (offered_opens_none gap kind) e
   opened_in made (Offering gap) answer e = absurd cc
   opened_in made (Showing removal) (Yes agrees) e = none_opened (Showing removal) (Yes agrees) (opening_in (judged m.task removal agrees)) (judged_opens_none m.task removal agrees) e
   opened_in made (Showing removal) (Op kind) e = none_opened (Showing removal) (Op kind) (opening_in (decided m.task removal kind)) (decided_opens_none m.task removal kind) e
   opened_in made (Showing removal) answer e = absurd cc
-  opened_in Key (Pairing purpose) (Made_number n) e = none_opened (Pairing purpose) (Made_number n) (opening_in (provides purpose n)) (provides_leads OpensNone leads_open_none purpose n) e
-  opened_in (Pair i) (Pairing purpose) (Made_number n) e = none_opened (Pairing purpose) (Made_number n) (opening_in (provides purpose n)) (provides_leads OpensNone leads_open_none purpose n) e
-  opened_in Nothing (Pairing purpose) (Made_number n) e = absurd cc
-  opened_in Nothing (Pairing purpose) answer e = absurd cc
-  opened_in Key (Pairing purpose) answer e = absurd cc
-  opened_in (Pair i) (Pairing purpose) answer e = absurd cc
+  opened_in made (Pairing purpose) (Made_number n) e =
+      none_opened (Pairing purpose) (Made_number n) (opening_in (paired (grown made (in_place_of purpose)) purpose n)) (paired_leads OpensNone purpose n refl (provides_leads OpensNone leads_open_none purpose n) (grown made (in_place_of purpose))) e
+  opened_in made (Pairing purpose) (Word_read word) e = none_opened (Pairing purpose) (Word_read word) (opening_in (numbered (told made word) (Pairing purpose))) (numbered_leads OpensNone refl (Pairing purpose) refl (told made word)) e
+  opened_in made (Pairing purpose) (Found_instead word) e = none_opened (Pairing purpose) (Found_instead word) (opening_in (numbered (told made word) (Pairing purpose))) (numbered_leads OpensNone refl (Pairing purpose) refl (told made word)) e
+  opened_in made (Pairing purpose) answer e = absurd cc
   opened_in made (Putting put) Exchanged e = none_opened (Putting put) Exchanged (opening_in (written put.write put.pair)) (written_opens_none put.write put.pair) e
   opened_in made (Putting put) (Found_instead word) e =
       none_opened (Putting put) (Found_instead word) (opening_in (goes_as m.task m.mode m.remembered (look_seen put.write.place word))) (goes_open_none m.task m.mode m.remembered (look_seen put.write.place word)) e

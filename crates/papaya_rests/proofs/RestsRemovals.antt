@@ -1,7 +1,7 @@
 -- While no table has a next one, a removal is never refused: it makes nothing, and it needs no further table.
 use Rattle.std.proofs.Common.{◌≡◌, ⊎_elim, ℕ, ◌<◌, List, ◌++◌, subst, arith}
 use Rattle.papaya_words.specs.declared.probe.Refused.{Refused}
-use Rattle.papaya_words.specs.declared.probe.Refused.TheVariants.{Capacity, RemoveNothing}
+use Rattle.papaya_words.specs.declared.probe.Refused.TheVariants.{Capacity, Limit, RemoveNothing}
 use Rattle.papaya_ask.specs.declared.ask.Answer.{Answer}
 use Rattle.papaya_ask.specs.declared.ask.Answer.TheVariants.{Op}
 use Rattle.papaya_ask.specs.declared.ask.Ask.TheVariants.{Done as Ask_done}
@@ -23,7 +23,7 @@ use Rattle.papaya_rests.specs.Rests.{IsMovingFrom, Rests, RestsStage}
 use Rattle.papaya_rests.specs.Told.{Hands}
 use Rattle.papaya_law.proofs.OneMap.{keeping}
 use Rattle.papaya_law.proofs.Onward.{leaving_further, gone_further}
-use Rattle.papaya_rests.proofs.RestsReplyRefused.{IsMaking, machine_reason}
+use Rattle.papaya_rests.proofs.RestsReplyRefused.{IsMaking, IsOver, machine_reason}
 use Rattle.papaya_call.specs.declared.need.Need.{Need}
 use Rattle.papaya_call.specs.declared.need.Need.TheVariants.{Room, Pair as Pair_at}
 
@@ -80,6 +80,10 @@ module _ {K P : Type 0} (g : Setting K P) (c : Coding K P) (law : IsLawful g) (b
           (λ rest.
           ⊎_elim
           (λ (grows : (refused ≡ Capacity) × ((need : Need) × (m.state ≡ Growing need))). let last = grows.1 in nothing_needed last.0 (subst (RestsStage g c begun since k hands RemoveIf) last.1 stage))
+          (λ more.
+          ⊎_elim
+          (λ (limit : (refused ≡ Limit) × IsOver m refused m.made m.state answer × IsMaking m.state). nothing_made m.state stage limit.2)
           (λ (offers : (refused ≡ RemoveNothing) × ((gap : Gap) × (m.state ≡ Offering gap)) × (answer ≡ Op ops.Remove)). let last = offers.1 in nothing_offered last.0 (subst (RestsStage g c begun since k hands RemoveIf) last.1 stage))
+          more)
           rest)
           (machine_reason m refused answer open_still e)

@@ -1,43 +1,48 @@
 -- What a call has changed after each answer.
-use Rattle.std.proofs.Common.{◌≡◌, ◌⊎◌, inl, inr, ⊎_elim, ℕ, ◌==◌, Bool, true, false, cond, None, Some, List, [], ◌∷◌, refl, sym, ap, subst}
+use Rattle.std.proofs.Common.{◌≡◌, inl, inr, ⊎_elim, ℕ, ◌+◌, ◌==◌, Bool, true, false, cond, Option, None, Some, List, [], ◌∷◌, refl, sym, ap, ◌∙◌, subst}
 use Rattle.papaya_words.specs.Word.{pair_of, live_word}
 use Rattle.papaya_words.specs.declared.probe.Refused.{Refused}
 use Rattle.papaya_words.specs.declared.probe.ResizeMode.{ResizeMode}
 use Rattle.papaya_ask.specs.declared.ask.Answer.{Answer}
-use Rattle.papaya_ask.specs.declared.ask.Answer.TheVariants.{Exchanged, Found as Found_instead, Yes, Op, Made as Made_number, Ok as Ok_done, Refused as Was_refused}
-use Rattle.papaya_ask.specs.declared.ask.At.TheVariants.{Root, Slot}
+use Rattle.papaya_ask.specs.declared.ask.Answer.TheVariants.{Exchanged, Found as Found_instead, Yes, Op, Ok as Ok_done, Refused as Was_refused}
+use Rattle.papaya_ask.specs.declared.ask.At.TheVariants.{Root, Slot, Made as Made_word}
 use Rattle.papaya_ask.specs.declared.ask.OpKind.{OpKind}
 use Rattle.papaya_ask.specs.declared.ask.OpKind.TheVariants as ops
 use Rattle.papaya_ask.specs.declared.ask.StepKind.TheVariants as kinds
+use Rattle.papaya_ask.specs.declared.call.Reply.{Reply}
 use Rattle.papaya_ask.specs.declared.call.Reply.TheVariants.{Replaced}
 use Rattle.papaya_ask.specs.declared.call.Task.{Task}
 use Rattle.papaya_ask.specs.declared.call.Task.TheVariants.{Get, Insert, RemoveIf, Compute}
 use Rattle.papaya_call.specs.declared.compute.Gap.{Gap}
-use Rattle.papaya_call.specs.declared.compute.Purpose.{Purpose}
 use Rattle.papaya_call.specs.declared.compute.Remembered.{Remembered}
 use Rattle.papaya_call.specs.declared.remove.Removal.{Removal}
 use Rattle.papaya_ask.specs.declared.search.Place.{Place}
 use Rattle.papaya_ask.specs.declared.search.Search.TheVariants.{Sizing, Looking, Reading, Comparing}
 use Rattle.papaya_ask.specs.declared.search.Seen.{Seen}
-use Rattle.papaya_call.specs.declared.write.Made.{Made}
-use Rattle.papaya_call.specs.declared.write.Made.TheVariants.{Nothing, Key, Pair}
+use Rattle.papaya_call.specs.declared.made.Made.{Made}
+use Rattle.papaya_rests.proofs.Makings.{IsPairAsk, IsWriteAsk, pairing_asks, pairing_leads, unserved_leads, write_asks, write_then, write_then_is}
 use Rattle.papaya_call.specs.declared.write.Write.{Write}
 use Rattle.papaya_call.specs.declared.machine.Machine.{Machine}
 use Rattle.papaya_call.specs.declared.machine.State.{State as Stage}
 use Rattle.papaya_call.specs.declared.machine.State.TheVariants.{AtRoot, Making, Opening, Searching, Writing, Offering, Showing, Pairing, Putting, Burying, Counting, Noting, Uncounting, Leaving, Growing, Ended}
 use Rattle.papaya_law.specs.Exchange.{Setting, State, Exchange}
 use Rattle.papaya_law.specs.Code.{Coding, code}
-use Rattle.papaya_call.specs.Compute.{offered}
-use Rattle.papaya_call.specs.Machine.{after, ask_of, asks, decided, goes_as, judged, kind_asked, kind_of_ask}
+use Rattle.papaya_call.specs.declared.made.Number.{Number}
+use Rattle.papaya_call.specs.declared.made.Number.TheVariants.{Wanted, Free, Taken}
+use Rattle.papaya_call.specs.Made.{number_ask, number_kind, of_ask, own_ask}
+use Rattle.papaya_call.specs.Compute.{in_place_of, offered}
+use Rattle.papaya_call.specs.Machine.{after, ask_of, asks, decided, goes_as, judged, kind_asked, kind_of_ask, served_kind}
 use Rattle.papaya_ask.specs.Search.{hinted, look as look_seen, at_yes as search_compared}
-use Rattle.papaya_rests.specs.Told.{IsAsked, IsSaying, IsTold, IsUnmade, Hands, Quiet, told_of}
+use Rattle.papaya_rests.specs.Told.{IsAsked, IsSaying, IsTold, IsUnmade, Hands, told_of}
 use Rattle.papaya_law.specs.Code.{IsHashed}
 use Rattle.papaya_call.specs.Remove.{grave_word}
-use Rattle.papaya_rests.specs.Rests.{change_in, change_after, change_of_kind}
+use Rattle.papaya_rests.specs.Rests.{IsReply, Rests, RestsStage, change_in, change_after, change_of_kind, change_of_reply}
 use Rattle.papaya_rests.proofs.Leads.{HoldsOfLeads, beaten_leads, goes_leads, left_leads, provides_leads, root_leads}
 use Rattle.papaya_rests.proofs.NewWords.{pair_of-live_word}
 use Rattle.papaya_rests.proofs.RestsLearn.{by_test}
-use Rattle.papaya_call.specs.Write.{claimed_by}
+use Rattle.papaya_call.specs.Write.{claimed_by, served_ask, serves}
+use Rattle.papaya_ask.specs.declared.ask.Ask.TheVariants.{Exchange as Ask_exchange, Done as Ask_done}
+use Rattle.std.proofs.lemmas.Bool.{cond_both}
 
 -- nothing is changed yet
 abbrev IsUnchanged : Stage → Type 0
@@ -54,6 +59,7 @@ leads_unchanged = record {
   writing = λ write. refl;
   offering = λ gap. refl;
   showing = λ removal. refl;
+  pairing = λ purpose. refl;
   putting = λ put. refl;
   burying = λ removal. refl;
   leaving = λ t. refl;
@@ -116,14 +122,41 @@ module _ {K P : Type 0} (g : Setting K P) (c : Coding K P) (hashed : IsHashed g 
   compared_changes made at word (Yes same) = goes_unchanged m.task m.mode m.remembered (search_compared (Comparing at word) same)
   compared_changes made at word answer = refl
 
-  -- the outcome of a MakePair
-  abbrev IsPaired : Answer → Type 0
-  IsPaired answer = (IsUnmade g c k answer × Quiet g c k hands es hands') ⊎ ((q : P) × (g.key q ≡ k) × (answer ≡ Made_number (c.number q)) × (es ≡ []) × (hands' ≡ record hands { made = q ∷ hands.made }))
+  -- nothing changes by what is asked for a pair
+  taken_changes : (count : ℕ) (answer : Answer) → change_after (Some kinds.Take) (Ask_exchange Made_word count (count + 1)) answer None ≡ None
+  taken_changes count Exchanged = refl
+  taken_changes count answer = refl
 
-  -- nothing changes by a pair that was made for a compute
-  paired_changes : (made : Made) (purpose : Purpose) (answer : Answer) → IsPaired answer → ((refused : Refused) → Changes made (Pairing purpose) (Was_refused refused)) → Changes made (Pairing purpose) Ok_done → ((n : ℕ) → Changes made (Pairing purpose) (Made_number n)) → Changes made (Pairing purpose) answer
-  paired_changes made purpose answer (inl u) refused ok paired = unmade_changes made (Pairing purpose) answer u.0 refused ok
-  paired_changes made purpose answer (inr (q, mine, e, none, kept)) refused ok paired = subst (Changes made (Pairing purpose)) (sym e) (paired (c.number q))
+  own_changes : (keyed valued : Bool) (answer : Answer) → change_after None (own_ask keyed valued) answer None ≡ None
+  own_changes false valued answer = refl
+  own_changes true false answer = refl
+  own_changes true true answer = refl
+
+  of_changes : (valued : Bool) (old : ℕ) (answer : Answer) → change_after None (of_ask valued old) answer None ≡ None
+  of_changes false old answer = refl
+  of_changes true old answer = refl
+
+  number_changes : (number : Number) (made : Made) (old : ℕ) (answer : Answer) → change_after (number_kind number) (number_ask number made old) answer None ≡ None
+  number_changes Wanted made old answer = refl
+  number_changes (Free count) made old answer = taken_changes count answer
+  number_changes Taken made old answer =
+      cond_both (old == 0) (own_ask made.keyed made.valued) (of_ask made.valued old) (λ ask. change_after None ask answer None ≡ None) (λ _. own_changes made.keyed made.valued answer) (λ _. of_changes made.valued old answer)
+
+  -- a write changes the map by its exchange alone
+  write_changes : (made : Made) (write : Write) (served : Option ℕ) (answer : Answer) → IsTold g c k s (served_kind served made write) hands (served_ask served write made) answer es hands'
+      → change_in (write_then m served made write answer) ≡ change_after (served_kind served made write) (served_ask served write made) answer None
+  write_changes made write None answer h = unserved_leads m IsUnchanged (λ refused. refl) made write refl answer ∙ sym (number_changes made.number made write.old answer)
+  write_changes made write (Some i) answer h =
+      let t : ℕ = write.place.table in
+      let x : ℕ = write.place.probe.i in
+      let word : ℕ = code g c (s.slot t x) in
+      let Is : Answer → Type 0 = λ a. change_in (write_then m (Some i) made write a) ≡ change_after (Some (cond (write.old == 0) kinds.Claim kinds.Replace)) (Ask_exchange (Slot t x) write.old (live_word i)) a None in
+      by_test (word == write.old)
+      ((answer ≡ Exchanged) × ((e : Exchange P) × IsAsked g c k (Some (cond (write.old == 0) kinds.Claim kinds.Replace)) (Slot t x) (live_word i) s hands e × (es ≡ e ∷ [])) × (hands' ≡ hands))
+      ((answer ≡ Found_instead word) × (es ≡ []) × (hands' ≡ told_of s (Slot t x) hands))
+      (Is answer) h
+      (λ _ h'. subst Is (sym h'.0) (written_changes (write.old == 0) write i))
+      (λ _ h'. subst Is (sym h'.0) (goes_unchanged m.task m.mode m.remembered (look_seen write.place word)))
 
   -- in each stage
   changes_in : (made : Made) (stage : Stage) (answer : Answer) → IsTold g c k s (kind_asked made stage) hands (asks made m.hash stage) answer es hands' → Changes made stage answer
@@ -131,7 +164,7 @@ module _ {K P : Type 0} (g : Setting K P) (c : Coding K P) (hashed : IsHashed g 
   changes_in made Making answer h = ⊎_elim (λ u. unmade_changes made Making answer u (λ refused. refl) refl) (λ t. subst (Changes made Making) (sym t.2) refl) h.0
   changes_in made (Opening t) answer h =
       by_test (s.root == 0)
-      ((answer ≡ Exchanged) × ((e : Exchange P) × IsAsked c (Some kinds.Open) Root t s hands e × (es ≡ e ∷ [])) × (hands' ≡ hands))
+      ((answer ≡ Exchanged) × ((e : Exchange P) × IsAsked g c k (Some kinds.Open) Root t s hands e × (es ≡ e ∷ [])) × (hands' ≡ hands))
       ((answer ≡ Found_instead s.root) × (es ≡ []) × (hands' ≡ hands))
       (Changes made (Opening t) answer) h
       (λ _ h'. subst (Changes made (Opening t)) (sym h'.0) refl)
@@ -142,33 +175,19 @@ module _ {K P : Type 0} (g : Setting K P) (c : Coding K P) (hashed : IsHashed g 
       let word : ℕ = code g c (s.slot at.table at.probe.i) in
       subst (Changes made (Searching (Reading at))) (sym h.0) (goes_unchanged m.task m.mode m.remembered (look_seen at word))
   changes_in made (Searching (Comparing at word)) answer h = compared_changes made at word answer
-  changes_in Nothing (Writing write) answer h = ⊎_elim (λ u. unmade_changes Nothing (Writing write) answer u (λ refused. refl) refl) (λ i. subst (Changes Nothing (Writing write)) (sym i.1) refl) h.0
-  changes_in Key (Writing write) answer h = ⊎_elim (λ u. unmade_changes Key (Writing write) answer u.0 (λ refused. refl) refl) (λ q. subst (Changes Key (Writing write)) (sym q.2) refl) h
-  changes_in (Pair i) (Writing write) answer h =
-      let t : ℕ = write.place.table in
-      let x : ℕ = write.place.probe.i in
-      let word : ℕ = code g c (s.slot t x) in
-      by_test (word == write.old)
-      ((answer ≡ Exchanged) × ((e : Exchange P) × IsAsked c (Some (cond (write.old == 0) kinds.Claim kinds.Replace)) (Slot t x) (live_word i) s hands e × (es ≡ e ∷ [])) × (hands' ≡ hands))
-      ((answer ≡ Found_instead word) × (es ≡ []) × (hands' ≡ told_of s (Slot t x) hands))
-      (Changes (Pair i) (Writing write) answer) h
-      (λ _ h'. subst (Changes (Pair i) (Writing write)) (sym h'.0) (written_changes (write.old == 0) write i))
-      (λ _ h'. subst (Changes (Pair i) (Writing write)) (sym h'.0) (goes_unchanged m.task m.mode m.remembered (look_seen write.place word)))
+  changes_in made (Writing write) answer h = ap change_in (write_then_is m made write answer) ∙ write_changes made write (serves made write) answer h
   changes_in made (Counting i) answer h = subst (Changes made (Counting i)) (sym h.0) refl
   changes_in made (Noting i) answer h = subst (Changes made (Noting i)) (sym h.0) refl
   changes_in made (Offering gap) answer h = said_changes made (Offering gap) answer h.0 (λ agrees. refl) (λ kind. offered_unchanged gap kind) refl
   changes_in made (Showing removal) answer h = said_changes made (Showing removal) answer h.0 (λ agrees. judged_unchanged m.task removal agrees) (λ kind. decided_unchanged m.task removal kind) refl
-  changes_in Nothing (Pairing purpose) answer h =
-      ⊎_elim (λ u. unmade_changes Nothing (Pairing purpose) answer u (λ refused. refl) refl) (λ i. subst (Changes Nothing (Pairing purpose)) (sym i.1) refl) h.0
-  changes_in Key (Pairing purpose) answer h = paired_changes Key purpose answer h (λ refused. refl) refl (λ n. provides_leads IsUnchanged leads_unchanged purpose n)
-  changes_in (Pair i) (Pairing purpose) answer h = paired_changes (Pair i) purpose answer h (λ refused. refl) refl (λ n. provides_leads IsUnchanged leads_unchanged purpose n)
+  changes_in made (Pairing purpose) answer h = pairing_leads m IsUnchanged (λ refused. refl) made purpose refl (λ n. provides_leads IsUnchanged leads_unchanged purpose n) answer ∙ sym (number_changes made.number made (in_place_of purpose) answer)
   changes_in made (Putting put) answer h =
       let write : Write = put.write in
       let t : ℕ = write.place.table in
       let x : ℕ = write.place.probe.i in
       let word : ℕ = code g c (s.slot t x) in
       by_test (word == write.old)
-      ((answer ≡ Exchanged) × ((e : Exchange P) × IsAsked c (Some (cond (write.old == 0) kinds.Claim kinds.Replace)) (Slot t x) (live_word put.pair) s hands e × (es ≡ e ∷ [])) × (hands' ≡ hands))
+      ((answer ≡ Exchanged) × ((e : Exchange P) × IsAsked g c k (Some (cond (write.old == 0) kinds.Claim kinds.Replace)) (Slot t x) (live_word put.pair) s hands e × (es ≡ e ∷ [])) × (hands' ≡ hands))
       ((answer ≡ Found_instead word) × (es ≡ []) × (hands' ≡ told_of s (Slot t x) hands))
       (Changes made (Putting put) answer) h
       (λ _ h'. subst (Changes made (Putting put)) (sym h'.0) (written_changes (write.old == 0) write put.pair))
@@ -178,7 +197,7 @@ module _ {K P : Type 0} (g : Setting K P) (c : Coding K P) (hashed : IsHashed g 
       let x : ℕ = removal.place.probe.i in
       let word : ℕ = code g c (s.slot t x) in
       by_test (word == removal.word)
-      ((answer ≡ Exchanged) × ((e : Exchange P) × IsAsked c (Some kinds.Bury) (Slot t x) (grave_word removal.word) s hands e × (es ≡ e ∷ [])) × (hands' ≡ hands))
+      ((answer ≡ Exchanged) × ((e : Exchange P) × IsAsked g c k (Some kinds.Bury) (Slot t x) (grave_word removal.word) s hands e × (es ≡ e ∷ [])) × (hands' ≡ hands))
       ((answer ≡ Found_instead word) × (es ≡ []) × (hands' ≡ told_of s (Slot t x) hands))
       (Changes made (Burying removal) answer) h
       (λ _ h'. subst (Changes made (Burying removal)) (sym h'.0) refl)
@@ -191,3 +210,29 @@ module _ {K P : Type 0} (g : Setting K P) (c : Coding K P) (hashed : IsHashed g 
   -- of the machine
   pub machine_changes : (answer : Answer) → IsTold g c k s (kind_of_ask m) hands (ask_of m) answer es hands' → change_in (after m answer).state ≡ change_after (kind_of_ask m) (ask_of m) answer (change_in m.state)
   machine_changes answer h = changes_in m.made m.state answer h
+
+-- a call that is over says what it rests on, and what it has changed
+pub machine_replies : {K P : Type 0} (g : Setting K P) (c : Coding K P) (begun since : List (Exchange P)) (k : K) (m : Machine) (hands : Hands P) → Rests g c begun since k m hands → (reply : Reply) → ask_of m ≡ Ask_done reply
+    → IsReply g c begun since k hands m.task reply × (change_in m.state ≡ change_of_reply reply)
+machine_replies g c begun since k m hands r reply e = replies_in m.made m.state r.stage e
+  where
+    replies_in : (made : Made) (stage : Stage) → RestsStage g c begun since k hands m.task stage → asks made m.hash stage ≡ Ask_done reply → IsReply g c begun since k hands m.task reply × (change_in stage ≡ change_of_reply reply)
+    replies_in made (Ended last) s is = let same : last ≡ reply = cc is in (subst (IsReply g c begun since k hands m.task) same s, ap change_of_reply same)
+    replies_in made (Writing write) s is = absurd (subst IsWriteAsk is (write_asks made write))
+    replies_in made (Pairing purpose) s is = absurd (subst IsPairAsk is (pairing_asks made purpose))
+    replies_in made AtRoot s is = absurd cc
+    replies_in made Making s is = absurd cc
+    replies_in made (Opening t) s is = absurd cc
+    replies_in made (Searching (Sizing t)) s is = absurd cc
+    replies_in made (Searching (Looking at)) s is = absurd cc
+    replies_in made (Searching (Reading at)) s is = absurd cc
+    replies_in made (Searching (Comparing at word)) s is = absurd cc
+    replies_in made (Offering gap) s is = absurd cc
+    replies_in made (Showing removal) s is = absurd cc
+    replies_in made (Putting put) s is = absurd cc
+    replies_in made (Burying removal) s is = absurd cc
+    replies_in made (Counting claimed) s is = absurd cc
+    replies_in made (Noting claimed) s is = absurd cc
+    replies_in made (Uncounting n) s is = absurd cc
+    replies_in made (Leaving t) s is = absurd cc
+    replies_in made (Growing need) s is = absurd cc

@@ -1,19 +1,19 @@
 -- What a machine rests on stays so, whatever others exchange.
-use Rattle.std.proofs.Common.{◌≡◌, inl, inr, ⊎_elim, ℕ, Bool, true, Option, Some, List, ◌++◌, append_assoc, refl, sym, ap, ◌∙◌, subst}
+use Rattle.std.proofs.Common.{◌≡◌, inl, inr, ⊎_elim, ℕ, Option, Some, List, ◌++◌, append_assoc, refl, sym, ap, ◌∙◌, subst}
 use Rattle.papaya_ask.specs.declared.call.Task.{Task}
 use Rattle.papaya_ask.specs.declared.call.Task.TheVariants.{Get, Insert, RemoveIf, Compute}
 use Rattle.papaya_ask.specs.declared.search.Place.{Place}
-use Rattle.papaya_call.specs.declared.write.Write.{Write}
 use Rattle.papaya_call.specs.declared.machine.Machine.{Machine}
 use Rattle.papaya_law.specs.Exchange.{Setting, Exchange, run, start}
-use Rattle.papaya_law.specs.View.{look, own}
+use Rattle.papaya_law.specs.View.{look}
 use Rattle.papaya_law.specs.Allows.{AllAllowed}
 use Rattle.papaya_law.specs.Later.{IsLater, IsLasting}
 use Rattle.papaya_law.specs.Code.{Coding}
 use Rattle.papaya_rests.specs.Told.{Hands}
 use Rattle.papaya_law.specs.Code.{IsHashed}
-use Rattle.papaya_rests.specs.Rests.{now, HasComeTo, IsAt, HasMet, MayWrite, WasAtMoment, IsMovingFrom, RestsNeed, RestsLeaving, Rests, HasClaimed}
-use Rattle.papaya_law.proofs.Later.{Sees, becomes_through, own_sees, sees_later}
+use Rattle.papaya_rests.specs.Rests.{now, HasComeTo, IsAt, HasMet, WasAtMoment, IsMovingFrom, RestsNeed, RestsLeaving, Rests, HasClaimed}
+use Rattle.papaya_law.proofs.Later.{Sees, becomes_through, sees_later}
+use Rattle.papaya_law.proofs.Kept.{key_stays}
 use Rattle.papaya_law.proofs.OneMap.{lasting, later}
 use Rattle.papaya_rests.proofs.RestsCarried.{rests_carried}
 use Rattle.papaya_call.specs.declared.need.Need.{Need}
@@ -36,7 +36,7 @@ module _ {K P : Type 0} (g : Setting K P) (c : Coding K P) (h : IsHashed g c) (b
   reaches = ap (λ l. run l start) split
 
   -- it is later than the one of before
-  state_later : IsLater g (now g c begun since k) (now g c begun (since ++ es) k)
+  pub state_later : IsLater g (now g c begun since k) (now g c begun (since ++ es) k)
   state_later = subst (IsLater g (now g c begun since k)) reaches (later g h.lawful (begun ++ since) es may_split)
 
   -- so each fact that a caller gathered lasts
@@ -89,17 +89,6 @@ module _ {K P : Type 0} (g : Setting K P) (c : Coding K P) (h : IsHashed g c) (b
     had = λ e. moment_stays (Some p) (r.had e);
   }
 
-  -- a word of the key is one for good
-  own_stays : (t j : ℕ) → own (look g (now g c begun since k) k t j) ≡ true → own (look g (now g c begun (since ++ es) k) k t j) ≡ true
-  own_stays t j e = own_sees (look g (now g c begun since k) k t j) (look g (now g c begun (since ++ es) k) k t j) (sees_next t j) e
-
-  -- it may write
-  write_stays : (replace : Bool) (write : Write) → MayWrite g c begun since k replace write → MayWrite g c begun (since ++ es) k replace write
-  write_stays replace write r = record {
-    stands = at_stays write.place r.stands;
-    old = ⊎_elim (λ e. inl e) (λ e. inr (e.0, e.1, own_stays write.place.table write.place.probe.len e.2)) r.old;
-  }
-
   -- a pair that was being copied is so still, or it is copied
   moving_stays : (t x : ℕ) → IsMovingFrom g c begun since k t x → IsMovingFrom g c begun (since ++ es) k t x
   moving_stays t x (j, p, lt, here, inl e) = (j, p, lt, here, subst (λ v. Sees v (look g (now g c begun (since ++ es) k) k t j)) e (sees_next t j))
@@ -129,5 +118,5 @@ module _ {K P : Type 0} (g : Setting K P) (c : Coding K P) (h : IsHashed g c) (b
   pub rests_stays : (m : Machine) (hands : Hands P) → Rests g c begun since k m hands → Rests g c begun (since ++ es) k m hands
   rests_stays m hands r =
       rests_carried g g c begun since (since ++ es) k hands
-      (record { mode = refl; key = λ p. refl; same = λ l l'. refl; moment = moment_stays; come = come_stays; stands = at_stays; met = met_stays; write = write_stays; passed = λ t r. state_lasts.passed k t; leaving = leaving_stays; need = need_stays; claimed = claimed_stays hands })
+      (record { mode = refl; most = refl; key = λ p. refl; same = λ l l'. refl; moment = moment_stays; come = come_stays; stands = at_stays; met = met_stays; of_key = λ t x key r. key_stays g (now g c begun since k) (now g c begun (since ++ es) k) state_later t x key r; passed = λ t r. state_lasts.passed k t; leaving = leaving_stays; need = need_stays; claimed = claimed_stays hands })
       m r

@@ -1,22 +1,22 @@
 -- What a machine rests on stays so, whatever tables come later.
-use Rattle.std.proofs.Common.{◌≡◌, ◌⊎◌, inl, inr, ⊎_elim, ℕ, ◌<◌, Bool, Option, None, Some, List, ◌++◌, refl, sym, ap, ◌∙◌, subst}
+use Rattle.std.proofs.Common.{◌≡◌, ◌⊎◌, inl, inr, ⊎_elim, ℕ, ◌<◌, Option, None, Some, List, ◌++◌, refl, sym, ap, ◌∙◌, subst}
 use Rattle.papaya_words.specs.Word.{hint_of}
 use Rattle.papaya_ask.specs.declared.call.Task.{Task}
 use Rattle.papaya_ask.specs.declared.call.Task.TheVariants.{Get, Insert, RemoveIf, Compute}
 use Rattle.papaya_ask.specs.declared.search.Place.{Place}
-use Rattle.papaya_call.specs.declared.write.Write.{Write}
 use Rattle.papaya_call.specs.declared.machine.Machine.{Machine}
 use Rattle.papaya_law.specs.Exchange.{Word, Empty, Closed, Live, Marked, Copied, Buried, Setting, Exchange, start}
-use Rattle.papaya_law.specs.View.{Leaving as View_leaving, Gone, held, own, beyond, look, IsPassed}
+use Rattle.papaya_law.specs.View.{Leaving as View_leaving, Gone, held, beyond, look, IsPassed}
 use Rattle.papaya_law.specs.Class.{IsOn}
 use Rattle.papaya_law.specs.Allows.{AllAllowed}
 use Rattle.papaya_law.specs.Meaning.{map_left, map_of}
 use Rattle.papaya_law.specs.Invariant.{IsSound}
 use Rattle.papaya_law.specs.Code.{Coding, code}
+use Rattle.papaya_law.specs.Later.{IsOfKey}
 use Rattle.papaya_law.specs.Grows.{Agrees}
 use Rattle.papaya_rests.specs.Told.{Hands}
 use Rattle.papaya_law.specs.Code.{IsHashed}
-use Rattle.papaya_rests.specs.Rests.{now, HasComeTo, IsAt, HasMet, MayWrite, WasAtMoment, IsMovingFrom, RestsNeed, RestsLeaving, Rests, HasClaimed}
+use Rattle.papaya_rests.specs.Rests.{now, HasComeTo, IsAt, HasMet, WasAtMoment, IsMovingFrom, RestsNeed, RestsLeaving, Rests, HasClaimed}
 use Rattle.papaya_law.proofs.Carries.{look_agrees, view_agrees, passed_carries}
 use Rattle.papaya_law.proofs.Grows.{becomes_carries, map_of_carries, reached_carries}
 use Rattle.papaya_law.proofs.OneMap.{sound}
@@ -92,12 +92,9 @@ module _ {K P : Type 0} (g g' : Setting K P) (c : Coding K P) (h : IsHashed g c)
     had = λ e. moment_carries (Some p) (r.had (ap held (sym (view_agrees g g' (now g c begun since k) kept agrees k r.was)) ∙ e));
   }
 
-  -- it may write
-  write_carries : (replace : Bool) (write : Write) → MayWrite g c begun since k replace write → MayWrite g' c begun since k replace write
-  write_carries replace write r = record {
-    stands = at_carries write.place r.stands;
-    old = ⊎_elim (λ e. inl e) (λ e. inr (e.0, e.1, ap (λ V. own (V write.place.table write.place.probe.len)) sees_same ∙ e.2)) r.old;
-  }
+  -- the key that is in a slot
+  of_key_carries : (t x : ℕ) (key : K) → IsOfKey g ((now g c begun since k).slot t x) key → IsOfKey g' ((now g c begun since k).slot t x) key
+  of_key_carries t x key r = (r.0, r.1, agrees.key r.0 ∙ r.2)
 
   -- a passed table of the chain
   table_passed : (t : ℕ) → HasComeTo g c begun since k t → IsPassed g.places (look g (now g c begun since k) k) t → IsPassed g'.places (look g' (now g c begun since k) k) t
@@ -128,7 +125,7 @@ module _ {K P : Type 0} (g g' : Setting K P) (c : Coding K P) (h : IsHashed g c)
   -- a claimed pair
   claimed_carries : (hands : Hands P) (claimed : Claimed) → HasClaimed g c begun since k hands claimed → HasClaimed g' c begun since k hands claimed
   claimed_carries hands claimed r = record {
-    pair = r.pair;
+    pair = (r.pair.0, r.pair.1, r.pair.2, agrees.key r.pair.0 ∙ r.pair.3);
     stands = at_carries claimed.place r.stands;
     hint = hint_agrees g g' c agrees.key ((now g c begun since k).slot claimed.place.table claimed.place.probe.i) (hint_of (c.hash k)) r.hint;
   }
@@ -137,5 +134,5 @@ module _ {K P : Type 0} (g g' : Setting K P) (c : Coding K P) (h : IsHashed g c)
   pub rests_carries : (m : Machine) (hands : Hands P) → Rests g c begun since k m hands → Rests g' c begun since k m hands
   rests_carries m hands r =
       rests_carried g g' c begun since since k hands
-      (record { mode = agrees.blocking; key = agrees.key; same = agrees.same; moment = moment_carries; come = come_carries; stands = at_carries; met = met_carries; write = write_carries; passed = table_passed; leaving = leaving_carries; need = need_carries; claimed = claimed_carries hands })
+      (record { mode = agrees.blocking; most = agrees.most; key = agrees.key; same = agrees.same; moment = moment_carries; come = come_carries; stands = at_carries; met = met_carries; of_key = of_key_carries; passed = table_passed; leaving = leaving_carries; need = need_carries; claimed = claimed_carries hands })
       m r

@@ -22,19 +22,20 @@ use Rattle.papaya_call.specs.declared.compute.Remembered.{Remembered}
 use Rattle.papaya_call.specs.declared.remove.Removal.{Removal}
 use Rattle.papaya_ask.specs.declared.search.Search.TheVariants.{Sizing, Looking, Reading, Comparing}
 use Rattle.papaya_ask.specs.declared.search.Seen.{Seen}
-use Rattle.papaya_call.specs.declared.write.Made.{Made}
-use Rattle.papaya_call.specs.declared.write.Made.TheVariants.{Nothing, Key, Pair}
+use Rattle.papaya_call.specs.declared.made.Made.{Made}
+use Rattle.papaya_rests.proofs.Makings.{HoldsOfPairAsks, exchanged_leads, lost_leads, numbered_leads, pair_holds, paired_leads, refuses_leads, told_leads, write_holds}
 use Rattle.papaya_call.specs.declared.write.Write.{Write}
 use Rattle.papaya_call.specs.declared.machine.Machine.{Machine}
 use Rattle.papaya_call.specs.declared.machine.State.{State as Stage}
 use Rattle.papaya_call.specs.declared.machine.State.TheVariants.{AtRoot, Making, Opening, Searching, Writing, Offering, Showing, Pairing, Putting, Burying, Counting, Noting, Uncounting, Leaving, Growing, Ended}
-use Rattle.papaya_call.specs.Compute.{chosen, offered, provides}
-use Rattle.papaya_call.specs.Machine.{IsStanding, IsStandingState, IsComputer, IsWriter, HasClosure, after, ask_of, asks, at_root, beaten, goes_as, left, written}
+use Rattle.papaya_call.specs.Compute.{chosen, in_place_of, offered, provides}
+use Rattle.papaya_call.specs.Made.{grown, told}
+use Rattle.papaya_call.specs.Machine.{IsStanding, IsStandingState, IsComputer, IsWriter, HasClosure, after, ask_of, asks, at_root, beaten, goes_as, left, numbered, refuses, write_lost, write_told, written}
 use Rattle.papaya_rests.specs.Rests.{change_in}
 use Rattle.papaya_ask.specs.Search.{look as look_seen, at_size as search_sized, at_word as search_loaded, at_yes as search_compared}
 use Rattle.papaya_rests.specs.Says.{IsSaidChange, shown_by, show}
 use Rattle.papaya_rests.proofs.Leads.{HoldsOfLeads, beaten_leads, goes_leads, left_leads, provides_leads, root_leads}
-use Rattle.papaya_call.specs.Write.{claimed_by}
+use Rattle.papaya_call.specs.Write.{claimed_by, serves}
 
 -- how a call has been aborted
 abbrev abort_of_reply : Reply → Option ℕ
@@ -51,6 +52,10 @@ abbrev abort_of : Ask → Option ℕ
 abort_of (Ask_done reply) = abort_of_reply reply
 abort_of _ = None
 
+-- what is asked for a pair aborts nothing
+pairs_unaborted : HoldsOfPairAsks (λ ask. abort_of ask ≡ None)
+pairs_unaborted = record { loads = refl; takes = λ count. refl; key = refl; value = refl; pair = refl; pair_of = λ n. refl }
+
 -- its ask tells
 abort_asked : (made : Made) (hash : ℕ) (stage : Stage) → abort_of (asks made hash stage) ≡ abort_in stage
 abort_asked made hash AtRoot = refl
@@ -60,14 +65,10 @@ abort_asked made hash (Searching (Sizing t)) = refl
 abort_asked made hash (Searching (Looking at)) = refl
 abort_asked made hash (Searching (Reading at)) = refl
 abort_asked made hash (Searching (Comparing at word)) = refl
-abort_asked Nothing hash (Writing write) = refl
-abort_asked Key hash (Writing write) = refl
-abort_asked (Pair n) hash (Writing write) = refl
+abort_asked made hash (Writing write) = write_holds (λ ask. abort_of ask ≡ None) pairs_unaborted write (λ n. refl) made
 abort_asked made hash (Offering gap) = refl
 abort_asked made hash (Showing removal) = refl
-abort_asked Nothing hash (Pairing purpose) = refl
-abort_asked Key hash (Pairing purpose) = refl
-abort_asked (Pair n) hash (Pairing purpose) = refl
+abort_asked made hash (Pairing purpose) = pair_holds (λ ask. abort_of ask ≡ None) pairs_unaborted made (in_place_of purpose)
 abort_asked made hash (Putting put) = refl
 abort_asked made hash (Burying removal) = refl
 abort_asked made hash (Counting n) = refl
@@ -92,6 +93,7 @@ leads_idle = record {
   writing = λ write. (refl, refl);
   offering = λ gap. (refl, refl);
   showing = λ removal. (refl, refl);
+  pairing = λ purpose. (refl, refl);
   putting = λ put. (refl, refl);
   burying = λ removal. (refl, refl);
   leaving = λ t. (refl, refl);
@@ -231,14 +233,13 @@ module _ (m : Machine) where
       idle task made (Searching place) (Yes same) (goes_as task m.mode m.remembered (search_compared place same)) (goes_idle task m.mode m.remembered (search_compared place same))
   right_in task made (Searching place) (Size slots limit) = idle task made (Searching place) (Size slots limit) (Searching (search_sized place m.hash slots limit)) (refl, refl)
   right_in task made (Searching place) answer = stays task made (Searching place) answer refl
+  right_in task made (Writing write) (Word_read word) = idle task made (Writing write) (Word_read word) (write_told (serves made write) made write word) (told_leads IsIdle (refl, refl) write (refl, refl) (serves made write) made word)
   right_in task made (Writing write) (Found_instead word) =
-      idle task made (Writing write) (Found_instead word) (goes_as task m.mode m.remembered (look_seen write.place word)) (goes_idle task m.mode m.remembered (look_seen write.place word))
-  right_in task (Pair n) (Writing write) Exchanged = write_right task (Pair n) write n
-  right_in task Nothing (Writing write) (Was_refused refused) = idle task Nothing (Writing write) (Was_refused refused) (Ended (Reply_refused refused)) (refl, refl)
-  right_in task Key (Writing write) (Was_refused refused) = idle task Key (Writing write) (Was_refused refused) (Ended (Reply_refused refused)) (refl, refl)
-  right_in task Nothing (Writing write) answer = stays task Nothing (Writing write) answer refl
-  right_in task Key (Writing write) answer = stays task Key (Writing write) answer refl
-  right_in task (Pair n) (Writing write) answer = stays task (Pair n) (Writing write) answer refl
+      let machine : Machine = on task made (Writing write) in
+      idle task made (Writing write) (Found_instead word) (write_lost (serves made write) machine write word) (lost_leads IsIdle (refl, refl) write (refl, refl) machine word (goes_idle task m.mode m.remembered (look_seen write.place word)) (serves made write))
+  right_in task made (Writing write) Exchanged = exchanged_leads (IsRight task made (Writing write) Exchanged) write (stays task made (Writing write) Exchanged refl) (write_right task made write) (serves made write)
+  right_in task made (Writing write) (Was_refused refused) = idle task made (Writing write) (Was_refused refused) (refuses (serves made write) refused write) (refuses_leads IsIdle write refused (refl, refl) (refl, refl) (serves made write))
+  right_in task made (Writing write) answer = stays task made (Writing write) answer refl
   right_in task made (Offering gap) (Op kind) = offered_right task made gap kind
   right_in task made (Offering gap) answer = stays task made (Offering gap) answer refl
   right_in RemoveIf made (Showing removal) (Yes true) = idle RemoveIf made (Showing removal) (Yes true) (Burying removal) (refl, refl)
@@ -251,12 +252,11 @@ module _ (m : Machine) where
   right_in (Insert replace) made (Showing removal) (Op kind) = stays (Insert replace) made (Showing removal) (Op kind) refl
   right_in RemoveIf made (Showing removal) (Op kind) = stays RemoveIf made (Showing removal) (Op kind) refl
   right_in task made (Showing removal) answer = stays task made (Showing removal) answer refl
-  right_in task Key (Pairing purpose) (Made_number n) = provided_right task Key purpose n
-  right_in task (Pair i) (Pairing purpose) (Made_number n) = provided_right task (Pair i) purpose n
+  right_in task made (Pairing purpose) (Made_number n) = paired_leads (IsRight task made (Pairing purpose) (Made_number n)) purpose n (stays task made (Pairing purpose) (Made_number n) refl) (provided_right task made purpose n) (grown made (in_place_of purpose))
+  right_in task made (Pairing purpose) (Word_read word) = idle task made (Pairing purpose) (Word_read word) (numbered (told made word) (Pairing purpose)) (numbered_leads IsIdle (refl, refl) (Pairing purpose) (refl, refl) (told made word))
+  right_in task made (Pairing purpose) (Found_instead word) = idle task made (Pairing purpose) (Found_instead word) (numbered (told made word) (Pairing purpose)) (numbered_leads IsIdle (refl, refl) (Pairing purpose) (refl, refl) (told made word))
   right_in task made (Pairing purpose) (Was_refused refused) = idle task made (Pairing purpose) (Was_refused refused) (Ended (Reply_refused refused)) (refl, refl)
-  right_in task Nothing (Pairing purpose) answer = stays task Nothing (Pairing purpose) answer refl
-  right_in task Key (Pairing purpose) answer = stays task Key (Pairing purpose) answer refl
-  right_in task (Pair i) (Pairing purpose) answer = stays task (Pair i) (Pairing purpose) answer refl
+  right_in task made (Pairing purpose) answer = stays task made (Pairing purpose) answer refl
   right_in task made (Putting put) Exchanged = put_right task made put
   right_in task made (Putting put) (Found_instead word) =
       idle task made (Putting put) (Found_instead word) (goes_as task m.mode m.remembered (look_seen put.write.place word)) (goes_idle task m.mode m.remembered (look_seen put.write.place word))

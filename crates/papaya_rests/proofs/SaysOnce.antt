@@ -1,5 +1,5 @@
 -- A closure is shown once at most that its key is absent.
-use Rattle.std.proofs.Common.{◌≡◌, ℕ, ◌==◌, true, false, Option, None, Some}
+use Rattle.std.proofs.Common.{◌≡◌, ℕ, ◌==◌, true, false, Option, None, Some, subst}
 use Rattle.std.proofs.lemmas.Bool.{cond_both}
 use Rattle.papaya_words.specs.Word.{kind_of, pair_of}
 use Rattle.papaya_words.specs.declared.probe.ResizeMode.{ResizeMode}
@@ -18,25 +18,29 @@ use Rattle.papaya_call.specs.declared.compute.Choice.{Choice}
 use Rattle.papaya_call.specs.declared.compute.Choice.TheVariants.{Replace as To_replace, Remove as To_remove}
 use Rattle.papaya_call.specs.declared.compute.Gap.{Gap}
 use Rattle.papaya_call.specs.declared.compute.Gap.TheVariants.{NoRoot, At, After}
-use Rattle.papaya_call.specs.declared.compute.Purpose.TheVariants.{Fill, Replace}
+use Rattle.papaya_call.specs.declared.compute.Purpose.{Purpose}
+use Rattle.papaya_call.specs.declared.compute.Purpose.TheVariants.{Fill, Replace, Again}
 use Rattle.papaya_call.specs.declared.compute.Remembered.{Remembered}
 use Rattle.papaya_call.specs.declared.remove.Removal.{Removal}
 use Rattle.papaya_ask.specs.declared.search.Place.{Place}
 use Rattle.papaya_ask.specs.declared.search.Search.TheVariants.{Sizing, Looking, Reading, Comparing}
 use Rattle.papaya_ask.specs.declared.search.Seen.{Seen}
 use Rattle.papaya_ask.specs.declared.search.Seen.TheVariants as seen
-use Rattle.papaya_call.specs.declared.write.Made.{Made}
-use Rattle.papaya_call.specs.declared.write.Made.TheVariants.{Nothing, Key, Pair}
+use Rattle.papaya_call.specs.declared.made.Made.{Made}
+use Rattle.papaya_rests.proofs.Makings.{IsPairAsk, IsWriteAsk, exchanged_leads, lost_leads, numbered_leads, pairing_asks, refuses_leads, told_leads, write_asks}
 use Rattle.papaya_call.specs.declared.write.Write.{Write}
 use Rattle.papaya_call.specs.declared.machine.Machine.{Machine}
 use Rattle.papaya_call.specs.declared.machine.State.{State as Stage}
 use Rattle.papaya_call.specs.declared.machine.State.TheVariants.{AtRoot, Making, Opening, Searching, Writing, Offering, Showing, Pairing, Putting, Burying, Counting, Noting, Uncounting, Leaving, Growing, Ended}
-use Rattle.papaya_call.specs.Compute.{fills, recalls}
-use Rattle.papaya_call.specs.Machine.{absent, after, ask_of, asks, at_root, beaten_as, beaten_by, computes, goes_as, left, removes, replaces, written}
+use Rattle.papaya_call.specs.declared.made.Grown.{Grown}
+use Rattle.papaya_call.specs.declared.made.Grown.TheVariants.{On, Pair}
+use Rattle.papaya_call.specs.Made.{grown, serves_at, told}
+use Rattle.papaya_call.specs.Compute.{fills, in_place_of, recalled, recalls}
+use Rattle.papaya_call.specs.Machine.{absent, after, ask_of, asks, at_root, beaten_as, beaten_by, computes, goes_as, left, paired, paired_held, removes, replaces, written}
 use Rattle.papaya_ask.specs.Search.{look as look_seen, at_word as search_loaded, at_yes as search_compared}
 use Rattle.papaya_rests.specs.Says.{HasShownNone, IsFilled}
 use Rattle.papaya_rests.proofs.Leads.{occupies_leads}
-use Rattle.papaya_call.specs.Write.{claimed_by}
+use Rattle.papaya_call.specs.Write.{claimed_by, serves}
 
 -- a machine that has shown None asks to show it no more
 asks_other : (made : Made) (hash : ℕ) (fill : Option ℕ) (stage : Stage) → HasShownNone fill stage → asks made hash stage ≡ ShowNone → ⊥
@@ -47,14 +51,10 @@ asks_other made hash fill (Searching (Sizing t)) h e = cc e
 asks_other made hash fill (Searching (Looking at)) h e = cc e
 asks_other made hash fill (Searching (Reading at)) h e = cc e
 asks_other made hash fill (Searching (Comparing at word)) h e = cc e
-asks_other Nothing hash fill (Writing write) h e = cc e
-asks_other Key hash fill (Writing write) h e = cc e
-asks_other (Pair n) hash fill (Writing write) h e = cc e
+asks_other made hash fill (Writing write) h e = subst IsWriteAsk e (write_asks made write)
 asks_other made hash fill (Offering gap) h e = h
 asks_other made hash fill (Showing removal) h e = cc e
-asks_other Nothing hash fill (Pairing purpose) h e = cc e
-asks_other Key hash fill (Pairing purpose) h e = cc e
-asks_other (Pair n) hash fill (Pairing purpose) h e = cc e
+asks_other made hash fill (Pairing purpose) h e = subst IsPairAsk e (pairing_asks made purpose)
 asks_other made hash fill (Putting put) h e = cc e
 asks_other made hash fill (Burying removal) h e = cc e
 asks_other made hash fill (Counting n) h e = cc e
@@ -82,7 +82,9 @@ absent_shown Compute (Some n) gap h = fills_shown gap n
 recalls_shown : (fill : Option ℕ) (choice : Option Choice) (at : Place) (word pair : ℕ) → IsFilled fill → HasShownNone fill (recalls choice at word pair)
 recalls_shown fill None at word pair h = h
 recalls_shown fill (Some (To_replace old new)) at word pair h =
-    cond_both (old == pair) (Putting (record { write = record { place = at; old = word }; pair = new })) (Showing (record { place = at; word = word })) (HasShownNone fill) (λ _. h) (λ _. h)
+    cond_both (old == pair) (recalled new at word) (Showing (record { place = at; word = word })) (HasShownNone fill)
+    (λ _. cond_both (serves_at new at.table at.probe.i) (Putting (record { write = record { place = at; old = word }; pair = new.pair })) (Pairing (Again (record { place = at; old = word }))) (HasShownNone fill) (λ _. h) (λ _. h))
+    (λ _. h)
 recalls_shown fill (Some (To_remove old)) at word pair h = cond_both (old == pair) (Burying (record { place = at; word = word })) (Showing (record { place = at; word = word })) (HasShownNone fill) (λ _. h) (λ _. h)
 
 -- nor one that a compute found
@@ -178,6 +180,13 @@ module _ (m : Machine) where
   chosen_shown made removal ops.Remove h = h
   chosen_shown made removal (ops.Abort with) h = tt
 
+  -- after something was made for a compute
+  pairing_shown : (purpose : Purpose) (n : ℕ) → HasShownNone m.remembered.fill (Pairing purpose) → (G : Grown) → HasShownNone (paired_held G m.remembered purpose n).fill (paired G purpose n)
+  pairing_shown purpose n h (On next) = h
+  pairing_shown (Fill gap) n h (Pair next) = fills_shown gap n
+  pairing_shown (Replace write) n h (Pair next) = h
+  pairing_shown (Again write) n h (Pair next) = h
+
   -- in each stage
   shown_in : (task : Task) (made : Made) (stage : Stage) (answer : Answer) → HasShownNone m.remembered.fill stage → HasShown (after (on task made stage) answer)
   shown_in task made AtRoot (Word_read word) h = root_shown task m.remembered.fill word h
@@ -189,13 +198,13 @@ module _ (m : Machine) where
   shown_in task made (Searching place) (Word_read word) h = goes_shown task m.mode m.remembered (search_loaded place m.hash word) h
   shown_in task made (Searching place) (Yes same) h = goes_shown task m.mode m.remembered (search_compared place same) h
   shown_in task made (Searching place) answer h = h
-  shown_in task made (Writing write) (Found_instead word) h = goes_shown task m.mode m.remembered (look_seen write.place word) h
-  shown_in task (Pair n) (Writing write) Exchanged h = written_shown m.remembered.fill write n h
-  shown_in task Nothing (Writing write) (Was_refused refused) h = tt
-  shown_in task Key (Writing write) (Was_refused refused) h = tt
-  shown_in task Nothing (Writing write) answer h = h
-  shown_in task Key (Writing write) answer h = h
-  shown_in task (Pair n) (Writing write) answer h = h
+  shown_in task made (Writing write) (Word_read word) h = told_leads (HasShownNone m.remembered.fill) tt write h (serves made write) made word
+  shown_in task made (Writing write) (Found_instead word) h =
+      let machine : Machine = on task made (Writing write) in
+      lost_leads (HasShownNone m.remembered.fill) tt write h machine word (goes_shown task m.mode m.remembered (look_seen write.place word) h) (serves made write)
+  shown_in task made (Writing write) Exchanged h = exchanged_leads (HasShownNone m.remembered.fill) write h (λ n. written_shown m.remembered.fill write n h) (serves made write)
+  shown_in task made (Writing write) (Was_refused refused) h = refuses_leads (HasShownNone m.remembered.fill) write refused h tt (serves made write)
+  shown_in task made (Writing write) answer h = h
   shown_in task made (Offering gap) answer h = absurd h
   shown_in RemoveIf made (Showing removal) (Yes true) h = h
   shown_in RemoveIf made (Showing removal) (Yes false) h = tt
@@ -207,14 +216,11 @@ module _ (m : Machine) where
   shown_in (Insert replace) made (Showing removal) (Op kind) h = h
   shown_in RemoveIf made (Showing removal) (Op kind) h = h
   shown_in task made (Showing removal) answer h = h
-  shown_in task Key (Pairing (Fill gap)) (Made_number n) h = fills_shown gap n
-  shown_in task (Pair i) (Pairing (Fill gap)) (Made_number n) h = fills_shown gap n
-  shown_in task Key (Pairing (Replace write)) (Made_number n) h = h
-  shown_in task (Pair i) (Pairing (Replace write)) (Made_number n) h = h
+  shown_in task made (Pairing purpose) (Made_number n) h = pairing_shown purpose n h (grown made (in_place_of purpose))
+  shown_in task made (Pairing purpose) (Word_read word) h = numbered_leads (HasShownNone m.remembered.fill) tt (Pairing purpose) h (told made word)
+  shown_in task made (Pairing purpose) (Found_instead word) h = numbered_leads (HasShownNone m.remembered.fill) tt (Pairing purpose) h (told made word)
   shown_in task made (Pairing purpose) (Was_refused refused) h = tt
-  shown_in task Nothing (Pairing purpose) answer h = h
-  shown_in task Key (Pairing purpose) answer h = h
-  shown_in task (Pair i) (Pairing purpose) answer h = h
+  shown_in task made (Pairing purpose) answer h = h
   shown_in task made (Putting put) Exchanged h = written_shown m.remembered.fill put.write put.pair h
   shown_in task made (Putting put) (Found_instead word) h = goes_shown task m.mode m.remembered (look_seen put.write.place word) h
   shown_in task made (Putting put) answer h = h

@@ -2,7 +2,7 @@
 use Rattle.std.proofs.Common.{◌≡◌, ◌⊎◌, inl, inr, ⊎_elim, ℕ, ◌<◌, ◌^◌, ◌==◌, Bool, true, false, cond, Option, None, Some, refl, sym, ap, ◌∙◌, subst}
 use Rattle.papaya_words.specs.Word.{pair_of, live_word}
 use Rattle.papaya_ask.specs.declared.ask.At.TheVariants.{Slot}
-use Rattle.papaya_ask.specs.declared.ask.Ask.TheVariants.{Exchange, MakePair, ShowPair}
+use Rattle.papaya_ask.specs.declared.ask.Ask.TheVariants.{Exchange, ShowPair}
 use Rattle.papaya_ask.specs.declared.ask.Answer.TheVariants.{Op}
 use Rattle.papaya_ask.specs.declared.ask.OpKind.TheVariants as ops
 use Rattle.papaya_ask.specs.declared.ask.StepKind.TheVariants as kinds
@@ -15,19 +15,24 @@ use Rattle.papaya_call.specs.declared.compute.Choice.TheVariants.{Replace as To_
 use Rattle.papaya_call.specs.declared.compute.Gap.{Gap}
 use Rattle.papaya_call.specs.declared.compute.Gap.TheVariants.{NoRoot, At, After}
 use Rattle.papaya_call.specs.declared.compute.Purpose.{Purpose}
-use Rattle.papaya_call.specs.declared.compute.Purpose.TheVariants.{Fill, Replace}
+use Rattle.papaya_call.specs.declared.compute.Purpose.TheVariants.{Fill, Replace, Again}
+use Rattle.papaya_call.specs.declared.compute.Remembered.{Remembered}
 use Rattle.papaya_call.specs.declared.compute.Put.{Put}
 use Rattle.papaya_call.specs.declared.remove.Removal.{Removal}
 use Rattle.papaya_ask.specs.declared.search.Search.TheVariants.{Sizing, Looking, Reading, Comparing}
-use Rattle.papaya_call.specs.declared.write.Made.{Made}
-use Rattle.papaya_call.specs.declared.write.Made.TheVariants.{Nothing, Key, Pair}
+use Rattle.papaya_call.specs.declared.made.Made.{Made}
+use Rattle.papaya_rests.proofs.Makings.{IsPairAsk, IsWriteAsk, pair_made, pairing_asks, write_asks}
 use Rattle.papaya_call.specs.declared.write.Write.{Write}
 use Rattle.papaya_call.specs.declared.machine.Machine.{Machine}
 use Rattle.papaya_call.specs.declared.machine.State.{State as Stage}
 use Rattle.papaya_call.specs.declared.machine.State.TheVariants.{Searching, Writing, Showing, Pairing, Putting, Burying, Ended}
-use Rattle.papaya_call.specs.Compute.{fills}
-use Rattle.papaya_call.specs.Machine.{IsStanding, IsStandingState, after, ask_of, asks}
-use Rattle.papaya_rests.specs.Says.{Said, Agrees, Inserts, Makes, Removes, IsPaired, IsSaidExchange, KeepsChoice, KeepsFill, ShowsPairs, StandsOn, said_in, said_in_reply, said_to_choose, said_to_fill, shown_by}
+use Rattle.papaya_call.specs.declared.made.Grown.{Grown}
+use Rattle.papaya_call.specs.declared.made.Grown.TheVariants.{On as More, Pair}
+use Rattle.papaya_call.specs.Made.{grown, paired as pair_done}
+use Rattle.papaya_call.specs.Write.{made_of}
+use Rattle.papaya_call.specs.Compute.{fills, in_place_of}
+use Rattle.papaya_call.specs.Machine.{IsStanding, IsStandingState, after, ask_of, asks, made_to_pair, paired, paired_held}
+use Rattle.papaya_rests.specs.Says.{Said, Agrees, Inserts, Makes, MakesPair, Removes, IsPaired, IsSaidExchange, KeepsFill, ShowsIn, ShowsPairs, StandsOn, WasSaid, said_in, said_in_reply, said_to_choose, said_to_fill, shown_by}
 use Rattle.papaya_rests.proofs.NewWords.{pair_of-live_word}
 use Rattle.papaya_rests.proofs.SaysSaid.{shown_pair}
 
@@ -35,18 +40,6 @@ use Rattle.papaya_rests.proofs.SaysSaid.{shown_pair}
 fill_makes : (fill : Option ℕ) (said : Said) → said_to_fill fill ≡ Some said → (i : ℕ) × (said ≡ Makes None i)
 fill_makes None said e = absurd cc
 fill_makes (Some i) said e = let is : Makes None i ≡ said = cc e in (i, sym is)
-
--- what is remembered of a pair was not made of that
-choice_makes_other : (choice : Option Choice) (said : Said) → said_to_choose choice ≡ Some said → (i : ℕ) → said ≡ Makes None i → ⊥
-choice_makes_other None said e i is = cc e
-choice_makes_other (Some (To_replace old new)) said e i is = let no : Some (Makes (Some old) new) ≡ Some (Makes None i) = e ∙ ap (λ s. Some s) is in cc no
-choice_makes_other (Some (To_remove old)) said e i is = let no : Some (Removes old) ≡ Some (Makes None i) = e ∙ ap (λ s. Some s) is in cc no
-
--- and no pair of it is yet to be made
-choice_is_made : (choice : Option Choice) (said : Said) → said_to_choose choice ≡ Some said → (shown : Option ℕ) → said ≡ Inserts shown → ⊥
-choice_is_made None said e shown is = cc e
-choice_is_made (Some (To_replace old new)) said e shown is = let no : Some (Makes (Some old) new) ≡ Some (Inserts shown) = e ∙ ap (λ s. Some s) is in cc no
-choice_is_made (Some (To_remove old)) said e shown is = let no : Some (Removes old) ≡ Some (Inserts shown) = e ∙ ap (λ s. Some s) is in cc no
 
 -- a pair that goes to its place is the pair for an absent key
 fills_makes : (gap : Gap) (n : ℕ) (said : Said) → said_in Compute (fills gap n) ≡ Some said → said ≡ Makes None n
@@ -72,6 +65,7 @@ module _ (n : ℕ) (agrees : Bool) where
   agrees_no_stage : (stage : Stage) → said_in Compute stage ≡ Some (Agrees n agrees) → ⊥
   agrees_no_stage (Pairing (Fill gap)) e = cc e
   agrees_no_stage (Pairing (Replace write)) e = cc e
+  agrees_no_stage (Pairing (Again write)) e = cc e
   agrees_no_stage (Ended reply) e = agrees_no_reply reply e
   agrees_no_stage stage e = cc e
 
@@ -96,12 +90,8 @@ module _ (n : ℕ) (agrees : Bool) where
   showing_unsaid task made hash (Searching (Looking at)) shown e said = cc e
   showing_unsaid task made hash (Searching (Reading at)) shown e said = cc e
   showing_unsaid task made hash (Searching (Comparing at word)) shown e said = cc e
-  showing_unsaid task Nothing hash (Writing write) shown e said = cc e
-  showing_unsaid task Key hash (Writing write) shown e said = cc e
-  showing_unsaid task (Pair i) hash (Writing write) shown e said = cc e
-  showing_unsaid task Nothing hash (Pairing purpose) shown e said = cc e
-  showing_unsaid task Key hash (Pairing purpose) shown e said = cc e
-  showing_unsaid task (Pair i) hash (Pairing purpose) shown e said = cc e
+  showing_unsaid task made hash (Writing write) shown e said = subst IsWriteAsk e (write_asks made write)
+  showing_unsaid task made hash (Pairing purpose) shown e said = subst IsPairAsk e (pairing_asks made purpose)
   showing_unsaid task made hash (Showing removal) shown e said = cc said
   showing_unsaid task made hash stage shown e said = cc e
 
@@ -122,10 +112,6 @@ module _ (m : Machine) where
   keeps_fill : (made : Made) (stage : Stage) (said : Said) → said_to_fill m.remembered.fill ≡ Some said → KeepsFill (on made stage) said
   keeps_fill made stage said e = let made_of = fill_makes m.remembered.fill said e in (made_of.0, made_of.1, inr (inl e))
 
-  -- and what was answered of the pair last shown
-  keeps_choice : (made : Made) (stage : Stage) (said : Said) → said_to_choose m.remembered.choice ≡ Some said → KeepsChoice (on made stage) said
-  keeps_choice made stage said e = (inr (inr e), choice_makes_other m.remembered.choice said e, choice_is_made m.remembered.choice said e)
-
   -- a pair that is to be removed
   removes_over : (made : Made) (removal : Removal) (n : ℕ) (said : Said) → pair_of removal.word ≡ n → StandsOn (after (on made (Showing removal)) (Op ops.Remove)) said → (said ≡ Removes n) ⊎ KeepsFill (on made (Showing removal)) said
   removes_over made removal n said same stands =
@@ -139,12 +125,8 @@ module _ (m : Machine) where
   removes_over_in made (Searching (Looking at)) n said e stands = absurd cc
   removes_over_in made (Searching (Reading at)) n said e stands = absurd cc
   removes_over_in made (Searching (Comparing at word)) n said e stands = absurd cc
-  removes_over_in Nothing (Writing write) n said e stands = absurd cc
-  removes_over_in Key (Writing write) n said e stands = absurd cc
-  removes_over_in (Pair i) (Writing write) n said e stands = absurd cc
-  removes_over_in Nothing (Pairing purpose) n said e stands = absurd cc
-  removes_over_in Key (Pairing purpose) n said e stands = absurd cc
-  removes_over_in (Pair i) (Pairing purpose) n said e stands = absurd cc
+  removes_over_in made (Writing write) n said e stands = absurd (subst IsWriteAsk e (write_asks made write))
+  removes_over_in made (Pairing purpose) n said e stands = absurd (subst IsPairAsk e (pairing_asks made purpose))
   removes_over_in made stage n said e stands = absurd cc
 
   -- of the machine
@@ -157,42 +139,50 @@ module _ (m : Machine) where
   IsOf stage fill choice said = (said_in Compute stage ≡ Some said) ⊎ (said_to_fill fill ≡ Some said) ⊎ (said_to_choose choice ≡ Some said)
 
   -- a pair for an absent key
-  fill_over : (made : Made) (gap : Gap) (n : ℕ) (said : Said) → IsOf (fills gap n) (Some n) m.remembered.choice said → (said ≡ Makes None n) ⊎ KeepsChoice (on made (Pairing (Fill gap))) said
+  fill_over : (made : Made) (gap : Gap) (n : ℕ) (said : Said) → IsOf (fills gap n) (Some n) None said → said ≡ Makes None n
   fill_over made gap n said stands =
       ⊎_elim
-      (λ e. inl (fills_makes gap n said e))
-      (λ o. ⊎_elim (λ e. let is : Makes None n ≡ said = cc e in inl (sym is)) (λ e. inr (keeps_choice made (Pairing (Fill gap)) said e)) o)
+      (λ e. fills_makes gap n said e)
+      (λ o. ⊎_elim (λ e. let is : Makes None n ≡ said = cc e in sym is) (λ e. absurd cc) o)
       stands
 
   -- one in the place of another
-  replace_over : (made : Made) (write : Write) (n : ℕ) (said : Said) → 0 < write.old → IsOf (Putting (record { write = write; pair = n })) m.remembered.fill (Some (To_replace (pair_of write.old) n)) said
-      → (said ≡ Makes (Some (pair_of write.old)) n) ⊎ KeepsFill (on made (Pairing (Replace write))) said
-  replace_over made write n said some stands =
+  replace_over : (made : Made) (purpose : Purpose) (write : Write) (n : ℕ) (said : Said) → 0 < write.old → IsOf (Putting (record { write = write; pair = n })) m.remembered.fill (Some (To_replace (pair_of write.old) (made_of write n))) said
+      → (said ≡ Makes (Some (pair_of write.old)) n) ⊎ KeepsFill (on made (Pairing purpose)) said
+  replace_over made purpose write n said some stands =
       ⊎_elim
       (λ e. let is : Makes (shown_by write.old) n ≡ said = cc e in inl (sym is ∙ ap (λ o. Makes o n) (shown_pair write.old some)))
-      (λ o. ⊎_elim (λ e. inr (keeps_fill made (Pairing (Replace write)) said e)) (λ e. let is : Makes (Some (pair_of write.old)) n ≡ said = cc e in inl (sym is)) o)
+      (λ o. ⊎_elim (λ e. inr (keeps_fill made (Pairing purpose) said e)) (λ e. let is : Makes (Some (pair_of write.old)) n ≡ said = cc e in inl (sym is)) o)
       stands
 
+  -- what a compute stands on once its pair was made, where that leads here
+  abbrev WasPaired : Made → Purpose → ℕ → Made → Remembered → Stage → Type 0
+  WasPaired made purpose n next held stage =
+      (StandsOn (on made (Pairing purpose)) (Inserts None) × ((said : Said) → StandsOn (record m { task = Compute; made = next; remembered = held; state = stage }) said → said ≡ Makes None n))
+      ⊎ ((i : ℕ) × WasSaid (on made (Pairing purpose)) (Some i) × ((said : Said) → StandsOn (record m { task = Compute; made = next; remembered = held; state = stage }) said → (said ≡ Makes (Some i) n) ⊎ KeepsFill (on made (Pairing purpose)) said))
+
   -- by what it is made for
-  pairs_over : (made : Made) (purpose : Purpose) (n : ℕ) → asks made m.hash (Pairing purpose) ≡ MakePair → ShowsPairs (Pairing purpose) → IsPaired (on made (Pairing purpose)) n
-  pairs_over Nothing purpose n e shows = absurd cc
-  pairs_over Key (Fill gap) n e shows = inl (inl refl, fill_over Key gap n)
-  pairs_over (Pair i) (Fill gap) n e shows = inl (inl refl, fill_over (Pair i) gap n)
-  pairs_over Key (Replace write) n e shows = inr (pair_of write.old, inl refl, λ said. replace_over Key write n said shows)
-  pairs_over (Pair i) (Replace write) n e shows = inr (pair_of write.old, inl refl, λ said. replace_over (Pair i) write n said shows)
+  pairs_over : (made : Made) (purpose : Purpose) (n : ℕ) → (G : Grown) → grown made (in_place_of purpose) ≡ G → G ≡ Pair (pair_done made) → ShowsIn m.remembered.choice (Pairing purpose)
+      → WasPaired made purpose n (made_to_pair G) (paired_held G m.remembered purpose n) (paired G purpose n)
+  pairs_over made purpose n (More next) is e shows = absurd cc
+  pairs_over made (Fill gap) n (Pair next) is e shows = inl (inl refl, fill_over made gap n)
+  pairs_over made (Replace write) n (Pair next) is e shows = inr (pair_of write.old, inl (inl refl), λ said. replace_over made (Replace write) write n said shows)
+  pairs_over made (Again write) n (Pair next) is e shows =
+      let new = shows.1 in
+      inr (pair_of write.old, inr (new.0.pair, inr (inr (ap said_to_choose new.1))), λ said. replace_over made (Again write) write n said shows.0)
 
   -- in each stage
-  pairs_over_in : (made : Made) (stage : Stage) (n : ℕ) → IsStandingState Compute stage → ShowsPairs stage → asks made m.hash stage ≡ MakePair → IsPaired (on made stage) n
-  pairs_over_in made (Pairing purpose) n is shows e = pairs_over made purpose n e shows
+  pairs_over_in : (made : Made) (stage : Stage) (n : ℕ) → IsStandingState Compute stage → ShowsIn m.remembered.choice stage → MakesPair (asks made m.hash stage) → IsPaired (on made stage) n
+  pairs_over_in made (Pairing purpose) n is shows e = pairs_over made purpose n (grown made (in_place_of purpose)) refl (pair_made made (in_place_of purpose) e) shows
   pairs_over_in made (Writing write) n is shows e = absurd is.0
-  pairs_over_in made (Searching (Sizing t)) n is shows e = absurd cc
-  pairs_over_in made (Searching (Looking at)) n is shows e = absurd cc
-  pairs_over_in made (Searching (Reading at)) n is shows e = absurd cc
-  pairs_over_in made (Searching (Comparing at word)) n is shows e = absurd cc
-  pairs_over_in made stage n is shows e = absurd cc
+  pairs_over_in made (Searching (Sizing t)) n is shows e = absurd e
+  pairs_over_in made (Searching (Looking at)) n is shows e = absurd e
+  pairs_over_in made (Searching (Reading at)) n is shows e = absurd e
+  pairs_over_in made (Searching (Comparing at word)) n is shows e = absurd e
+  pairs_over_in made stage n is shows e = absurd e
 
   -- of the machine
-  pub machine_paired : (n : ℕ) → m.task ≡ Compute → IsStanding m → ShowsPairs m.state → ask_of m ≡ MakePair → IsPaired m n
+  pub machine_paired : (n : ℕ) → m.task ≡ Compute → IsStanding m → ShowsPairs m → MakesPair (ask_of m) → IsPaired m n
   machine_paired n is standing shows e =
       subst (λ t. IsStandingState t m.state → IsPaired (record m { task = t }) n) (sym is) (λ standing'. pairs_over_in m.made m.state n standing' shows e) standing.state
 
@@ -220,9 +210,7 @@ module _ (m : Machine) where
   exchanges_said_in made (Searching (Looking at)) t x old new fits is e = absurd cc
   exchanges_said_in made (Searching (Reading at)) t x old new fits is e = absurd cc
   exchanges_said_in made (Searching (Comparing at word)) t x old new fits is e = absurd cc
-  exchanges_said_in Nothing (Pairing purpose) t x old new fits is e = absurd cc
-  exchanges_said_in Key (Pairing purpose) t x old new fits is e = absurd cc
-  exchanges_said_in (Pair i) (Pairing purpose) t x old new fits is e = absurd cc
+  exchanges_said_in made (Pairing purpose) t x old new fits is e = absurd (subst IsPairAsk e (pairing_asks made purpose))
   exchanges_said_in made stage t x old new fits is e = absurd cc
 
   -- of the machine

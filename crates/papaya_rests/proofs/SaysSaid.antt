@@ -3,12 +3,11 @@ use Rattle.std.proofs.Common.{◌≡◌, ◌⊎◌, inl, inr, ⊎_elim, ℕ, ◌
 use Rattle.std.proofs.lemmas.Bool.{cond_both, eqb-true}
 use Rattle.papaya_words.specs.Word.{kind_of, pair_of}
 use Rattle.papaya_words.specs.declared.probe.Refused.{Refused}
-use Rattle.papaya_words.specs.declared.probe.Refused.TheVariants.{Capacity, RemoveNothing}
+use Rattle.papaya_words.specs.declared.probe.Refused.TheVariants.{Capacity, Limit, RemoveNothing}
 use Rattle.papaya_words.specs.declared.probe.ResizeMode.{ResizeMode}
 use Rattle.papaya_words.specs.declared.probe.ResizeMode.TheVariants.{Incremental, Blocking}
 use Rattle.papaya_words.specs.declared.word.Kind.{Kind}
 use Rattle.papaya_words.specs.declared.word.Kind.TheVariants as word_kinds
-use Rattle.papaya_ask.specs.declared.ask.Ask.TheVariants.{MakePair}
 use Rattle.papaya_ask.specs.declared.ask.Answer.{Answer}
 use Rattle.papaya_ask.specs.declared.ask.Answer.TheVariants.{Word as Word_read, Exchanged, Found as Found_instead, Yes, Op, Made as Made_number, Ok as Ok_done, Refused as Was_refused}
 use Rattle.papaya_ask.specs.declared.ask.OpKind.{OpKind}
@@ -21,27 +20,30 @@ use Rattle.papaya_call.specs.declared.compute.Choice.TheVariants.{Replace as To_
 use Rattle.papaya_call.specs.declared.compute.Gap.{Gap}
 use Rattle.papaya_call.specs.declared.compute.Gap.TheVariants.{NoRoot, At, After}
 use Rattle.papaya_call.specs.declared.compute.Purpose.{Purpose}
-use Rattle.papaya_call.specs.declared.compute.Purpose.TheVariants.{Fill, Replace}
+use Rattle.papaya_call.specs.declared.compute.Purpose.TheVariants.{Fill, Replace, Again}
 use Rattle.papaya_call.specs.declared.compute.Remembered.{Remembered}
 use Rattle.papaya_call.specs.declared.remove.Removal.{Removal}
 use Rattle.papaya_ask.specs.declared.search.Place.{Place}
 use Rattle.papaya_ask.specs.declared.search.Search.TheVariants.{Sizing}
 use Rattle.papaya_ask.specs.declared.search.Seen.{Seen}
 use Rattle.papaya_ask.specs.declared.search.Seen.TheVariants as seen
-use Rattle.papaya_call.specs.declared.write.Made.{Made}
-use Rattle.papaya_call.specs.declared.write.Made.TheVariants.{Nothing, Key, Pair}
+use Rattle.papaya_call.specs.declared.made.Made.{Made}
+use Rattle.papaya_rests.proofs.Makings.{exchanged_leads, lost_leads, makes_pair, numbered_leads, refuses_leads, told_leads}
 use Rattle.papaya_call.specs.declared.write.Write.{Write}
 use Rattle.papaya_call.specs.declared.machine.Machine.{Machine}
 use Rattle.papaya_call.specs.declared.machine.State.{State as Stage}
 use Rattle.papaya_call.specs.declared.machine.State.TheVariants.{AtRoot, Making, Opening, Searching, Writing, Offering, Showing, Pairing, Putting, Burying, Counting, Noting, Uncounting, Leaving, Growing, Ended}
-use Rattle.papaya_call.specs.Compute.{chosen, fills, offered, provides, recalls, with_choice, with_pair}
-use Rattle.papaya_call.specs.Machine.{IsStanding, IsStandingState, IsWriter, absent, after, at_root, beaten_as, beaten_by, computes, goes_as, left, pairing_ask, removes, replaces, written}
+use Rattle.papaya_call.specs.declared.made.Grown.{Grown}
+use Rattle.papaya_call.specs.declared.made.Grown.TheVariants.{On, Pair}
+use Rattle.papaya_call.specs.Made.{grown, pair_ask, serves_at, told}
+use Rattle.papaya_call.specs.Compute.{chosen, fills, in_place_of, offered, provides, recalled, recalls, with_choice, with_pair}
+use Rattle.papaya_call.specs.Machine.{IsStanding, IsStandingState, IsWriter, absent, after, at_root, beaten_as, beaten_by, computes, goes_as, left, paired, paired_held, removes, replaces, written}
 use Rattle.papaya_ask.specs.Search.{look as look_seen, at_word as search_loaded, at_yes as search_compared}
-use Rattle.papaya_rests.specs.Says.{IsSaidBy, Said, Agrees, Inserts, Makes, Removes, ShowsPairs, StandsOn, said_in, said_in_reply, said_to_choose, said_to_claim, said_to_fill, said_to_remove, shown_by}
+use Rattle.papaya_rests.specs.Says.{IsSaidBy, IsToPair, MakesPair, Said, Agrees, Inserts, Makes, Removes, ShowsIn, ShowsPairs, StandsOn, WasSaid, said_in, said_in_reply, said_to_choose, said_to_claim, said_to_fill, said_to_remove, shown_by}
 use Rattle.papaya_rests.proofs.SaysWords.{live_is_some}
 use Rattle.papaya_rests.proofs.Tasks.{same_task}
 use Rattle.papaya_rests.proofs.Leads.{occupies_leads}
-use Rattle.papaya_call.specs.Write.{claimed_by}
+use Rattle.papaya_call.specs.Write.{claimed_by, serves}
 
 -- a word that is not 0 names a pair
 pub shown_pair : (word : ℕ) → 0 < word → shown_by word ≡ Some (pair_of word)
@@ -73,10 +75,13 @@ absent_held Compute (Some n) choice gap said e = fills_held Compute choice gap n
 recalls_held : (fill : Option ℕ) (choice : Option Choice) (at : Place) (word : ℕ) → 0 < word → IsHeld Compute fill choice (recalls choice at word (pair_of word))
 recalls_held fill None at word some = λ said e. absurd cc
 recalls_held fill (Some (To_replace old new)) at word some =
-    cond_both (old == pair_of word) (Putting (record { write = record { place = at; old = word }; pair = new })) (Showing (record { place = at; word = word })) (IsHeld Compute fill (Some (To_replace old new)))
-    (λ same said e.
+    cond_both (old == pair_of word) (recalled new at word) (Showing (record { place = at; word = word })) (IsHeld Compute fill (Some (To_replace old new)))
+    (λ same.
+    cond_both (serves_at new at.table at.probe.i) (Putting (record { write = record { place = at; old = word }; pair = new.pair })) (Pairing (Again (record { place = at; old = word }))) (IsHeld Compute fill (Some (To_replace old new)))
+    (λ _ said e.
     let shown : shown_by word ≡ Some old = shown_pair word some ∙ ap (λ n. Some n) (sym (eqb-true old (pair_of word) same)) in
-    inr (ap (λ o. Some (Makes o new)) (sym shown) ∙ e))
+    inr (ap (λ o. Some (Makes o new.pair)) (sym shown) ∙ e))
+    (λ _ said e. absurd cc))
     (λ _ said e. absurd cc)
 recalls_held fill (Some (To_remove old)) at word some =
     cond_both (old == pair_of word) (Burying (record { place = at; word = word })) (Showing (record { place = at; word = word })) (IsHeld Compute fill (Some (To_remove old)))
@@ -225,28 +230,43 @@ module _ (m : Machine) (held : Remembered) where
   beaten_task_held RemoveIf made removal word = beaten_held (kind_of word) RemoveIf made removal.place (Burying removal) word
   beaten_task_held Compute made removal word = goes_held Compute m.mode held (look_seen removal.place word)
 
+  -- a pair is asked for, for this
+  abbrev AsksPair : Made → Purpose → Type 0
+  AsksPair made purpose = MakesPair (pair_ask made (in_place_of purpose))
+
+  -- what a pair is made of again is remembered
+  was_said : (task : Task) (made : Made) (write : Write) → IsToPair held.choice (Again write) → WasSaid (on task made (Pairing (Again write))) (Some (pair_of write.old))
+  was_said task made write shows = let new = shows.1 in inr (new.0.pair, inr (inr (ap said_to_choose new.1)))
+
   -- a pair was made of what the closure answered
-  provided : (task : Task) (made : Made) (purpose : Purpose) (n : ℕ) → pairing_ask made ≡ MakePair → ShowsPairs (Pairing purpose) → IsSaidIn task made (Pairing purpose) (Made_number n) (provides purpose n)
+  provided : (task : Task) (made : Made) (purpose : Purpose) (n : ℕ) → AsksPair made purpose → IsToPair held.choice purpose → IsSaidIn task made (Pairing purpose) (Made_number n) (provides purpose n)
   provided task made (Fill NoRoot) n ask shows said e = absurd cc
-  provided task made (Fill (At place)) n ask shows said e = let is : Makes None n ≡ said = cc e in inr (subst (IsSaidBy (on task made (Pairing (Fill (At place)))) (Made_number n)) is (inl refl, ask, refl))
+  provided task made (Fill (At place)) n ask shows said e = let is : Makes None n ≡ said = cc e in inr (subst (IsSaidBy (on task made (Pairing (Fill (At place)))) (Made_number n)) is (inl (inl refl), ask, refl))
   provided task made (Fill (After t)) n ask shows said e = absurd cc
   provided task made (Replace write) n ask shows said e =
       let is : Makes (shown_by write.old) n ≡ said = cc e in
       let stood : StandsOn (on task made (Pairing (Replace write))) (Inserts (shown_by write.old)) = inl (ap (λ o. Some (Inserts o)) (sym (shown_pair write.old shows))) in
-      inr (subst (IsSaidBy (on task made (Pairing (Replace write))) (Made_number n)) is (stood, ask, refl))
+      inr (subst (IsSaidBy (on task made (Pairing (Replace write))) (Made_number n)) is (inl stood, ask, refl))
+  provided task made (Again write) n ask shows said e =
+      let is : Makes (shown_by write.old) n ≡ said = cc e in
+      let stood : WasSaid (on task made (Pairing (Again write))) (shown_by write.old) = subst (WasSaid (on task made (Pairing (Again write)))) (sym (shown_pair write.old shows.0)) (was_said task made write shows) in
+      inr (subst (IsSaidBy (on task made (Pairing (Again write))) (Made_number n)) is (stood, ask, refl))
 
   -- and is remembered as such
-  provided_fill : (task : Task) (made : Made) (purpose : Purpose) (n : ℕ) → pairing_ask made ≡ MakePair → (said : Said) → said_to_fill (with_pair held purpose n).fill ≡ Some said
+  provided_fill : (task : Task) (made : Made) (purpose : Purpose) (n : ℕ) → AsksPair made purpose → (said : Said) → said_to_fill (with_pair held purpose n).fill ≡ Some said
       → StandsOn (on task made (Pairing purpose)) said ⊎ IsSaidBy (on task made (Pairing purpose)) (Made_number n) said
-  provided_fill task made (Fill gap) n ask said e = let is : Makes None n ≡ said = cc e in inr (subst (IsSaidBy (on task made (Pairing (Fill gap))) (Made_number n)) is (inl refl, ask, refl))
+  provided_fill task made (Fill gap) n ask said e = let is : Makes None n ≡ said = cc e in inr (subst (IsSaidBy (on task made (Pairing (Fill gap))) (Made_number n)) is (inl (inl refl), ask, refl))
   provided_fill task made (Replace write) n ask said e = inl (inr (inl e))
+  provided_fill task made (Again write) n ask said e = inl (inr (inl e))
 
   -- where it is to take the place of a pair
-  provided_choice : (task : Task) (made : Made) (purpose : Purpose) (n : ℕ) → pairing_ask made ≡ MakePair → (said : Said) → said_to_choose (with_pair held purpose n).choice ≡ Some said
+  provided_choice : (task : Task) (made : Made) (purpose : Purpose) (n : ℕ) → AsksPair made purpose → IsToPair held.choice purpose → (said : Said) → said_to_choose (with_pair held purpose n).choice ≡ Some said
       → StandsOn (on task made (Pairing purpose)) said ⊎ IsSaidBy (on task made (Pairing purpose)) (Made_number n) said
-  provided_choice task made (Fill gap) n ask said e = inl (inr (inr e))
-  provided_choice task made (Replace write) n ask said e =
-      let is : Makes (Some (pair_of write.old)) n ≡ said = cc e in inr (subst (IsSaidBy (on task made (Pairing (Replace write))) (Made_number n)) is (inl refl, ask, refl))
+  provided_choice task made (Fill gap) n ask shows said e = absurd cc
+  provided_choice task made (Replace write) n ask shows said e =
+      let is : Makes (Some (pair_of write.old)) n ≡ said = cc e in inr (subst (IsSaidBy (on task made (Pairing (Replace write))) (Made_number n)) is (inl (inl refl), ask, refl))
+  provided_choice task made (Again write) n ask shows said e =
+      let is : Makes (Some (pair_of write.old)) n ≡ said = cc e in inr (subst (IsSaidBy (on task made (Pairing (Again write))) (Made_number n)) is (was_said task made write shows, ask, refl))
 
   -- a closure that is shown a pair
   chosen_said : (made : Made) (removal : Removal) (kind : OpKind) → IsSaidIn Compute made (Showing removal) (Op kind) (chosen removal kind)
@@ -273,8 +293,13 @@ module _ (m : Machine) (held : Remembered) where
   offered_said task made gap ops.Remove said e = by_silence task made (Offering gap) (Op ops.Remove) (Ended (Reply_refused RemoveNothing)) (refusal_silent task RemoveNothing) said e
   offered_said task made gap (ops.Abort with) said e = by_silence task made (Offering gap) (Op (ops.Abort with)) (Ended (Aborted with)) (abort_silent task with) said e
 
+  -- something was made for a compute
+  paired_said : (task : Task) (made : Made) (purpose : Purpose) (n : ℕ) → IsToPair held.choice purpose → (G : Grown) → grown made (in_place_of purpose) ≡ G → IsSaidIn task made (Pairing purpose) (Made_number n) (paired G purpose n)
+  paired_said task made purpose n shows (On next) is said e = inl (inl e)
+  paired_said task made purpose n shows (Pair next) is said e = provided task made purpose n (makes_pair made (in_place_of purpose) next is) shows said e
+
   -- in each stage
-  said_in_stage : (task : Task) (made : Made) (stage : Stage) (answer : Answer) → IsStandingState task stage → ShowsPairs stage → IsSaidIn task made stage answer (after (on task made stage) answer).state
+  said_in_stage : (task : Task) (made : Made) (stage : Stage) (answer : Answer) → IsStandingState task stage → ShowsIn held.choice stage → IsSaidIn task made stage answer (after (on task made stage) answer).state
   said_in_stage task made AtRoot (Word_read word) is shows said e = by_held task made AtRoot (Word_read word) (at_root task held.fill word) (root_held task held word) said e
   said_in_stage task made AtRoot answer is shows said e = absurd cc
   said_in_stage task made Making (Was_refused refused) is shows said e = by_silence task made Making (Was_refused refused) (Ended (Reply_refused refused)) (refusal_silent task refused) said e
@@ -286,14 +311,15 @@ module _ (m : Machine) (held : Remembered) where
   said_in_stage task made (Searching place) (Yes same) is shows said e =
       by_held task made (Searching place) (Yes same) (goes_as task m.mode held (search_compared place same)) (goes_held task m.mode held (search_compared place same)) said e
   said_in_stage task made (Searching place) answer is shows said e = absurd cc
+  said_in_stage task made (Writing write) (Word_read word) is shows said e = told_leads (IsSaidIn task made (Writing write) (Word_read word)) (by_silence task made (Writing write) (Word_read word) (Ended (Reply_refused Limit)) (refusal_silent task Limit)) write (λ s e'. absurd cc) (serves made write) made word said e
   said_in_stage task made (Writing write) (Found_instead word) is shows said e =
-      by_held task made (Writing write) (Found_instead word) (goes_as task m.mode held (look_seen write.place word)) (goes_held task m.mode held (look_seen write.place word)) said e
-  said_in_stage task (Pair n) (Writing write) Exchanged is shows said e = absurd (writer_silent task write n is.0 said e)
-  said_in_stage task Nothing (Writing write) (Was_refused refused) is shows said e = by_silence task Nothing (Writing write) (Was_refused refused) (Ended (Reply_refused refused)) (refusal_silent task refused) said e
-  said_in_stage task Key (Writing write) (Was_refused refused) is shows said e = by_silence task Key (Writing write) (Was_refused refused) (Ended (Reply_refused refused)) (refusal_silent task refused) said e
-  said_in_stage task Nothing (Writing write) answer is shows said e = absurd cc
-  said_in_stage task Key (Writing write) answer is shows said e = absurd cc
-  said_in_stage task (Pair n) (Writing write) answer is shows said e = absurd cc
+      let answer : Answer = Found_instead word in
+      lost_leads (IsSaidIn task made (Writing write) answer) (by_silence task made (Writing write) answer (Ended (Reply_refused Limit)) (refusal_silent task Limit)) write (λ s e'. absurd cc) (on task made (Writing write)) word
+      (by_held task made (Writing write) answer (goes_as task m.mode held (look_seen write.place word)) (goes_held task m.mode held (look_seen write.place word))) (serves made write) said e
+  said_in_stage task made (Writing write) Exchanged is shows said e = exchanged_leads (IsSaidIn task made (Writing write) Exchanged) write (λ s e'. absurd cc) (λ n s e'. absurd (writer_silent task write n is.0 s e')) (serves made write) said e
+  said_in_stage task made (Writing write) (Was_refused refused) is shows said e =
+      refuses_leads (IsSaidIn task made (Writing write) (Was_refused refused)) write refused (λ s e'. absurd cc) (by_silence task made (Writing write) (Was_refused refused) (Ended (Reply_refused refused)) (refusal_silent task refused)) (serves made write) said e
+  said_in_stage task made (Writing write) answer is shows said e = absurd cc
   said_in_stage task made (Offering gap) (Op kind) is shows said e = offered_said task made gap kind said e
   said_in_stage task made (Offering gap) answer is shows said e = absurd cc
   said_in_stage RemoveIf made (Showing removal) (Yes true) is shows said e =
@@ -308,12 +334,13 @@ module _ (m : Machine) (held : Remembered) where
   said_in_stage (Insert replace) made (Showing removal) (Op kind) is shows said e = absurd cc
   said_in_stage RemoveIf made (Showing removal) (Op kind) is shows said e = absurd cc
   said_in_stage task made (Showing removal) answer is shows said e = absurd cc
-  said_in_stage task Key (Pairing purpose) (Made_number n) is shows said e = provided task Key purpose n refl shows said e
-  said_in_stage task (Pair i) (Pairing purpose) (Made_number n) is shows said e = provided task (Pair i) purpose n refl shows said e
+  said_in_stage task made (Pairing purpose) (Made_number n) is shows said e = paired_said task made purpose n shows (grown made (in_place_of purpose)) refl said e
+  said_in_stage task made (Pairing purpose) (Word_read word) is shows said e =
+      numbered_leads (IsSaidIn task made (Pairing purpose) (Word_read word)) (by_silence task made (Pairing purpose) (Word_read word) (Ended (Reply_refused Limit)) (refusal_silent task Limit)) (Pairing purpose) (λ s e'. inl (inl e')) (told made word) said e
+  said_in_stage task made (Pairing purpose) (Found_instead word) is shows said e =
+      numbered_leads (IsSaidIn task made (Pairing purpose) (Found_instead word)) (by_silence task made (Pairing purpose) (Found_instead word) (Ended (Reply_refused Limit)) (refusal_silent task Limit)) (Pairing purpose) (λ s e'. inl (inl e')) (told made word) said e
   said_in_stage task made (Pairing purpose) (Was_refused refused) is shows said e = by_silence task made (Pairing purpose) (Was_refused refused) (Ended (Reply_refused refused)) (refusal_silent task refused) said e
-  said_in_stage task Nothing (Pairing purpose) answer is shows said e = inl (inl e)
-  said_in_stage task Key (Pairing purpose) answer is shows said e = inl (inl e)
-  said_in_stage task (Pair i) (Pairing purpose) answer is shows said e = inl (inl e)
+  said_in_stage task made (Pairing purpose) answer is shows said e = inl (inl e)
   said_in_stage Compute made (Putting put) Exchanged is shows said e = inl (inl (sym (put_replies put.write put.pair) ∙ e))
   said_in_stage Get made (Putting put) Exchanged is shows said e = absurd is.0
   said_in_stage (Insert replace) made (Putting put) Exchanged is shows said e = absurd is.0
@@ -341,11 +368,13 @@ module _ (m : Machine) (held : Remembered) where
   abbrev IsSaid : Task → Made → Stage → Answer → Said → Type 0
   IsSaid task made stage answer said = StandsOn (on task made stage) said ⊎ IsSaidBy (on task made stage) answer said
 
+  fill_grown : (task : Task) (made : Made) (purpose : Purpose) (n : ℕ) (G : Grown) → grown made (in_place_of purpose) ≡ G → (said : Said) → said_to_fill (paired_held G held purpose n).fill ≡ Some said → IsSaid task made (Pairing purpose) (Made_number n) said
+  fill_grown task made purpose n (On next) is said e = inl (inr (inl e))
+  fill_grown task made purpose n (Pair next) is said e = provided_fill task made purpose n (makes_pair made (in_place_of purpose) next is) said e
+
   -- the pair for an absent key, after a pair was made
   fill_made : (task : Task) (made : Made) (stage : Stage) (n : ℕ) (said : Said) → said_to_fill (after (on task made stage) (Made_number n)).remembered.fill ≡ Some said → IsSaid task made stage (Made_number n) said
-  fill_made task Key (Pairing purpose) n said e = provided_fill task Key purpose n refl said e
-  fill_made task (Pair i) (Pairing purpose) n said e = provided_fill task (Pair i) purpose n refl said e
-  fill_made task Nothing (Pairing purpose) n said e = inl (inr (inl e))
+  fill_made task made (Pairing purpose) n said e = fill_grown task made purpose n (grown made (in_place_of purpose)) refl said e
   fill_made task made stage n said e = inl (inr (inl e))
 
   -- after an answer of a closure
@@ -362,12 +391,15 @@ module _ (m : Machine) (held : Remembered) where
   fill_said task made stage (Op kind) said e = fill_op task made stage kind said e
   fill_said task made stage answer said e = inl (inr (inl e))
 
+  choice_grown : (task : Task) (made : Made) (purpose : Purpose) (n : ℕ) → IsToPair held.choice purpose → (G : Grown) → grown made (in_place_of purpose) ≡ G → (said : Said) → said_to_choose (paired_held G held purpose n).choice ≡ Some said
+      → IsSaid task made (Pairing purpose) (Made_number n) said
+  choice_grown task made purpose n shows (On next) is said e = inl (inr (inr e))
+  choice_grown task made purpose n shows (Pair next) is said e = provided_choice task made purpose n (makes_pair made (in_place_of purpose) next is) shows said e
+
   -- the answer to the pair last shown, after a pair was made
-  choice_made : (task : Task) (made : Made) (stage : Stage) (n : ℕ) (said : Said) → said_to_choose (after (on task made stage) (Made_number n)).remembered.choice ≡ Some said → IsSaid task made stage (Made_number n) said
-  choice_made task Key (Pairing purpose) n said e = provided_choice task Key purpose n refl said e
-  choice_made task (Pair i) (Pairing purpose) n said e = provided_choice task (Pair i) purpose n refl said e
-  choice_made task Nothing (Pairing purpose) n said e = inl (inr (inr e))
-  choice_made task made stage n said e = inl (inr (inr e))
+  choice_made : (task : Task) (made : Made) (stage : Stage) (n : ℕ) → ShowsIn held.choice stage → (said : Said) → said_to_choose (after (on task made stage) (Made_number n)).remembered.choice ≡ Some said → IsSaid task made stage (Made_number n) said
+  choice_made task made (Pairing purpose) n shows said e = choice_grown task made purpose n shows (grown made (in_place_of purpose)) refl said e
+  choice_made task made stage n shows said e = inl (inr (inr e))
 
   -- after an answer of a closure
   choice_op : (task : Task) (made : Made) (stage : Stage) (kind : OpKind) (said : Said) → said_to_choose (after (on task made stage) (Op kind)).remembered.choice ≡ Some said → IsSaid task made stage (Op kind) said
@@ -378,16 +410,16 @@ module _ (m : Machine) (held : Remembered) where
   choice_op task made stage kind said e = inl (inr (inr e))
 
   -- after any answer
-  choice_said : (task : Task) (made : Made) (stage : Stage) (answer : Answer) (said : Said) → said_to_choose (after (on task made stage) answer).remembered.choice ≡ Some said → IsSaid task made stage answer said
-  choice_said task made stage (Made_number n) said e = choice_made task made stage n said e
-  choice_said task made stage (Op kind) said e = choice_op task made stage kind said e
-  choice_said task made stage answer said e = inl (inr (inr e))
+  choice_said : (task : Task) (made : Made) (stage : Stage) (answer : Answer) → ShowsIn held.choice stage → (said : Said) → said_to_choose (after (on task made stage) answer).remembered.choice ≡ Some said → IsSaid task made stage answer said
+  choice_said task made stage (Made_number n) shows said e = choice_made task made stage n shows said e
+  choice_said task made stage (Op kind) shows said e = choice_op task made stage kind said e
+  choice_said task made stage answer shows said e = inl (inr (inr e))
 
 -- of the machine
-pub machine_said : (m : Machine) (answer : Answer) (said : Said) → IsStanding m → ShowsPairs m.state → StandsOn (after m answer) said → StandsOn m said ⊎ IsSaidBy m answer said
+pub machine_said : (m : Machine) (answer : Answer) (said : Said) → IsStanding m → ShowsPairs m → StandsOn (after m answer) said → StandsOn m said ⊎ IsSaidBy m answer said
 machine_said m answer said standing shows stands =
     let stage : said_in m.task (after m answer).state ≡ Some said → StandsOn m said ⊎ IsSaidBy m answer said = λ e. said_in_stage m m.remembered m.task m.made m.state answer standing.state shows said e in
     ⊎_elim
     (λ e. stage (subst (λ t. said_in t (after m answer).state ≡ Some said) (same_task m answer).0 e))
-    (λ remembered. ⊎_elim (λ e. fill_said m m.remembered m.task m.made m.state answer said e) (λ e. choice_said m m.remembered m.task m.made m.state answer said e) remembered)
+    (λ remembered. ⊎_elim (λ e. fill_said m m.remembered m.task m.made m.state answer said e) (λ e. choice_said m m.remembered m.task m.made m.state answer shows said e) remembered)
     stands

@@ -21,7 +21,7 @@ use Rattle.papaya_call.specs.declared.compute.Choice.TheVariants.{Replace as To_
 use Rattle.papaya_call.specs.declared.compute.Gap.{Gap}
 use Rattle.papaya_call.specs.declared.compute.Gap.TheVariants.{NoRoot, At, After}
 use Rattle.papaya_call.specs.declared.compute.Purpose.{Purpose}
-use Rattle.papaya_call.specs.declared.compute.Purpose.TheVariants.{Fill, Replace}
+use Rattle.papaya_call.specs.declared.compute.Purpose.TheVariants.{Fill, Replace, Again}
 use Rattle.papaya_call.specs.declared.compute.Remembered.{Remembered}
 use Rattle.papaya_call.specs.declared.remove.Removal.{Removal}
 use Rattle.papaya_ask.specs.declared.search.Place.{Place}
@@ -29,15 +29,21 @@ use Rattle.papaya_ask.specs.declared.search.Search.{Search}
 use Rattle.papaya_ask.specs.declared.search.Search.TheVariants.{Sizing, Looking, Reading, Comparing}
 use Rattle.papaya_ask.specs.declared.search.Seen.{Seen}
 use Rattle.papaya_ask.specs.declared.search.Seen.TheVariants as seen
-use Rattle.papaya_call.specs.declared.write.Made.{Made}
-use Rattle.papaya_call.specs.declared.write.Made.TheVariants.{Nothing, Key, Pair}
+use Rattle.papaya_call.specs.declared.made.Made.{Made}
+use Rattle.papaya_rests.proofs.Makings.{HoldsOfPairAsks, exchanged_leads, lost_leads, numbered_leads, pair_holds, refuses_leads, told_leads, write_holds}
 use Rattle.papaya_call.specs.declared.machine.Machine.{Machine}
 use Rattle.papaya_call.specs.declared.machine.State.{State}
 use Rattle.papaya_call.specs.declared.machine.State.TheVariants.{AtRoot, Making, Opening, Searching, Writing, Offering, Showing, Pairing, Putting, Burying, Counting, Noting, Uncounting, Leaving, Growing, Ended}
 use Rattle.papaya_ask.specs.Search.{IsSize, IsWithin, IsSearching, IsSeen, next_place, go_on, look_at, look, match_at, at_word as search_loaded, at_yes as search_compared, hinted}
-use Rattle.papaya_call.specs.Write.{IsMade, claimed_by}
-use Rattle.papaya_call.specs.Compute.{IsChoice, IsFill, IsGap, IsPurpose, IsRemembered, chosen, fills, lacks, offered, provides, recalls, with_choice, with_pair}
-use Rattle.papaya_call.specs.Machine.{IsComputer, IsStanding, IsStandingState, IsWriter, MayInsert, IsFit, IsFitAsk, ask_of, asks, after, absent, at_root, beaten_as, beaten_by, computes, decided, decided_held, held_at_op, held_in, judged, left, paired, paired_held, passes, removes, replaces, goes_as, made_in, state_in, at_op, at_word, at_exchanged, at_found, at_yes, at_size, at_ok, at_refused, written}
+use Rattle.papaya_call.specs.declared.made.Grown.{Grown}
+use Rattle.papaya_call.specs.declared.made.Grown.TheVariants.{On, Pair}
+use Rattle.papaya_call.specs.declared.made.Number.{Number}
+use Rattle.papaya_call.specs.declared.made.Number.TheVariants.{Wanted, Free, Taken}
+use Rattle.papaya_call.specs.declared.write.Write.{Write}
+use Rattle.papaya_call.specs.Made.{IsGrown, IsLimit, IsMade, IsNumber, IsTold, answered, grown, grown_as, of_grown, own_grown, serves_at, taken, taken_as, told, told_as, told_limit, wanted}
+use Rattle.papaya_call.specs.Write.{claimed_by, made_of, made_to_write, serves, with_pair_at, write_grown}
+use Rattle.papaya_call.specs.Compute.{IsChoice, IsFill, IsGap, IsPurpose, IsRemembered, chosen, fills, in_place_of, lacks, offered, provides, recalled, recalls, with_choice, with_pair}
+use Rattle.papaya_call.specs.Machine.{IsComputer, IsStanding, IsStandingState, IsWriter, MayInsert, IsFit, IsFitAsk, ask_of, asks, after, absent, at_root, beaten_as, beaten_by, computes, decided, decided_held, held_at_op, held_in, judged, left, paired, paired_held, passes, removes, replaces, goes_as, made_at_exchanged, made_at_op, made_at_word, made_decided, made_in, made_to_pair, number_told, state_in, write_made, write_taken, at_op, at_word, at_exchanged, at_found, at_yes, at_size, at_ok, at_refused, written}
 use Rattle.papaya_rests.proofs.Leads.{occupies_leads}
 
 -- a table with a size has a slot
@@ -118,7 +124,10 @@ lacks_stands (Some n) gap held is = fills_stands gap n is held
 -- a remembered answer is acted on
 recalls_stands : (choice : Option Choice) (at : Place) (word n : ℕ) → IsChoice choice → IsWithin at → IsStandingState Compute (recalls choice at word n)
 recalls_stands None at word n held within = (tt, within)
-recalls_stands (Some (To_replace old new)) at word n held within = cond_both (old == n) (Putting (record { write = record { place = at; old = word }; pair = new })) (Showing (record { place = at; word = word })) (IsStandingState Compute) (λ _. (tt, record { within = within; pair = held })) (λ _. (tt, within))
+recalls_stands (Some (To_replace old new)) at word n held within =
+    cond_both (old == n) (recalled new at word) (Showing (record { place = at; word = word })) (IsStandingState Compute)
+    (λ _. cond_both (serves_at new at.table at.probe.i) (Putting (record { write = record { place = at; old = word }; pair = new.pair })) (Pairing (Again (record { place = at; old = word }))) (IsStandingState Compute) (λ _. (tt, record { within = within; pair = held })) (λ _. (tt, within)))
+    (λ _. (tt, within))
 recalls_stands (Some (To_remove old)) at word n held within = cond_both (old == n) (Burying (record { place = at; word = word })) (Showing (record { place = at; word = word })) (IsStandingState Compute) (λ _. (tt, within)) (λ _. (tt, within))
 
 computes_stands : (kind : Kind) (held : Remembered) (at : Place) (word : ℕ) → IsRemembered held → IsWithin at → IsStandingState Compute (computes kind held at word)
@@ -183,10 +192,12 @@ choice_stands held shown (ops.Abort t) is = is
 provides_stands : (purpose : Purpose) (n : ℕ) → IsPurpose purpose → n < 2 ^ 48 → IsStandingState Compute (provides purpose n)
 provides_stands (Fill gap) n is fit = fills_stands gap n is fit
 provides_stands (Replace write) n is fit = (tt, record { within = is; pair = fit })
+provides_stands (Again write) n is fit = (tt, record { within = is; pair = fit })
 
 pair_stands : (held : Remembered) (purpose : Purpose) (n : ℕ) → IsRemembered held → n < 2 ^ 48 → IsRemembered (with_pair held purpose n)
-pair_stands held (Fill gap) n is fit = record { fill = fit; choice = is.choice }
+pair_stands held (Fill gap) n is fit = record { fill = fit; choice = tt }
 pair_stands held (Replace write) n is fit = record { fill = is.fill; choice = fit }
+pair_stands held (Again write) n is fit = record { fill = is.fill; choice = fit }
 
 -- a write that was made is counted, or was the whole
 written_stands : (task : Task) (write : _) (n : ℕ) → MayInsert task → IsStandingState task (written write n)
@@ -205,6 +216,74 @@ computer_inserts (Insert replace) is = absurd is
 computer_inserts RemoveIf is = is
 computer_inserts Compute is = is
 
+-- what was made stays within the limits of numbers
+with_number : (made : Made) → IsMade made → (number : Number) → IsNumber number → IsMade (record made { number = number })
+with_number made is number fit = record { limit = is.limit; number = fit; own = is.own; of = is.of }
+
+wanted_fits : (limit : Option ℕ) → IsNumber (wanted limit)
+wanted_fits None = tt
+wanted_fits (Some most) = tt
+
+limit_fits : (made : Made) → IsMade made → (limit : Option ℕ) → IsLimit limit → (count : ℕ) → IsTold (told_limit made limit count)
+limit_fits made is None fit count = with_number made is Taken tt
+limit_fits made is (Some most) fit count =
+    cond_both (nat_lt count most) (Some (record made { number = Free count })) None IsTold (λ less. with_number made is (Free count) (let below : count < most = ltb-true count most less in omega (arith, below, fit))) (λ _. tt)
+
+told_fits_by : (made : Made) → IsMade made → (number : Number) (count : ℕ) → IsTold (told_as made number count)
+told_fits_by made is Taken count = is
+told_fits_by made is Wanted count = limit_fits made is made.limit is.limit count
+told_fits_by made is (Free n) count = limit_fits made is made.limit is.limit count
+
+told_fits : (made : Made) → IsMade made → (count : ℕ) → IsTold (told made count)
+told_fits made is count = told_fits_by made is made.number count
+
+told_is_made : (made : Made) → IsMade made → (o : Option Made) → IsTold o → IsMade (number_told o made)
+told_is_made made is None fit = is
+told_is_made made is (Some next) fit = fit
+
+taken_fits_by : (made : Made) → IsMade made → (number : Number) → IsMade (taken_as made number)
+taken_fits_by made is Taken = is
+taken_fits_by made is Wanted = is
+taken_fits_by made is (Free n) = with_number made is Taken tt
+
+taken_fits : (made : Made) → IsMade made → IsMade (taken made)
+taken_fits made is = taken_fits_by made is made.number
+
+own_fits : (made : Made) → IsMade made → (keyed valued : Bool) → IsGrown (own_grown keyed valued made)
+own_fits made is false valued = record { limit = is.limit; number = is.number; own = is.own; of = is.of }
+own_fits made is true false = record { limit = is.limit; number = is.number; own = is.own; of = is.of }
+own_fits made is true true = with_number made is (wanted made.limit) (wanted_fits made.limit)
+
+of_fits : (made : Made) → IsMade made → (valued : Bool) → IsGrown (of_grown valued made)
+of_fits made is false = record { limit = is.limit; number = is.number; own = is.own; of = is.of }
+of_fits made is true = with_number made is (wanted made.limit) (wanted_fits made.limit)
+
+grown_fits_by : (made : Made) → IsMade made → (number : Number) (old : ℕ) → IsGrown (grown_as number made old)
+grown_fits_by made is Wanted old = is
+grown_fits_by made is (Free n) old = is
+grown_fits_by made is Taken old = cond_both (old == 0) (own_grown made.keyed made.valued made) (of_grown made.valued made) IsGrown (λ _. own_fits made is made.keyed made.valued) (λ _. of_fits made is made.valued)
+
+grown_fits : (made : Made) → IsMade made → (old : ℕ) → IsGrown (grown made old)
+grown_fits made is old = grown_fits_by made is made.number old
+
+grown_is_made : (G : Grown) → IsGrown G → IsMade (made_to_pair G)
+grown_is_made (On made) fit = fit
+grown_is_made (Pair made) fit = fit
+
+pair_fits : (made : Made) → IsMade made → (write : Write) (n : ℕ) → n < 2 ^ 48 → IsMade (with_pair_at made write n)
+pair_fits made is write n fit =
+    cond_both (write.old == 0) (record made { own = Some n }) (record made { of = Some (made_of write n) }) IsMade
+    (λ _. record { limit = is.limit; number = is.number; own = fit; of = is.of })
+    (λ _. record { limit = is.limit; number = is.number; own = is.own; of = fit })
+
+write_fits : (write : Write) (n : ℕ) → n < 2 ^ 48 → (G : Grown) → IsGrown G → IsMade (made_to_write G write n)
+write_fits write n fit (On made) is = is
+write_fits write n fit (Pair made) is = pair_fits made is write n fit
+
+write_grown_fits : (made : Made) → IsMade made → (write : Write) (n : ℕ) → n < 2 ^ 48 → (served : Option ℕ) → IsMade (write_grown served made write n)
+write_grown_fits made is write n fit None = write_fits write n fit (grown made write.old) (grown_fits made is write.old)
+write_grown_fits made is write n fit (Some i) = is
+
 module _ (m : Machine) (held : IsRemembered m.remembered) where
   word_stands : (word : ℕ) (state : State) → IsStandingState m.task state → IsStandingState m.task (at_word m word state)
   word_stands word AtRoot stands = root_stands m.task m.remembered.fill word held.fill
@@ -213,22 +292,20 @@ module _ (m : Machine) (held : IsRemembered m.remembered) where
   word_stands word (Growing table) stands = tt
   word_stands word Making stands = stands
   word_stands word (Opening table) stands = stands
-  word_stands word (Writing write) stands = stands
+  word_stands word (Writing write) stands = told_leads (IsStandingState m.task) tt write stands (serves m.made write) m.made word
   word_stands word (Counting pair) stands = stands
   word_stands word (Noting pair) stands = stands
   word_stands word (Showing removal) stands = stands
   word_stands word (Burying removal) stands = stands
   word_stands word (Uncounting pair) stands = stands
   word_stands word (Offering gap) stands = stands
-  word_stands word (Pairing purpose) stands = stands
+  word_stands word (Pairing purpose) stands = numbered_leads (IsStandingState m.task) tt (Pairing purpose) stands (told m.made word)
   word_stands word (Putting put) stands = stands
   word_stands word (Ended reply) stands = stands
 
   exchanged_stands : (made : Made) (state : State) → IsStandingState m.task state → IsStandingState m.task (at_exchanged made state)
   exchanged_stands made (Opening table) stands = tt
-  exchanged_stands Nothing (Writing write) stands = stands
-  exchanged_stands Key (Writing write) stands = stands
-  exchanged_stands (Pair n) (Writing write) stands = written_stands m.task write n (writer_inserts m.task stands.0)
+  exchanged_stands made (Writing write) stands = exchanged_leads (IsStandingState m.task) write stands (λ n. written_stands m.task write n (writer_inserts m.task stands.0)) (serves made write)
   exchanged_stands made (Putting put) stands = written_stands m.task put.write put.pair (computer_inserts m.task stands.0)
   exchanged_stands made (Burying removal) stands = stands.0
   exchanged_stands made AtRoot stands = stands
@@ -265,7 +342,7 @@ module _ (m : Machine) (held : IsRemembered m.remembered) where
 
   found_stands : (word : ℕ) (state : State) → IsStandingState m.task state → IsStandingState m.task (at_found m word state)
   found_stands word (Opening table) stands = tt
-  found_stands word (Writing write) stands = look_goes write.place word stands.1
+  found_stands word (Writing write) stands = lost_leads (IsStandingState m.task) tt write stands m word (look_goes write.place word stands.1) (serves m.made write)
   found_stands word (Putting put) stands = look_goes put.write.place word stands.1.within
   found_stands word (Burying removal) stands = beaten_stands_as m.task removal word stands.1
   found_stands word AtRoot stands = stands
@@ -277,7 +354,7 @@ module _ (m : Machine) (held : IsRemembered m.remembered) where
   found_stands word (Showing removal) stands = stands
   found_stands word (Uncounting pair) stands = stands
   found_stands word (Offering gap) stands = stands
-  found_stands word (Pairing purpose) stands = stands
+  found_stands word (Pairing purpose) stands = numbered_leads (IsStandingState m.task) tt (Pairing purpose) stands (told m.made word)
   found_stands word (Growing table) stands = stands
   found_stands word (Ended reply) stands = stands
 
@@ -306,15 +383,13 @@ module _ (m : Machine) (held : IsRemembered m.remembered) where
   providing_stands RemoveIf purpose n is within fit = absurd is
   providing_stands Compute purpose n is within fit = provides_stands purpose n within fit
 
-  paired_stands : (made : Made) (purpose : Purpose) (n : ℕ) → n < 2 ^ 48 → IsStandingState m.task (Pairing purpose) → IsStandingState m.task (paired made purpose n)
-  paired_stands Nothing purpose n fit stands = stands
-  paired_stands Key purpose n fit stands = providing_stands m.task purpose n stands.0 stands.1 fit
-  paired_stands (Pair i) purpose n fit stands = providing_stands m.task purpose n stands.0 stands.1 fit
+  paired_stands : (grown : Grown) (purpose : Purpose) (n : ℕ) → n < 2 ^ 48 → IsStandingState m.task (Pairing purpose) → IsStandingState m.task (paired grown purpose n)
+  paired_stands (On made) purpose n fit stands = stands
+  paired_stands (Pair made) purpose n fit stands = providing_stands m.task purpose n stands.0 stands.1 fit
 
-  paired_fits : (made : Made) (purpose : Purpose) (n : ℕ) → n < 2 ^ 48 → IsRemembered (paired_held made m.remembered purpose n)
-  paired_fits Nothing purpose n fit = held
-  paired_fits Key purpose n fit = pair_stands m.remembered purpose n held fit
-  paired_fits (Pair i) purpose n fit = pair_stands m.remembered purpose n held fit
+  paired_fits : (grown : Grown) (purpose : Purpose) (n : ℕ) → n < 2 ^ 48 → IsRemembered (paired_held grown m.remembered purpose n)
+  paired_fits (On made) purpose n fit = held
+  paired_fits (Pair made) purpose n fit = pair_stands m.remembered purpose n held fit
 
   yes_stands : (same : Bool) (state : State) → IsStandingState m.task state → IsStandingState m.task (at_yes m same state)
   yes_stands same (Searching search) stands = goes_stands m.task m.mode m.remembered (search_compared search same) held (compared_seen search same stands)
@@ -375,9 +450,7 @@ module _ (m : Machine) (held : IsRemembered m.remembered) where
 
   refused_stands : (made : Made) (refused : _) (state : State) → IsStandingState m.task state → IsStandingState m.task (at_refused made refused state)
   refused_stands made refused Making stands = tt
-  refused_stands Nothing refused (Writing write) stands = tt
-  refused_stands Key refused (Writing write) stands = tt
-  refused_stands (Pair n) refused (Writing write) stands = stands
+  refused_stands made refused (Writing write) stands = refuses_leads (IsStandingState m.task) write refused stands tt (serves made write)
   refused_stands made refused AtRoot stands = stands
   refused_stands made refused (Opening table) stands = stands
   refused_stands made refused (Searching search) stands = stands
@@ -395,9 +468,8 @@ module _ (m : Machine) (held : IsRemembered m.remembered) where
 
   -- what was made has a number of pairs
   made_fits : (made : Made) (n : ℕ) (state : State) → n < 2 ^ 48 → IsMade made → IsMade (made_in made n state)
-  made_fits Nothing n (Writing write) fit is = tt
-  made_fits Key n (Writing write) fit is = fit
-  made_fits (Pair i) n (Writing write) fit is = is
+  made_fits made n (Writing write) fit is = write_grown_fits made is write n fit (serves made write)
+  made_fits made n (Pairing purpose) fit is = grown_is_made (grown made (in_place_of purpose)) (grown_fits made is (in_place_of purpose))
   made_fits made n AtRoot fit is = is
   made_fits made n Making fit is = is
   made_fits made n (Opening table) fit is = is
@@ -409,12 +481,85 @@ module _ (m : Machine) (held : IsRemembered m.remembered) where
   made_fits made n (Burying removal) fit is = is
   made_fits made n (Uncounting pair) fit is = is
   made_fits made n (Offering gap) fit is = is
-  made_fits Nothing n (Pairing purpose) fit is = tt
-  made_fits Key n (Pairing purpose) fit is = tt
-  made_fits (Pair i) n (Pairing purpose) fit is = is
   made_fits made n (Putting put) fit is = is
   made_fits made n (Growing table) fit is = is
   made_fits made n (Ended reply) fit is = is
+
+  -- so it is where numbers were counted
+  word_fits : (made : Made) (word : ℕ) (state : State) → IsMade made → IsMade (made_at_word made word state)
+  word_fits made word (Writing write) is = by_served (serves made write)
+    where
+      by_served : (served : Option ℕ) → IsMade (write_made served made word)
+      by_served None = told_is_made made is (told made word) (told_fits made is word)
+      by_served (Some n) = is
+  word_fits made word (Pairing purpose) is = told_is_made made is (told made word) (told_fits made is word)
+  word_fits made word AtRoot is = is
+  word_fits made word Making is = is
+  word_fits made word (Opening table) is = is
+  word_fits made word (Searching search) is = is
+  word_fits made word (Counting pair) is = is
+  word_fits made word (Noting pair) is = is
+  word_fits made word (Leaving table) is = is
+  word_fits made word (Showing removal) is = is
+  word_fits made word (Burying removal) is = is
+  word_fits made word (Uncounting pair) is = is
+  word_fits made word (Offering gap) is = is
+  word_fits made word (Putting put) is = is
+  word_fits made word (Growing table) is = is
+  word_fits made word (Ended reply) is = is
+
+  -- or taken
+  exchange_fits : (made : Made) (state : State) → IsMade made → IsMade (made_at_exchanged made state)
+  exchange_fits made (Writing write) is = by_served (serves made write)
+    where
+      by_served : (served : Option ℕ) → IsMade (write_taken served made)
+      by_served None = taken_fits made is
+      by_served (Some n) = is
+  exchange_fits made (Pairing purpose) is = taken_fits made is
+  exchange_fits made AtRoot is = is
+  exchange_fits made Making is = is
+  exchange_fits made (Opening table) is = is
+  exchange_fits made (Searching search) is = is
+  exchange_fits made (Counting pair) is = is
+  exchange_fits made (Noting pair) is = is
+  exchange_fits made (Leaving table) is = is
+  exchange_fits made (Showing removal) is = is
+  exchange_fits made (Burying removal) is = is
+  exchange_fits made (Uncounting pair) is = is
+  exchange_fits made (Offering gap) is = is
+  exchange_fits made (Putting put) is = is
+  exchange_fits made (Growing table) is = is
+  exchange_fits made (Ended reply) is = is
+
+  -- and where a closure answered
+  answered_fits : (made : Made) (kind : OpKind) → IsMade made → IsMade (answered kind made)
+  answered_fits made ops.Insert is = record { limit = is.limit; number = is.number; own = is.own; of = is.of }
+  answered_fits made ops.Remove is = is
+  answered_fits made (ops.Abort t) is = is
+
+  decided_made_fits : (task : Task) (made : Made) (kind : OpKind) → IsMade made → IsMade (made_decided task kind made)
+  decided_made_fits Get made kind is = is
+  decided_made_fits (Insert replace) made kind is = is
+  decided_made_fits RemoveIf made kind is = is
+  decided_made_fits Compute made kind is = answered_fits made kind is
+
+  op_made_fits : (made : Made) (kind : OpKind) (state : State) → IsMade made → IsMade (made_at_op m.task kind made state)
+  op_made_fits made kind (Offering gap) is = answered_fits made kind is
+  op_made_fits made kind (Showing removal) is = decided_made_fits m.task made kind is
+  op_made_fits made kind (Writing write) is = is
+  op_made_fits made kind (Pairing purpose) is = is
+  op_made_fits made kind AtRoot is = is
+  op_made_fits made kind Making is = is
+  op_made_fits made kind (Opening table) is = is
+  op_made_fits made kind (Searching search) is = is
+  op_made_fits made kind (Counting pair) is = is
+  op_made_fits made kind (Noting pair) is = is
+  op_made_fits made kind (Leaving table) is = is
+  op_made_fits made kind (Burying removal) is = is
+  op_made_fits made kind (Uncounting pair) is = is
+  op_made_fits made kind (Putting put) is = is
+  op_made_fits made kind (Growing table) is = is
+  op_made_fits made kind (Ended reply) is = is
 
   made_stands : (n : ℕ) → n < 2 ^ 48 → (state : State) → IsStandingState m.task state → IsStandingState m.task (state_in m.made n state)
   made_stands n fit Making stands = stands
@@ -429,7 +574,7 @@ module _ (m : Machine) (held : IsRemembered m.remembered) where
   made_stands n fit (Burying removal) stands = stands
   made_stands n fit (Uncounting pair) stands = stands
   made_stands n fit (Offering gap) stands = stands
-  made_stands n fit (Pairing purpose) stands = paired_stands m.made purpose n fit stands
+  made_stands n fit (Pairing purpose) stands = paired_stands (grown m.made (in_place_of purpose)) purpose n fit stands
   made_stands n fit (Putting put) stands = stands
   made_stands n fit (Growing table) stands = stands
   made_stands n fit (Ended reply) stands = stands
@@ -484,7 +629,7 @@ module _ (m : Machine) (held : IsRemembered m.remembered) where
   held_fits n fit (Writing write) = held
   held_fits n fit (Offering gap) = held
   held_fits n fit (Showing removal) = held
-  held_fits n fit (Pairing purpose) = paired_fits m.made purpose n fit
+  held_fits n fit (Pairing purpose) = paired_fits (grown m.made (in_place_of purpose)) purpose n fit
   held_fits n fit (Putting put) = held
   held_fits n fit (Burying removal) = held
   held_fits n fit (Counting pair) = held
@@ -496,15 +641,19 @@ module _ (m : Machine) (held : IsRemembered m.remembered) where
 
 -- after each answer
 pub machine_stands : (m : Machine) (answer : Answer) → IsStanding m → IsFit answer → IsStanding (after m answer)
-machine_stands m (Word_read word) stands fit = record { made = stands.made; remembered = stands.remembered; state = word_stands m stands.remembered word m.state stands.state }
-machine_stands m Exchanged stands fit = record { made = stands.made; remembered = stands.remembered; state = exchanged_stands m stands.remembered m.made m.state stands.state }
-machine_stands m (Found_instead word) stands fit = record { made = stands.made; remembered = stands.remembered; state = found_stands m stands.remembered word m.state stands.state }
+machine_stands m (Word_read word) stands fit = record { made = word_fits m stands.remembered m.made word m.state stands.made; remembered = stands.remembered; state = word_stands m stands.remembered word m.state stands.state }
+machine_stands m Exchanged stands fit = record { made = exchange_fits m stands.remembered m.made m.state stands.made; remembered = stands.remembered; state = exchanged_stands m stands.remembered m.made m.state stands.state }
+machine_stands m (Found_instead word) stands fit = record { made = word_fits m stands.remembered m.made word m.state stands.made; remembered = stands.remembered; state = found_stands m stands.remembered word m.state stands.state }
 machine_stands m (Yes same) stands fit = record { made = stands.made; remembered = stands.remembered; state = yes_stands m stands.remembered same m.state stands.state }
-machine_stands m (Op kind) stands fit = record { made = stands.made; remembered = op_fits m stands.remembered kind m.state; state = op_stands m stands.remembered kind m.state stands.state }
+machine_stands m (Op kind) stands fit = record { made = op_made_fits m stands.remembered m.made kind m.state stands.made; remembered = op_fits m stands.remembered kind m.state; state = op_stands m stands.remembered kind m.state stands.state }
 machine_stands m (Size slots limit) stands fit = record { made = stands.made; remembered = stands.remembered; state = size_stands m stands.remembered slots limit fit m.state stands.state }
 machine_stands m (Made_number n) stands fit = record { made = made_fits m stands.remembered m.made n m.state fit stands.made; remembered = held_fits m stands.remembered n fit m.state; state = made_stands m stands.remembered n fit m.state stands.state }
 machine_stands m Ok_done stands fit = record { made = stands.made; remembered = stands.remembered; state = ok_stands m stands.remembered m.state stands.state }
 machine_stands m (Was_refused refused) stands fit = record { made = stands.made; remembered = stands.remembered; state = refused_stands m stands.remembered m.made refused m.state stands.state }
+
+-- what is asked for a pair makes no table
+pairs_fit : HoldsOfPairAsks IsFitAsk
+pairs_fit = record { loads = tt; takes = λ count. tt; key = tt; value = tt; pair = tt; pair_of = λ n. tt }
 
 -- what a machine asks for has a size of tables
 asks_fit : (made : Made) (hash : ℕ) (state : State) → IsFitAsk (asks made hash state)
@@ -515,17 +664,13 @@ asks_fit made hash (Searching (Sizing table)) = tt
 asks_fit made hash (Searching (Looking at)) = tt
 asks_fit made hash (Searching (Reading at)) = tt
 asks_fit made hash (Searching (Comparing at word)) = tt
-asks_fit Nothing hash (Writing write) = tt
-asks_fit Key hash (Writing write) = tt
-asks_fit (Pair n) hash (Writing write) = tt
+asks_fit made hash (Writing write) = write_holds IsFitAsk pairs_fit write (λ n. tt) made
 asks_fit made hash (Counting pair) = tt
 asks_fit made hash (Noting pair) = tt
 asks_fit made hash (Leaving table) = tt
 asks_fit made hash (Offering gap) = tt
 asks_fit made hash (Showing removal) = tt
-asks_fit Nothing hash (Pairing purpose) = tt
-asks_fit Key hash (Pairing purpose) = tt
-asks_fit (Pair n) hash (Pairing purpose) = tt
+asks_fit made hash (Pairing purpose) = pair_holds IsFitAsk pairs_fit made (in_place_of purpose)
 asks_fit made hash (Putting put) = tt
 asks_fit made hash (Burying removal) = tt
 asks_fit made hash (Uncounting pair) = tt

@@ -1,13 +1,13 @@
 -- One caller alone: nobody else changes the words, so what a machine has read stands there still,
 -- and its call comes to an end.
-use Rattle.std.specs.Prelude.{◌≡◌, ◌⊎◌, ℕ, ◌+◌, ◌*◌, ◌-◌, ◌^◌, ◌==◌, Bool, false, MatchBool}
+use Rattle.std.specs.Prelude.{◌≡◌, ◌⊎◌, ℕ, ◌+◌, ◌*◌, ◌-◌, ◌^◌, ◌==◌, Bool, true, false, MatchBool, if◌then◌else◌, Option, None, Some}
 use Rattle.papaya_words.specs.Word.{kind_of}
 use Rattle.papaya_words.specs.declared.probe.Refused.{Refused}
 use Rattle.papaya_words.specs.declared.word.Kind.TheVariants.{Empty as Is_empty}
 use Rattle.papaya_ask.specs.declared.ask.At.{At}
-use Rattle.papaya_ask.specs.declared.ask.At.TheVariants.{Root, Slot}
+use Rattle.papaya_ask.specs.declared.ask.At.TheVariants.{Root, Slot, Made as Made_word}
 use Rattle.papaya_ask.specs.declared.ask.Ask.{Ask}
-use Rattle.papaya_ask.specs.declared.ask.Ask.TheVariants.{Load, Exchange, LoadHint, WriteHint, SameKey, ShowNone, ShowPair, SizeOf, MakeKey, MakePair, MakeTable, AddToShard, Done}
+use Rattle.papaya_ask.specs.declared.ask.Ask.TheVariants.{Load, Exchange, LoadHint, WriteHint, SameKey, ShowNone, ShowPair, SizeOf, MakeKey, MakeValue, MakePair, MakePairOf, MakeTable, AddToShard, Done}
 use Rattle.papaya_ask.specs.declared.ask.Answer.{Answer}
 use Rattle.papaya_ask.specs.declared.ask.Answer.TheVariants.{Word as Word_read, Exchanged, Found as Found_instead, Yes, Op, Size, Made as Made_number, Ok as Ok_done, Refused as Was_refused}
 use Rattle.papaya_ask.specs.declared.ask.OpKind.{OpKind}
@@ -17,15 +17,19 @@ use Rattle.papaya_ask.specs.declared.call.Task.TheVariants.{Get, Insert, RemoveI
 use Rattle.papaya_call.specs.declared.compute.Gap.{Gap}
 use Rattle.papaya_call.specs.declared.compute.Gap.TheVariants.{NoRoot, At as At_place, After}
 use Rattle.papaya_call.specs.declared.compute.Purpose.{Purpose}
-use Rattle.papaya_call.specs.declared.compute.Purpose.TheVariants.{Fill, Replace}
+use Rattle.papaya_call.specs.declared.compute.Purpose.TheVariants.{Fill, Replace, Again}
 use Rattle.papaya_call.specs.declared.machine.Machine.{Machine}
 use Rattle.papaya_call.specs.declared.machine.State.{State}
 use Rattle.papaya_call.specs.declared.machine.State.TheVariants.{AtRoot, Making, Opening, Searching, Writing, Offering, Showing, Pairing, Putting, Burying, Counting, Leaving, Ended}
 use Rattle.papaya_ask.specs.declared.search.Place.{Place}
 use Rattle.papaya_ask.specs.declared.search.Search.{Search}
 use Rattle.papaya_ask.specs.declared.search.Search.TheVariants.{Sizing, Looking, Reading, Comparing}
-use Rattle.papaya_call.specs.declared.write.Made.{Made}
-use Rattle.papaya_call.specs.declared.write.Made.TheVariants.{Nothing, Key, Pair}
+use Rattle.papaya_call.specs.declared.made.Made.{Made}
+use Rattle.papaya_call.specs.declared.made.Number.{Number}
+use Rattle.papaya_call.specs.declared.made.Number.TheVariants.{Wanted, Free, Taken}
+use Rattle.papaya_call.specs.declared.write.Write.{Write}
+use Rattle.papaya_call.specs.Compute.{in_place_of}
+use Rattle.papaya_call.specs.Write.{serves}
 use Rattle.papaya_ask.specs.Search.{IsSize}
 
 -- the words are the same
@@ -66,7 +70,9 @@ IsPrompt task words (SizeOf t) answer words' =
     ((slots : ℕ) × (limit : ℕ) × IsSize slots limit × (answer ≡ Size slots limit))
     × IsSame words words'
 IsPrompt task words MakeKey answer words' = IsMaking answer × IsSame words words'
+IsPrompt task words MakeValue answer words' = IsMaking answer × IsSame words words'
 IsPrompt task words MakePair answer words' = IsMaking answer × IsSame words words'
+IsPrompt task words (MakePairOf n) answer words' = IsMaking answer × IsSame words words'
 IsPrompt task words (MakeTable slots limit chunks) answer words' = IsMaking answer
     × IsSame words words'
 IsPrompt task words (AddToShard by) answer words' = (answer ≡ Ok_done) × IsSame words words'
@@ -92,6 +98,7 @@ IsGapRead words (After t) = Unit {0}
 abbrev pub IsPurposeRead : (At → ℕ) → Purpose → Type 0
 IsPurposeRead words (Fill gap) = IsGapRead words gap
 IsPurposeRead words (Replace write) = word_of_place words write.place ≡ write.old
+IsPurposeRead words (Again write) = word_of_place words write.place ≡ write.old
 
 -- and what a machine has read
 abbrev pub IsRead : (At → ℕ) → State → Type 0
@@ -110,30 +117,48 @@ IsRead words _ = Unit {0}
 abbrev pub IsBare : (At → ℕ) → Type 0
 IsBare words = (t i : ℕ) → kind_of (words (Slot t i)) ≡ Is_empty → words (Slot t i) ≡ 0
 
--- what a machine has read stands there still, and an empty slot's word is 0
-pub record IsCurrent (words : At → ℕ) (s : State) : Type 0 where
-  pub bare : IsBare words
-  pub read : IsRead words s
+-- as many numbers were taken for pairs as it read
+abbrev pub IsNumberRead : (At → ℕ) → Number → Type 0
+IsNumberRead words (Free count) = words Made_word ≡ count
+IsNumberRead words _ = Unit {0}
 
--- the steps that are left to a write: its key, its pair, the exchange, the count and the hint
-abbrev pub left_to_write : Made → ℕ
-left_to_write Nothing = 5
-left_to_write Key = 4
-left_to_write (Pair n) = 3
+-- what a machine has read stands there still, and an empty slot's word is 0
+pub record IsCurrent (words : At → ℕ) (m : Machine) : Type 0 where
+  pub bare : IsBare words
+  pub number : IsNumberRead words m.made.number
+  pub read : IsRead words m.state
+
+-- the steps that are left to a pair for the place of this word: its number, the key, the value, and
+-- the pair itself
+abbrev pub left_to_number : Number → ℕ
+left_to_number Wanted = 2
+left_to_number (Free count) = 1
+left_to_number Taken = 0
+
+abbrev pub left_to_log : Bool → ℕ
+left_to_log true = 0
+left_to_log false = 1
+
+abbrev pub left_to_pair : Made → (old : ℕ) → ℕ
+left_to_pair made old = left_to_number made.number + left_to_log made.valued
+    + (if old == 0 then left_to_log made.keyed else 0) + 1
+
+-- the steps that are left to a write: its pair, the exchange, the count and the hint
+abbrev pub left_to_serve_with : Option ℕ → Made → (old : ℕ) → ℕ
+left_to_serve_with None made old = 3 + left_to_pair made old
+left_to_serve_with (Some n) made old = 3
+
+abbrev pub left_to_write : Made → Write → ℕ
+left_to_write made write = left_to_serve_with (serves made write) made write.old
 
 -- the steps that are left to a search of one table, at most, and to what comes of it
 abbrev pub left_to_search : Search → ℕ
 left_to_search (Sizing t) = 2 ^ 40
-left_to_search (Looking at) = 10 + 3 * (at.limit - at.probe.len)
-left_to_search (Reading at) = 9 + 3 * (at.limit - at.probe.len)
-left_to_search (Comparing at word) = 8 + 3 * (at.limit - at.probe.len)
+left_to_search (Looking at) = 13 + 3 * (at.limit - at.probe.len)
+left_to_search (Reading at) = 12 + 3 * (at.limit - at.probe.len)
+left_to_search (Comparing at word) = 11 + 3 * (at.limit - at.probe.len)
 
--- the steps until a compute has made its key and its pair, and those from there on
-abbrev pub left_to_pair : Made → ℕ
-left_to_pair Nothing = 2
-left_to_pair Key = 1
-left_to_pair (Pair n) = 1
-
+-- the steps of a compute once its pair is made
 abbrev pub left_to_fill : Gap → ℕ
 left_to_fill NoRoot = 2 ^ 40 + 2
 left_to_fill (At_place at) = 3
@@ -142,21 +167,22 @@ left_to_fill (After t) = 1
 abbrev pub left_to_serve : Purpose → ℕ
 left_to_serve (Fill gap) = left_to_fill gap
 left_to_serve (Replace write) = 3
+left_to_serve (Again write) = 3
 
 -- The steps that are left to a call, at most, while no table has a next one.
 abbrev pub left_in : Made → State → ℕ
-left_in made AtRoot = 2 ^ 40 + 6
+left_in made AtRoot = 2 ^ 40 + 9
 left_in made Making = 2 ^ 40 + 2
 left_in made (Opening t) = 2 ^ 40 + 1
 left_in made (Searching search) = left_to_search search
-left_in made (Writing write) = left_to_write made
-left_in made (Offering gap) = 3 + left_to_fill gap
-left_in made (Showing removal) = 6
-left_in made (Pairing purpose) = left_to_pair made + left_to_serve purpose
+left_in made (Writing write) = left_to_write made write
+left_in made (Offering gap) = 6 + left_to_fill gap
+left_in made (Showing removal) = 10
+left_in made (Pairing purpose) = left_to_pair made (in_place_of purpose) + left_to_serve purpose
 left_in made (Putting put) = 3
 left_in made (Burying removal) = 2
 left_in made (Counting claimed) = 2
-left_in made (Leaving t) = 5
+left_in made (Leaving t) = 8
 left_in made (Ended reply) = 0
 left_in made _ = 1
 

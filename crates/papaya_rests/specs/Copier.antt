@@ -4,7 +4,7 @@ use Rattle.papaya_words.specs.Chunks.{chunk_of}
 use Rattle.papaya_words.specs.Word.{hint_of, kind_of, pair_of}
 use Rattle.papaya_words.specs.declared.word.Kind.TheVariants as word_kinds
 use Rattle.papaya_ask.specs.declared.ask.At.{At}
-use Rattle.papaya_ask.specs.declared.ask.At.TheVariants.{Root, Next, Aborted, Done, Slot as Slot_word}
+use Rattle.papaya_ask.specs.declared.ask.At.TheVariants.{Root, Next, Aborted, Done, Slot as Slot_word, Made}
 use Rattle.papaya_ask.specs.declared.ask.StepKind.{StepKind}
 use Rattle.papaya_ask.specs.declared.ask.StepKind.TheVariants as kinds
 use Rattle.papaya_copy.specs.declared.carry.Carried.{Carried}
@@ -361,6 +361,7 @@ module _ {K P : Type 0} (g : Setting K P) (c : Coding K P) (s : State P)
   IsThere (Aborted t) = IsOn s.first s.next t
   IsThere (Done t chunk) = IsOn s.first s.next t × (chunk < g.chunks t)
   IsThere (Slot_word t x) = IsOn s.first s.next t × (x < g.size t)
+  IsThere Made = ⊥
 
   -- what is named in an ask is there: such words, the pair last told of, and the one that is
   -- carried

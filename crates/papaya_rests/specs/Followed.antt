@@ -1,8 +1,8 @@
 -- What a backend may count on that holds no more than what a machine was told of last.
-use Rattle.std.specs.Prelude.{◌≡◌, ◌⊎◌, ℕ, ◌==◌, if◌then◌else◌, Option, None, Some}
-use Rattle.papaya_ask.specs.declared.ask.At.TheVariants.{Root, Next, Aborted, Done as Done_word, Slot}
+use Rattle.std.specs.Prelude.{◌≡◌, ◌⊎◌, ℕ, ◌+◌, ◌==◌, if◌then◌else◌, Option, None, Some}
+use Rattle.papaya_ask.specs.declared.ask.At.TheVariants.{Root, Next, Aborted, Done as Done_word, Slot, Made as Made_word}
 use Rattle.papaya_ask.specs.declared.ask.Ask.{Ask}
-use Rattle.papaya_ask.specs.declared.ask.Ask.TheVariants.{Load, Exchange, LoadHint, WriteHint, SameKey, ShowNone, ShowPair, SizeOf, MakeKey, MakePair, MakeTable, AddToShard, Done}
+use Rattle.papaya_ask.specs.declared.ask.Ask.TheVariants.{Load, Exchange, LoadHint, WriteHint, SameKey, ShowNone, ShowPair, SizeOf, MakeKey, MakeValue, MakePair, MakePairOf, MakeTable, AddToShard, Done}
 use Rattle.papaya_ask.specs.declared.ask.Answer.{Answer}
 use Rattle.papaya_ask.specs.declared.ask.Answer.TheVariants.{Word as Word_read, Exchanged, Found as Found_instead}
 use Rattle.papaya_ask.specs.declared.ask.StepKind.{StepKind}
@@ -11,7 +11,7 @@ use Rattle.papaya_ask.specs.declared.call.Task.{Task}
 use Rattle.papaya_call.specs.declared.compute.Gap.{Gap}
 use Rattle.papaya_call.specs.declared.compute.Gap.TheVariants.{NoRoot, At, After}
 use Rattle.papaya_call.specs.declared.compute.Purpose.{Purpose}
-use Rattle.papaya_call.specs.declared.compute.Purpose.TheVariants.{Fill, Replace}
+use Rattle.papaya_call.specs.declared.compute.Purpose.TheVariants.{Fill, Replace, Again}
 use Rattle.papaya_ask.specs.declared.search.Search.{Search}
 use Rattle.papaya_ask.specs.declared.search.Search.TheVariants.{Sizing, Looking, Reading, Comparing}
 use Rattle.papaya_call.specs.declared.machine.State.{State}
@@ -34,6 +34,7 @@ IsGapAt n (After t) = t ≡ n
 abbrev pub IsPurposeAt : ℕ → Purpose → Type 0
 IsPurposeAt n (Fill gap) = IsGapAt n gap
 IsPurposeAt n (Replace write) = write.place.table ≡ n
+IsPurposeAt n (Again write) = write.place.table ≡ n
 
 -- a machine in this stage names no table but n
 abbrev pub IsAtTable : ℕ → State → Type 0
@@ -79,14 +80,16 @@ table_asked (LoadHint t x) = Some t
 table_asked (WriteHint t x hint) = Some t
 table_asked _ = None
 
--- What the machine of a task asks. It loads the root, numbers of next tables, hints and slots. It
--- exchanges the root where it has made a table, and else slots.
+-- What the machine of a task asks. It loads the root, numbers of next tables, hints, slots and how
+-- many numbers were taken for pairs. It exchanges the root where it has made a table, the count of
+-- numbers before it makes a pair, and else slots.
 abbrev pub MayAsk : Task → Option StepKind → Ask → Type 0
 MayAsk task kind (Load Root) = Unit {0}
 MayAsk task kind (Load (Next t)) = Unit {0}
 MayAsk task kind (Load (Slot t x)) = Unit {0}
 MayAsk task kind (Load (Aborted t)) = ⊥
 MayAsk task kind (Load (Done_word t chunk)) = ⊥
+MayAsk task kind (Load Made_word) = MayInsert task
 MayAsk task kind (Exchange Root old new) = MayInsert task × (kind ≡ Some kinds.Open) × (old ≡ 0)
 MayAsk task kind (Exchange (Slot t x) old new) =
     (MayInsert task × ((kind ≡ Some kinds.Claim) ⊎ (kind ≡ Some kinds.Replace)))
@@ -94,6 +97,8 @@ MayAsk task kind (Exchange (Slot t x) old new) =
 MayAsk task kind (Exchange (Next t) old new) = ⊥
 MayAsk task kind (Exchange (Aborted t) old new) = ⊥
 MayAsk task kind (Exchange (Done_word t chunk) old new) = ⊥
+MayAsk task kind (Exchange Made_word old new) = MayInsert task × (kind ≡ Some kinds.Take)
+    × (new ≡ old + 1)
 MayAsk task kind (LoadHint t x) = Unit {0}
 MayAsk task kind (WriteHint t x hint) = MayInsert task
 MayAsk task kind (SameKey n) = Unit {0}
@@ -101,7 +106,9 @@ MayAsk task kind ShowNone = IsComputer task
 MayAsk task kind (ShowPair n) = HasClosure task
 MayAsk task kind (SizeOf t) = Unit {0}
 MayAsk task kind MakeKey = MayInsert task
+MayAsk task kind MakeValue = MayInsert task
 MayAsk task kind MakePair = MayInsert task
+MayAsk task kind (MakePairOf n) = MayInsert task
 MayAsk task kind (MakeTable slots limit chunks) = MayInsert task
 MayAsk task kind (AddToShard by) = IsChanger task
 MayAsk task kind (Done reply) = Unit {0}

@@ -1,15 +1,16 @@
 -- What a machine rests on: facts of the words that stay true whatever exchanges follow, and facts
 -- about a moment since its call began.
-use Rattle.std.specs.Prelude.{◌≡◌, ◌⊎◌, ℕ, ◌+◌, ◌<◌, Bool, true, false, Option, None, Some, List, ◌++◌}
+use Rattle.std.specs.Prelude.{◌≡◌, ◌⊎◌, ℕ, ◌+◌, ◌<◌, ◌≤◌, ◌==◌, Bool, true, false, MatchBool, Option, None, Some, MatchOption, List, ◌++◌}
 use Rattle.papaya_words.specs.Chunks.{chunk_len, chunk_of}
 use Rattle.papaya_words.specs.Word.{hint_of, kind_of, pair_of}
 use Rattle.papaya_words.specs.declared.word.Kind.TheVariants as word_kinds
 use Rattle.papaya_words.specs.declared.probe.ResizeMode.{ResizeMode}
 use Rattle.papaya_words.specs.declared.probe.ResizeMode.TheVariants.{Incremental, Blocking}
 use Rattle.papaya_ask.specs.declared.ask.Ask.{Ask}
-use Rattle.papaya_ask.specs.declared.ask.Ask.TheVariants.{Exchange as Ask_exchange}
+use Rattle.papaya_ask.specs.declared.ask.At.TheVariants.{Made as Made_word}
+use Rattle.papaya_ask.specs.declared.ask.Ask.TheVariants.{Load, Exchange as Ask_exchange}
 use Rattle.papaya_ask.specs.declared.ask.Answer.{Answer}
-use Rattle.papaya_ask.specs.declared.ask.Answer.TheVariants.{Exchanged}
+use Rattle.papaya_ask.specs.declared.ask.Answer.TheVariants.{Word as Word_read, Exchanged, Found as Found_instead}
 use Rattle.papaya_ask.specs.declared.ask.StepKind.{StepKind}
 use Rattle.papaya_ask.specs.declared.ask.StepKind.TheVariants as kinds
 use Rattle.papaya_ask.specs.declared.call.Reply.{Reply}
@@ -21,7 +22,7 @@ use Rattle.papaya_call.specs.declared.compute.Choice.TheVariants.{Replace as To_
 use Rattle.papaya_call.specs.declared.compute.Gap.{Gap}
 use Rattle.papaya_call.specs.declared.compute.Gap.TheVariants.{NoRoot, At as At_place, After}
 use Rattle.papaya_call.specs.declared.compute.Purpose.{Purpose}
-use Rattle.papaya_call.specs.declared.compute.Purpose.TheVariants.{Fill, Replace as For_replace}
+use Rattle.papaya_call.specs.declared.compute.Purpose.TheVariants.{Fill, Replace as For_replace, Again}
 use Rattle.papaya_call.specs.declared.compute.Remembered.{Remembered}
 use Rattle.papaya_call.specs.declared.need.Need.{Need}
 use Rattle.papaya_call.specs.declared.need.Need.TheVariants.{Room, Pair as Pair_at}
@@ -30,20 +31,22 @@ use Rattle.papaya_ask.specs.declared.search.Place.{Place}
 use Rattle.papaya_ask.specs.declared.search.Search.{Search}
 use Rattle.papaya_ask.specs.declared.search.Search.TheVariants.{Sizing, Looking, Reading, Comparing}
 use Rattle.papaya_call.specs.declared.write.Claimed.{Claimed}
-use Rattle.papaya_call.specs.declared.write.Made.{Made}
-use Rattle.papaya_call.specs.declared.write.Made.TheVariants.{Nothing, Key, Pair}
+use Rattle.papaya_call.specs.declared.made.Made.{Made}
+use Rattle.papaya_call.specs.declared.made.Number.{Number}
+use Rattle.papaya_call.specs.declared.made.Number.TheVariants.{Free}
+use Rattle.papaya_call.specs.declared.made.Of.{Of}
 use Rattle.papaya_call.specs.declared.write.Write.{Write}
 use Rattle.papaya_call.specs.declared.machine.State.{State as Stage}
 use Rattle.papaya_call.specs.declared.machine.State.TheVariants.{AtRoot, Making, Opening, Searching, Writing, Offering, Showing, Pairing, Putting, Burying, Counting, Noting, Uncounting, Leaving, Growing, Ended}
 use Rattle.papaya_call.specs.declared.machine.Machine.{Machine}
 use Rattle.papaya_law.specs.Exchange.{Word, Setting, State, Exchange, run, start}
-use Rattle.papaya_law.specs.View.{Leaving as View_leaving, Gone, view, look, own, held, beyond, IsPassed, IsReached}
+use Rattle.papaya_law.specs.View.{Leaving as View_leaving, Gone, view, look, held, beyond, IsPassed, IsReached}
 use Rattle.papaya_law.specs.Meaning.{IsAtMoment, map_left}
 use Rattle.papaya_law.specs.Invariant.{named}
-use Rattle.papaya_law.specs.Later.{Becomes}
+use Rattle.papaya_law.specs.Later.{Becomes, IsOfKey}
 use Rattle.papaya_law.specs.Code.{Coding, code}
 use Rattle.papaya_law.specs.Hints.{IsHint}
-use Rattle.papaya_call.specs.Machine.{HasClosure, IsComputer, MayInsert}
+use Rattle.papaya_call.specs.Machine.{HasClosure, IsComputer, MayInsert, ask_of}
 use Rattle.papaya_rests.specs.Told.{Hands, IsOneOf}
 
 -- the machine resizes as the setting does
@@ -107,16 +110,6 @@ module _ {K P : Type 0} (g : Setting K P) (c : Coding K P) (begun since : List (
     -- where p is the key's and was held there, the map had it at a moment of the call
     pub had : held (view g k was) ≡ true → WasAtMoment (Some p)
 
-  -- a write takes the place of nothing or, where it may replace, of a Live word of the key
-  pub record MayWrite (replace : Bool) (write : Write) : Type 0 where
-    pub stands : IsAt write.place
-    pub old : (write.old ≡ 0) ⊎ ((replace ≡ true) × (kind_of write.old ≡ word_kinds.Live)
-        × (own (look g now k write.place.table write.place.probe.len) ≡ true))
-
-  abbrev pub RestsWriting : Task → Write → Type 0
-  RestsWriting (Insert replace) write = MayWrite replace write
-  RestsWriting _ write = ⊥
-
   -- the pair last told of is the key's, and was Live at the removal's place
   pub record MayRemove (hands : Hands P) (removal : Removal) : Type 0 where
     pub pair : P
@@ -125,9 +118,34 @@ module _ {K P : Type 0} (g : Setting K P) (c : Coding K P) (begun since : List (
     pub live : kind_of removal.word ≡ word_kinds.Live
     pub same : g.same k (g.key pair) ≡ true
 
+  -- a write takes the place of nothing or, where it may replace, of a Live word of the key, whose
+  -- pair was told of last
+  pub record MayWrite (hands : Hands P) (replace : Bool) (write : Write) : Type 0 where
+    pub stands : IsAt write.place
+    pub old : (write.old ≡ 0) ⊎ ((replace ≡ true)
+        × MayRemove hands (record { place = write.place; word = write.old }))
+
+  abbrev pub RestsWriting : Hands P → Task → Write → Type 0
+  RestsWriting hands (Insert replace) write = MayWrite hands replace write
+  RestsWriting hands _ write = ⊥
+
   -- the pair of this number is one that the call made
+  abbrev pub IsMadePair : Hands P → ℕ → Type 0
+  IsMadePair hands n = (q : P) × IsOneOf hands.made q × (c.number q ≡ n)
+
+  -- and has the call's key
   abbrev pub IsOwnPair : Hands P → ℕ → Type 0
-  IsOwnPair hands n = (q : P) × IsOneOf hands.made q × (c.number q ≡ n)
+  IsOwnPair hands n = (q : P) × IsOneOf hands.made q × (c.number q ≡ n) × (g.key q ≡ k)
+
+  -- or the key that is in a slot
+  abbrev pub IsPairAt : Hands P → ℕ → (t x : ℕ) → Type 0
+  IsPairAt hands n t x = (q : P) × IsOneOf hands.made q × (c.number q ≡ n)
+      × IsOfKey g (now.slot t x) (g.key q)
+
+  -- and so it may stand where it is to be written
+  abbrev pub IsPairFor : Hands P → Write → ℕ → Type 0
+  IsPairFor hands write n = MatchBool (write.old == 0) (IsOwnPair hands n)
+      (IsPairAt hands n write.place.table write.place.probe.i)
 
   -- the pair is one that the call made, and its key's hint may be written at its place
   pub record HasClaimed (hands : Hands P) (claimed : Claimed) : Type 0 where
@@ -135,25 +153,33 @@ module _ {K P : Type 0} (g : Setting K P) (c : Coding K P) (begun since : List (
     pub stands : IsAt claimed.place
     pub hint : IsHint g c now claimed.place.table claimed.place.probe.i (hint_of (c.hash k))
 
-  abbrev pub RestsMade : Hands P → Made → Type 0
-  RestsMade hands Nothing = Unit {0}
-  RestsMade hands Key = Unit {0}
-  RestsMade hands (Pair n) = IsOwnPair hands n
+  -- a number that is free is below the limit
+  abbrev pub RestsNumber : Number → Type 0
+  RestsNumber (Free count) = MatchOption g.most (Unit {0}) (λ most. count < most)
+  RestsNumber _ = Unit {0}
 
-  -- what a compute remembers is pairs that it made
+  -- what is made and remembered is pairs of the call's key
   abbrev pub RestsFill : Hands P → Option ℕ → Type 0
   RestsFill hands None = Unit {0}
   RestsFill hands (Some n) = IsOwnPair hands n
 
+  -- and of the key that was met in a slot
+  abbrev pub RestsOf : Hands P → Option Of → Type 0
+  RestsOf hands None = Unit {0}
+  RestsOf hands (Some of) = IsPairAt hands of.pair of.table of.index
+
   abbrev pub RestsChoice : Hands P → Option Choice → Type 0
   RestsChoice hands None = Unit {0}
-  RestsChoice hands (Some (To_replace old new)) = IsOwnPair hands new
+  RestsChoice hands (Some (To_replace old new)) = RestsOf hands (Some new)
   RestsChoice hands (Some (To_remove old)) = Unit {0}
 
-  -- what the call has made: pairs of its key
+  -- what the call has made: pairs of its class
   pub record RestsHands (hands : Hands P) (made : Made) (held : Remembered) : Type 0 where
-    pub keys : (q : P) → IsOneOf hands.made q → g.key q ≡ k
-    pub made_is : RestsMade hands made
+    pub keys : (q : P) → IsOneOf hands.made q → g.same k (g.key q) ≡ true
+    pub limit : made.limit ≡ g.most
+    pub number_is : RestsNumber made.number
+    pub own_is : RestsFill hands made.own
+    pub of_is : RestsOf hands made.of
     pub fill_is : RestsFill hands held.fill
     pub choice_is : RestsChoice hands held.choice
 
@@ -188,9 +214,12 @@ module _ {K P : Type 0} (g : Setting K P) (c : Coding K P) (begun since : List (
   RestsGap (At_place at) = IsAt at
   RestsGap (After t) = HasComeTo t × IsPassed g.places (look g now k) t
 
-  abbrev pub RestsPurpose : Purpose → Type 0
-  RestsPurpose (Fill gap) = RestsGap gap
-  RestsPurpose (For_replace write) = MayWrite true write
+  abbrev pub RestsPurpose : Hands P → Purpose → Type 0
+  RestsPurpose hands (Fill gap) = RestsGap gap
+  RestsPurpose hands (For_replace write) =
+      MayRemove hands (record { place = write.place; word = write.old })
+  RestsPurpose hands (Again write) =
+      MayRemove hands (record { place = write.place; word = write.old })
 
   -- some pair of this number was the key's at a moment of the call
   abbrev pub HadPair : ℕ → Type 0
@@ -202,7 +231,7 @@ module _ {K P : Type 0} (g : Setting K P) (c : Coding K P) (begun since : List (
   IsReply hands Get Absent = WasAtMoment None
   IsReply hands Get (Found n) = HadPair n
   IsReply hands (Insert replace) (Inserted n) = IsOwnPair hands n
-  IsReply hands (Insert true) (Replaced m n) = IsOwnPair hands n
+  IsReply hands (Insert true) (Replaced m n) = IsMadePair hands n
   IsReply hands (Insert false) (Occupied n) = HadPair n
   IsReply hands (Insert replace) (Reply_refused refused) = Unit {0}
   IsReply hands RemoveIf Absent = WasAtMoment None
@@ -210,7 +239,7 @@ module _ {K P : Type 0} (g : Setting K P) (c : Coding K P) (begun since : List (
   IsReply hands RemoveIf (Removed n) = Unit {0}
   IsReply hands RemoveIf (Reply_refused refused) = Unit {0}
   IsReply hands Compute (Inserted n) = IsOwnPair hands n
-  IsReply hands Compute (Replaced m n) = IsOwnPair hands n
+  IsReply hands Compute (Replaced m n) = IsMadePair hands n
   IsReply hands Compute (Removed n) = Unit {0}
   IsReply hands Compute (Aborted t) = Unit {0}
   IsReply hands Compute (Reply_refused refused) = Unit {0}
@@ -221,12 +250,12 @@ module _ {K P : Type 0} (g : Setting K P) (c : Coding K P) (begun since : List (
   RestsStage hands task Making = MayInsert task
   RestsStage hands task (Opening t) = MayInsert task × (0 < t)
   RestsStage hands task (Searching search) = RestsSearch hands search
-  RestsStage hands task (Writing write) = RestsWriting task write
+  RestsStage hands task (Writing write) = RestsWriting hands task write
   RestsStage hands task (Offering gap) = IsComputer task × RestsGap gap × WasAtMoment None
   RestsStage hands task (Showing removal) = HasClosure task × MayRemove hands removal
-  RestsStage hands task (Pairing purpose) = IsComputer task × RestsPurpose purpose
-  RestsStage hands task (Putting put) = IsComputer task × MayWrite true put.write
-      × IsOwnPair hands put.pair
+  RestsStage hands task (Pairing purpose) = IsComputer task × RestsPurpose hands purpose
+  RestsStage hands task (Putting put) = IsComputer task × MayWrite hands true put.write
+      × IsPairFor hands put.write put.pair
   RestsStage hands task (Burying removal) = HasClosure task × MayRemove hands removal
   RestsStage hands task (Counting claimed) = MayInsert task × HasClaimed hands claimed
   RestsStage hands task (Noting claimed) = MayInsert task × HasClaimed hands claimed
@@ -241,6 +270,17 @@ module _ {K P : Type 0} (g : Setting K P) (c : Coding K P) (begun since : List (
     pub mode : IsModeOf m.mode g.blocking
     pub made : RestsHands hands m.made m.remembered
     pub stage : RestsStage hands m.task m.state
+
+-- how many numbers were taken for pairs is loaded, or exchanged
+abbrev pub IsNumberAsk : Ask → Type 0
+IsNumberAsk (Load Made_word) = Unit {0}
+IsNumberAsk (Ask_exchange Made_word old new) = Unit {0}
+IsNumberAsk _ = ⊥
+
+-- the machine was told that it is as many as its limit says, or more
+abbrev pub IsAtLimit : Machine → Answer → Type 0
+IsAtLimit m answer = (most : ℕ) × (count : ℕ) × (m.made.limit ≡ Some most) × (most ≤ count)
+    × IsNumberAsk (ask_of m) × ((answer ≡ Word_read count) ⊎ (answer ≡ Found_instead count))
 
 -- a change of the map: the pair that went, and the one that came
 abbrev pub Change : Type 0

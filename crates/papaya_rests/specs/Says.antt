@@ -2,7 +2,7 @@
 use Rattle.std.specs.Prelude.{◌≡◌, ◌⊎◌, ℕ, ◌<◌, ◌==◌, if◌then◌else◌, Bool, true, false, Option, None, Some}
 use Rattle.papaya_words.specs.Word.{pair_of}
 use Rattle.papaya_ask.specs.declared.ask.Ask.{Ask}
-use Rattle.papaya_ask.specs.declared.ask.Ask.TheVariants.{ShowNone, ShowPair, MakePair}
+use Rattle.papaya_ask.specs.declared.ask.Ask.TheVariants.{ShowNone, ShowPair, MakePair, MakePairOf}
 use Rattle.papaya_ask.specs.declared.ask.Answer.{Answer}
 use Rattle.papaya_ask.specs.declared.ask.Answer.TheVariants.{Yes, Op, Made}
 use Rattle.papaya_ask.specs.declared.ask.OpKind.TheVariants as ops
@@ -14,8 +14,9 @@ use Rattle.papaya_ask.specs.declared.call.Task.TheVariants.{Get, Insert, RemoveI
 use Rattle.papaya_call.specs.declared.compute.Choice.{Choice}
 use Rattle.papaya_call.specs.declared.compute.Choice.TheVariants.{Replace as To_replace, Remove as To_remove}
 use Rattle.papaya_call.specs.declared.compute.Purpose.{Purpose}
-use Rattle.papaya_call.specs.declared.compute.Purpose.TheVariants.{Fill, Replace}
+use Rattle.papaya_call.specs.declared.compute.Purpose.TheVariants.{Fill, Replace, Again}
 use Rattle.papaya_call.specs.declared.machine.Machine.{Machine}
+use Rattle.papaya_call.specs.declared.made.Of.{Of}
 use Rattle.papaya_call.specs.declared.machine.State.{State}
 use Rattle.papaya_call.specs.declared.machine.State.TheVariants.{Offering, Showing, Pairing, Putting, Burying, Counting, Noting, Uncounting, Ended}
 use Rattle.papaya_call.specs.Machine.{after, ask_of, kind_of_ask}
@@ -66,13 +67,15 @@ abbrev pub said_to_claim : Task → ℕ → Option Said
 said_to_claim Compute n = Some (Makes None n)
 said_to_claim _ n = None
 
-abbrev pub said_for : Purpose → Said
-said_for (Fill gap) = Inserts None
-said_for (Replace write) = Inserts (Some (pair_of write.old))
+abbrev pub said_for : Purpose → Option Said
+said_for (Fill gap) = Some (Inserts None)
+said_for (Replace write) = Some (Inserts (Some (pair_of write.old)))
+-- what it said before of this pair is remembered
+said_for (Again write) = None
 
 -- what the closure said, on which the rest of a machine in this state stands
 abbrev pub said_in : Task → State → Option Said
-said_in task (Pairing purpose) = Some (said_for purpose)
+said_in task (Pairing purpose) = said_for purpose
 said_in task (Putting put) = Some (Makes (shown_by put.write.old) put.pair)
 said_in task (Burying removal) = said_to_remove task (pair_of removal.word)
 said_in task (Counting claimed) = said_to_claim task claimed.pair
@@ -88,7 +91,7 @@ said_to_fill (Some n) = Some (Makes None n)
 
 abbrev pub said_to_choose : Option Choice → Option Said
 said_to_choose None = None
-said_to_choose (Some (To_replace old new)) = Some (Makes (Some old) new)
+said_to_choose (Some (To_replace old new)) = Some (Makes (Some old) new.pair)
 said_to_choose (Some (To_remove old)) = Some (Removes old)
 
 -- the machine stands on this: its state does, or what it remembers
@@ -97,50 +100,73 @@ StandsOn m said = (said_in m.task m.state ≡ Some said)
     ⊎ (said_to_fill m.remembered.fill ≡ Some said)
     ⊎ (said_to_choose m.remembered.choice ≡ Some said)
 
--- the word of a pair that the closure was shown is no empty one
-abbrev pub IsToPair : Purpose → Type 0
-IsToPair (Fill gap) = Unit {0}
-IsToPair (Replace write) = 0 < write.old
+-- The word of a pair that the closure was shown is no empty one. Where a pair is made again of what
+-- it said then, that is remembered.
+abbrev pub IsToPair : Option Choice → Purpose → Type 0
+IsToPair choice (Fill gap) = Unit {0}
+IsToPair choice (Replace write) = 0 < write.old
+IsToPair choice (Again write) = (0 < write.old)
+    × ((new : Of) × (choice ≡ Some (To_replace (pair_of write.old) new)))
 
 -- so it is with what the machine shows, and with the pair that is made for it
-abbrev pub ShowsPairs : State → Type 0
-ShowsPairs (Showing removal) = 0 < removal.word
-ShowsPairs (Pairing purpose) = IsToPair purpose
-ShowsPairs _ = Unit {0}
+abbrev pub ShowsIn : Option Choice → State → Type 0
+ShowsIn choice (Showing removal) = 0 < removal.word
+ShowsIn choice (Pairing purpose) = IsToPair choice purpose
+ShowsIn choice _ = Unit {0}
+
+abbrev pub ShowsPairs : Machine → Type 0
+ShowsPairs m = ShowsIn m.remembered.choice m.state
+
+-- a pair is made of what the closure answered last, or the call is over
+abbrev pub IsAnswered : State → Type 0
+IsAnswered (Pairing (Fill gap)) = Unit {0}
+IsAnswered (Pairing (Replace write)) = Unit {0}
+IsAnswered (Ended reply) = Unit {0}
+IsAnswered _ = ⊥
+
+-- The value that was logged last is that of the pair which is remembered to take the place of
+-- another, but while a newer value waits.
+abbrev pub HasValue : Machine → Type 0
+HasValue m = (old : ℕ) (new : Of) → m.remembered.choice ≡ Some (To_replace old new)
+    → (m.made.valued ≡ true) ⊎ IsAnswered m.state
+
+-- a pair is asked for
+abbrev pub MakesPair : Ask → Type 0
+MakesPair MakePair = Unit {0}
+MakesPair (MakePairOf n) = Unit {0}
+MakesPair _ = ⊥
 
 -- the ask by which a closure is shown this
 abbrev pub show : Option ℕ → Ask
 show None = ShowNone
 show (Some n) = ShowPair n
 
+-- shown this the closure answered a value to store, of which no pair was made yet, or one was made
+abbrev pub WasSaid : Machine → Option ℕ → Type 0
+WasSaid m shown = StandsOn m (Inserts shown) ⊎ ((n : ℕ) × StandsOn m (Makes shown n))
+
 -- the closure says this with the answer to what the machine asks; a pair is made of what it said
 -- before
 abbrev pub IsSaidBy : Machine → Answer → Said → Type 0
 IsSaidBy m answer (Agrees n agrees) = (ask_of m ≡ ShowPair n) × (answer ≡ Yes agrees)
 IsSaidBy m answer (Inserts shown) = (ask_of m ≡ show shown) × (answer ≡ Op ops.Insert)
-IsSaidBy m answer (Makes shown n) = StandsOn m (Inserts shown) × (ask_of m ≡ MakePair)
-    × (answer ≡ Made n)
+IsSaidBy m answer (Makes shown n) = WasSaid m shown × MakesPair (ask_of m) × (answer ≡ Made n)
 IsSaidBy m answer (Removes n) = (ask_of m ≡ ShowPair n) × (answer ≡ Op ops.Remove)
 
 -- of what a machine stood on, the pair for an absent key
 abbrev pub KeepsFill : Machine → Said → Type 0
 KeepsFill m said = (i : ℕ) × (said ≡ Makes None i) × StandsOn m said
 
--- and what was answered of the pair last shown
-abbrev pub KeepsChoice : Machine → Said → Type 0
-KeepsChoice m said = StandsOn m said × ((i : ℕ) → said ≡ Makes None i → ⊥)
-    × ((shown : Option ℕ) → said ≡ Inserts shown → ⊥)
-
--- a pair that was made of what the closure answered to None is the pair for an absent key; what was
--- answered of a pair stays
+-- a pair that was made of what the closure answered to None is the pair for an absent key; no pair
+-- that it was shown before comes again
 abbrev pub IsFilledBy : Machine → ℕ → Type 0
 IsFilledBy m n = StandsOn m (Inserts None) × ((said : Said) → StandsOn (after m (Made n)) said
-    → (said ≡ Makes None n) ⊎ KeepsChoice m said)
+    → said ≡ Makes None n)
 
 -- one that was made of what it answered to a pair takes the place of any older answer of a pair;
 -- the pair for an absent key stays
 abbrev pub IsReplacedBy : Machine → ℕ → Type 0
-IsReplacedBy m n = (i : ℕ) × StandsOn m (Inserts (Some i))
+IsReplacedBy m n = (i : ℕ) × WasSaid m (Some i)
     × ((said : Said) → StandsOn (after m (Made n)) said
     → (said ≡ Makes (Some i) n) ⊎ KeepsFill m said)
 
@@ -174,6 +200,7 @@ IsFilled (Some n) = Unit {0}
 abbrev pub IsToFill : Purpose → Option ℕ → Type 0
 IsToFill (Fill gap) fill = Unit {0}
 IsToFill (Replace write) fill = IsFilled fill
+IsToFill (Again write) fill = IsFilled fill
 
 abbrev pub HasShownNone : Option ℕ → State → Type 0
 HasShownNone fill (Offering gap) = ⊥

@@ -3,15 +3,15 @@ use Rattle.std.specs.Prelude.{◌≡◌, ◌⊎◌, ℕ, ◌+◌, ◌<◌, ◌==
 use Rattle.papaya_words.specs.Word.{pair_of}
 use Rattle.papaya_words.specs.declared.probe.Refused.{Refused}
 use Rattle.papaya_ask.specs.declared.ask.At.{At}
-use Rattle.papaya_ask.specs.declared.ask.At.TheVariants.{Root, Next, Aborted, Done, Slot}
+use Rattle.papaya_ask.specs.declared.ask.At.TheVariants.{Root, Next, Aborted, Done, Slot, Made as Made_word}
 use Rattle.papaya_ask.specs.declared.ask.Ask.{Ask}
-use Rattle.papaya_ask.specs.declared.ask.Ask.TheVariants.{Load, Exchange as Ask_exchange, LoadHint, WriteHint, SameKey, ShowNone, ShowPair, SizeOf, MakeKey, MakePair, MakeTable, AddToShard, Done as Ask_done}
+use Rattle.papaya_ask.specs.declared.ask.Ask.TheVariants.{Load, Exchange as Ask_exchange, LoadHint, WriteHint, SameKey, ShowNone, ShowPair, SizeOf, MakeKey, MakeValue, MakePair, MakePairOf, MakeTable, AddToShard, Done as Ask_done}
 use Rattle.papaya_ask.specs.declared.ask.Answer.{Answer}
 use Rattle.papaya_ask.specs.declared.ask.Answer.TheVariants.{Word as Word_read, Exchanged, Found as Found_instead, Yes, Op, Size, Made as Made_number, Ok as Ok_done, Refused as Was_refused}
 use Rattle.papaya_ask.specs.declared.ask.OpKind.{OpKind}
 use Rattle.papaya_ask.specs.declared.ask.StepKind.{StepKind}
 use Rattle.papaya_ask.specs.declared.ask.StepKind.TheVariants as kinds
-use Rattle.papaya_law.specs.Exchange.{Live, Setting, State, Exchange, Open, Claim, Replace, Bury}
+use Rattle.papaya_law.specs.Exchange.{Live, Setting, State, Exchange, Open, Claim, Replace, Bury, Take}
 use Rattle.papaya_law.specs.Invariant.{named}
 use Rattle.papaya_law.specs.Code.{Coding, code}
 use Rattle.papaya_law.specs.Hints.{IsHint}
@@ -43,6 +43,7 @@ module _ {K P : Type 0} (g : Setting K P) (c : Coding K P) where
   word_of s (Aborted t) = cond (s.aborted t) 1 0
   word_of s (Done t chunk) = cond (s.done t chunk) 1 0
   word_of s (Slot t x) = code g c (s.slot t x)
+  word_of s Made_word = s.made
 
   -- just the word at this place is another
   pub record IsWritten (s : State P) (at : At) (new : ℕ) (s' : State P) : Type 0 where
@@ -60,20 +61,22 @@ pub record IsOwnWord {K P : Type 0} (c : Coding K P) (hands : Hands P) (new : �
   pub made : IsOneOf hands.made q
   pub named : c.number q ≡ pair_of new
 
--- the exchange of the law that a machine asks for, by its kind: a pair that comes is one that the
--- machine made, and one that goes is the one that stands there
-abbrev pub IsAsked : {K P : Type 0} → Coding K P → Option StepKind → At → ℕ → State P → Hands P
-    → Exchange P → Type 0
-IsAsked c (Some kinds.Open) Root new s hands e = e ≡ Open new
-IsAsked {P = P} c (Some kinds.Claim) (Slot t x) new s hands e = (q : P) × IsOwnWord c hands new q
-    × (e ≡ Claim t x q)
-IsAsked {P = P} c (Some kinds.Replace) (Slot t x) new s hands e = (p : P) × (q : P)
-    × (s.slot t x ≡ Live p) × IsOwnWord c hands new q × (e ≡ Replace t x p q)
-IsAsked {P = P} c (Some kinds.Bury) (Slot t x) new s hands e = (p : P) × (s.slot t x ≡ Live p)
-    × (e ≡ Bury t x p)
-IsAsked c _ _ new s hands e = ⊥
-
 module _ {K P : Type 0} (g : Setting K P) (c : Coding K P) (k : K) where
+  -- The exchange of the law that a machine asks for, by its kind: a pair that comes is one that the
+  -- machine made, of the call's key where it is claimed, and of the key of the one that goes where
+  -- it is replaced; and the one that goes is the one that stands there.
+  abbrev pub IsAsked : Option StepKind → At → ℕ → State P → Hands P → Exchange P → Type 0
+  IsAsked (Some kinds.Open) Root new s hands e = e ≡ Open new
+  IsAsked (Some kinds.Claim) (Slot t x) new s hands e = (q : P) × IsOwnWord c hands new q
+      × (g.key q ≡ k) × (e ≡ Claim t x q)
+  IsAsked (Some kinds.Replace) (Slot t x) new s hands e = (p : P) × (q : P)
+      × (s.slot t x ≡ Live p) × IsOwnWord c hands new q × (g.key q ≡ g.key p)
+      × (e ≡ Replace t x p q)
+  IsAsked (Some kinds.Bury) (Slot t x) new s hands e = (p : P) × (s.slot t x ≡ Live p)
+      × (e ≡ Bury t x p)
+  IsAsked (Some kinds.Take) Made_word new s hands e = e ≡ Take s.made
+  IsAsked _ _ new s hands e = ⊥
+
   -- nothing was exchanged, and no pair was told of
   abbrev pub Quiet : Hands P → List (Exchange P) → Hands P → Type 0
   Quiet hands es hands' = (es ≡ []) × (hands' ≡ hands)
@@ -81,6 +84,15 @@ module _ {K P : Type 0} (g : Setting K P) (c : Coding K P) (k : K) where
   -- something was to be made: it was refused, or there was nothing to make
   abbrev pub IsUnmade : Answer → Type 0
   IsUnmade answer = ((refused : Refused) × (answer ≡ Was_refused refused)) ⊎ (answer ≡ Ok_done)
+
+  -- the pair q was made
+  abbrev pub IsNew : P → Hands P → Answer → List (Exchange P) → Hands P → Type 0
+  IsNew q hands answer es hands' = (answer ≡ Made_number (c.number q)) × (es ≡ [])
+      × (hands' ≡ record hands { made = q ∷ hands.made })
+
+  -- it has the key of the pair of this number, which was loaded last
+  abbrev pub IsOfLast : Hands P → ℕ → P → Type 0
+  IsOfLast hands n q = (p : P) → hands.last ≡ Some p → c.number p ≡ n → g.key q ≡ g.key p
 
   -- a closure answers as it likes; where there is none, it doesn't
   abbrev pub IsSaying : Answer → Type 0
@@ -96,7 +108,7 @@ module _ {K P : Type 0} (g : Setting K P) (c : Coding K P) (k : K) where
       × (es ≡ []) × (hands' ≡ told_of s at hands)
   IsTold s kind hands (Ask_exchange at old new) answer es hands' =
       MatchBool (word_of g c s at == old)
-      ((answer ≡ Exchanged) × ((e : Exchange P) × IsAsked c kind at new s hands e × (es ≡ e ∷ []))
+      ((answer ≡ Exchanged) × ((e : Exchange P) × IsAsked kind at new s hands e × (es ≡ e ∷ []))
       × (hands' ≡ hands))
       ((answer ≡ Found_instead (word_of g c s at)) × (es ≡ []) × (hands' ≡ told_of s at hands))
   IsTold s kind hands (LoadHint t x) answer es hands' =
@@ -113,10 +125,14 @@ module _ {K P : Type 0} (g : Setting K P) (c : Coding K P) (k : K) where
       × Quiet hands es hands'
   IsTold s kind hands MakeKey answer es hands' =
       (IsUnmade answer ⊎ ((n : ℕ) × (answer ≡ Made_number n))) × Quiet hands es hands'
+  IsTold s kind hands MakeValue answer es hands' =
+      (IsUnmade answer ⊎ ((n : ℕ) × (answer ≡ Made_number n))) × Quiet hands es hands'
   IsTold s kind hands MakePair answer es hands' =
       (IsUnmade answer × Quiet hands es hands')
-      ⊎ ((q : P) × (g.key q ≡ k) × (answer ≡ Made_number (c.number q)) × (es ≡ [])
-      × (hands' ≡ record hands { made = q ∷ hands.made }))
+      ⊎ ((q : P) × (g.key q ≡ k) × IsNew q hands answer es hands')
+  IsTold s kind hands (MakePairOf n) answer es hands' =
+      (IsUnmade answer × Quiet hands es hands')
+      ⊎ ((q : P) × IsOfLast hands n q × IsNew q hands answer es hands')
   IsTold s kind hands (MakeTable slots limit chunks) answer es hands' =
       (IsUnmade answer ⊎ ((n : ℕ) × (0 < n) × (answer ≡ Made_number n))) × Quiet hands es hands'
   IsTold s kind hands (AddToShard by) answer es hands' = (answer ≡ Ok_done) × Quiet hands es hands'

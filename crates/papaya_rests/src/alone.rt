@@ -14,11 +14,11 @@ use papaya_call::machine::Machine;
 /// there still, so no exchange is lost.
 pub fn calls_end()
     ensures nearer { (words words' : At → ℕ) (m : Machine) (answer : Answer)
-        → IsCurrent words m.state → ((t : ℕ) → words (At.Next t) ≡ 0)
+        → IsCurrent words m → ((t : ℕ) → words (At.Next t) ≡ 0)
         → IsPrompt m.task words (ask_of m) answer words' → left (after m answer) < left m }
     ensures current { (words words' : At → ℕ) (m : Machine) (answer : Answer)
-        → IsCurrent words m.state → IsPrompt m.task words (ask_of m) answer words'
-        → IsCurrent words' (after m answer).state }
+        → IsCurrent words m → IsPrompt m.task words (ask_of m) answer words'
+        → IsCurrent words' (after m answer) }
     ensures single { (words words' : At → ℕ) (m : Machine) (answer : Answer)
         → ((t : ℕ) → words (At.Next t) ≡ 0) → IsPrompt m.task words (ask_of m) answer words'
         → (t : ℕ) → words' (At.Next t) ≡ 0 }

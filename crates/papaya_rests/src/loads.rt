@@ -1,5 +1,5 @@
 //! How much a lookup loads. The function does nothing; its contract is the bound.
-ghost use Rattle.std.specs.Prelude.{ℕ, List};
+ghost use Rattle.std.specs.Prelude.{ℕ, List, Option};
 ghost use Rattle.papaya_words.specs.declared.probe.ResizeMode.{ResizeMode};
 ghost use Rattle.papaya_ask.specs.declared.ask.Answer.{Answer};
 ghost use Rattle.papaya_ask.specs.declared.call.Task.TheVariants.{Get};
@@ -11,7 +11,7 @@ ghost use Rattle.papaya_rests.specs.Loads.{AreAnswers, IsBounded, asked};
 /// it entered; it enters no table twice, since each has a greater number than the one before; and
 /// it changes and makes nothing.
 pub fn lookups_are_bounded()
-    ensures { (hash initial : ℕ) (mode : ResizeMode) (limit : ℕ → ℕ) (answers : List Answer)
-        → AreAnswers limit (started Get hash mode initial) answers
-        → IsBounded limit (asked (started Get hash mode initial) answers) }
+    ensures { (hash initial : ℕ) (mode : ResizeMode) (most : Option ℕ) (limit : ℕ → ℕ)
+        (answers : List Answer) → AreAnswers limit (started Get hash mode initial most) answers
+        → IsBounded limit (asked (started Get hash mode initial most) answers) }
 {}

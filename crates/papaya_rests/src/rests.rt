@@ -17,8 +17,8 @@ ghost use Rattle.papaya_law.specs.Hints.{IsHint};
 ghost use Rattle.papaya_law.specs.Grows.{Agrees};
 ghost use Rattle.papaya_call.specs.Machine.{IsStanding, IsWriter, ask_of, kind_of_ask, after, started};
 ghost use Rattle.papaya_rests.specs.Owed.{owed_by, grows_by};
-ghost use Rattle.papaya_rests.specs.Rests.{Rests, IsModeOf, IsReply, WasAtMoment, change_in, change_of_reply, change_after};
-ghost use Rattle.papaya_rests.specs.Says.{Agrees as Said_agrees, HasShownNone, Inserts, IsPaired, IsSaidBy, IsSaidChange, IsSaidExchange, KeepsFill};
+ghost use Rattle.papaya_rests.specs.Rests.{Rests, IsAtLimit, IsModeOf, IsReply, WasAtMoment, change_in, change_of_reply, change_after};
+ghost use Rattle.papaya_rests.specs.Says.{Agrees as Said_agrees, HasShownNone, HasValue, Inserts, IsPaired, IsSaidBy, IsSaidChange, IsSaidExchange, KeepsFill, MakesPair};
 ghost use Rattle.papaya_rests.specs.Says.{Removes, Said, ShowsPairs, StandsOn, said_in, said_in_reply, show};
 ghost use Rattle.papaya_rests.specs.Told.{IsOneOf, IsAsked, IsTold, IsWritten, Hands, no_hands, word_of};
 ghost use Rattle.papaya_law.specs.Code.{IsHashed};
@@ -31,8 +31,8 @@ use papaya_call::machine::Machine;
 pub fn begins<K, P>()
     ensures { (g : Setting K P) (c : Coding K P)
         → (begun : List (Exchange P)) (k : K) (task : Task) (mode : ResizeMode) (initial : ℕ)
-        → IsModeOf mode g.blocking → Rests g c begun [] k (started task (c.hash k) mode initial)
-        no_hands }
+        (limit : Option ℕ) → IsModeOf mode g.blocking → limit ≡ g.most
+        → Rests g c begun [] k (started task (c.hash k) mode initial limit) no_hands }
 {}
 
 /// What a machine rests on stays so, whatever others exchange and whichever tables are made.
@@ -49,7 +49,7 @@ pub fn stays<K, P>()
 {}
 
 /// A machine names only tables that were opened or linked, slots within them with their hints, and
-/// the pair last loaded.
+/// the pair last loaded. Of that one's key it makes a pair only where it is the call's.
 pub fn names<K, P>()
     ensures size { (g : Setting K P) (c : Coding K P) → IsHashed g c
         → (begun since : List (Exchange P)) → AllAllowed g start (begun ++ since)
@@ -82,7 +82,12 @@ pub fn names<K, P>()
         → (begun since : List (Exchange P)) (k : K) (m : Machine) (hands : Hands P)
         → Rests g c begun since k m hands → (t x old new : ℕ)
         → ask_of m ≡ Ask.Exchange (At.Slot t x) old new → IsWriter m.task
-        → (q : P) × IsOneOf hands.made q × (g.key q ≡ k) }
+        → (q : P) × IsOneOf hands.made q × (g.same k (g.key q) ≡ true) }
+    ensures copied { (g : Setting K P) (c : Coding K P) → IsHashed g c
+        → (begun since : List (Exchange P)) → AllAllowed g start (begun ++ since)
+        → (k : K) (m : Machine) (hands : Hands P) → Rests g c begun since k m hands → (n : ℕ)
+        → ask_of m ≡ Ask.MakePairOf n → (p : P) × (hands.last ≡ Some p) × (c.number p ≡ n)
+        × (g.same k (g.key p) ≡ true) }
     ensures opened { (m : Machine) (answer : Answer) (t : ℕ)
         → ask_of (after m answer) ≡ Ask.Exchange At.Root 0 t
         → ((answer ≡ Answer.Made t) × ((len limit : ℕ) × (ask_of m ≡ Ask.MakeTable len limit 0)))
@@ -101,7 +106,7 @@ pub fn may_hint<K, P>()
 /// changed the map.
 pub fn follows()
     ensures begins { (task : Task) (hash : ℕ) (mode : ResizeMode) (initial table : ℕ)
-        → IsAtTable table (started task hash mode initial).state }
+        (limit : Option ℕ) → IsAtTable table (started task hash mode initial limit).state }
     ensures table { (m : Machine) (answer : Answer) (table : ℕ) → IsAtTable table m.state
         → IsAtTable (told_table (ask_of m) answer table) (after m answer).state }
     ensures named { (m : Machine) (table t : ℕ) → IsAtTable table m.state
@@ -135,16 +140,17 @@ pub fn shows<K, P>()
 /// a word that is not 0: a call that begins shows nothing, and so it stays with each answer.
 ///
 /// A compute stands on one pair for an absent key, and on one answer of a pair: a newer answer of
-/// a pair takes the older one's place, and leaves the pair for an absent key. What it exchanges in
-/// a slot is what it stands on.
+/// a pair takes the older one's place, and leaves the pair for an absent key. A pair that is to
+/// stand in another slot than it was made for is made again of the same value, which was logged
+/// last. What a compute exchanges in a slot is what it stands on.
 pub fn says()
-    ensures begins { (task : Task) (hash : ℕ) (mode : ResizeMode) (initial : ℕ) (said : Said)
-        → StandsOn (started task hash mode initial) said → ⊥ }
-    ensures words { (m : Machine) (answer : Answer) → ShowsPairs m.state
-        → ShowsPairs (after m answer).state }
-    ensures said { (m : Machine) (answer : Answer) (said : Said) → IsStanding m → ShowsPairs m.state
+    ensures begins { (task : Task) (hash : ℕ) (mode : ResizeMode) (initial : ℕ) (limit : Option ℕ)
+        (said : Said) → StandsOn (started task hash mode initial limit) said → ⊥ }
+    ensures words { (m : Machine) (answer : Answer) → ShowsPairs m → ShowsPairs (after m answer) }
+    ensures values { (m : Machine) (answer : Answer) → HasValue m → HasValue (after m answer) }
+    ensures said { (m : Machine) (answer : Answer) (said : Said) → IsStanding m → ShowsPairs m
         → StandsOn (after m answer) said → StandsOn m said ⊎ IsSaidBy m answer said }
-    ensures pairs { (m : Machine) (n : ℕ) (shown : Option ℕ) → ask_of m ≡ Ask.MakePair
+    ensures pairs { (m : Machine) (n : ℕ) (shown : Option ℕ) → MakesPair (ask_of m)
         → StandsOn (after m (Answer.Made n)) (Inserts shown) → ⊥ }
     ensures one { (m : Machine) (shown other : Option ℕ) → StandsOn m (Inserts shown)
         → StandsOn m (Inserts other) → shown ≡ other }
@@ -154,7 +160,7 @@ pub fn says()
         → ask_of m ≡ Ask.ShowPair n → StandsOn (after m (Answer.Op OpKind.Remove)) said
         → (said ≡ Removes n) ⊎ KeepsFill m said }
     ensures paired { (m : Machine) (n : ℕ) → m.task ≡ Task.Compute → IsStanding m
-        → ShowsPairs m.state → ask_of m ≡ Ask.MakePair → IsPaired m n }
+        → ShowsPairs m → MakesPair (ask_of m) → IsPaired m n }
     ensures exchanges { (m : Machine) (t x old new : ℕ) → m.task ≡ Task.Compute → m.hash < 2 ^ 64
         → IsStanding m → ask_of m ≡ Ask.Exchange (At.Slot t x) old new
         → IsSaidExchange m (pair_of old) (pair_of new) }
@@ -194,7 +200,8 @@ pub fn may_exchange<K, P>()
         → AllAllowed g start (begun ++ since) → (k : K) (m : Machine) (hands : Hands P)
         → Rests g c begun since k m hands → (at : At) (old new : ℕ)
         → ask_of m ≡ Ask.Exchange at old new → word_of g c (run (begun ++ since) start) at ≡ old
-        → (e : Exchange P) × IsAsked c (kind_of_ask m) at new (run (begun ++ since) start) hands e
+        → (e : Exchange P)
+        × IsAsked g c k (kind_of_ask m) at new (run (begun ++ since) start) hands e
         × Allows g (run (begun ++ since) start) e × IsWritten g c (run (begun ++ since) start) at
         new (state_after (run (begun ++ since) start) e) }
 {}
@@ -232,6 +239,7 @@ pub fn replies<K, P>()
         → ask_of (after m answer) ≡ Ask.Done (Reply.Refused refused)
         → (answer ≡ Answer.Refused refused) ⊎ ((refused ≡ Refused.Capacity)
         × ((t : ℕ) × (ask_of m ≡ Ask.Load (At.Next t))))
+        ⊎ ((refused ≡ Refused.Limit) × IsAtLimit m answer)
         ⊎ ((refused ≡ Refused.RemoveNothing) × (ask_of m ≡ Ask.ShowNone)
         × (answer ≡ Answer.Op OpKind.Remove)) }
 {}

@@ -29,7 +29,7 @@ module _ {K V S H : Type 0} (eq : K → K → Bool) (input : K → List (List �
 
   -- the words and the count are in order
   pub map_lawful : IsLawfulMap eq (hash_of input build write finish store.hasher) store s.mode s.initial
-  map_lawful = let after = alone_lawful eq input build write finish classes respects (core_of s) left call reply lawful.lawful over.ran lawful.counted in record { lawful = after.0; counted = after.1; power = lawful.power; most = lawful.most; long = over.long }
+  map_lawful = let after = alone_lawful eq input build write finish classes respects (core_of s) left call reply lawful.lawful over.ran lawful.counted in record { lawful = after.0; counted = after.1; power = lawful.power; most = lawful.most; long = over.long; numbered = over.numbered }
 
   -- the hasher stays
   pub map_hasher : store.hasher ≡ s.store.hasher

@@ -13,7 +13,7 @@ use Rattle.papaya_timeline.specs.Maps.{Does, IsMadeOf, IsUpdate, IsUpdateBy, Sam
 use Rattle.papaya_timeline.specs.Solo.{CallDoes, IsAnswered, IsNewIn}
 use Rattle.papaya_store.specs.Store.{StoreState, Stored, pair_of}
 use Rattle.papaya_seq.proofs.LeftBy.{left_same, same_left}
-use Rattle.papaya_seq.specs.Map.{Inserts, IsMakeRefusal, IsOccupied, IsTried, IsTryRefusal, IsWriteCause, IsWriteCauseAt, KeepsAndGrows, MapState, insertion, value_of}
+use Rattle.papaya_seq.specs.Map.{Inserts, IsStoreRefusal, IsOccupied, IsTried, IsTryRefusal, IsWriteCause, IsWriteCauseAt, KeepsAndGrows, MapState, insertion, kept_key, value_of}
 use Rattle.papaya_seq.proofs.Lawful.{logged_content, lookup_some}
 
 -- equal keys have one pair in a list
@@ -44,7 +44,7 @@ module _ {K V S : Type 0} (eq : K → K → Bool) (law : IsEquivalence eq) where
       pub value : pair.value ≡ v
       pub inserts : Inserts eq k v s went s'
 
-    made : (old came : Option (Stored K V)) (n : ℕ) (q : Stored K V) → IsMadeOf k v n q → came ≡ Some q → pair_of s n ≡ None → IsUpdate eq k old came (map_in eq s) (map_in eq s') → IsMade (value_of old) n
+    made : (old came : Option (Stored K V)) (n : ℕ) (q : Stored K V) → IsMadeOf (kept_key k old) v n q → came ≡ Some q → pair_of s n ≡ None → IsUpdate eq k old came (map_in eq s) (map_in eq s') → IsMade (value_of old) n
     made old came n q is comes fresh u =
         let update : IsUpdate eq k old (Some q) (map_in eq s) (map_in eq s') = subst (λ c. IsUpdate eq k old c (map_in eq s) (map_in eq s')) comes u in
         record {
@@ -163,13 +163,15 @@ module _ {K V S : Type 0} (s s' : MapState K V S) where
   -- a cause of a call that stores, without what the class of its key has
   pub write_cause : (held : Option (Stored K V)) (refused : Refused) → IsWriteCauseAt s held refused s' → IsWriteCause s refused s'
   write_cause held refused (inl memory) = inl memory
-  write_cause held refused (inr (is, inl full)) = inr (is, inl full)
-  write_cause held refused (inr (is, inr (needed, none))) = inr (is, inr none)
+  write_cause held refused (inr (inl (is, inl full))) = inr (inl (is, inl full))
+  write_cause held refused (inr (inl (is, inr (needed, none)))) = inr (inl (is, inr none))
+  write_cause held refused (inr (inr spent)) = inr (inr spent)
 
-  -- it is refused for want of memory, or at a limit
-  pub make_refusal : (refused : Refused) → IsWriteCause s refused s' → IsMakeRefusal refused
-  make_refusal refused (inl memory) = inl memory
-  make_refusal refused (inr (is, full)) = inr is
+  -- it is refused for want of memory, at a limit of what there may be, or as no number was left
+  pub store_refusal : (refused : Refused) → IsWriteCause s refused s' → IsStoreRefusal s refused
+  store_refusal refused (inl memory) = inl (inl memory)
+  store_refusal refused (inr (inl (is, full))) = inl (inr is)
+  store_refusal refused (inr (inr spent)) = inr spent
 
 module _ {K V A B : Type 0} (eq : K → K → Bool) (call : Call K V A) (other : Call K V B) (k : K) (key : key_of call ≡ Some k) (other_key : key_of other ≡ Some k) (alike : (went came : Option (Stored K V)) (reply : _) → Does call went reply came → Does other went reply came) where
   -- what one call on a key does, another does that is like it

@@ -2,7 +2,7 @@
 use Rattle.std.proofs.Common.{◌≡◌, ℕ, Bool, true, false, Option, None, Some, inl, inr, refl, sym, ◌∙◌, ap}
 use Rattle.papaya_call.specs.Answers.{Says}
 use Rattle.papaya_ask.specs.declared.ask.Ask.{Ask as Call_ask}
-use Rattle.papaya_ask.specs.declared.ask.Ask.TheVariants.{Load, Exchange, LoadHint, WriteHint, SameKey, ShowNone, ShowPair, SizeOf, MakeKey, MakePair, MakeTable, AddToShard, Done as Ask_done}
+use Rattle.papaya_ask.specs.declared.ask.Ask.TheVariants.{Load, Exchange, LoadHint, WriteHint, SameKey, ShowNone, ShowPair, SizeOf, MakeKey, MakeValue, MakePair, MakePairOf, MakeTable, AddToShard, Done as Ask_done}
 use Rattle.papaya_ask.specs.declared.ask.Answer.{Answer as Call_answer}
 use Rattle.papaya_ask.specs.declared.call.Task.{Task}
 use Rattle.papaya_ask.specs.declared.call.Task.TheVariants.{Get, Insert, RemoveIf, Compute}
@@ -37,14 +37,18 @@ module _ {K V S A : Type 0} (eq : K → K → Bool) (says : Says K V A) (o : Opt
   answering_call refuse (ShowPair n) store r answer store' later unshown performs = absurd (unshown tt)
   answering_call refuse (SizeOf n) store r answer store' later unshown (e, (same, stays)) = ((e, (same, ap (answering o) stays)), ap (λ q. q.answers) stays)
   answering_call true MakeKey store r answer store' later unshown (e, (same, stays)) = ((e, (same, ap (answering o) stays)), ap (λ q. q.answers) stays)
+  answering_call true MakeValue store r answer store' later unshown (e, (same, stays)) = ((e, (same, ap (answering o) stays)), ap (λ q. q.answers) stays)
   answering_call true MakePair store r answer store' later unshown (e, (same, stays)) = ((e, (same, ap (answering o) stays)), ap (λ q. q.answers) stays)
+  answering_call true (MakePairOf n) store r answer store' later unshown (e, (same, stays)) = ((e, (same, ap (answering o) stays)), ap (λ q. q.answers) stays)
   answering_call true (MakeTable slots limit chunks) store r answer store' later unshown (e, (same, stays)) = ((e, (same, ap (answering o) stays)), ap (λ q. q.answers) stays)
-  answering_call false MakeKey store r answer store' later unshown (inl (refused, (same, stays))) = (inl (refused, (same, ap (answering o) stays)), ap (λ q. q.answers) stays)
-  answering_call false MakeKey store r answer store' later unshown (inr (inl (has, (same, stays)))) = (inr (inl (has, (same, ap (answering o) stays))), ap (λ q. q.answers) stays)
-  answering_call false MakeKey store r answer store' later unshown (inr (inr (k, own, e, few, same, goes))) = (inr (inr (k, own, e, few, same, ap (answering o) goes)), ap (λ q. q.answers) goes)
+  answering_call false MakeKey store r answer store' later unshown (e, (same, stays)) = ((e, (same, ap (answering o) stays)), ap (λ q. q.answers) stays)
+  answering_call false MakeValue store r answer store' later unshown (e, (same, stays)) = ((e, (same, ap (answering o) stays)), ap (λ q. q.answers) stays)
   answering_call false MakePair store r answer store' later unshown (inl (refused, (same, stays))) = (inl (refused, (same, ap (answering o) stays)), ap (λ q. q.answers) stays)
   answering_call false MakePair store r answer store' later unshown (inr (inl (has, (same, stays)))) = (inr (inl (has, (same, ap (answering o) stays))), ap (λ q. q.answers) stays)
-  answering_call false MakePair store r answer store' later unshown (inr (inr (n, v, key, value, e, few, same, goes))) = (inr (inr (n, v, key, value, e, few, same, ap (answering o) goes)), ap (λ q. q.answers) goes)
+  answering_call false MakePair store r answer store' later unshown (inr (inr (value, has, e, few, same, goes))) = (inr (inr (value, has, e, few, same, ap (answering o) goes)), ap (λ q. q.answers) goes)
+  answering_call false (MakePairOf n) store r answer store' later unshown (inl (refused, (same, stays))) = (inl (refused, (same, ap (answering o) stays)), ap (λ q. q.answers) stays)
+  answering_call false (MakePairOf n) store r answer store' later unshown (inr (inl (has, (same, stays)))) = (inr (inl (has, (same, ap (answering o) stays))), ap (λ q. q.answers) stays)
+  answering_call false (MakePairOf n) store r answer store' later unshown (inr (inr (first, from, (value, has, e, few, same, goes)))) = (inr (inr (first, from, (value, has, e, few, same, ap (answering o) goes))), ap (λ q. q.answers) goes)
   answering_call false (MakeTable slots limit chunks) store r answer store' later unshown (made, stays) = ((made, ap (answering o) stays), ap (λ q. q.answers) stays)
   answering_call refuse (AddToShard by) store r answer store' later unshown (e, same, stays) = ((e, same, ap (answering o) stays), ap (λ q. q.answers) stays)
   answering_call refuse (Ask_done reply) store r answer store' later unshown (e, (same, stays)) = ((e, (same, ap (answering o) stays)), ap (λ q. q.answers) stays)
@@ -73,7 +77,9 @@ module _ {K V S A : Type 0} (eq : K → K → Bool) (says : Says K V A) where
   silent_call refuse replace (WriteHint t x hint) store r answer store' later silence task performs = answering_call eq says None refuse (WriteHint t x hint) store r answer store' later (λ f. f) performs
   silent_call refuse replace (SizeOf n) store r answer store' later silence task performs = answering_call eq says None refuse (SizeOf n) store r answer store' later (λ f. f) performs
   silent_call refuse replace MakeKey store r answer store' later silence task performs = answering_call eq says None refuse MakeKey store r answer store' later (λ f. f) performs
+  silent_call refuse replace MakeValue store r answer store' later silence task performs = answering_call eq says None refuse MakeValue store r answer store' later (λ f. f) performs
   silent_call refuse replace MakePair store r answer store' later silence task performs = answering_call eq says None refuse MakePair store r answer store' later (λ f. f) performs
+  silent_call refuse replace (MakePairOf n) store r answer store' later silence task performs = answering_call eq says None refuse (MakePairOf n) store r answer store' later (λ f. f) performs
   silent_call refuse replace (MakeTable slots limit chunks) store r answer store' later silence task performs = answering_call eq says None refuse (MakeTable slots limit chunks) store r answer store' later (λ f. f) performs
   silent_call refuse replace (AddToShard by) store r answer store' later silence task performs = answering_call eq says None refuse (AddToShard by) store r answer store' later (λ f. f) performs
   silent_call refuse replace (Ask_done reply) store r answer store' later silence task performs = answering_call eq says None refuse (Ask_done reply) store r answer store' later (λ f. f) performs

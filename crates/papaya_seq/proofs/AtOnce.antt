@@ -1,6 +1,6 @@
 -- An insertion that is made at once: what it logs and writes are answers of its machine.
-use Rattle.std.proofs.Common.{◌≡◌, ℕ, ◌<◌, ◌==◌, if◌then◌else◌, Bool, true, false, MatchBool, List, [], ◌∷◌, ◌++◌, Option, None, Some, length, inl, inr, refl, sym, ◌∙◌, ap, subst, eq-eqb}
-use Rattle.std.proofs.lemmas.Bool.{ne_eqb}
+use Rattle.std.proofs.Common.{◌≡◌, ℕ, ◌<◌, ◌==◌, if◌then◌else◌, slice_get, Bool, true, false, MatchBool, cond, List, [], ◌∷◌, ◌++◌, Option, None, Some, option_map, length, inl, inr, refl, sym, ◌∙◌, ap, subst, eq-eqb}
+use Rattle.std.proofs.lemmas.Bool.{eqb-true, ne_eqb}
 use Rattle.std.specs.Prelude.{pos}
 use Rattle.papaya_words.specs.Counter.{added}
 use Rattle.papaya_words.specs.Word.{hint_of, kind_of, live_word, pair_of as number_of}
@@ -11,7 +11,7 @@ use Rattle.papaya_words.specs.declared.probe.Refused.{Refused}
 use Rattle.papaya_ask.specs.declared.ask.Answer.{Answer}
 use Rattle.papaya_ask.specs.declared.ask.Answer.TheVariants.{Exchanged, Found as Found_instead, Yes, Made as Made_number, Ok as Ok_done, Refused as Was_refused}
 use Rattle.papaya_ask.specs.declared.ask.Ask.{Ask}
-use Rattle.papaya_ask.specs.declared.ask.Ask.TheVariants.{Load, Exchange, LoadHint, WriteHint, SameKey, ShowNone, ShowPair, SizeOf, MakeKey, MakePair, MakeTable, AddToShard, Done as Ask_done}
+use Rattle.papaya_ask.specs.declared.ask.Ask.TheVariants.{Load, Exchange, LoadHint, WriteHint, SameKey, ShowNone, ShowPair, SizeOf, MakeKey, MakeValue, MakePair, MakePairOf, MakeTable, AddToShard, Done as Ask_done}
 use Rattle.papaya_ask.specs.declared.ask.At.{At}
 use Rattle.papaya_ask.specs.declared.ask.At.TheVariants.{Slot}
 use Rattle.papaya_ask.specs.declared.search.Place.{Place}
@@ -22,34 +22,44 @@ use Rattle.papaya_call.specs.Answers.{Says}
 use Rattle.papaya_call.specs.declared.machine.Machine.{Machine}
 use Rattle.papaya_call.specs.declared.machine.State.{State}
 use Rattle.papaya_call.specs.declared.machine.State.TheVariants.{AtRoot, Writing, Counting, Noting, Ended}
-use Rattle.papaya_call.specs.declared.write.Claimed.{Claimed}
-use Rattle.papaya_call.specs.declared.write.Made.{Made}
-use Rattle.papaya_call.specs.declared.write.Made.TheVariants.{Nothing, Key, Pair}
+use Rattle.papaya_call.specs.declared.made.Made.{Made}
 use Rattle.papaya_call.specs.declared.write.Write.{Write}
-use Rattle.papaya_call.specs.Machine.{after, ask_of, found, goes, occupies, replaces, started, written}
-use Rattle.papaya_call.specs.Write.{claimed_by}
+use Rattle.papaya_call.specs.Machine.{after, ask_of, asks as call_asks, exchanged as exchanged_to, found, goes, made_in, occupies, refuses, replaces, started, write_taken, written}
+use Rattle.papaya_call.specs.Made.{nothing_made, of_ask, of_grown, own_ask, own_grown}
+use Rattle.papaya_call.specs.Write.{claimed_by, made_to_write, put_ask, served_ask, served_of, serves, with_pair_at, write_grown}
 use Rattle.papaya_chain.specs.declared.ask.Answer.{Answer as Chain_answer}
 use Rattle.papaya_chain.specs.declared.ask.Answer.TheVariants as answers
 use Rattle.papaya_chain.specs.declared.ask.Ask.TheVariants as asks
 use Rattle.papaya_chain.specs.Machine as chain
-use Rattle.papaya_store.specs.declared.pairs.KeyOf.TheVariants.{Own, Logged}
+use Rattle.papaya_store.specs.declared.pairs.Pair.{Pair}
+use Rattle.papaya_store.specs.declared.pairs.Pair.TheVariants as pairs
+use Rattle.papaya_store.specs.declared.pairs.Part.{Part}
+use Rattle.papaya_store.specs.declared.pairs.Part.TheVariants.{Own, Logged}
+use Rattle.papaya_store.specs.Pairs.{key_from, pair_with}
 use Rattle.papaya_store.specs.declared.pairs.Running.{Running}
 use Rattle.papaya_store.specs.Performs.{Exchanges, Performs, Refuses, same_stored}
 use Rattle.papaya_store.specs.Store.{StoreState, Stored, pair_of}
 use Rattle.papaya_store.specs.Tables.{note, put, word_at}
 use Rattle.papaya_timeline.specs.Advances.{reply_in}
 use Rattle.papaya_timeline.specs.Solo.{whatever}
-use Rattle.papaya_seq.specs.Drives.{Drives, IsDriven, IsReplied, IsWritten, at_hand}
+use Rattle.papaya_seq.specs.Drives.{Drives, IsDriven, IsOfStore, IsReplied, at_hand}
 use Rattle.papaya_seq.specs.Looks.{Comes, IsSearchAsk, IsToldBy, matches_in}
 use Rattle.papaya_seq.specs.Searches.{IsRootTurn, seen_by}
+use Rattle.papaya_seq.specs.Writes.{IsWritten, claiming, slot_of, storing}
 use Rattle.papaya_seq.specs.declared.search.Turn.{Turn}
 use Rattle.papaya_seq.specs.declared.search.Turn.TheVariants as turns
 use Rattle.papaya_seq.proofs.Driving.{calling, goes_itself}
+use Rattle.papaya_seq.proofs.Exchanging.{exchange_made}
+use Rattle.papaya_seq.proofs.Logs.{placed_serves}
 
 -- the answers of a call
 abbrev pub call_answers : List Answer → List Chain_answer
 call_answers [] = []
 call_answers (answer ∷ rest) = answers.Call answer ∷ call_answers rest
+
+-- a call that goes on for itself, with this of its key and its value
+abbrev pub under_way : {K V : Type 0} → Machine → Part K → Option (Part V) → Running K V (Unit {0})
+under_way m key value = record { machine = calling m; key = key; value = value; answers = None }
 
 module _ {K V S : Type 0} (eq : K → K → Bool) (hash : S → K → ℕ) where
   -- one run of answers after another
@@ -61,23 +71,35 @@ module _ {K V S : Type 0} (eq : K → K → Bool) (hash : S → K → ℕ) where
   pub replied_on : (told : List Chain_answer) (s : StoreState K V S) (r r' : Running K V (Unit {0})) (reply : Reply) (left : Option V) (s' : StoreState K V S) → Drives eq hash told s r s r' → IsReplied eq hash s r' reply left s' → IsReplied eq hash s r reply left s'
   replied_on told s r r' reply left s' before done = record { answers = told ++ done.answers; end = done.end; drives = drives_on told done.answers s r s r' s' done.end before done.drives; replied = done.replied; value = done.value }
 
-  module _ (s : StoreState K V S) (key : K) (value : V) where
+  -- one ask of a call is answered
+  pub driven : (m : Machine) (k : Part K) (v : Option (Part V)) (ask : Ask) → ask_of m ≡ ask → (told : Answer) → IsOfStore (asks.Call ask) → chain.IsFitAsk (asks.Call ask) → (s s' : StoreState K V S) (later : Running K V (Unit {0})) → Performs eq whatever false ask s (under_way m k v) told s' later → later.machine ≡ calling m
+      → IsDriven eq hash s (under_way m k v) (answers.Call told) s' later
+  driven m k v ask is told asked fit s s' later performs same = record {
+    asked = subst (λ a. IsOfStore (asks.Call a)) (sym is) asked;
+    fit = subst (λ a. chain.IsFitAsk (asks.Call a)) (sym is) fit;
+    performs = (told, refl, subst (λ a. Performs eq whatever false a s (under_way m k v) told s' later) (sym is) performs);
+    same = same;
+  }
+
+  module _ (s : StoreState K V S) (key : K) (value : Option V) where
     -- the search of the root leads a call on
     same_matches : (o : Option (Stored K V)) → matches_in (eq key) o ≡ same_stored eq key o
     same_matches None = refl
     same_matches (Some p) = refl
 
     searched_step : (m : Machine) (answer : Answer) (ask : Ask) → ask_of m ≡ ask → IsSearchAsk ask → IsToldBy (eq key) s ask answer → IsDriven eq hash s (at_hand m key value) (answers.Call answer) s (at_hand m key value)
-    searched_step m answer (Load at) is asked told = record { going = ap (λ a. reply_in (asks.Call a)) is; fit = subst (λ a. chain.IsFitAsk (asks.Call a)) (sym is) tt; performs = (answer, refl, subst (λ a. Performs {A = Unit {0}} eq whatever false a s (at_hand m key value) answer s (at_hand m key value)) (sym is) (told, (refl, refl))); same = refl }
-    searched_step m answer (LoadHint t x) is asked told = record { going = ap (λ a. reply_in (asks.Call a)) is; fit = subst (λ a. chain.IsFitAsk (asks.Call a)) (sym is) tt; performs = (answer, refl, subst (λ a. Performs {A = Unit {0}} eq whatever false a s (at_hand m key value) answer s (at_hand m key value)) (sym is) (told, (refl, refl))); same = refl }
+    searched_step m answer (Load at) is asked told = driven m (Own key) (option_map (λ v. Own v) value) (Load at) is answer tt tt s s (at_hand m key value) (told, (refl, refl)) refl
+    searched_step m answer (LoadHint t x) is asked told = driven m (Own key) (option_map (λ v. Own v) value) (LoadHint t x) is answer tt tt s s (at_hand m key value) (told, (refl, refl)) refl
+    searched_step m answer (SameKey n) is asked told = driven m (Own key) (option_map (λ v. Own v) value) (SameKey n) is answer tt tt s s (at_hand m key value) (told ∙ ap Yes (same_matches (pair_of s n)), (refl, refl)) refl
+    searched_step m answer (SizeOf n) is asked told = driven m (Own key) (option_map (λ v. Own v) value) (SizeOf n) is answer tt tt s s (at_hand m key value) (told, (refl, refl)) refl
     searched_step m answer (WriteHint t x hint) is asked told = absurd asked
-    searched_step m answer (SameKey n) is asked told = record { going = ap (λ a. reply_in (asks.Call a)) is; fit = subst (λ a. chain.IsFitAsk (asks.Call a)) (sym is) tt; performs = (answer, refl, subst (λ a. Performs {A = Unit {0}} eq whatever false a s (at_hand m key value) answer s (at_hand m key value)) (sym is) (told ∙ ap Yes (same_matches (pair_of s n)), (refl, refl))); same = refl }
-    searched_step m answer (SizeOf n) is asked told = record { going = ap (λ a. reply_in (asks.Call a)) is; fit = subst (λ a. chain.IsFitAsk (asks.Call a)) (sym is) tt; performs = (answer, refl, subst (λ a. Performs {A = Unit {0}} eq whatever false a s (at_hand m key value) answer s (at_hand m key value)) (sym is) (told, (refl, refl))); same = refl }
     searched_step m answer (Exchange at old new) is asked told = absurd asked
     searched_step m answer ShowNone is asked told = absurd asked
     searched_step m answer (ShowPair n) is asked told = absurd asked
     searched_step m answer MakeKey is asked told = absurd asked
     searched_step m answer MakePair is asked told = absurd asked
+    searched_step m answer MakeValue is asked told = absurd asked
+    searched_step m answer (MakePairOf i) is asked told = absurd asked
     searched_step m answer (MakeTable slots limit chunks) is asked told = absurd asked
     searched_step m answer (AddToShard by) is asked told = absurd asked
     searched_step m answer (Ask_done reply) is asked told = absurd asked
@@ -95,240 +117,230 @@ module _ {K V S : Type 0} (eq : K → K → Bool) (hash : S → K → ℕ) where
       subst (λ x. Drives eq hash (call_answers rest) s (record (at_hand {A = Unit {0}} m key value) { machine = x }) s (at_hand m' key value)) (sym (searched_goes m answer asked)) (comes_drives rest (after m answer) m' came),
     )
 
-    module _ (hashed : ℕ) (write : Write) (m : Machine) where
+  module _ (s : StoreState K V S) (key : K) (value : V) where
+    module _ (hashed : ℕ) (place : Place) (m : Machine) where
       -- the call stands here, and has made so much
       abbrev stands_at : Made → State → Machine
       stands_at made state = record m { hash = hashed; made = made; state = state }
 
-      abbrev begun : Running K V (Unit {0})
-      begun = at_hand (stands_at Nothing (Writing write)) key value
+      abbrev at_place : ℕ → Write
+      at_place old = record { place = place; old = old }
 
-      -- the logs as they grow
-      abbrev pub keyed : StoreState K V S
-      keyed = record s { keys = s.keys ++ key ∷ [] }
+      abbrev pub begun : ℕ → Running K V (Unit {0})
+      begun old = at_hand (stands_at (nothing_made None) (Writing (at_place old))) key (Some value)
 
-      abbrev pub paired : StoreState K V S
-      paired = record keyed { pairs = s.pairs ++ record { key = length s.keys; value = value } ∷ [] }
+      -- with the key and the value at hand, or logged
+      abbrev having : Part K → Part V → Made → State → Running K V (Unit {0})
+      having k v made state = under_way (stands_at made state) k (Some v)
 
-      abbrev with_key : Made → State → Running K V (Unit {0})
-      with_key made state = record begun { machine = calling (stands_at made state); key = Logged (length s.keys) }
+      -- the log with one pair more
+      abbrev pub logging : Pair K V → StoreState K V S
+      logging p = record s { pairs = s.pairs ++ p ∷ [] }
 
-      abbrev with_pair : State → Running K V (Unit {0})
-      with_pair state = record (with_key (Pair (length s.pairs)) state) { value = None }
+      -- a pair of this key for an empty place: what is logged before it, and with it
+      abbrev keyed : Made
+      keyed = record (nothing_made None) { keyed = true }
 
-      -- the key was refused
-      pub key_refused : (refused : Refused) → Refuses MAX_LOG_LEN (length s.keys) (Was_refused refused) → IsReplied eq hash s begun (Reply_refused refused) (Some value) s
-      key_refused refused cause = record {
-        answers = answers.Call (Was_refused refused) ∷ [];
-        end = at_hand (stands_at Nothing (Ended (Reply_refused refused))) key value;
-        drives = (s, begun, record { going = refl; fit = tt; performs = (Was_refused refused, refl, inl (cause, (refl, refl))); same = refl }, (refl, refl));
+      abbrev own_valued : Made
+      own_valued = record keyed { valued = true }
+
+      abbrev own_paired : Made
+      own_paired = record own_valued { own = Some (length s.pairs) }
+
+      own_drives : (rest : List Chain_answer) (s' : StoreState K V S) (r' : Running K V (Unit {0})) → Drives eq hash rest s (having (Own key) (Own value) own_valued (Writing (at_place 0))) s' r' → Drives eq hash (answers.Call (Made_number 0) ∷ answers.Call (Made_number 0) ∷ rest) s (begun 0) s' r'
+      own_drives rest s' r' more = (
+        s,
+        begun 0,
+        record { asked = tt; fit = tt; performs = (Made_number 0, refl, (refl, (refl, refl))); same = refl },
+        (
+          s,
+          having (Own key) (Own value) keyed (Writing (at_place 0)),
+          record { asked = tt; fit = tt; performs = (Made_number 0, refl, (refl, (refl, refl))); same = refl },
+          more,
+        ),
+      )
+
+      -- the pair was refused
+      own_refused : (refused : Refused) → Refuses MAX_LOG_LEN (length s.pairs) (Was_refused refused) → IsReplied eq hash s (begun 0) (Reply_refused refused) (Some value) s
+      own_refused refused cause = record {
+        answers = answers.Call (Made_number 0) ∷ answers.Call (Made_number 0) ∷ answers.Call (Was_refused refused) ∷ [];
+        end = having (Own key) (Own value) own_valued (Ended (Reply_refused refused));
+        drives = own_drives (answers.Call (Was_refused refused) ∷ []) s (having (Own key) (Own value) own_valued (Ended (Reply_refused refused)))
+            (s, having (Own key) (Own value) own_valued (Writing (at_place 0)), record { asked = tt; fit = tt; performs = (Was_refused refused, refl, inl (cause, (refl, refl))); same = refl }, (refl, refl));
         replied = refl;
         value = refl;
       }
 
-      -- the key was logged
-      key_logged : length s.keys < MAX_LOG_LEN → IsDriven eq hash s begun (answers.Call (Made_number (length s.keys))) keyed (record begun { key = Logged (length s.keys) })
-      key_logged few = record { going = refl; fit = tt; performs = (Made_number (length s.keys), refl, inr (inr (key, refl, refl, few, refl, refl))); same = refl }
+      -- or logged, written, counted, and its hint written
+      abbrev own_logged : State → Running K V (Unit {0})
+      own_logged state = having (Logged (length s.pairs)) (Logged (length s.pairs)) own_paired state
 
-      -- and the pair refused
-      pub pair_refused : length s.keys < MAX_LOG_LEN → (refused : Refused) → Refuses MAX_LOG_LEN (length s.pairs) (Was_refused refused) → IsReplied eq hash s begun (Reply_refused refused) (Some value) keyed
-      pair_refused few refused cause = record {
-        answers = answers.Call (Made_number (length s.keys)) ∷ answers.Call (Was_refused refused) ∷ [];
-        end = with_key Key (Ended (Reply_refused refused));
-        drives = (
-          keyed,
-          record begun { key = Logged (length s.keys) },
-          key_logged few,
-          (keyed, with_key Key (Writing write), record { going = refl; fit = tt; performs = (Was_refused refused, refl, inl (cause, (refl, refl))); same = refl }, (refl, refl)),
+      inserted : length s.pairs < MAX_LOG_LEN → word_at s.words (slot_of place) ≡ 0 → IsReplied eq hash s (begun 0) (Inserted (length s.pairs)) None (claiming s hashed place (pairs.Own key value))
+      inserted few stands = record {
+        answers = answers.Call (Made_number 0) ∷ answers.Call (Made_number 0) ∷ rest;
+        end = own_logged (Ended (Inserted (length s.pairs)));
+        drives = own_drives rest noted (own_logged (Ended (Inserted (length s.pairs)))) (
+          logging (pairs.Own key value),
+          record (having (Own key) (Own value) own_valued (Writing (at_place 0))) { key = Logged (length s.pairs); value = Some (Logged (length s.pairs)) },
+          record { asked = tt; fit = tt; performs = (Made_number (length s.pairs), refl, inr (inr (Own value, refl, refl, few, refl, refl))); same = refl },
+          (
+            exchanged,
+            own_logged (Writing (at_place 0)),
+            record { asked = tt; fit = tt; performs = (Exchanged, refl, (exchange_made (logging (pairs.Own key value)) (slot_of place) 0 (live_word (length s.pairs)) stands, refl)); same = refl },
+            (
+              counted,
+              own_logged (Counting (claimed_by (at_place 0) (length s.pairs))),
+              record { asked = tt; fit = tt; performs = (Ok_done, refl, (refl, (0, refl), refl)); same = refl },
+              (
+                noted,
+                own_logged (Noting (claimed_by (at_place 0) (length s.pairs))),
+                record { asked = tt; fit = tt; performs = (Ok_done, refl, (refl, refl, refl)); same = refl },
+                (refl, refl),
+              ),
+            ),
+          ),
         );
         replied = refl;
         value = refl;
       }
+        where
+          exchanged : StoreState K V S
+          exchanged = storing s place (pairs.Own key value)
 
-      -- or logged, and its word written
-      module _ (few_keys : length s.keys < MAX_LOG_LEN) (few_pairs : length s.pairs < MAX_LOG_LEN) (exchanged : StoreState K V S) (done : Exchanges (word_at s.words (Slot write.place.table write.place.probe.i)) write.old (put s.words (Slot write.place.table write.place.probe.i) (live_word (length s.pairs))) Exchanged paired exchanged) where
-        -- what follows leads on
-        abbrev pub written_so_far : List Chain_answer
-        written_so_far = answers.Call (Made_number (length s.keys)) ∷ answers.Call (Made_number (length s.pairs)) ∷ answers.Call Exchanged ∷ []
+          counted : StoreState K V S
+          counted = record exchanged { count = added s.count 0 (pos 1) }
 
-        pub writes_on : (rest : List Chain_answer) (s' : StoreState K V S) (r' : Running K V (Unit {0})) → Drives eq hash rest exchanged (with_pair (written write (length s.pairs))) s' r' → Drives eq hash (written_so_far ++ rest) s begun s' r'
-        writes_on rest s' r' more = (
-          keyed,
-          record begun { key = Logged (length s.keys) },
-          key_logged few_keys,
-          (
-            paired,
-            record (with_key Key (Writing write)) { value = None },
-            record { going = refl; fit = tt; performs = (Made_number (length s.pairs), refl, inr (inr (length s.keys, value, refl, refl, refl, few_pairs, refl, refl))); same = refl },
-            (
-              exchanged,
-              with_pair (Writing write),
-              record { going = refl; fit = tt; performs = (Exchanged, refl, (done, refl)); same = refl },
-              more,
-            ),
-          ),
+          noted : StoreState K V S
+          noted = claiming s hashed place (pairs.Own key value)
+
+          rest : List Chain_answer
+          rest = answers.Call (Made_number (length s.pairs)) ∷ answers.Call Exchanged ∷ answers.Call Ok_done ∷ answers.Call Ok_done ∷ []
+
+      -- a pair of the key that is there
+      abbrev of_valued : Made
+      of_valued = record (nothing_made None) { valued = true }
+
+      -- where a pair is replaced
+      module _ (old : ℕ) (some : (old == 0) ≡ false) where
+        abbrev nothing : Made
+        nothing = nothing_made None
+
+        abbrev of_paired : Made
+        of_paired = with_pair_at of_valued (at_place old) (length s.pairs)
+
+        serves_none : (valued : Bool) → serves (record nothing { valued = valued }) (at_place old) ≡ None
+        serves_none valued = ap (λ b. cond b (record nothing { valued = valued }).own (served_of (record nothing { valued = valued }).of place)) some
+
+        wants_value : call_asks nothing hashed (Writing (at_place old)) ≡ MakeValue
+        wants_value = ap (λ served. served_ask served (at_place old) nothing) (serves_none false) ∙ ap (λ b. cond b (own_ask false false) (of_ask false old)) some
+
+        wants_pair : call_asks of_valued hashed (Writing (at_place old)) ≡ MakePairOf (number_of old)
+        wants_pair = ap (λ served. served_ask served (at_place old) of_valued) (serves_none true) ∙ ap (λ b. cond b (own_ask false true) (of_ask true old)) some
+
+        grows_value : made_in nothing 0 (Writing (at_place old)) ≡ of_valued
+        grows_value = ap (λ served. write_grown served nothing (at_place old) 0) (serves_none false) ∙ ap (λ b. made_to_write (cond b (own_grown false false nothing) (of_grown false nothing)) (at_place old) 0) some
+
+        grows_pair : made_in of_valued (length s.pairs) (Writing (at_place old)) ≡ of_paired
+        grows_pair = ap (λ served. write_grown served of_valued (at_place old) (length s.pairs)) (serves_none true) ∙ ap (λ b. made_to_write (cond b (own_grown false true of_valued) (of_grown true of_valued)) (at_place old) (length s.pairs)) some
+
+        of_drives : (rest : List Chain_answer) (s' : StoreState K V S) (r' : Running K V (Unit {0})) → Drives eq hash rest s (having (Own key) (Own value) of_valued (Writing (at_place old))) s' r' → Drives eq hash (answers.Call (Made_number 0) ∷ rest) s (begun old) s' r'
+        of_drives rest s' r' more = (
+          s,
+          begun old,
+          driven (stands_at nothing (Writing (at_place old))) (Own key) (Some (Own value)) MakeValue wants_value (Made_number 0) tt tt s s (begun old) (refl, (refl, refl)) refl,
+          subst (λ made. Drives eq hash rest s (having (Own key) (Own value) made (Writing (at_place old))) s' r') (sym grows_value) more,
         )
 
-        -- a claim is counted, and its hint written
-        pub inserted : write.old ≡ 0 → (counted noted : StoreState K V S) → counted ≡ record exchanged { count = added exchanged.count 0 (pos 1) } → noted ≡ record counted { words = note counted.words write.place.table write.place.probe.i (hint_of hashed) } → IsReplied eq hash s begun (Inserted (length s.pairs)) None noted
-        inserted empty counted noted counts notes =
-            let claimed : Claimed = claimed_by write (length s.pairs) in
-            let claims : written write (length s.pairs) ≡ Counting claimed = ap (λ (b : Bool). if b then Counting claimed else Ended (Replaced (number_of write.old) (length s.pairs))) (eq-eqb write.old 0 empty) in
-            let rest : List Chain_answer = answers.Call Ok_done ∷ answers.Call Ok_done ∷ [] in
-            record {
-              answers = written_so_far ++ rest;
-              end = with_pair (Ended (Inserted (length s.pairs)));
-              drives = writes_on rest noted (with_pair (Ended (Inserted (length s.pairs)))) (subst (λ st. Drives eq hash rest exchanged (with_pair st) noted (with_pair (Ended (Inserted (length s.pairs))))) (sym claims) (
-                counted,
-                with_pair (Counting claimed),
-                record { going = refl; fit = tt; performs = (Ok_done, refl, (refl, (0, counts), refl)); same = refl },
-                (
-                  noted,
-                  with_pair (Noting claimed),
-                  record { going = refl; fit = tt; performs = (Ok_done, refl, (refl, notes, refl)); same = refl },
-                  (refl, refl),
-                ),
-              ));
-              replied = refl;
-              value = refl;
-            }
+        of_refused : (refused : Refused) → Refuses MAX_LOG_LEN (length s.pairs) (Was_refused refused) → IsReplied eq hash s (begun old) (Reply_refused refused) (Some value) s
+        of_refused refused cause = record {
+          answers = answers.Call (Made_number 0) ∷ answers.Call (Was_refused refused) ∷ [];
+          end = having (Own key) (Own value) of_valued (Ended (Reply_refused refused));
+          drives = of_drives (answers.Call (Was_refused refused) ∷ []) s (having (Own key) (Own value) of_valued (Ended (Reply_refused refused))) (
+            s,
+            having (Own key) (Own value) of_valued (Writing (at_place old)),
+            driven (stands_at of_valued (Writing (at_place old))) (Own key) (Some (Own value)) (MakePairOf (number_of old)) wants_pair (Was_refused refused) tt tt s s (having (Own key) (Own value) of_valued (Writing (at_place old))) (inl (cause, (refl, refl))) refl,
+            (refl, ap (λ served. having (Own key) (Own value) of_valued (refuses served refused (at_place old))) (sym (serves_none true))),
+          );
+          replied = refl;
+          value = refl;
+        }
 
-        -- a replacement is not
-        pub replaced : (write.old ≡ 0 → ⊥) → IsReplied eq hash s begun (Replaced (number_of write.old) (length s.pairs)) None exchanged
-        replaced some =
-            let ends : written write (length s.pairs) ≡ Ended (Replaced (number_of write.old) (length s.pairs)) = ap (λ (b : Bool). if b then Counting (claimed_by write (length s.pairs)) else Ended (Replaced (number_of write.old) (length s.pairs))) (ne_eqb write.old 0 some) in
-            record {
-              answers = written_so_far ++ [];
-              end = with_pair (written write (length s.pairs));
-              drives = writes_on [] exchanged (with_pair (written write (length s.pairs))) (refl, refl);
-              replied = ap (λ st. chain.ask_of (with_pair st).machine) (sym ends);
-              value = refl;
-            }
+        -- it serves where it was made
+        abbrev of_logged : State → Running K V (Unit {0})
+        of_logged state = having (Own key) (Logged (length s.pairs)) of_paired state
 
-  -- The store has answered for what is at hand of a call, whatever its machine.
-  module _ {A : Type 0} (says : Says K V A) (s : StoreState K V S) (key : K) (value : V) (r : Running K V A) (own : r.key ≡ Own key) (has : r.value ≡ Some value) (answer : Answer) (s' : StoreState K V S) (r' : Running K V A) (performs : Performs eq says false MakeKey s r answer s' r') (hashed : ℕ) (write : Write) (m : Machine) where
-    -- the key was logged
-    pub record KeyLogged : Type 0 where
-      pub few : length s.keys < MAX_LOG_LEN
-      pub store : s' ≡ keyed s key value hashed write m
-      pub key_is : r'.key ≡ Logged (length s.keys)
-      pub value_is : r'.value ≡ Some value
+        serves_so : serves of_paired (at_place old) ≡ Some (length s.pairs)
+        serves_so = placed_serves of_valued (at_place old) (length s.pairs)
 
-    -- it is, where it was not refused
-    pub key_was_logged : ((refused : Refused) → answer ≡ Was_refused refused → ⊥) → KeyLogged
-    key_was_logged none = by_case performs
-      where
-        by_case : Performs eq says false MakeKey s r answer s' r' → KeyLogged
-        by_case (inl (inl memory, stays)) = absurd (none _ memory)
-        by_case (inl (inr (capacity, full), stays)) = absurd (none _ capacity)
-        by_case (inr (inl ((ok, n, logged), stays))) = let f : Own key ≡ Logged n = sym own ∙ logged in absurd cc
-        by_case (inr (inr (k, is, made, few, store, call))) =
-            let same : k ≡ key = (let f : Own k ≡ Own key = sym is ∙ own in cc f) in
-            record { few = few; store = subst (λ x. s' ≡ keyed s x value hashed write m) same store; key_is = ap (λ (q : Running K V A). q.key) call; value_is = ap (λ (q : Running K V A). q.value) call ∙ has }
+        ends_so : written (at_place old) (length s.pairs) ≡ Ended (Replaced (number_of old) (length s.pairs))
+        ends_so = ap (λ b. cond b (Counting (claimed_by (at_place old) (length s.pairs))) (Ended (Replaced (number_of old) (length s.pairs)))) some
 
-    -- or the call has replied so
-    pub key_was_refused : (refused : Refused) → answer ≡ Was_refused refused → (left : Option V) → left ≡ r'.value → IsReplied eq hash s (begun s key value hashed write m) (Reply_refused refused) left s'
-    key_was_refused refused is left left_is = by_case performs
-      where
-        stays_so : Refuses MAX_LOG_LEN (length s.keys) answer → s' ≡ s → r' ≡ r → IsReplied eq hash s (begun s key value hashed write m) (Reply_refused refused) left s'
-        stays_so cause store call =
-            subst (IsReplied eq hash s (begun s key value hashed write m) (Reply_refused refused) left) (sym store)
-            (subst (λ l. IsReplied eq hash s (begun s key value hashed write m) (Reply_refused refused) l s) (sym (left_is ∙ ap (λ (q : Running K V A). q.value) call ∙ has))
-            (key_refused s key value hashed write m refused (subst (Refuses MAX_LOG_LEN (length s.keys)) is cause)))
+        replaced : length s.pairs < MAX_LOG_LEN → (first : ℕ) → key_from (number_of old) (slice_get s.pairs (number_of old)) ≡ Some first → word_at s.words (slot_of place) ≡ old → IsReplied eq hash s (begun old) (Replaced (number_of old) (length s.pairs)) None (storing s place (pairs.Keyed first value))
+        replaced few first from stands = record {
+          answers = answers.Call (Made_number 0) ∷ answers.Call (Made_number (length s.pairs)) ∷ answers.Call Exchanged ∷ [];
+          end = of_logged (Ended (Replaced (number_of old) (length s.pairs)));
+          drives = of_drives (answers.Call (Made_number (length s.pairs)) ∷ answers.Call Exchanged ∷ []) (storing s place (pairs.Keyed first value)) (of_logged (Ended (Replaced (number_of old) (length s.pairs)))) (
+            logging (pairs.Keyed first value),
+            having (Own key) (Logged (length s.pairs)) of_valued (Writing (at_place old)),
+            driven (stands_at of_valued (Writing (at_place old))) (Own key) (Some (Own value)) (MakePairOf (number_of old)) wants_pair (Made_number (length s.pairs)) tt tt s (logging (pairs.Keyed first value)) (having (Own key) (Logged (length s.pairs)) of_valued (Writing (at_place old)))
+                (inr (inr (first, from, (Own value, refl, refl, few, refl, refl)))) refl,
+            subst (λ made. Drives eq hash (answers.Call Exchanged ∷ []) (logging (pairs.Keyed first value)) (having (Own key) (Logged (length s.pairs)) made (Writing (at_place old))) (storing s place (pairs.Keyed first value)) (of_logged (Ended (Replaced (number_of old) (length s.pairs))))) (sym grows_pair) (
+              storing s place (pairs.Keyed first value),
+              of_logged (Writing (at_place old)),
+              driven (stands_at of_paired (Writing (at_place old))) (Own key) (Some (Logged (length s.pairs))) (put_ask (at_place old) (length s.pairs)) (ap (λ served. served_ask served (at_place old) of_paired) serves_so) Exchanged tt tt (logging (pairs.Keyed first value)) (storing s place (pairs.Keyed first value)) (of_logged (Writing (at_place old))) (exchange_made (logging (pairs.Keyed first value)) (slot_of place) old (live_word (length s.pairs)) stands, refl) refl,
+              (refl, ap of_logged (sym ends_so) ∙ ap (λ served. having (Own key) (Logged (length s.pairs)) (write_taken served of_paired) (exchanged_to served (at_place old))) (sym serves_so)),
+            ),
+          );
+          replied = refl;
+          value = refl;
+        }
 
-        by_case : Performs eq says false MakeKey s r answer s' r' → IsReplied eq hash s (begun s key value hashed write m) (Reply_refused refused) left s'
-        by_case (inl (cause, (store, call))) = stays_so cause store call
-        by_case (inr (inl ((ok, n, logged), stays))) = let f : Own key ≡ Logged n = sym own ∙ logged in absurd cc
-        by_case (inr (inr (k, own_k, made, few, store, call))) = let f : Was_refused refused ≡ Made_number (length s.keys) = sym is ∙ made in absurd cc
-
-    module _ (logged : KeyLogged) (answer' : Answer) (s'' : StoreState K V S) (r'' : Running K V A) (then_performs : Performs eq says false MakePair s' r' answer' s'' r'') where
-      -- the pair was logged, with this number
-      pub record PairLogged (n : ℕ) : Type 0 where
-        pub number : n ≡ length s.pairs
-        pub few : length s.pairs < MAX_LOG_LEN
-        pub store : s'' ≡ paired s key value hashed write m
-
-      pub pair_was_logged : (n : ℕ) → answer' ≡ Made_number n → PairLogged n
-      pair_was_logged n is = by_case then_performs
+      -- so a write of such a pair is what the call does
+      pub written_replied : (old : ℕ) → word_at s.words (slot_of place) ≡ old → (reply : Reply) (left : Option V) (s' : StoreState K V S) → IsWritten s hashed (at_place old) key value reply left s' → IsReplied eq hash s (begun old) reply left s'
+      written_replied old stands (Inserted n) left s' (empty, stored, is) =
+          subst (IsReplied eq hash s (begun old) (Inserted n) left) (sym is)
+          (subst (λ l. IsReplied eq hash s (begun old) (Inserted n) l (claiming s hashed place (pairs.Own key value))) (sym stored.left_is)
+          (subst (λ z. IsReplied eq hash s (begun old) (Inserted z) None (claiming s hashed place (pairs.Own key value))) (sym stored.number)
+          (subst (λ (word : ℕ). IsReplied eq hash s (begun word) (Inserted (length s.pairs)) None (claiming s hashed place (pairs.Own key value))) (sym empty) (inserted stored.few (stands ∙ empty)))))
+      written_replied old stands (Replaced gone n) left s' (some, stored, gone_is, (first, from, is)) =
+          subst (IsReplied eq hash s (begun old) (Replaced gone n) left) (sym is)
+          (subst (λ l. IsReplied eq hash s (begun old) (Replaced gone n) l (storing s place (pairs.Keyed first value))) (sym stored.left_is)
+          (subst (λ z. IsReplied eq hash s (begun old) (Replaced gone z) None (storing s place (pairs.Keyed first value))) (sym stored.number)
+          (subst (λ z. IsReplied eq hash s (begun old) (Replaced z (length s.pairs)) None (storing s place (pairs.Keyed first value))) (sym gone_is) (replaced old (ne_eqb old 0 some) stored.few first from stands))))
+      written_replied old stands (Reply_refused refused) left s' (cause, left_is, is) =
+          subst (IsReplied eq hash s (begun old) (Reply_refused refused) left) (sym is)
+          (subst (λ l. IsReplied eq hash s (begun old) (Reply_refused refused) l s) (sym left_is) (by_old (old == 0) refl))
         where
-          by_case : Performs eq says false MakePair s' r' answer' s'' r'' → PairLogged n
-          by_case (inl (inl memory, stays)) = let f : Made_number n ≡ _ = sym is ∙ memory in absurd cc
-          by_case (inl (inr (capacity, full), stays)) = let f : Made_number n ≡ _ = sym is ∙ capacity in absurd cc
-          by_case (inr (inl ((ok, none), stays))) = let f : Made_number n ≡ Ok_done = sym is ∙ ok in absurd cc
-          by_case (inr (inr (k, v, key_at, value_at, made, few, store, call))) =
-              let same_key : k ≡ length s.keys = (let f : Logged k ≡ Logged (length s.keys) = sym key_at ∙ logged.key_is in cc f) in
-              let same_value : v ≡ value = (let f : Some v ≡ Some value = sym value_at ∙ logged.value_is in cc f) in
-              let number : n ≡ length s'.pairs = (let f : Made_number n ≡ Made_number (length s'.pairs) = sym is ∙ made in cc f) in
-              let long : length s'.pairs ≡ length s.pairs = ap (λ (x : StoreState K V S). length x.pairs) logged.store in
-              record {
-                number = number ∙ long;
-                few = subst (λ z. z < MAX_LOG_LEN) long few;
-                store = store ∙ ap (λ (x : StoreState K V S). record x { pairs = x.pairs ++ record { key = k; value = v } ∷ [] }) logged.store
-                    ∙ ap (λ z. record (keyed s key value hashed write m) { pairs = s.pairs ++ record { key = z; value = v } ∷ [] }) same_key
-                    ∙ ap (λ z. record (keyed s key value hashed write m) { pairs = s.pairs ++ record { key = length s.keys; value = z } ∷ [] }) same_value;
-              }
-
-      -- or refused
-      pub pair_was_refused : (refused : Refused) → answer' ≡ Was_refused refused → (left : Option V) → left ≡ r''.value → IsReplied eq hash s (begun s key value hashed write m) (Reply_refused refused) left s''
-      pair_was_refused refused is left left_is = by_case then_performs
-        where
-          by_case : Performs eq says false MakePair s' r' answer' s'' r'' → IsReplied eq hash s (begun s key value hashed write m) (Reply_refused refused) left s''
-          by_case (inl (cause, (store, call))) =
-              subst (IsReplied eq hash s (begun s key value hashed write m) (Reply_refused refused) left) (sym (store ∙ logged.store))
-              (subst (λ l. IsReplied eq hash s (begun s key value hashed write m) (Reply_refused refused) l (keyed s key value hashed write m)) (sym (left_is ∙ ap (λ (q : Running K V A). q.value) call ∙ logged.value_is))
-              (pair_refused s key value hashed write m logged.few refused (subst (λ z. Refuses MAX_LOG_LEN z (Was_refused refused)) (ap (λ (x : StoreState K V S). length x.pairs) logged.store) (subst (Refuses MAX_LOG_LEN (length s'.pairs)) is cause))))
-          by_case (inr (inl ((ok, none), stays))) = let f : Was_refused refused ≡ Ok_done = sym is ∙ ok in absurd cc
-          by_case (inr (inr (k, v, key_at, value_at, made, few, store, call))) = let f : Was_refused refused ≡ Made_number (length s'.pairs) = sym is ∙ made in absurd cc
-
-      -- its word was written
-      module _ (n : ℕ) (pair : PairLogged n) (stands : word_at s.words (Slot write.place.table write.place.probe.i) ≡ write.old) (word : ℕ) (word_is : word ≡ live_word n) (told : Answer) (s3 : StoreState K V S) (exchanges : Exchanges (word_at s''.words (Slot write.place.table write.place.probe.i)) write.old (put s''.words (Slot write.place.table write.place.probe.i) word) told s'' s3) where
-        abbrev slot : At
-        slot = Slot write.place.table write.place.probe.i
-
-        was_exchanged : (b : Bool) → b ≡ true → MatchBool b ((told ≡ Exchanged) × (s3 ≡ record s'' { words = put s''.words slot word })) ((told ≡ Found_instead (word_at s''.words slot)) × (s3 ≡ s'')) → s3 ≡ record s'' { words = put s''.words slot word }
-        was_exchanged true e (is, store) = store
-        was_exchanged false e other = let f : false ≡ true = e in absurd cc
-
-        written_so : Exchanges (word_at s.words slot) write.old (put s.words slot (live_word (length s.pairs))) Exchanged (paired s key value hashed write m) s3
-        written_so =
-            let found : (word_at s''.words slot == write.old) ≡ true = eq-eqb (word_at s''.words slot) write.old (ap (λ (x : StoreState K V S). word_at x.words slot) pair.store ∙ stands) in
-            let store : s3 ≡ record s'' { words = put s''.words slot word } = was_exchanged (word_at s''.words slot == write.old) found exchanges in
-            subst (λ b. MatchBool b ((Exchanged ≡ Exchanged) × (s3 ≡ record (paired s key value hashed write m) { words = put s.words slot (live_word (length s.pairs)) })) ((Exchanged ≡ Found_instead (word_at s.words slot)) × (s3 ≡ paired s key value hashed write m))) (sym (eq-eqb (word_at s.words slot) write.old stands))
-            (refl, store ∙ ap (λ (x : StoreState K V S). record x { words = put x.words slot word }) pair.store ∙ ap (λ z. record (paired s key value hashed write m) { words = put s.words slot z }) (word_is ∙ ap live_word pair.number))
-
-        pub was_inserted : write.old ≡ 0 → (counted noted : StoreState K V S) → counted ≡ record s3 { count = added s3.count 0 (pos 1) } → (hint : ℕ) → hint ≡ hint_of hashed → noted ≡ record counted { words = note counted.words write.place.table write.place.probe.i hint } → IsReplied eq hash s (begun s key value hashed write m) (Inserted n) None noted
-        was_inserted empty counted noted counts hint hint_is notes =
-            subst (λ z. IsReplied eq hash s (begun s key value hashed write m) (Inserted z) None noted) (sym pair.number)
-            (inserted s key value hashed write m logged.few pair.few s3 written_so empty counted noted counts (notes ∙ ap (λ h. record counted { words = note counted.words write.place.table write.place.probe.i h }) hint_is))
-
-        pub was_replaced : (write.old ≡ 0 → ⊥) → (old : ℕ) → old ≡ number_of write.old → IsReplied eq hash s (begun s key value hashed write m) (Replaced old n) None s3
-        was_replaced some old old_is = subst (λ z. IsReplied eq hash s (begun s key value hashed write m) (Replaced z n) None s3) (sym old_is) (subst (λ z. IsReplied eq hash s (begun s key value hashed write m) (Replaced (number_of write.old) z) None s3) (sym pair.number) (replaced s key value hashed write m logged.few pair.few s3 written_so some))
+          by_old : (b : Bool) → (old == 0) ≡ b → IsReplied eq hash s (begun old) (Reply_refused refused) (Some value) s
+          by_old true empty = subst (λ (word : ℕ). IsReplied eq hash s (begun word) (Reply_refused refused) (Some value) s) (sym (eqb-true old 0 empty)) (own_refused refused cause)
+          by_old false some = of_refused old some refused cause
+      written_replied old stands reply left s' written = absurd written
 
   -- An insertion whose search of the root saw this: its machine replies as is written.
   module _ (s : StoreState K V S) (key : K) (value : V) (hashed : ℕ) (place : Place) (mode : ResizeMode) (initial : ℕ) where
     -- the insertion in this state
     abbrev inserts : Bool → State → Running K V (Unit {0})
-    inserts replace state = at_hand (record (started (Insert replace) hashed mode initial) { state = state }) key value
+    inserts replace state = at_hand (record (started (Insert replace) hashed mode initial None) { state = state }) key (Some value)
 
     -- it came there
-    root_led : (replace : Bool) (turn : Turn) (state : State) → IsRootTurn (eq key) s hashed turn → goes (started (Insert replace) hashed mode initial) (seen_by turn) ≡ state → (reply : Reply) (left : Option V) (s' : StoreState K V S) → IsReplied eq hash s (inserts replace state) reply left s' → IsReplied eq hash s (inserts replace AtRoot) reply left s'
+    root_led : (replace : Bool) (turn : Turn) (state : State) → IsRootTurn (eq key) s hashed turn → goes (started (Insert replace) hashed mode initial None) (seen_by turn) ≡ state → (reply : Reply) (left : Option V) (s' : StoreState K V S) → IsReplied eq hash s (inserts replace state) reply left s' → IsReplied eq hash s (inserts replace AtRoot) reply left s'
     root_led replace turn state root is reply left s' done =
-        let begun : Machine = started (Insert replace) hashed mode initial in
+        let begun : Machine = started (Insert replace) hashed mode initial None in
         let came = root.sees begun in
         let led : Comes (eq key) s begun came.0 (record begun { state = state }) = subst (λ (st : State). Comes (eq key) s begun came.0 (record begun { state = st })) is came.1 in
-        replied_on (call_answers came.0) s (inserts replace AtRoot) (inserts replace state) reply left s' (comes_drives s key value came.0 begun (record begun { state = state }) led) done
+        replied_on (call_answers came.0) s (inserts replace AtRoot) (inserts replace state) reply left s' (comes_drives s key (Some value) came.0 begun (record begun { state = state }) led) done
 
-    pub claimed : (replace : Bool) → IsRootTurn (eq key) s hashed (turns.Empty place) → (done : Reply × Option V) (s' : StoreState K V S) → IsWritten eq hash hashed (record { place = place; old = 0 }) key value s done s' → IsReplied eq hash s (inserts replace AtRoot) done.0 done.1 s'
-    claimed replace root done s' writes = root_led replace (turns.Empty place) (Writing (record { place = place; old = 0 })) root refl done.0 done.1 s' (writes (started (Insert replace) hashed mode initial))
+    pub claimed : (replace : Bool) → IsRootTurn (eq key) s hashed (turns.Empty place) → word_at s.words (slot_of place) ≡ 0 → (done : Reply × Option V) (s' : StoreState K V S) → IsWritten s hashed (record { place = place; old = 0 }) key value done.0 done.1 s' → IsReplied eq hash s (inserts replace AtRoot) done.0 done.1 s'
+    claimed replace root stands done s' writes = root_led replace (turns.Empty place) (Writing (record { place = place; old = 0 })) root refl done.0 done.1 s' (written_replied s key value hashed place (started (Insert replace) hashed mode initial None) 0 stands done.0 done.1 s' writes)
 
     module _ (word : ℕ) (live : kind_of word ≡ Live) (root : IsRootTurn (eq key) s hashed (turns.Here place word)) where
-      pub replaces_it : (replace : Bool) → replace ≡ true → (done : Reply × Option V) (s' : StoreState K V S) → IsWritten eq hash hashed (record { place = place; old = word }) key value s done s' → IsReplied eq hash s (inserts replace AtRoot) done.0 done.1 s'
+      pub replaces_it : (replace : Bool) → replace ≡ true → (done : Reply × Option V) (s' : StoreState K V S) → IsWritten s hashed (record { place = place; old = word }) key value done.0 done.1 s' → IsReplied eq hash s (inserts replace AtRoot) done.0 done.1 s'
       replaces_it replace may done s' writes =
-          let leads : found (Insert replace) (started (Insert replace) hashed mode initial).remembered place word ≡ Writing (record { place = place; old = word }) = ap (λ b. found (Insert b) (started (Insert replace) hashed mode initial).remembered place word) may ∙ ap (λ kind. replaces kind place word) live in
-          root_led replace (turns.Here place word) (Writing (record { place = place; old = word })) root leads done.0 done.1 s' (writes (started (Insert replace) hashed mode initial))
+          let leads : found (Insert replace) (started (Insert replace) hashed mode initial None).remembered place word ≡ Writing (record { place = place; old = word }) = ap (λ b. found (Insert b) (started (Insert replace) hashed mode initial None).remembered place word) may ∙ ap (λ kind. replaces kind place word) live in
+          root_led replace (turns.Here place word) (Writing (record { place = place; old = word })) root leads done.0 done.1 s' (written_replied s key value hashed place (started (Insert replace) hashed mode initial None) word root.stands done.0 done.1 s' writes)
 
       pub occupied : (replace : Bool) → replace ≡ false → (n : ℕ) → n ≡ number_of word → IsReplied eq hash s (inserts replace AtRoot) (Occupied n) (Some value) s
       occupied replace never n n_is =
-          let leads : found (Insert replace) (started (Insert replace) hashed mode initial).remembered place word ≡ Ended (Occupied (number_of word)) = ap (λ b. found (Insert b) (started (Insert replace) hashed mode initial).remembered place word) never ∙ ap (λ kind. occupies kind place word) live in
+          let leads : found (Insert replace) (started (Insert replace) hashed mode initial None).remembered place word ≡ Ended (Occupied (number_of word)) = ap (λ b. found (Insert b) (started (Insert replace) hashed mode initial None).remembered place word) never ∙ ap (λ kind. occupies kind place word) live in
           subst (λ z. IsReplied eq hash s (inserts replace AtRoot) (Occupied z) (Some value) s) (sym n_is)
           (root_led replace (turns.Here place word) (Ended (Occupied (number_of word))) root leads (Occupied (number_of word)) (Some value) s (record { answers = []; end = inserts replace (Ended (Occupied (number_of word))); drives = (refl, refl); replied = refl; value = refl }))

@@ -1,5 +1,5 @@
 -- A removal that is made at once is one that its machine made.
-use Rattle.std.proofs.Common.{◌≡◌, ℕ, ◌==◌, Bool, true, false, MatchBool, List, [], ◌∷◌, ◌++◌, refl, sym, ap, subst, eq-eqb}
+use Rattle.std.proofs.Common.{◌≡◌, ℕ, ◌==◌, Bool, true, false, MatchBool, Option, List, [], ◌∷◌, ◌++◌, refl, sym, ap, subst, eq-eqb}
 use Rattle.std.specs.Prelude.{negsuc}
 use denote.Ref.{Bor}
 use Rattle.std.specs.Fn.{Mut}
@@ -10,7 +10,7 @@ use Rattle.papaya_words.specs.declared.word.Kind.TheVariants.{Live}
 use Rattle.papaya_ask.specs.declared.ask.Answer.{Answer}
 use Rattle.papaya_ask.specs.declared.ask.Answer.TheVariants.{Exchanged, Found as Found_instead, Yes, Ok as Ok_done}
 use Rattle.papaya_ask.specs.declared.ask.Ask.{Ask}
-use Rattle.papaya_ask.specs.declared.ask.Ask.TheVariants.{Load, Exchange, LoadHint, WriteHint, SameKey, ShowNone, ShowPair, SizeOf, MakeKey, MakePair, MakeTable, AddToShard, Done as Ask_done}
+use Rattle.papaya_ask.specs.declared.ask.Ask.TheVariants.{Load, Exchange, LoadHint, WriteHint, SameKey, ShowNone, ShowPair, SizeOf, MakeKey, MakeValue, MakePair, MakePairOf, MakeTable, AddToShard, Done as Ask_done}
 use Rattle.papaya_ask.specs.declared.ask.At.{At}
 use Rattle.papaya_ask.specs.declared.ask.At.TheVariants.{Slot}
 use Rattle.papaya_ask.specs.declared.call.Reply.{Reply}
@@ -37,19 +37,11 @@ use Rattle.papaya_seq.specs.Removes.{IsRemovalAnswer, IsShown}
 use Rattle.papaya_seq.specs.Searches.{IsRootTurn, seen_by}
 use Rattle.papaya_seq.specs.declared.search.Turn.{Turn}
 use Rattle.papaya_seq.specs.declared.search.Turn.TheVariants as turns
+use Rattle.papaya_seq.specs.Writes.{burying, slot_of}
 use Rattle.papaya_seq.proofs.Driving.{goes_itself}
+use Rattle.papaya_seq.proofs.Exchanging.{exchange_made}
 use Rattle.papaya_seq.proofs.RemovalWays.{IsUnderWay, under_way_more}
 use Rattle.papaya_seq.proofs.Removing.{answered_call}
-
--- an exchange of the word that stands there is made
-pub exchanges_it : {K V S : Type 0} (s s' : StoreState K V S) (at : At) (old new : ℕ) (told : Answer) → word_at s.words at ≡ old → Exchanges (word_at s.words at) old (put s.words at new) told s s' → Exchanges (word_at s.words at) old (put s.words at new) Exchanged s s'
-exchanges_it {K} {V} {S} s s' at old new told stands exchanges =
-    let found : (word_at s.words at == old) ≡ true = eq-eqb (word_at s.words at) old stands in
-    subst (λ b. MatchBool b ((Exchanged ≡ Exchanged) × (s' ≡ record s { words = put s.words at new })) ((Exchanged ≡ Found_instead (word_at s.words at)) × (s' ≡ s))) (sym found) (refl, made (word_at s.words at == old) found exchanges)
-  where
-    made : (b : Bool) → b ≡ true → MatchBool b ((told ≡ Exchanged) × (s' ≡ record s { words = put s.words at new })) ((told ≡ Found_instead (word_at s.words at)) × (s' ≡ s)) → s' ≡ record s { words = put s.words at new }
-    made true e done = done.1
-    made false e lost = let f : false ≡ true = e in absurd cc
 
 module _ {K V S F : Type 0} (g : Mut F (Bor K × (Bor V × Unit {0})) Bool) (matches : K → Bool) where
   -- one run of answers after another
@@ -72,6 +64,8 @@ module _ {K V S F : Type 0} (g : Mut F (Bor K × (Bor V × Unit {0})) Bool) (mat
     searched_answer (ShowPair n) answer asked told = absurd asked
     searched_answer MakeKey answer asked told = absurd asked
     searched_answer MakePair answer asked told = absurd asked
+    searched_answer MakeValue answer asked told = absurd asked
+    searched_answer (MakePairOf i) answer asked told = absurd asked
     searched_answer (MakeTable slots limit chunks) answer asked told = absurd asked
     searched_answer (AddToShard by) answer asked told = absurd asked
     searched_answer (Ask_done reply) answer asked told = absurd asked
@@ -103,9 +97,8 @@ module _ {K V S F : Type 0} (g : Mut F (Bor K × (Bor V × Unit {0})) Bool) (mat
       }
 
       -- or it agreed, and the pair was buried and counted out
-      pub removed : (f' : F) → IsShown g (pair_of s (number_of removal.word)) f (Yes true) f' → (buried counted : StoreState K V S) → Exchanges (word_at s.words (Slot removal.place.table removal.place.probe.i)) removal.word (put s.words (Slot removal.place.table removal.place.probe.i) (grave_word removal.word)) Exchanged s buried → counted ≡ record buried { count = added buried.count 0 (negsuc 0) } → (n : ℕ) → n ≡ number_of removal.word
-          → IsRemovedFrom g matches s f (stands_at (Showing removal)) (Removed n) counted f'
-      removed f' shown buried counted exchanged counted_is n n_is = record {
+      pub removed : (f' : F) → IsShown g (pair_of s (number_of removal.word)) f (Yes true) f' → word_at s.words (slot_of removal.place) ≡ removal.word → (n : ℕ) → n ≡ number_of removal.word → IsRemovedFrom g matches s f (stands_at (Showing removal)) (Removed n) (burying s removal) f'
+      removed f' shown stands n n_is = record {
         answers = Yes true ∷ Exchanged ∷ Ok_done ∷ [];
         end = stands_at (Ended (Removed (number_of removal.word)));
         leads = (
@@ -113,23 +106,23 @@ module _ {K V S F : Type 0} (g : Mut F (Bor K × (Bor V × Unit {0})) Bool) (mat
           f',
           record { ask = ShowPair (number_of removal.word); asked = refl; answered = (shown, refl) },
           (
-            buried,
+            record s { words = put s.words (slot_of removal.place) (grave_word removal.word) },
             f',
-            record { ask = call_ask (record m { task = RemoveIf; state = Burying removal }); asked = refl; answered = (exchanged, refl) },
-            (counted, f', record { ask = AddToShard (negsuc 0); asked = refl; answered = (refl, (0, counted_is), refl) }, (refl, refl, refl)),
+            record { ask = call_ask (record m { task = RemoveIf; state = Burying removal }); asked = refl; answered = (exchange_made s (slot_of removal.place) removal.word (grave_word removal.word) stands, refl) },
+            (burying s removal, f', record { ask = AddToShard (negsuc 0); asked = refl; answered = (refl, (0, refl), refl) }, (refl, refl, refl)),
           ),
         );
         replied = ap (λ z. asks.Call (Ask_done (Removed z))) (sym n_is);
       }
 
     -- A removal whose search of the root saw this: it replies so.
-    module _ (hashed : ℕ) (mode : ResizeMode) (initial : ℕ) where
+    module _ (hashed : ℕ) (mode : ResizeMode) (initial : ℕ) (limit : Option ℕ) where
       abbrev removing : State → Machine
-      removing state = itself (record (started RemoveIf hashed mode initial) { state = state })
+      removing state = itself (record (started RemoveIf hashed mode initial limit) { state = state })
 
-      root_led : (turn : Turn) (state : State) → IsRootTurn matches s hashed turn → goes (started RemoveIf hashed mode initial) (seen_by turn) ≡ state → (reply : Reply) (s' : StoreState K V S) (f' : F) → IsRemovedFrom g matches s f (removing state) reply s' f' → IsRemovedFrom g matches s f (removing AtRoot) reply s' f'
+      root_led : (turn : Turn) (state : State) → IsRootTurn matches s hashed turn → goes (started RemoveIf hashed mode initial limit) (seen_by turn) ≡ state → (reply : Reply) (s' : StoreState K V S) (f' : F) → IsRemovedFrom g matches s f (removing state) reply s' f' → IsRemovedFrom g matches s f (removing AtRoot) reply s' f'
       root_led turn state root is reply s' f' done =
-          let begun : Call_machine = started RemoveIf hashed mode initial in
+          let begun : Call_machine = started RemoveIf hashed mode initial limit in
           let came = root.sees begun in
           let led : Comes matches s begun came.0 (record begun { state = state }) = subst (λ (st : State). Comes matches s begun came.0 (record begun { state = st })) is came.1 in
           record {
@@ -143,7 +136,7 @@ module _ {K V S F : Type 0} (g : Mut F (Bor K × (Bor V × Unit {0})) Bool) (mat
       found_none at root = root_led (turns.Empty at) (Ended Absent) root refl Absent s f (record { answers = []; end = removing (Ended Absent); leads = (refl, refl, refl); replied = refl })
 
       pub found_it : (at : Place) (word : ℕ) → kind_of word ≡ Live → IsRootTurn matches s hashed (turns.Here at word) → (reply : Reply) (s' : StoreState K V S) (f' : F) → IsBuried g matches (record { place = at; word = word }) s f reply s' f' → IsRemovedFrom g matches s f (removing AtRoot) reply s' f'
-      found_it at word live root reply s' f' buried = root_led (turns.Here at word) (Showing (record { place = at; word = word })) root (ap (λ kind. removes kind at word) live) reply s' f' (buried (started RemoveIf hashed mode initial))
+      found_it at word live root reply s' f' buried = root_led (turns.Here at word) (Showing (record { place = at; word = word })) root (ap (λ kind. removes kind at word) live) reply s' f' (buried (started RemoveIf hashed mode initial limit))
 
 -- each answer leads a removal on
 pub leads_under_way : {K V S F : Type 0} (g : Mut F (Bor K × (Bor V × Unit {0})) Bool) (eq : K → K → Bool) (hash : S → K → ℕ) (matches : K → Bool) (hashed : ℕ) (map : MapState K V S) (agrees : F) (told : List Answer) (s : StoreState K V S) (f : F) (m : Machine) (s' : StoreState K V S) (f' : F) (m' : Machine) → Leads g matches told s f m s' f' m' → IsUnderWay g eq hash matches hashed map agrees s f m → IsUnderWay g eq hash matches hashed map agrees s' f' m'

@@ -20,8 +20,7 @@ use Rattle.papaya_rests.specs.Alone.{IsRead}
 use Rattle.papaya_call.specs.declared.machine.State.{State}
 use Rattle.papaya_call.specs.declared.machine.State.TheVariants.{AtRoot, Making, Opening, Searching, Writing, Offering, Showing, Pairing, Putting, Burying, Counting, Noting, Uncounting, Leaving, Growing, Ended}
 use Rattle.papaya_call.specs.declared.write.Claimed.{Claimed}
-use Rattle.papaya_call.specs.declared.write.Made.{Made}
-use Rattle.papaya_call.specs.declared.write.Made.TheVariants.{Nothing, Key, Pair}
+use Rattle.papaya_call.specs.declared.made.Made.{Made}
 use Rattle.papaya_call.specs.Machine.{asks as call_asks}
 use Rattle.papaya_call.specs.Machine as call_machine
 use Rattle.papaya_copy.specs.declared.link.Link.{Link}
@@ -48,11 +47,17 @@ use Rattle.papaya_timeline.specs.Solo.{whatever}
 use Rattle.papaya_timeline.proofs.KeptTables.{table_there}
 use Rattle.papaya_seq.specs.Lengths.{IsLongEnough, IsMadeBeside, IsNextLength, lengths_of}
 use Rattle.papaya_seq.specs.Map.{Grows, MapState, slots_in}
+use Rattle.papaya_call.specs.Compute.{in_place_of}
+use Rattle.papaya_rests.proofs.Makings.{HoldsOfPairAsks, pair_holds, write_holds}
 use Rattle.papaya_seq.proofs.Initial.{chain_initial}
 use Rattle.papaya_seq.proofs.LinkLeads.{IsLed, machine_leads}
 use Rattle.papaya_seq.proofs.LinkLengths.{IsLongLink, copy_good, led_long, link_good, long_beside, next_enough}
 use Rattle.papaya_seq.proofs.Sizes.{link_asked, sized_as}
 use Rattle.papaya_seq.proofs.TableLengths.{IsCountedBy, IsLengthened, copy_counts, copy_long, own_counts, own_long}
+
+-- what is asked for a pair is no table
+no_tables : (slots limit chunks : ℕ) → HoldsOfPairAsks (λ ask. ask ≡ MakeTable slots limit chunks → ⊥)
+no_tables slots limit chunks = record { loads = λ e. absurd cc; takes = λ count e. absurd cc; key = λ e. absurd cc; value = λ e. absurd cc; pair = λ e. absurd cc; pair_of = λ n e. absurd cc }
 
 -- a call that asks for a table for itself makes its first one
 makes_first : (made : Made) (hash : ℕ) (state : State) (slots limit chunks : ℕ) → call_asks made hash state ≡ MakeTable slots limit chunks → (state ≡ Making) × (slots ≡ FIRST_TABLE_LEN)
@@ -63,14 +68,10 @@ makes_first made hash (Searching (searches.Sizing t)) slots limit chunks e = abs
 makes_first made hash (Searching (searches.Looking at)) slots limit chunks e = absurd cc
 makes_first made hash (Searching (searches.Reading at)) slots limit chunks e = absurd cc
 makes_first made hash (Searching (searches.Comparing at word)) slots limit chunks e = absurd cc
-makes_first Nothing hash (Writing write) slots limit chunks e = absurd cc
-makes_first Key hash (Writing write) slots limit chunks e = absurd cc
-makes_first (Pair n) hash (Writing write) slots limit chunks e = absurd cc
+makes_first made hash (Writing write) slots limit chunks e = absurd (write_holds (λ ask. ask ≡ MakeTable slots limit chunks → ⊥) (no_tables slots limit chunks) write (λ n e. absurd cc) made e)
 makes_first made hash (Offering gap) slots limit chunks e = absurd cc
 makes_first made hash (Showing removal) slots limit chunks e = absurd cc
-makes_first Nothing hash (Pairing purpose) slots limit chunks e = absurd cc
-makes_first Key hash (Pairing purpose) slots limit chunks e = absurd cc
-makes_first (Pair n) hash (Pairing purpose) slots limit chunks e = absurd cc
+makes_first made hash (Pairing purpose) slots limit chunks e = absurd (pair_holds (λ ask. ask ≡ MakeTable slots limit chunks → ⊥) (no_tables slots limit chunks) made (in_place_of purpose) e)
 makes_first made hash (Putting put) slots limit chunks e = absurd cc
 makes_first made hash (Burying removal) slots limit chunks e = absurd cc
 makes_first made hash (Counting n) slots limit chunks e = absurd cc
@@ -131,7 +132,7 @@ module _ {K V S : Type 0} (eq : K → K → Bool) (hash : S → K → ℕ) (stor
     counted = λ calling. let (told_so, told_is, h) = calling_performs calling in (told_so, told_is, own_counts eq whatever false (call_machine.ask_of m.call) store r told_so store' later h);
     copy = λ ask e. (subst (λ a. PerformsAsk eq whatever hash false a store r answer store' later) e performs).0;
     first = λ calling making.
-        let phase : IsPhaseRead m.call.mode (word_at store.words) m.call.state Calling = subst (IsPhaseRead m.call.mode (word_at store.words) m.call.state) calling read in
+        let phase : IsPhaseRead m.call.mode (word_at store.words) m.call.state Calling = subst (IsPhaseRead m.call.mode (word_at store.words) m.call.state) calling read.read in
         subst (IsRead (word_at store.words)) making phase.0;
     stays = stays;
   }
@@ -306,6 +307,9 @@ module _ {K V S : Type 0} (s : MapState K V S) where
             let f : None ≡ Some reply = sym goes_on ∙ ap (λ a. reply_in (ask_of (after m a))) (is ∙ ap answers.Call ok) ∙ replied in
             absurd cc
 
+        pair_counts : (told_so : Call_answer) → HoldsOfPairAsks (λ ask. IsCountedBy ask store told_so store' → store'.count ≡ store.count)
+        pair_counts told_so = record { loads = λ c. c; takes = λ count c. c; key = λ c. c; value = λ c. c; pair = λ c. c; pair_of = λ n c. c }
+
         by_state : (made : Made) (hashed : ℕ) (state : State) → m.phase ≡ Calling → m.call.state ≡ state → (told_so : Call_answer) → answer ≡ answers.Call told_so → IsCountedBy (call_asks made hashed state) store told_so store' → store'.count ≡ store.count
         by_state made hashed (Counting n) calling is told_so told_is h = absurd (uncounted (subst (λ a. HasCounted (after m a)) (sym (told_is ∙ ap answers.Call h)) (counts_next m n calling is)))
         by_state made hashed (Noting n) calling is told_so told_is h = h.1
@@ -317,14 +321,10 @@ module _ {K V S : Type 0} (s : MapState K V S) where
         by_state made hashed (Searching (searches.Looking at)) calling is told_so told_is h = h
         by_state made hashed (Searching (searches.Reading at)) calling is told_so told_is h = h
         by_state made hashed (Searching (searches.Comparing at word)) calling is told_so told_is h = h
-        by_state Nothing hashed (Writing write) calling is told_so told_is h = h
-        by_state Key hashed (Writing write) calling is told_so told_is h = h
-        by_state (Pair n) hashed (Writing write) calling is told_so told_is h = h
+        by_state made hashed (Writing write) calling is told_so told_is h = write_holds (λ ask. IsCountedBy ask store told_so store' → store'.count ≡ store.count) (pair_counts told_so) write (λ n c. c) made h
         by_state made hashed (Offering gap) calling is told_so told_is h = h
         by_state made hashed (Showing removal) calling is told_so told_is h = h
-        by_state Nothing hashed (Pairing purpose) calling is told_so told_is h = h
-        by_state Key hashed (Pairing purpose) calling is told_so told_is h = h
-        by_state (Pair n) hashed (Pairing purpose) calling is told_so told_is h = h
+        by_state made hashed (Pairing purpose) calling is told_so told_is h = pair_holds (λ ask. IsCountedBy ask store told_so store' → store'.count ≡ store.count) (pair_counts told_so) made (in_place_of purpose) h
         by_state made hashed (Putting put) calling is told_so told_is h = h
         by_state made hashed (Burying removal) calling is told_so told_is h = h
         by_state made hashed (Leaving t) calling is told_so told_is h = h

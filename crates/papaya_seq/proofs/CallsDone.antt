@@ -17,12 +17,12 @@ use Rattle.papaya_timeline.specs.Outcomes.{reply_told}
 use Rattle.papaya_timeline.specs.Solo.{IsAnswered, IsDoneBy, IsLeftBy, IsNewIn}
 use Rattle.papaya_timeline.specs.declared.outcome.Outcome.{Outcome}
 use Rattle.papaya_store.specs.Store.{StoreState, Stored}
+use Rattle.papaya_store.proofs.Logs.{pair_number}
 use Rattle.papaya_timeline.proofs.SoloTimeline.{lookup_alike}
 use Rattle.papaya_seq.specs.Calls.{AreCalled, IsCalled, IsDone, IsJudged, IsListed, IsSaid, MayRefuse}
 use Rattle.papaya_seq.specs.Map.{Grows, HasNone, Holds, IsMakeRefusal, Keeps, MapState, Unchanged}
 use Rattle.papaya_seq.specs.Removes.{IsRemoval, IsRemovalBy}
 use Rattle.papaya_seq.specs.Resizes.{IsCopyCause, IsReserveCause}
-use Rattle.papaya_seq.proofs.Lawful.{number_is}
 
 module _ {K V : Type 0} (eq : K → K → Bool) (classes : IsEquivalence eq) where
   -- where no key stands twice, a pair is found by each key that equals its own
@@ -86,8 +86,8 @@ module _ {K V S : Type 0} (eq : K → K → Bool) (classes : IsEquivalence eq) (
     -- a removal does what the finite map does
     pub remove_answered : {A : Type 0} (a : A) (reply : Reply) → ((refused : words.Refused) → reply ≡ Refused refused → refused ≡ RemoveNothing → ⊥) → IsRemoval eq (eq k) said s reply s' → IsAnswered eq (RemoveIf k a) (map_in eq s) reply (map_in eq s')
     remove_answered a Absent never (none, unchanged) = record { went = None; came = None; update = stays s' unchanged None (none_here none); does = refl }
-    remove_answered a (Removed n) never (p, holds, removes, judged) = record { went = Some p; came = None; update = went p holds.held.key removes.update; does = (number_is s n p holds.logged, refl) }
-    remove_answered a (Kept n) never (p, holds, unchanged, judged) = record { went = Some p; came = Some p; update = stays s' unchanged (Some p) (held_here p holds.held); does = (number_is s n p holds.logged, refl) }
+    remove_answered a (Removed n) never (p, holds, removes, judged) = record { went = Some p; came = None; update = went p holds.held.key removes.update; does = (pair_number s n p holds.logged, refl) }
+    remove_answered a (Kept n) never (p, holds, unchanged, judged) = record { went = Some p; came = Some p; update = stays s' unchanged (Some p) (held_here p holds.held); does = (pair_number s n p holds.logged, refl) }
     remove_answered a (Refused refused) never unchanged = (unchanged, λ nothing. absurd (never refused refl nothing))
     remove_answered a (Aborted t) never removal = absurd removal
     remove_answered a Done never removal = absurd removal

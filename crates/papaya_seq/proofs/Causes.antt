@@ -1,31 +1,30 @@
 -- Why a call of a map for one caller is refused: a log was full, or there is no further table, or memory was short; or its closure would remove a pair where there is none.
-use Rattle.std.proofs.Common.{◌≡◌, ◌⊎◌, inl, inr, ℕ, ◌^◌, ◌<◌, ◌≤◌, Bool, false, None, Some, length, refl, sym, ◌∙◌, ap, subst}
+use Rattle.std.proofs.Common.{◌≡◌, ◌⊎◌, inl, inr, ℕ, ◌^◌, ◌<◌, ◌≤◌, ◌==◌, Bool, false, Option, None, Some, length, refl, sym, ◌∙◌, ap, subst, arith}
 use Rattle.papaya_words.specs.Counter.{count_of}
 use Rattle.papaya_words.specs.Table.{TableWords, length_after}
 use Rattle.papaya_words.specs.declared.limits.TheConstants.{FIRST_TABLE_LEN, FIRST_TABLE_LIMIT, MAX_LOG_LEN, MAX_TABLES}
 use Rattle.papaya_words.specs.declared.probe.Refused.{Refused}
-use Rattle.papaya_words.specs.declared.probe.Refused.TheVariants.{Memory, Capacity, RemoveNothing}
+use Rattle.papaya_words.specs.declared.probe.Refused.TheVariants.{Memory, Capacity, Limit, RemoveNothing}
 use Rattle.papaya_ask.specs.declared.ask.Answer.{Answer as Call_answer}
-use Rattle.papaya_ask.specs.declared.ask.Answer.TheVariants.{Op, Size, Refused as Was_refused}
-use Rattle.papaya_ask.specs.declared.ask.Ask.TheVariants.{Load, ShowNone, MakeKey, MakePair}
-use Rattle.papaya_ask.specs.declared.ask.At.TheVariants.{Next}
+use Rattle.papaya_ask.specs.declared.ask.Answer.TheVariants.{Word as Word_read, Exchanged, Found as Found_instead, Op, Size, Made as Made_number, Refused as Was_refused}
+use Rattle.papaya_ask.specs.declared.ask.Ask.{Ask as Call_ask}
+use Rattle.papaya_ask.specs.declared.ask.Ask.TheVariants.{Load, Exchange, ShowNone, MakeKey, MakeValue, MakePair, MakePairOf}
+use Rattle.papaya_ask.specs.declared.ask.At.TheVariants.{Next, Made as Made_word}
 use Rattle.papaya_ask.specs.declared.ask.OpKind.TheVariants.{Remove}
 use Rattle.papaya_ask.specs.declared.call.Reply.TheVariants.{Refused as Reply_refused}
-use Rattle.papaya_ask.specs.declared.call.Task.{Task}
-use Rattle.papaya_ask.specs.declared.call.Task.TheVariants as tasks
 use Rattle.papaya_ask.specs.declared.search.Search.TheVariants.{Sizing as Sizing_table, Looking, Reading, Comparing}
-use Rattle.papaya_call.specs.declared.compute.Purpose.{Purpose}
-use Rattle.papaya_call.specs.declared.compute.Remembered.{Remembered}
 use Rattle.papaya_call.specs.declared.machine.Machine.{Machine as Call_machine}
 use Rattle.papaya_call.specs.declared.machine.State.{State as Stage}
 use Rattle.papaya_call.specs.declared.machine.State.TheVariants.{AtRoot, Making, Opening, Searching, Writing, Offering, Showing, Pairing, Putting, Burying, Counting as Counting_pair, Noting, Uncounting, Leaving, Growing, Ended}
-use Rattle.papaya_call.specs.declared.write.Made.{Made}
-use Rattle.papaya_call.specs.declared.write.Made.TheVariants.{Nothing, Key, Pair}
-use Rattle.papaya_call.specs.Compute.{nothing}
+use Rattle.papaya_call.specs.declared.made.Made.{Made}
+use Rattle.papaya_call.specs.declared.made.Number.{Number}
+use Rattle.papaya_call.specs.declared.made.Number.TheVariants.{Wanted, Free, Taken}
+use Rattle.papaya_call.specs.Compute.{in_place_of}
+use Rattle.papaya_call.specs.Made.{make_ask, number_ask}
+use Rattle.papaya_call.specs.Write.{served_ask, serves}
 use Rattle.papaya_call.specs.Machine.{IsComputer, IsStandingState, IsWriter, asks as call_asks}
 use Rattle.papaya_call.specs.Machine as call_machine
 use Rattle.papaya_copy.specs.declared.link.Link.TheVariants as links
-use Rattle.papaya_copy.specs.Link.{link_ask}
 use Rattle.papaya_chain.specs.declared.ask.Ask.TheVariants as asks
 use Rattle.papaya_chain.specs.declared.ask.Answer.{Answer}
 use Rattle.papaya_chain.specs.declared.ask.Answer.TheVariants as answers
@@ -38,7 +37,11 @@ use Rattle.papaya_chain_rests.specs.Goes.{IsOwnRefusal, IsOwnStep, IsTableRefusa
 use Rattle.papaya_chain_rests.specs.Rests.{left_by}
 use Rattle.papaya_chain_rests.proofs.LinkStates.{In}
 use Rattle.papaya_chain_rests.proofs.Replies.{aside_asks}
+use Rattle.papaya_alone.specs.Limits.{IsNumberTaken, IsPairLogged}
+use Rattle.papaya_rests.specs.Rests.{IsAtLimit, IsNumberAsk}
+use Rattle.papaya_rests.proofs.Makings.{HoldsOfPairAsks, IsMakeAsk, IsPairAsk, make_asks, pair_holds}
 use Rattle.papaya_rests.proofs.Tasks.{same_task}
+use Rattle.papaya_call.specs.Answers.{Says}
 use Rattle.papaya_store.specs.Asks.{PerformsAsk}
 use Rattle.papaya_store.specs.Performs.{MakesTable, Performs, Refuses, size_of}
 use Rattle.papaya_store.specs.Store.{StoreState}
@@ -51,12 +54,15 @@ use Rattle.papaya_timeline.specs.Solo.{whatever}
 use Rattle.papaya_timeline.proofs.KeptLemmas.{IsLawfulKeys}
 use Rattle.papaya_timeline.proofs.KeptStep as kept_steps
 use Rattle.papaya_timeline.proofs.KeptTables.{HasMoreTables}
-use Rattle.papaya_seq.specs.Map.{HasNoTable, IsLogFull, IsWriteCause, MapState}
+use Rattle.papaya_timeline.proofs.StoreLemmas.{matched}
+use Rattle.papaya_seq.specs.Map.{HasNoTable, IsLogFull, IsSpent, IsWriteCause, MapState}
 use Rattle.papaya_seq.proofs.KeyCalls.{KeyCall, first_of}
-use Rattle.papaya_seq.proofs.Logs.{IsFirst, SameLogs, copy_logs, first_before, own_logs, unmade_before}
+use Rattle.papaya_seq.proofs.Logs.{IsFirst, IsNumberless, after_made, first_before, number_taken, numberless_before, paired_first}
+use Rattle.papaya_seq.proofs.Limits.{made_most}
+use Rattle.papaya_seq.proofs.Numbered.{IsLogStep}
 use Rattle.papaya_seq.proofs.OwnSteps.{own_performs}
 use Rattle.papaya_seq.proofs.Sizes.{IsSizedLink, is_sized, link_asked, machine_sized, sized_as, sized_beside}
-use Rattle.papaya_seq.proofs.Steps.{HasCome, made_caused, made_goes, seated, stepped}
+use Rattle.papaya_seq.proofs.Steps.{HasCome, made_caused, made_goes, made_logs, seated, stepped}
 
 -- a call asks for a table: it is set aside, or makes its first one
 abbrev pub IsTableAsk : Machine → Type 0
@@ -71,9 +77,9 @@ IsLogStage stage = ⊥
 abbrev pub IsLogAsk : Machine → Type 0
 IsLogAsk m = (m.phase ≡ Calling) × IsLogStage m.call.state
 
--- a log is full, or memory was short
+-- the log is full, memory was short, or no number was left
 abbrev pub IsLogRefusal : {K V S : Type 0} → MapState K V S → Refused → Type 0
-IsLogRefusal s refused = (refused ≡ Memory) ⊎ ((refused ≡ Capacity) × IsLogFull s.store)
+IsLogRefusal s refused = (refused ≡ Memory) ⊎ ((refused ≡ Capacity) × IsLogFull s.store) ⊎ ((refused ≡ Limit) × IsSpent s)
 
 -- there is no further table, or memory was short
 abbrev pub IsNoTableRefusal : {K V S : Type 0} → MapState K V S → Refused → Type 0
@@ -86,21 +92,96 @@ IsRemoveNothing m answer refused = (refused ≡ RemoveNothing) × (ask_of m ≡ 
 -- either is a cause of a call that stores
 pub write_cause : {K V S : Type 0} (s : MapState K V S) (refused : Refused) (m : Machine) (s' : MapState K V S) → IsLogRefusal s refused ⊎ (IsTableAsk m × IsNoTableRefusal s' refused) → IsWriteCause s refused s'
 write_cause s refused m s' (inl (inl memory)) = inl memory
-write_cause s refused m s' (inl (inr (capacity, full))) = inr (capacity, inl full)
+write_cause s refused m s' (inl (inr (inl (capacity, full)))) = inr (inl (capacity, inl full))
+write_cause s refused m s' (inl (inr (inr spent))) = inr (inr spent)
 write_cause s refused m s' (inr (table, inl memory)) = inl memory
-write_cause s refused m s' (inr (table, inr (capacity, none))) = inr (capacity, inr none)
+write_cause s refused m s' (inr (table, inr (capacity, none))) = inr (inl (capacity, inr none))
 
 -- a table is there, of so many slots
 abbrev pub HasSlots : {K V S : Type 0} → StoreState K V S → ℕ → ℕ → Type 0
 HasSlots store behind slots = (t : TableWords) × (table_of store.words.tables behind ≡ Some t) × (length t.slots ≡ slots)
 
--- a compute that makes a pair of what its closure answered remembers no other
-abbrev pub PairsFirst : Call_machine → Type 0
-PairsFirst m = IsComputer m.task → (purpose : Purpose) → m.state ≡ Pairing purpose → m.remembered ≡ nothing
+-- a call is to make a pair
+abbrev pub IsPairStage : Made → Stage → Type 0
+IsPairStage made (Writing write) = serves made write ≡ None
+IsPairStage made (Pairing purpose) = Unit {0}
+IsPairStage made stage = ⊥
 
--- an insertion is none
-pub insert_pairs : (m : Call_machine) (replace : Bool) → m.task ≡ tasks.Insert replace → PairsFirst m
-insert_pairs m replace e computes purpose _ = absurd (subst IsComputer e computes)
+-- one that is has made none before
+abbrev pub PairsFirst : Call_machine → Type 0
+PairsFirst m = IsPairStage m.made m.state → IsFirst m.task m.made m.remembered
+
+pair_stage : (made : Made) (stage : Stage) → IsPairStage made stage → IsLogStage stage
+pair_stage made (Writing write) h = tt
+pair_stage made (Pairing purpose) h = tt
+pair_stage made stage h = absurd h
+
+-- it is where it asks for the count of numbers, and has no number then
+number_unless : (ask : Call_ask) → IsMakeAsk ask → IsNumberAsk ask → ⊥
+number_unless MakeKey makes asks_number = asks_number
+number_unless MakeValue makes asks_number = asks_number
+number_unless MakePair makes asks_number = asks_number
+number_unless (MakePairOf n) makes asks_number = asks_number
+number_unless (Load at) makes asks_number = makes
+number_unless (Exchange at old new) makes asks_number = makes
+number_unless ask makes asks_number = absurd asks_number
+
+numberless_ask : (number : Number) (made : Made) (old : ℕ) → IsNumberAsk (number_ask number made old) → number ≡ Taken → ⊥
+numberless_ask Wanted made old asks_number e = absurd cc
+numberless_ask (Free n) made old asks_number e = absurd cc
+numberless_ask Taken made old asks_number e = number_unless (make_ask made old) (make_asks made old) asks_number
+
+-- what is asked for a pair alone
+pub pair_stage_of : (made : Made) (hash : ℕ) (stage : Stage) → IsPairAsk (call_asks made hash stage) → IsPairStage made stage
+pair_stage_of made hash (Writing write) asks_pair = by_served (serves made write) asks_pair
+  where
+    by_served : (served : Option ℕ) → IsPairAsk (served_ask served write made) → served ≡ None
+    by_served None asks_pair = refl
+    by_served (Some i) asks_pair = absurd asks_pair
+pair_stage_of made hash (Pairing purpose) asks_pair = tt
+pair_stage_of made hash (Searching (Sizing_table t)) asks_pair = absurd asks_pair
+pair_stage_of made hash (Searching (Looking at)) asks_pair = absurd asks_pair
+pair_stage_of made hash (Searching (Reading at)) asks_pair = absurd asks_pair
+pair_stage_of made hash (Searching (Comparing at word)) asks_pair = absurd asks_pair
+pair_stage_of made hash AtRoot asks_pair = absurd asks_pair
+pair_stage_of made hash Making asks_pair = absurd asks_pair
+pair_stage_of made hash (Opening t) asks_pair = absurd asks_pair
+pair_stage_of made hash (Offering gap) asks_pair = absurd asks_pair
+pair_stage_of made hash (Showing removal) asks_pair = absurd asks_pair
+pair_stage_of made hash (Putting put) asks_pair = absurd asks_pair
+pair_stage_of made hash (Burying removal) asks_pair = absurd asks_pair
+pair_stage_of made hash (Counting_pair claimed) asks_pair = absurd asks_pair
+pair_stage_of made hash (Noting claimed) asks_pair = absurd asks_pair
+pair_stage_of made hash (Uncounting n) asks_pair = absurd asks_pair
+pair_stage_of made hash (Leaving t) asks_pair = absurd asks_pair
+pair_stage_of made hash (Growing need) asks_pair = absurd asks_pair
+pair_stage_of made hash (Ended reply) asks_pair = absurd asks_pair
+
+number_pair : (ask : Call_ask) → IsNumberAsk ask → IsPairAsk ask
+number_pair (Load Made_word) asks_number = tt
+number_pair (Exchange Made_word old new) asks_number = tt
+number_pair ask asks_number = absurd asks_number
+
+number_stage : (made : Made) (hash : ℕ) (stage : Stage) → IsPairStage made stage → IsNumberAsk (call_asks made hash stage) → IsNumberless made
+number_stage made hash (Writing write) none asks_number = numberless_ask made.number made write.old (subst (λ served. IsNumberAsk (served_ask served write made)) none asks_number)
+number_stage made hash (Pairing purpose) pairing asks_number = numberless_ask made.number made (in_place_of purpose) asks_number
+number_stage made hash stage pairing asks_number = absurd pairing
+
+-- what it is told then is how many were taken
+told_count : {K V S A : Type 0} (eq : K → K → Bool) (says : Says K V A) (ask : Call_ask) (store store' : StoreState K V S) (r r' : Running K V A) (told : Call_answer) (count : ℕ) → IsNumberAsk ask → Performs eq says false ask store r told store' r' → (told ≡ Word_read count) ⊎ (told ≡ Found_instead count) → count ≡ store.words.made
+told_count eq says (Load Made_word) store store' r r' told count asks_number (e, stays) (inl is) = let f : Word_read count ≡ Word_read store.words.made = sym is ∙ e in cc f
+told_count eq says (Load Made_word) store store' r r' told count asks_number (e, stays) (inr is) = let f : Found_instead count ≡ Word_read store.words.made = sym is ∙ e in absurd cc
+told_count eq says (Exchange Made_word old new) store store' r r' told count asks_number (h, moved) is =
+    matched (count ≡ store.words.made) (store.words.made == old) _ _ h (λ _ done. done_not done.0 is) (λ _ lost. lost_is lost.0 is)
+  where
+    done_not : told ≡ Exchanged → (told ≡ Word_read count) ⊎ (told ≡ Found_instead count) → count ≡ store.words.made
+    done_not e (inl is) = let f : Word_read count ≡ Exchanged = sym is ∙ e in absurd cc
+    done_not e (inr is) = let f : Found_instead count ≡ Exchanged = sym is ∙ e in absurd cc
+
+    lost_is : told ≡ Found_instead store.words.made → (told ≡ Word_read count) ⊎ (told ≡ Found_instead count) → count ≡ store.words.made
+    lost_is e (inl is) = let f : Word_read count ≡ Found_instead store.words.made = sym is ∙ e in absurd cc
+    lost_is e (inr is) = let f : Found_instead count ≡ Found_instead store.words.made = sym is ∙ e in cc f
+told_count eq says ask store store' r r' told count asks_number h is = absurd asks_number
 
 -- what was refused at a limit, or for want of memory
 pub by_limit : (refused : Refused) (most count : ℕ) (told : Call_answer) → told ≡ Was_refused refused → Refuses most count told → (refused ≡ Memory) ⊎ ((refused ≡ Capacity) × (most ≤ count))
@@ -129,11 +210,12 @@ module _ {K V S : Type 0} (s : MapState K V S) (store store' : StoreState K V S)
 module _ {K V S : Type 0} (eq : K → K → Bool) (hash : S → K → ℕ) (s : MapState K V S) (call : KeyCall K V) where
   -- What a call under way has logged so far, its mode and initial capacity, and the table whose next one it makes.
   pub record IsUnlogged (store : StoreState K V S) (r : Running K V (Unit {0})) : Type 0 where
-    -- until its key is made the log of keys is as it was
-    pub keys : r.machine.call.made ≡ Nothing → store.keys ≡ s.store.keys
-    -- and until its pair is made that of pairs is
-    pub pairs : IsFirst r.machine.call.task r.machine.call.made r.machine.call.remembered → store.pairs ≡ s.store.pairs
-    pub mode : r.machine.call.mode ≡ s.mode
+    -- until its pair is made the log is as long as it was
+    pub pairs : IsFirst r.machine.call.task r.machine.call.made r.machine.call.remembered → length store.pairs ≡ length s.store.pairs
+    -- and until it has a number for it as many were taken
+    pub numbers : IsFirst r.machine.call.task r.machine.call.made r.machine.call.remembered → IsNumberless r.machine.call.made → store.words.made ≡ s.store.words.made
+    pub limit : r.machine.call.made.limit ≡ s.mode.limit
+    pub mode : r.machine.call.mode ≡ s.mode.resize
     pub initial : r.machine.call.initial ≡ s.initial
     -- the length of a next table is counted by the slots of the one before
     pub sized : In (IsSizedLink (HasSlots store)) (link_in r.machine.phase)
@@ -141,8 +223,9 @@ module _ {K V S : Type 0} (eq : K → K → Bool) (hash : S → K → ℕ) (s : 
   -- a call that begins
   pub unlogged_none : (number : ℕ) → IsUnlogged s.store (first_of (hash s.store.hasher) s.mode s.initial number call)
   unlogged_none number = record {
-    keys = λ e. refl;
     pairs = λ e. refl;
+    numbers = λ e none. refl;
+    limit = refl;
     mode = refl;
     initial = refl;
     sized = tt;
@@ -182,28 +265,47 @@ module _ {K V S : Type 0} (eq : K → K → Bool) (hash : S → K → ℕ) (s : 
 
     -- where the call is this after the step
     unlogged_then : (then : Call_machine) → (after r.machine answer).call ≡ then → then.mode ≡ own.mode → then.initial ≡ own.initial
-        → (then.made ≡ Nothing → (own.made ≡ Nothing) × (store'.keys ≡ store.keys)) → (IsFirst then.task then.made then.remembered → IsFirst own.task own.made own.remembered × (store'.pairs ≡ store.pairs)) → IsUnlogged store' (stepped later r.machine answer)
-    unlogged_then then is mode initial no_key no_pair = record {
-      keys = λ e. let h = no_key (ap (λ (y : Call_machine). y.made) (sym is) ∙ e) in h.1 ∙ un.keys h.0;
+        → then.made.limit ≡ own.made.limit → (IsFirst then.task then.made then.remembered → IsFirst own.task own.made own.remembered × (length store'.pairs ≡ length store.pairs)) → (IsFirst then.task then.made then.remembered → IsNumberless then.made → IsNumberless own.made × (store'.words.made ≡ store.words.made)) → IsUnlogged store' (stepped later r.machine answer)
+    unlogged_then then is mode initial limit no_pair no_number = record {
       pairs = λ first. let h = no_pair (subst (λ (y : Call_machine). IsFirst y.task y.made y.remembered) is first) in h.1 ∙ un.pairs h.0;
+      numbers = λ first none.
+          let own_first = subst (λ (y : Call_machine). IsFirst y.task y.made y.remembered) is first in
+          let h = no_number own_first (subst (λ (y : Call_machine). IsNumberless y.made) is none) in
+          h.1 ∙ un.numbers (no_pair own_first).0 h.0;
+      limit = ap (λ (y : Call_machine). y.made.limit) is ∙ limit ∙ un.limit;
       mode = ap (λ (y : Call_machine). y.mode) is ∙ mode ∙ un.mode;
       initial = ap (λ (y : Call_machine). y.initial) is ∙ initial ∙ un.initial;
       sized = next_sized;
     }
 
+    -- what the answered ask does to the log
+    log : IsLogStep store store' (ask_of r.machine) answer
+    log = made_logs eq hash s call store r answer store' later going performs same keys came
+
     -- a call that is set aside logs nothing
-    aside_logs : (t : ℕ) → left_by own.state ≡ Some t → SameLogs store store'
-    aside_logs t left = in_phase r.machine.phase performs
+    aside_asked : (t : ℕ) → left_by own.state ≡ Some t → (phase : Phase) → (IsPairLogged (asks_in own phase) answer → ⊥) × (IsNumberTaken (asks_in own phase) answer → ⊥)
+    aside_asked t left Calling = by_ask (call_machine.ask_of own) (aside_asks own.made own.hash own.state t left)
       where
-        in_phase : (phase : Phase) → PerformsAsk eq whatever hash false (asks_in own phase) store r answer store' later → SameLogs store store'
-        in_phase Calling (told, is, h) =
-            let loads : Performs eq whatever false (Load (Next t)) store r told store' later = subst (λ ask. Performs eq whatever false ask store r told store' later) (aside_asks own.made own.hash own.state t left) h in
-            (ap (λ (y : StoreState K V S). y.keys) loads.1.0, ap (λ (y : StoreState K V S). y.pairs) loads.1.0)
-        in_phase (Linking link) (h, stays) = copy_logs eq hash false (link_ask link) store answer store' h
-        in_phase (Copying_root copying) (h, stays) = copy_logs eq hash false _ store answer store' h
+        by_ask : (ask : Call_ask) → ask ≡ Load (Next t) → (IsPairLogged (asks.Call ask) answer → ⊥) × (IsNumberTaken (asks.Call ask) answer → ⊥)
+        by_ask ask e = subst (λ y. (IsPairLogged (asks.Call y) answer → ⊥) × (IsNumberTaken (asks.Call y) answer → ⊥)) (sym e) (unpaired answer, untaken answer)
+          where
+            unpaired : (a : Answer) → IsPairLogged (asks.Call (Load (Next t))) a → ⊥
+            unpaired (answers.Call (Made_number n)) h = h
+            unpaired a h = absurd h
+
+            untaken : (a : Answer) → IsNumberTaken (asks.Call (Load (Next t))) a → ⊥
+            untaken (answers.Call Exchanged) h = h
+            untaken a h = absurd h
+    aside_asked t left (Linking link) = (λ h. h, λ h. h)
+    aside_asked t left (Copying_root copying) = (λ h. h, λ h. h)
+
+    aside_logs : (t : ℕ) → left_by own.state ≡ Some t → (length store'.pairs ≡ length store.pairs) × (store'.words.made ≡ store.words.made)
+    aside_logs t left =
+        let (unpaired, untaken) = aside_asked t left r.machine.phase in
+        (elim log.pairs [ inl same ↦ same | inr (logged, more) ↦ absurd (unpaired logged) ], log.still untaken)
 
     unlogged_aside : (t : ℕ) → left_by own.state ≡ Some t → (stage : Stage) → (after r.machine answer).call ≡ record own { state = stage } → IsUnlogged store' (stepped later r.machine answer)
-    unlogged_aside t left stage is = let logs = aside_logs t left in unlogged_then (record own { state = stage }) is refl refl (λ e. (e, logs.0)) (λ first. (first, logs.1))
+    unlogged_aside t left stage is = let logs = aside_logs t left in unlogged_then (record own { state = stage }) is refl refl refl (λ first. (first, logs.0)) (λ first none. (none, logs.1))
 
     -- what it asks for itself is answered
     told_performs : (told : Call_answer) → r.machine.phase ≡ Calling → answer ≡ answers.Call told → Performs eq whatever false (call_machine.ask_of own) store r told store' later
@@ -215,9 +317,33 @@ module _ {K V S : Type 0} (eq : K → K → Bool) (hash : S → K → ℕ) (s : 
     unlogged_own : IsOwnStep r.machine answer → IsUnlogged store' (stepped later r.machine answer)
     unlogged_own step =
         let stays = settings_stay own step.told in
-        let logs = own_logs eq whatever false own store r store' later own.made own.state step.told standing (told_performs step.told step.phase step.is) in
-        unlogged_then (call_machine.after own step.told) step.call stays.0 stays.1 (λ e. (unmade_before own step.told e, logs.0 e))
-        (λ first. let own_first = subst (λ task. IsFirst task (call_machine.after own step.told).made (call_machine.after own step.told).remembered) (same_task own step.told).0 first in (first_before own step.told own_first, logs.1 own_first))
+        unlogged_then (call_machine.after own step.told) step.call stays.0 stays.1 (after_made own step.told).0
+        (λ first. (first_before own step.told (own_first first), unlogged first))
+        (λ first none. (numberless_before own step.told standing (own_first first) none, log.still (untaken none)))
+      where
+        then : Call_machine
+        then = call_machine.after own step.told
+
+        own_first : IsFirst then.task then.made then.remembered → IsFirst own.task then.made then.remembered
+        own_first first = subst (λ task. IsFirst task then.made then.remembered) (same_task own step.told).0 first
+
+        asked : ask_of r.machine ≡ asks.Call (call_machine.ask_of own)
+        asked = ap (asks_in own) step.phase
+
+        -- a pair that was logged is remembered, or is the insertion's
+        pair_kept : (told : Call_answer) → IsPairLogged (asks.Call (call_machine.ask_of own)) (answers.Call told) → IsFirst own.task (call_machine.after own told).made (call_machine.after own told).remembered → ⊥
+        pair_kept (Made_number n) makes first = paired_first own standing makes n first
+        pair_kept told makes first = absurd makes
+
+        unlogged : IsFirst then.task then.made then.remembered → length store'.pairs ≡ length store.pairs
+        unlogged first = elim log.pairs [
+          | inl same ↦ same
+          | inr (logged, more) ↦ absurd (pair_kept step.told (subst (λ a. IsPairLogged (asks.Call (call_machine.ask_of own)) a) step.is (subst (λ y. IsPairLogged y answer) asked logged)) (own_first first))
+        ]
+
+        -- a number that was taken is the call's
+        untaken : IsNumberless then.made → IsNumberTaken (ask_of r.machine) answer → ⊥
+        untaken none took = number_taken own step.told (subst (λ a. IsNumberTaken (asks.Call (call_machine.ask_of own)) a) step.is (subst (λ y. IsNumberTaken y answer) asked took)) none
 
     -- one more ask is answered
     pub unlogged_more : IsUnlogged store' (stepped later r.machine answer)
@@ -234,40 +360,33 @@ module _ {K V S : Type 0} (eq : K → K → Bool) (hash : S → K → ℕ) (s : 
       abbrev then : MapState K V S
       then = record { store = store'; mode = s.mode; initial = s.initial }
 
-      -- the key was
-      key_refused : own.made ≡ Nothing → (told : Call_answer) → told ≡ Was_refused refused → Performs eq whatever false MakeKey store r told store' later → IsLogRefusal s refused
-      key_refused unmade told is (inl (none, stays)) = elim (by_limit refused MAX_LOG_LEN (length store.keys) told is none) [
+      -- what was asked for the pair was refused
+      abbrev WasRefused : Call_ask → Type 0
+      WasRefused ask = (told : Call_answer) → told ≡ Was_refused refused → IsToMake ask → Performs eq whatever false ask store r told store' later → IsLogRefusal s refused
+
+      pair_refused : IsFirst own.task own.made own.remembered → (told : Call_answer) → told ≡ Was_refused refused → Refuses MAX_LOG_LEN (length store.pairs) told → IsLogRefusal s refused
+      pair_refused unpaired told is none = elim (by_limit refused MAX_LOG_LEN (length store.pairs) told is none) [
         | inl memory ↦ inl memory
-        | inr (capacity, full) ↦ inr (capacity, inl (subst (λ y. MAX_LOG_LEN ≤ length y) (un.keys unmade) full))
+        | inr (capacity, full) ↦ inr (inl (capacity, subst (λ n. MAX_LOG_LEN ≤ n) (un.pairs unpaired) full))
       ]
-      key_refused unmade told is (inr (inl (has, stays))) = absurd (cc (has.0, is))
-      key_refused unmade told is (inr (inr (k, has, made, few, more, moved))) = absurd (cc (made, is))
 
-      -- a pair was
-      pair_refused : IsFirst own.task own.made own.remembered → (told : Call_answer) → told ≡ Was_refused refused → Performs eq whatever false MakePair store r told store' later → IsLogRefusal s refused
-      pair_refused unpaired told is (inl (none, stays)) = elim (by_limit refused MAX_LOG_LEN (length store.pairs) told is none) [
-        | inl memory ↦ inl memory
-        | inr (capacity, full) ↦ inr (capacity, inr (subst (λ y. MAX_LOG_LEN ≤ length y) (un.pairs unpaired) full))
-      ]
-      pair_refused unpaired told is (inr (inl (has, stays))) = absurd (cc (has.0, is))
-      pair_refused unpaired told is (inr (inr (n, v, logged, value, made, few, more, moved))) = absurd (cc (made, is))
-
-      -- an insertion that is to make its pair has made none
-      writer_first : (task : Task) (held : Remembered) → IsWriter task → IsFirst task Key held
-      writer_first tasks.Get held writes = absurd writes
-      writer_first (tasks.Insert replace) held writes = tt
-      writer_first tasks.RemoveIf held writes = absurd writes
-      writer_first tasks.Compute held writes = absurd writes
-
-      -- nor has a compute
-      computer_first : (task : Task) (made : Made) (held : Remembered) → IsComputer task → (IsComputer task → held ≡ nothing) → IsFirst task made held
-      computer_first tasks.Get made held computes none = absurd computes
-      computer_first (tasks.Insert replace) made held computes none = absurd computes
-      computer_first tasks.RemoveIf made held computes none = absurd computes
-      computer_first tasks.Compute made held computes none = none computes
-
-      pairing_first : (purpose : Purpose) → own.state ≡ Pairing purpose → IsFirst own.task own.made own.remembered
-      pairing_first purpose e = let computes : IsComputer own.task = (subst (IsStandingState own.task) e standing).0 in computer_first own.task own.made own.remembered computes (λ c. first c purpose e)
+      log_refused : IsFirst own.task own.made own.remembered → HoldsOfPairAsks WasRefused
+      log_refused unpaired = record {
+        loads = λ told is makes h. absurd makes;
+        takes = λ count told is makes h. absurd makes;
+        key = λ told is makes h. absurd (cc (h.0, is));
+        value = λ told is makes h. absurd (cc (h.0, is));
+        pair = λ told is makes h. elim h [
+          | inl none ↦ pair_refused unpaired told is none.0
+          | inr (inl has) ↦ absurd (cc (has.0.0, is))
+          | inr (inr (value, there, made, few, more, moved)) ↦ absurd (cc (made, is))
+        ];
+        pair_of = λ n told is makes h. elim h [
+          | inl none ↦ pair_refused unpaired told is none.0
+          | inr (inl has) ↦ absurd (cc (has.0.0, is))
+          | inr (inr (first_pair, from, (value, there, made, few, more, moved))) ↦ absurd (cc (made, is))
+        ];
+      }
 
       -- what was to be made was refused
       abbrev Why : Type 0
@@ -275,14 +394,16 @@ module _ {K V S : Type 0} (eq : K → K → Bool) (hash : S → K → ℕ) (s : 
 
       make_refused : (made : Made) (stage : Stage) → own.made ≡ made → own.state ≡ stage → r.machine.phase ≡ Calling → (told : Call_answer) → told ≡ Was_refused refused → IsToMake (call_asks made own.hash stage) → Performs eq whatever false (call_asks made own.hash stage) store r told store' later → Why
       make_refused made Making m e calling told is makes h = inr (λ _. e, table_refused s store store' refused FIRST_TABLE_LEN FIRST_TABLE_LIMIT 0 told is h.0)
-      make_refused Nothing (Writing write) m e calling told is makes h = inl ((calling, subst IsLogStage (sym e) tt), key_refused m told is h)
-      make_refused Key (Writing write) m e calling told is makes h =
-          let writes : IsWriter own.task = (subst (IsStandingState own.task) e standing).0 in
-          inl ((calling, subst IsLogStage (sym e) tt), pair_refused (subst (λ y. IsFirst own.task y own.remembered) (sym m) (writer_first own.task own.remembered writes)) told is h)
-      make_refused (Pair n) (Writing write) m e calling told is makes h = absurd makes
-      make_refused Nothing (Pairing purpose) m e calling told is makes h = inl ((calling, subst IsLogStage (sym e) tt), key_refused m told is h)
-      make_refused Key (Pairing purpose) m e calling told is makes h = inl ((calling, subst IsLogStage (sym e) tt), pair_refused (pairing_first purpose e) told is h)
-      make_refused (Pair n) (Pairing purpose) m e calling told is makes h = inl ((calling, subst IsLogStage (sym e) tt), pair_refused (pairing_first purpose e) told is h)
+      make_refused made (Writing write) m e calling told is makes h = inl ((calling, subst IsLogStage (sym e) tt), by_served (serves made write) refl makes h)
+        where
+          by_served : (served : Option ℕ) → serves made write ≡ served → IsToMake (served_ask served write made) → Performs eq whatever false (served_ask served write made) store r told store' later → IsLogRefusal s refused
+          by_served None none makes h =
+              let unpaired : IsFirst own.task own.made own.remembered = first (subst (IsPairStage own.made) (sym e) (ap (λ y. serves y write) m ∙ none)) in
+              pair_holds WasRefused (log_refused unpaired) made write.old told is makes h
+          by_served (Some i) there makes h = absurd makes
+      make_refused made (Pairing purpose) m e calling told is makes h =
+          let unpaired : IsFirst own.task own.made own.remembered = first (subst (IsPairStage own.made) (sym e) tt) in
+          inl ((calling, subst IsLogStage (sym e) tt), pair_holds WasRefused (log_refused unpaired) made (in_place_of purpose) told is makes h)
       make_refused made AtRoot m e calling told is makes h = absurd makes
       make_refused made (Opening t) m e calling told is makes h = absurd makes
       make_refused made (Searching (Sizing_table t)) m e calling told is makes h = absurd makes
@@ -300,11 +421,24 @@ module _ {K V S : Type 0} (eq : K → K → Bool) (hash : S → K → ℕ) (s : 
       make_refused made (Growing need) m e calling told is makes h = absurd makes
       make_refused made (Ended reply) m e calling told is makes h = absurd makes
 
+      -- no number was left
+      number_refused : (own_step : IsOwnStep r.machine answer) → refused ≡ Limit → IsAtLimit own own_step.told → Why
+      number_refused own_step is (most, count, limit, full, asks_number, told) =
+          let pairing : IsPairStage own.made own.state = pair_stage_of own.made own.hash own.state (number_pair (call_machine.ask_of own) asks_number) in
+          let numberless : IsNumberless own.made = number_stage own.made own.hash own.state pairing asks_number in
+          let counted : count ≡ store.words.made = told_count eq whatever (call_machine.ask_of own) store store' r later own_step.told count asks_number (told_performs own_step.told own_step.phase own_step.is) told in
+          let own_limit : s.mode.limit ≡ Some most = sym un.limit ∙ limit in
+          let few : store.words.made ≤ most = made_most eq (hash s.store.hasher) now.callers s.mode store now_lawful most own_limit in
+          let as_before : store.words.made ≡ s.store.words.made = un.numbers (first pairing) numberless in
+          let all : most ≡ s.store.words.made = omega (arith, counted, full, few, as_before) in
+          inl ((own_step.phase, pair_stage own.made own.state pairing), inr (inr (is, own_limit ∙ ap Some all)))
+
       -- the call's own refusal
       own_refused : IsOwnRefusal r.machine answer refused → Why ⊎ IsRemoveNothing r.machine answer refused
       own_refused because = elim because.why [
         | inl (makes, is) ↦ inl (make_refused own.made own.state refl refl because.own.phase because.own.told is makes (told_performs because.own.told because.own.phase because.own.is))
-        | inr (nothing_there, shows, removes) ↦ inr (nothing_there, shows, because.own.is ∙ ap answers.Call removes)
+        | inr (inl (is, spent)) ↦ inl (number_refused because.own is spent)
+        | inr (inr (nothing_there, shows, removes)) ↦ inr (nothing_there, shows, because.own.is ∙ ap answers.Call removes)
       ]
 
       -- a call that copies is not asking for itself

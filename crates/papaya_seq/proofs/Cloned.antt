@@ -1,5 +1,5 @@
 -- Clones of pairs of different keys, put in one after the other.
-use Rattle.std.proofs.Common.{◌≡◌, ⊎_elim, Bool, true, false, List, [], ◌∷◌, ◌++◌, map, Option, Some, None, Ok, Err, MatchOption, option_map, refl, sym, ◌∙◌, subst, arith, ◌+◌, ◌≤◌, length}
+use Rattle.std.proofs.Common.{◌≡◌, ⊎_elim, Bool, true, false, List, [], ◌∷◌, ◌++◌, map, Option, Some, None, Ok, Err, MatchOption, option_map, refl, sym, ap, ◌∙◌, subst, arith, ◌+◌, ◌≤◌, length}
 use Rattle.std.proofs.lemmas.List.{length_push}
 use Rattle.std.proofs.lemmas.Bool.{cases_Bool, cond-true, cond-false}
 use Rattle.std.specs.Cmp.{IsEquivalence}
@@ -9,7 +9,7 @@ use Rattle.papaya_law.specs.Content.{AreApart, lookup}
 use Rattle.papaya_timeline.specs.Content.{content, map_in}
 use Rattle.papaya_store.specs.Store.{StoreState, Stored}
 use Rattle.papaya_seq.specs.Clones.{Clones, IsCloned, IsCopied, IsCopyCut}
-use Rattle.papaya_seq.specs.Entries.{Entries, IsPut, entries_in, nothing, put, put_all}
+use Rattle.papaya_seq.specs.Entries.{Entries, IsPut, entries_in, kept, nothing, put, put_all}
 use Rattle.papaya_seq.specs.Map.{LogsOne, MapState, entry_of}
 use Rattle.papaya_seq.proofs.Equal.{alike}
 use Rattle.papaya_seq.proofs.Filled.{cut, empty_entries, fills_more, fills_none, put_all_alike}
@@ -26,22 +26,38 @@ module _ {K V : Type 0} (eq : K → K → Bool) (law : IsEquivalence eq) (CK : K
       (λ (n : eq k p.key ≡ false).
       let other : eq k c.0 ≡ false = law.symm k c.0 ∙ sym (law.congr p.key c.0 k (same p.key c.0 here.0)) ∙ law.symm p.key k ∙ n in
       absent ps cs rest (put eq m c) k (sym (cond-false (eq k p.key) (Some p) (lookup eq (λ (q : Stored K V). q.key) ps k) n) ∙ none)
-      ∙ cond-false (eq k c.0) (Some c) (m k) other)
+      ∙ cond-false (eq k c.0) (Some (kept (m c.0) c)) (m k) other)
       (cases_Bool (eq k p.key))
 
-  -- and the others have their clones
-  there : (ps : List (Stored K V)) (cs : List (K × V)) → AreApart eq (λ p. p.key) ps → AllZip (Clones CK CV) (map entry_of ps) cs → (m : Entries K V) (k : K) (p : Stored K V) → lookup eq (λ q. q.key) ps k ≡ Some p → (c : K × V) × (put_all eq (λ d. d) m cs k ≡ Some c) × Clones CK CV (entry_of p) c
-  there [] cs apart all m k p is = absurd cc
-  there (q ∷ ps) [] apart all m k p is = absurd all
-  there (q ∷ ps) (c ∷ cs) (alone, apart) (here, rest) m k p is =
+  -- no class of these pairs has an entry
+  abbrev HasNoneOf : List (Stored K V) → Entries K V → Type 0
+  HasNoneOf ps m = (j : K) (r : Stored K V) → lookup eq (λ p. p.key) ps j ≡ Some r → m j ≡ None
+
+  -- and the others have their clones, where none was there before
+  there : (ps : List (Stored K V)) (cs : List (K × V)) → AreApart eq (λ p. p.key) ps → AllZip (Clones CK CV) (map entry_of ps) cs → (m : Entries K V) → HasNoneOf ps m → (k : K) (p : Stored K V) → lookup eq (λ q. q.key) ps k ≡ Some p → (c : K × V) × (put_all eq (λ d. d) m cs k ≡ Some c) × Clones CK CV (entry_of p) c
+  there [] cs apart all m free k p is = absurd cc
+  there (q ∷ ps) [] apart all m free k p is = absurd all
+  there (q ∷ ps) (c ∷ cs) (alone, apart) (here, rest) m free k p is =
       ⊎_elim
       (λ (y : eq k q.key ≡ true).
       let first : q ≡ p = (let one : Some q ≡ Some p = sym (cond-true (eq k q.key) (Some q) (lookup eq (λ (r : Stored K V). r.key) ps k) y) ∙ is in cc) in
       let none : lookup eq (λ (r : Stored K V). r.key) ps k ≡ None = alike eq law (λ (r : Stored K V). r.key) k q.key y ps ∙ alone in
       let its : eq k c.0 ≡ true = law.congr k q.key c.0 y ∙ same q.key c.0 here.0 in
-      (c, absent ps cs rest (put eq m c) k none ∙ cond-true (eq k c.0) (Some c) (m k) its, subst (λ (r : Stored K V). Clones CK CV (entry_of r) c) first here))
-      (λ (n : eq k q.key ≡ false). there ps cs apart rest (put eq m c) k p (sym (cond-false (eq k q.key) (Some q) (lookup eq (λ (r : Stored K V). r.key) ps k) n) ∙ is))
+      let back : eq c.0 q.key ≡ true = law.symm c.0 q.key ∙ same q.key c.0 here.0 in
+      let unmet : m c.0 ≡ None = free c.0 q (cond-true (eq c.0 q.key) (Some q) (lookup eq (λ (r : Stored K V). r.key) ps c.0) back) in
+      (c, absent ps cs rest (put eq m c) k none ∙ cond-true (eq k c.0) (Some (kept (m c.0) c)) (m k) its ∙ ap (λ (o : Option (K × V)). Some (kept o c)) unmet, subst (λ (r : Stored K V). Clones CK CV (entry_of r) c) first here))
+      (λ (n : eq k q.key ≡ false). there ps cs apart rest (put eq m c) still k p (sym (cond-false (eq k q.key) (Some q) (lookup eq (λ (r : Stored K V). r.key) ps k) n) ∙ is))
       (cases_Bool (eq k q.key))
+    where
+      still : HasNoneOf ps (put eq m c)
+      still j r found =
+          ⊎_elim
+          (λ (y : eq j q.key ≡ true). let clash : Some r ≡ None = sym found ∙ alike eq law (λ (p : Stored K V). p.key) j q.key y ps ∙ alone in absurd cc)
+          (λ (n : eq j q.key ≡ false).
+          let other : eq j c.0 ≡ false = law.symm j c.0 ∙ sym (law.congr q.key c.0 j (same q.key c.0 here.0)) ∙ law.symm q.key j ∙ n in
+          cond-false (eq j c.0) (Some (kept (m c.0) c)) (m j) other
+          ∙ free j r (cond-false (eq j q.key) (Some q) (lookup eq (λ (p : Stored K V). p.key) ps j) n ∙ found))
+          (cases_Bool (eq j q.key))
 
   none_of : (o : Option (Stored K V)) → option_map entry_of o ≡ None → o ≡ None
   none_of None e = refl
@@ -61,7 +77,7 @@ module _ {K V : Type 0} (eq : K → K → Bool) (law : IsEquivalence eq) (CK : K
       of_option : (o : Option (Stored K V)) → map_in eq s k ≡ o → MatchOption o (map_in eq to'.store k ≡ None) (λ (p : Stored K V). (q : Stored K V) × (map_in eq to'.store k ≡ Some q) × (CK p.key q.key × CV p.value q.value))
       of_option None is = none_of (map_in eq to'.store k) (entries k ∙ absent (content eq s) copied.clones copied.each nothing k is)
       of_option (Some p) is =
-          let found = there (content eq s) copied.clones apart copied.each nothing k p is in
+          let found = there (content eq s) copied.clones apart copied.each nothing (λ j r found. refl) k p is in
           let own = some_of (map_in eq to'.store k) found.0 (entries k ∙ found.1) in
           (own.0, own.1, subst (λ (c : K × V). Clones CK CV (entry_of p) c) (sym own.2) found.2)
 

@@ -3,6 +3,7 @@ use Rattle.std.proofs.Common.{◌≡◌, inl, inr, ⊎_elim, ℕ, ◌^◌, ◌<�
 use Rattle.std.specs.Prelude.{MatchOption}
 use denote.Ref.{Bor}
 use Rattle.std.specs.Cmp.{IsEquivalence}
+use Rattle.papaya_words.specs.Word.{pair_of as number_of}
 use Rattle.papaya_words.specs.declared.probe.Refused.TheVariants.{RemoveNothing}
 use Rattle.papaya_call.specs.Answers.{op_kind}
 use Rattle.papaya_call.specs.declared.answers.Operation.{Operation}
@@ -20,9 +21,10 @@ use Rattle.papaya_call.specs.declared.compute.Purpose.TheVariants.{Fill, Replace
 use Rattle.papaya_call.specs.declared.machine.State.{State}
 use Rattle.papaya_call.specs.declared.machine.State.TheVariants.{Offering, Showing, Pairing}
 use Rattle.papaya_call.specs.declared.remove.Removal.{Removal}
-use Rattle.papaya_call.specs.declared.write.Made.{Made}
-use Rattle.papaya_call.specs.declared.write.Made.TheVariants.{Nothing, Key, Pair}
-use Rattle.papaya_call.specs.Machine.{pairing_ask}
+use Rattle.papaya_call.specs.declared.made.Made.{Made}
+use Rattle.papaya_call.specs.Compute.{in_place_of}
+use Rattle.papaya_call.specs.Made.{pair_ask}
+use Rattle.papaya_rests.proofs.Makings.{pair_holds}
 use Rattle.papaya_chain.specs.declared.ask.Ask.{Ask}
 use Rattle.papaya_chain.specs.declared.ask.Ask.TheVariants as asked
 use Rattle.papaya_chain.specs.declared.ask.Answer.TheVariants as answers
@@ -30,8 +32,11 @@ use Rattle.papaya_chain.specs.declared.machine.Machine.{Machine}
 use Rattle.papaya_chain.specs.declared.machine.Phase.TheVariants.{Calling}
 use Rattle.papaya_chain.specs.Machine.{IsFit, IsStanding, after, ask_of}
 use Rattle.papaya_chain_rests.proofs.Names.{call_asks}
-use Rattle.papaya_rests.specs.Says.{HasShownNone, Inserts, Said, ShowsPairs, StandsOn, said_for}
+use Rattle.papaya_rests.specs.Says.{HasShownNone, Inserts, Said, ShowsIn, StandsOn, said_for}
 use Rattle.papaya_store.specs.Asks.{PerformsAsk}
+use Rattle.papaya_store.specs.Pairs.{value_at}
+use Rattle.papaya_store.specs.declared.pairs.Part.{Part}
+use Rattle.papaya_store.specs.declared.pairs.Part.TheVariants.{Own}
 use Rattle.papaya_store.specs.declared.pairs.Running.{Running}
 use Rattle.papaya_store.specs.Performs.{ShowsPair, value_answered}
 use Rattle.papaya_store.specs.Store.{StoreState, Stored, pair_of}
@@ -45,7 +50,7 @@ use Rattle.papaya_seq.specs.Computes.{AreOf, Says}
 use Rattle.papaya_seq.specs.Computing.{IsKept}
 use Rattle.papaya_seq.specs.Map.{IsLawfulMap, MapState, deref_pair, entry_of}
 use Rattle.papaya_seq.proofs.Causes.{unlogged_more}
-use Rattle.papaya_seq.proofs.ComputeRun.{IsAsked, IsComputing, IsDoing, IsInsertSaid, IsInserting, IsLeft, IsOnWay, IsToRemove, IsWaiting, Went, as_number, kept_as}
+use Rattle.papaya_seq.proofs.ComputeRun.{IsAsked, IsComputing, IsDoing, IsInsertSaid, IsInserting, IsLeft, IsOnWay, IsShown, IsToRemove, IsWaiting, Went, as_number, kept_as}
 use Rattle.papaya_seq.proofs.ComputeShown.{asking, offering, showing, shows_none, shows_pair}
 use Rattle.papaya_seq.proofs.ComputeStages.{IsRemoving, IsReplacing, bare_at, bare_is, remembers_nothing}
 use Rattle.papaya_seq.proofs.Ending.{left_of}
@@ -53,10 +58,11 @@ use Rattle.papaya_seq.proofs.KeyCalls.{keyed_compute}
 use Rattle.papaya_seq.proofs.Steps.{HasCome, made_more, made_nears}
 
 -- a call that is to make a pair goes on
-pairing_going : (made : Made) (reply : Reply) → reply_in (asked.Call (pairing_ask made)) ≡ Some reply → ⊥
-pairing_going Nothing reply e = cc e
-pairing_going Key reply e = cc e
-pairing_going (Pair n) reply e = cc e
+pairing_going : (made : Made) (purpose : Purpose) (reply : Reply) → reply_in (asked.Call (pair_ask made (in_place_of purpose))) ≡ Some reply → ⊥
+pairing_going made purpose =
+    pair_holds (λ ask. (reply : Reply) → reply_in (asked.Call ask) ≡ Some reply → ⊥)
+    (record { loads = λ reply e. cc e; takes = λ count reply e. cc e; key = λ reply e. cc e; value = λ reply e. cc e; pair = λ reply e. cc e; pair_of = λ n reply e. cc e })
+    made (in_place_of purpose)
 
 -- a call that shows a closure something has not replied
 unreplied : {K V A : Type 0} (r : Running K V A) (ask : Call_ask) → reply_in (asked.Call ask) ≡ None → ask_of r.machine ≡ asked.Call ask → (reply : Reply) → reply_in (ask_of r.machine) ≡ Some reply → ⊥
@@ -83,35 +89,39 @@ module _ {K V S A T : Type 0} (s : MapState K V S) (store : StoreState K V S) (r
 
 module _ {K V S A : Type 0} (s : MapState K V S) (store : StoreState K V S) (r : Running K V A) where
   -- the call whose closure answered
-  abbrev at_pairing : Purpose → Running K V A
-  at_pairing purpose = record r { machine = bare_at r.machine (Pairing purpose) }
+  abbrev at_pairing : Made → Purpose → Running K V A
+  at_pairing made purpose = record r { machine = record (bare_at r.machine (Pairing purpose)) { call = record (bare_at r.machine (Pairing purpose)).call { made = made } } }
 
   -- it stands on nothing but the value
-  pairing_only : (purpose : Purpose) (said : Said) → StandsOn (at_pairing purpose).machine.call said → said ≡ said_for purpose
-  pairing_only purpose said (inl e) = let same : said_for purpose ≡ said = cc e in sym same
-  pairing_only purpose said (inr (inl e)) = absurd (cc e)
-  pairing_only purpose said (inr (inr e)) = absurd (cc e)
+  pairing_only : (made : Made) (purpose : Purpose) (said : Said) → StandsOn (at_pairing made purpose).machine.call said → said_for purpose ≡ Some said
+  pairing_only made purpose said (inl e) = e
+  pairing_only made purpose said (inr (inl e)) = absurd (cc e)
+  pairing_only made purpose said (inr (inr e)) = absurd (cc e)
 
   -- which is at hand
-  pairing_inserts : (purpose : Purpose) (shown : Option ℕ) → said_for purpose ≡ Inserts shown → (held : Option (Stored K V)) (v : V) → r.value ≡ Some v → IsOnWay held (at_pairing purpose).machine → IsInserting s held v store (at_pairing purpose)
-  pairing_inserts purpose shown is held v value way = record {
-    said = λ said stands. subst (IsInsertSaid v store (at_pairing purpose)) (sym (pairing_only purpose said stands ∙ is)) (value, λ other stands'. pairing_only purpose other stands' ∙ is);
-    ends = λ reply told. absurd (pairing_going r.machine.call.made reply told);
+  pairing_inserts : (made : Made) (purpose : Purpose) (shown : Option ℕ) → said_for purpose ≡ Some (Inserts shown) → (held : Option (Stored K V)) → IsShown held shown → (v : V) → r.value ≡ Some (Own v) → IsOnWay held (at_pairing made purpose).machine → IsInserting s held v store (at_pairing made purpose)
+  pairing_inserts made purpose shown is held shown_is v value way = record {
+    value = ap (value_at store.pairs) value;
+    said = λ said stands. subst (IsInsertSaid held v store (at_pairing made purpose)) (sym (only said stands)) (shown_is, only);
+    ends = λ reply told. absurd (pairing_going made purpose reply told);
     way = way;
   }
+    where
+      only : (said : Said) → StandsOn (at_pairing made purpose).machine.call said → said ≡ Inserts shown
+      only said stands = let both : Some said ≡ Some (Inserts shown) = sym (pairing_only made purpose said stands) ∙ is in cc both
 
 module _ {K V S A T : Type 0} (s : MapState K V S) (store : StoreState K V S) (r : Running K V A) where
   -- what holds where a closure answered that was shown that there is none
-  none_asked : (o : Operation V T) (gap : Gap) (left : Option V) → r.value ≡ value_answered (as_number o) left → IsAsked s None o store (record r { machine = after (bare_at r.machine (Offering gap)) (answers.Call (Op (op_kind (as_number o)))) })
-  none_asked (ops.Insert v) gap left value = pairing_inserts s store r (Fill gap) None refl None v value tt
+  none_asked : (o : Operation V T) (gap : Gap) (left : Option (Part V)) → r.value ≡ value_answered (as_number o) left → IsAsked s None o store (record r { machine = after (bare_at r.machine (Offering gap)) (answers.Call (Op (op_kind (as_number o)))) })
+  none_asked (ops.Insert v) gap left value = pairing_inserts s store r (record r.machine.call.made { valued = false }) (Fill gap) None refl None refl v value tt
   none_asked ops.Remove gap left value = refl
   none_asked (ops.Abort t) gap left value = refl
 
   -- or a pair
-  pair_asked : (o : Operation V T) (q : Stored K V) (removal : Removal) (left : Option V) → 0 < removal.word → r.value ≡ value_answered (as_number o) left → IsAsked s (Some q) o store (record r { machine = after (bare_at r.machine (Showing removal)) (answers.Call (Op (op_kind (as_number o)))) })
-  pair_asked (ops.Insert v) q removal left some value = pairing_inserts s store r (Replace (record { place = removal.place; old = removal.word })) _ refl (Some q) v value (refl, some)
-  pair_asked ops.Remove q removal left some value = (refl, tt)
-  pair_asked (ops.Abort t) q removal left some value = refl
+  pair_asked : (o : Operation V T) (q : Stored K V) (removal : Removal) (left : Option (Part V)) → 0 < removal.word → number_of removal.word ≡ q.number → r.value ≡ value_answered (as_number o) left → IsAsked s (Some q) o store (record r { machine = after (bare_at r.machine (Showing removal)) (answers.Call (Op (op_kind (as_number o)))) })
+  pair_asked (ops.Insert v) q removal left some number value = pairing_inserts s store r (record r.machine.call.made { valued = false }) (Replace (record { place = removal.place; old = removal.word })) _ refl (Some q) (ap Some number) v value (refl, some)
+  pair_asked ops.Remove q removal left some number value = (refl, tt)
+  pair_asked (ops.Abort t) q removal left some number value = refl
 
 module _ {K V S A F T H : Type 0} (eq : K → K → Bool) (input : K → List (List ℕ)) (build : S → H) (write : H → List ℕ → H) (finish : H → ℕ) (classes : IsEquivalence eq) (respects : (x y : K) → eq x y ≡ true → input x ≡ input y)
     (s : MapState K V S) (lawful : IsLawfulMap eq (hash_of input build write finish s.store.hasher) s.store s.mode s.initial) (k : K) (fits : hash_of input build write finish s.store.hasher k < 2 ^ 64)
@@ -128,11 +138,11 @@ module _ {K V S A F T H : Type 0} (eq : K → K → Bool) (input : K → List (L
   came = now.steps keys lawful fits
 
   -- it shows none where the map has none
-  none_held : ask_of r.machine ≡ asked.Call ShowNone → map_in eq s.store k ≡ None
+  pub none_held : ask_of r.machine ≡ asked.Call ShowNone → map_in eq s.store k ≡ None
   none_held e = shows_none eq input build write finish classes respects s lawful k fits store r came e
 
   -- and else the pair that the map has
-  pair_held : (n : ℕ) → ask_of r.machine ≡ asked.Call (ShowPair n) → (q : Stored K V) × (map_in eq s.store k ≡ Some q) × (q.number ≡ n) × (pair_of store n ≡ Some q)
+  pub pair_held : (n : ℕ) → ask_of r.machine ≡ asked.Call (ShowPair n) → (q : Stored K V) × (map_in eq s.store k ≡ Some q) × (q.number ≡ n) × (pair_of store n ≡ Some q)
   pair_held n e = shows_pair eq input build write finish classes respects s lawful k fits store r came n e
 
   -- so its closure was not called
@@ -173,7 +183,7 @@ module _ {K V S A F T H : Type 0} (eq : K → K → Bool) (input : K → List (L
   machine_is : Waits → (state : State) → r.machine.phase ≡ Calling → r.machine.call.state ≡ state → r.machine ≡ bare_at r.machine state
   machine_is w state phase is = bare_is r.machine state came.task (remembers_nothing r.machine.call (λ said stands. absurd (w.silent said stands))) phase is
 
-  module _ (told : Call_answer) (value' : Option V) (closure' : Option F) (aborted' : Option T) (entry : Option (Bor K × Bor V)) (f' : F) (o : Operation V T) (taken : closure ≡ Some f') (says : post f' entry o) (kept : IsKept o told r.value value' aborted aborted') where
+  module _ (told : Call_answer) (value' : Option (Part V)) (closure' : Option F) (aborted' : Option T) (entry : Option (Bor K × Bor V)) (f' : F) (o : Operation V T) (taken : closure ≡ Some f') (says : post f' entry o) (kept : IsKept o told r.value value' aborted aborted') where
     -- what is kept
     kept_is : (told ≡ Op (op_kind (as_number o))) × (value' ≡ value_answered (as_number o) r.value) × IsLeft o aborted'
     kept_is = kept_as o told r.value value' aborted aborted' kept
@@ -189,7 +199,7 @@ module _ {K V S A F T H : Type 0} (eq : K → K → Bool) (input : K → List (L
     then = record later { machine = after r.machine (answers.Call told) }
 
     later_is : asking later ≡ record (asking r) { value = value_answered (as_number o) r.value; answers = Some tt }
-    later_is = ap (λ (v : Option V). record (asking r) { value = v; answers = Some tt }) kept_is.1
+    later_is = ap (λ (v : Option (Part V)). record (asking r) { value = v; answers = Some tt }) kept_is.1
 
     -- it was said
     said : closure ≡ Some f → AreOf entry (map_in eq s.store k) → Says (post f) (map_in eq s.store k) o
@@ -252,7 +262,7 @@ module _ {K V S A F T H : Type 0} (eq : K → K → Bool) (input : K → List (L
           let (q, here, same, logged) = pair_held n e in
           goes_on (ap reply_in e) pair_performs standing w (entry_are entry n refers e) (Some n) (ap Some (sym same) ∙ sym (ap (option_map (λ p. p.number)) here))
           (subst (λ (held : Option (Stored K V)). IsAsked s held o store then) (sym here)
-          (asked_now (Some q) (Showing removal) (machine_is w (Showing removal) own.0 is) (pair_asked s store later o q removal r.value (subst ShowsPairs is came.shows) kept_is.1)))
+          (asked_now (Some q) (Showing removal) (machine_is w (Showing removal) own.0 is) (pair_asked s store later o q removal r.value (subst (ShowsIn r.machine.call.remembered.choice) is came.shows) (number ∙ sym same) kept_is.1)))
 
       pub pair_went : MatchOption entry (pair_of store n ≡ None) (λ p. pair_of store n ≡ Some (record { number = n; key = p.0.now; value = p.1.now })) → Went eq (hash_of input build write finish) s k post f store r.machine (answers.Call told) store later closure' (Some n) aborted'
       pair_went refers = record { fit = fit; same = refl; nears = nears (ap reply_in e) pair_performs; goes = pair_more refers }

@@ -3,7 +3,7 @@ use Rattle.std.proofs.Common.{◌≡◌, ℕ, Bool, Option, None, Some, Result, 
 use denote.Ref.{Bor}
 use Rattle.std.specs.Cmp.{IsEquivalence}
 use Rattle.papaya_words.specs.declared.probe.Refused.{Refused}
-use Rattle.papaya_words.specs.declared.probe.Refused.TheVariants.{Memory, Capacity, RemoveNothing}
+use Rattle.papaya_words.specs.declared.probe.Refused.TheVariants.{Memory, Capacity, Limit, RemoveNothing}
 use Rattle.papaya_call.specs.Answers.{Says as Answers_say}
 use Rattle.papaya_call.specs.declared.answers.Operation.{Operation}
 use Rattle.papaya_call.specs.declared.answers.Operation.TheVariants as ops
@@ -37,23 +37,27 @@ module _ {K V S A : Type 0} (eq : K → K → Bool) (classes : IsEquivalence eq)
   -- a cause is no want of a pair to be removed
   caused : (refused : Refused) → IsWriteCause s refused s' → refused ≡ RemoveNothing → ⊥
   caused refused (inl e) f = let g : Memory ≡ RemoveNothing = sym e ∙ f in cc
-  caused refused (inr (e, full)) f = let g : Capacity ≡ RemoveNothing = sym e ∙ f in cc
+  caused refused (inr (inl (e, full))) f = let g : Capacity ≡ RemoveNothing = sym e ∙ f in cc
+  caused refused (inr (inr (e, spent))) f = let g : Limit ≡ RemoveNothing = sym e ∙ f in cc
 
   -- it stands beside what the class of the key has, while pairs are being moved
   caused_moving : (held : Option (Stored K V)) (refused : Refused) → IsResizing s → IsWriteCause s refused s' → IsWriteCauseAt s held refused s'
   caused_moving held refused resizing (inl e) = inl e
-  caused_moving held refused resizing (inr (e, inl full)) = inr (e, inl full)
-  caused_moving held refused resizing (inr (e, inr none)) = inr (e, inr (inr resizing, none))
+  caused_moving held refused resizing (inr (inl (e, inl full))) = inr (inl (e, inl full))
+  caused_moving held refused resizing (inr (inl (e, inr none))) = inr (inl (e, inr (inr resizing, none)))
+  caused_moving held refused resizing (inr (inr spent)) = inr (inr spent)
 
   -- and nothing need be answered then
   moving_said : (held : Option (Stored K V)) (refused : Refused) → IsResizing s → IsWriteCause s refused s' → IsOperated says a s held s'.store (replies.Refused refused)
   moving_said held refused resizing (inl e) = subst (λ r. IsOperated says a s held s'.store (replies.Refused r)) (sym e) (inr resizing)
-  moving_said held refused resizing (inr (e, full)) = subst (λ r. IsOperated says a s held s'.store (replies.Refused r)) (sym e) (inr resizing)
+  moving_said held refused resizing (inr (inl (e, full))) = subst (λ r. IsOperated says a s held s'.store (replies.Refused r)) (sym e) (inr resizing)
+  moving_said held refused resizing (inr (inr (e, spent))) = subst (λ r. IsOperated says a s held s'.store (replies.Refused r)) (sym e) (inr resizing)
 
   -- and an insertion was answered then
   insertion_said : (held : Option (Stored K V)) (v : V) (refused : Refused) → IsWriteCause s refused s' → Answers says a held (ops.Insert v) → IsOperated says a s held s'.store (replies.Refused refused)
   insertion_said held v refused (inl e) answers = subst (λ r. IsOperated says a s held s'.store (replies.Refused r)) (sym e) (inl (v, answers))
-  insertion_said held v refused (inr (e, full)) answers = subst (λ r. IsOperated says a s held s'.store (replies.Refused r)) (sym e) (inl (v, answers))
+  insertion_said held v refused (inr (inl (e, full))) answers = subst (λ r. IsOperated says a s held s'.store (replies.Refused r)) (sym e) (inl (v, answers))
+  insertion_said held v refused (inr (inr (e, spent))) answers = subst (λ r. IsOperated says a s held s'.store (replies.Refused r)) (sym e) (inl (v, answers))
 
   -- in each case
   called : KeepsAndGrows s s' → (held : Option (Stored K V)) (operation : Operation V ℕ) (done : Result (Computed (Stored K V) ℕ) Refused) (next : Option (Stored K V)) → Answers says a held operation → Operates k s s' held operation done next → IsUpdate eq k held next (map_in eq s.store) (map_in eq s'.store) → Called (reply_of (answer_map (λ p. p.number) done))

@@ -112,8 +112,8 @@ module _ {K V S T : Type 0} (eq : K → K → Bool) (classes : IsEquivalence eq)
   }
 
   -- the pair that was made is new, and of the value that was answered
-  new_pair : (v : V) (n : ℕ) (q : Stored K V) → IsMadeWith k n q → pair_of s.store n ≡ None → map_in eq s'.store k ≡ Some q → HasPair v s'.store n → IsNew k v s.store s'.store q
-  new_pair v n q (w, made) fresh here (p, logged, value) =
+  new_pair : (j : K) (v : V) (n : ℕ) (q : Stored K V) → IsMadeWith j n q → pair_of s.store n ≡ None → map_in eq s'.store k ≡ Some q → HasPair v s'.store n → IsNew j v s.store s'.store q
+  new_pair j v n q (w, made) fresh here (p, logged, value) =
       let there : pair_of s'.store n ≡ Some q = logged_there eq classes s'.store k n q here made.number in
       let f : Some p ≡ Some q = sym logged ∙ there in
       let same : p ≡ q = cc f in
@@ -135,7 +135,7 @@ module _ {K V S T : Type 0} (eq : K → K → Bool) (classes : IsEquivalence eq)
           operation = ops.Insert v;
           answered = subst (λ o. said o (ops.Insert v)) update.before says;
           next = came;
-          operates = (new_pair v n q made fresh here paired, next);
+          operates = (new_pair k v n q made fresh here paired, next);
           update = update;
           keeps = keeps;
         }),
@@ -153,7 +153,7 @@ module _ {K V S T : Type 0} (eq : K → K → Bool) (classes : IsEquivalence eq)
           operation = ops.Insert v;
           answered = subst (λ o. said o (ops.Insert v)) update.before says;
           next = came;
-          operates = (refl, new_pair v n q made fresh here paired, next);
+          operates = (refl, new_pair p.key v n q made fresh here paired, next);
           update = update;
           keeps = keeps;
         }),

@@ -12,21 +12,18 @@ use Rattle.papaya_ask.specs.declared.ask.Answer.TheVariants.{Op}
 use Rattle.papaya_ask.specs.declared.call.Reply.{Reply}
 use Rattle.papaya_ask.specs.declared.call.Reply.TheVariants.{Inserted, Replaced, Removed, Aborted, Refused as Reply_refused}
 use Rattle.papaya_ask.specs.declared.call.Task.TheVariants.{Compute}
-use Rattle.papaya_ask.specs.declared.search.Search.TheVariants.{Sizing, Looking, Reading, Comparing}
-use Rattle.papaya_call.specs.declared.machine.State.{State}
-use Rattle.papaya_call.specs.declared.machine.State.TheVariants.{Searching, Writing, Pairing, Ended}
-use Rattle.papaya_call.specs.declared.write.Made.{Made}
-use Rattle.papaya_call.specs.declared.write.Made.TheVariants.{Nothing, Key, Pair}
-use Rattle.papaya_call.specs.Machine.{asks}
+use Rattle.papaya_call.specs.declared.machine.State.TheVariants.{Ended}
 use Rattle.papaya_chain.specs.declared.ask.Answer.{Answer as Chain_answer}
 use Rattle.papaya_chain.specs.declared.machine.Machine.{Machine}
 use Rattle.papaya_chain.specs.declared.machine.Phase.TheVariants.{Calling}
 use Rattle.papaya_chain.specs.Machine.{IsFit, IsStanding, after, ask_of, started}
 use Rattle.papaya_chain_rests.proofs.Names.{call_asks}
+use Rattle.papaya_rests.proofs.RestsHeld.{ended_in}
 use Rattle.papaya_rests.specs.Says.{HasShownNone, Inserts, Makes, Said, StandsOn}
-use Rattle.papaya_store.specs.declared.pairs.KeyOf.TheVariants.{Own}
+use Rattle.papaya_store.specs.declared.pairs.Part.{Part}
+use Rattle.papaya_store.specs.declared.pairs.Part.TheVariants.{Own}
 use Rattle.papaya_store.specs.declared.pairs.Running.{Running}
-use Rattle.papaya_store.specs.Performs.{value_answered}
+use Rattle.papaya_store.specs.Performs.{own_value, value_answered}
 use Rattle.papaya_store.specs.Store.{StoreState, Stored, pair_of}
 use Rattle.papaya_timeline.specs.Advances.{reply_in}
 use Rattle.papaya_timeline.specs.Content.{map_in}
@@ -42,21 +39,6 @@ use Rattle.papaya_seq.proofs.KeyCalls.{keyed_compute}
 use Rattle.papaya_seq.proofs.Steps.{IsMade, made_none}
 
 -- only a machine that has ended replies
-ended_in : (made : Made) (h : ℕ) (state : State) (reply : Reply) → asks made h state ≡ Ask_done reply → state ≡ Ended reply
-ended_in made h (Ended told) reply e = ap Ended cc
-ended_in made h (Searching (Sizing t)) reply e = absurd cc
-ended_in made h (Searching (Looking at)) reply e = absurd cc
-ended_in made h (Searching (Reading at)) reply e = absurd cc
-ended_in made h (Searching (Comparing at word)) reply e = absurd cc
-ended_in Nothing h (Writing write) reply e = absurd cc
-ended_in Key h (Writing write) reply e = absurd cc
-ended_in (Pair m) h (Writing write) reply e = absurd cc
-ended_in Nothing h (Pairing purpose) reply e = absurd cc
-ended_in Key h (Pairing purpose) reply e = absurd cc
-ended_in (Pair m) h (Pairing purpose) reply e = absurd cc
-ended_in made h state reply e = absurd cc
-
--- of a machine over a chain
 pub ended_by : (m : Machine) (reply : Reply) → reply_in (ask_of m) ≡ Some reply → (m.phase ≡ Calling) × (m.call.state ≡ Ended reply)
 ended_by m reply told =
     let own = call_asks m (Ask_done reply) (reply_asked (ask_of m) reply told) in
@@ -75,7 +57,7 @@ IsLeft ops.Remove aborted = Unit {0}
 IsLeft (ops.Abort t) aborted = aborted ≡ Some t
 
 -- what is kept of an answer
-pub kept_as : {V T : Type 0} (o : Operation V T) (answer : Answer) (value value' : Option V) (aborted aborted' : Option T) → IsKept o answer value value' aborted aborted' → (answer ≡ Op (op_kind (as_number o))) × (value' ≡ value_answered (as_number o) value) × IsLeft o aborted'
+pub kept_as : {V T : Type 0} (o : Operation V T) (answer : Answer) (value value' : Option (Part V)) (aborted aborted' : Option T) → IsKept o answer value value' aborted aborted' → (answer ≡ Op (op_kind (as_number o))) × (value' ≡ value_answered (as_number o) value) × IsLeft o aborted'
 kept_as (ops.Insert v) answer value value' aborted aborted' (e, has, stays) = (e, has, tt)
 kept_as ops.Remove answer value value' aborted aborted' (e, has, stays) = (e, has, tt)
 kept_as (ops.Abort t) answer value value' aborted aborted' (e, has, left_is) = (e, has, left_is)
@@ -108,6 +90,10 @@ module _ {K V S : Type 0} where
   IsInsertEnd s held v store _ = Unit {0}
 
 module _ {K V : Type 0} where
+  -- its closure was shown this
+  abbrev pub IsShown : Option (Stored K V) → Option ℕ → Type 0
+  IsShown held shown = shown ≡ option_map (λ p. p.number) held
+
   -- its closure is shown no more: it was shown that there is none, or the call is at the place of the pair
   abbrev pub IsOnWay : Option (Stored K V) → Machine → Type 0
   IsOnWay None m = HasShownNone m.call.remembered.fill m.call.state
@@ -119,14 +105,16 @@ module _ {K V : Type 0} where
   IsToRemove (Some p) m = (m.phase ≡ Calling) × IsRemoving m.call.state
 
 module _ {K V S A : Type 0} where
-  -- what the machine stands on then: the value is at hand until a pair is made of it, and the machine stands on nothing else so long; then it is the pair's
-  abbrev pub IsInsertSaid : V → StoreState K V S → Running K V A → Said → Type 0
-  IsInsertSaid v store r (Inserts shown) = (r.value ≡ Some v) × ((other : Said) → StandsOn r.machine.call other → other ≡ Inserts shown)
-  IsInsertSaid v store r (Makes shown n) = HasPair v store n
-  IsInsertSaid v store r _ = ⊥
+  -- what the machine stands on then: nothing else until a pair is made of the value, and then that the pair has it
+  abbrev pub IsInsertSaid : Option (Stored K V) → V → StoreState K V S → Running K V A → Said → Type 0
+  IsInsertSaid held v store r (Inserts shown) = IsShown held shown × ((other : Said) → StandsOn r.machine.call other → other ≡ Inserts shown)
+  IsInsertSaid held v store r (Makes shown n) = IsShown held shown × HasPair v store n
+  IsInsertSaid held v store r _ = ⊥
 
   pub record IsInserting (s : MapState K V S) (held : Option (Stored K V)) (v : V) (store : StoreState K V S) (r : Running K V A) : Type 0 where
-    pub said : (said : Said) → StandsOn r.machine.call said → IsInsertSaid v store r said
+    -- the call has the value
+    pub value : own_value store r ≡ Some v
+    pub said : (said : Said) → StandsOn r.machine.call said → IsInsertSaid held v store r said
     pub ends : (reply : Reply) → reply_in (ask_of r.machine) ≡ Some reply → IsInsertEnd s held v store reply
     pub way : IsOnWay held r.machine
 
@@ -137,10 +125,10 @@ module _ {K V S A : Type 0} where
   IsAsked s held (ops.Abort t) store r = reply_in (ask_of r.machine) ≡ Some (Aborted 0)
 
 -- a machine that begins stands on nothing
-begins_silent : (mode : ResizeMode) (initial number hashed : ℕ) (said : Said) → StandsOn (started Compute hashed mode initial number).call said → ⊥
-begins_silent mode initial number hashed said (inl e) = cc e
-begins_silent mode initial number hashed said (inr (inl e)) = cc e
-begins_silent mode initial number hashed said (inr (inr e)) = cc e
+begins_silent : (mode : ResizeMode) (initial number hashed : ℕ) (limit : Option ℕ) (said : Said) → StandsOn (started Compute hashed mode initial number limit).call said → ⊥
+begins_silent mode initial number hashed limit said (inl e) = cc e
+begins_silent mode initial number hashed limit said (inr (inl e)) = cc e
+begins_silent mode initial number hashed limit said (inr (inr e)) = cc e
 
 module _ {K V S A F T : Type 0} (eq : K → K → Bool) (hash : S → K → ℕ) (s : MapState K V S) (k : K) (post : F → Option (Bor K × Bor V) → Operation V T → Type 0) (f : F) where
   -- its closure was not called; while no pairs are being moved the call is in the root, and nothing was changed
@@ -168,15 +156,15 @@ module _ {K V S A F T : Type 0} (eq : K → K → Bool) (hash : S → K → ℕ)
     pub phase : IsWaiting store r closure shown ⊎ IsDoing store r shown aborted
 
   -- it begins
-  pub computing_begin : (m : Machine) (hashed number : ℕ) (aborted : Option T) → m ≡ started Compute hashed s.mode s.initial number → hashed ≡ hash s.store.hasher k → IsStanding m → IsComputing s.store (record { machine = m; key = Own k; value = None; answers = None }) (Some f) None aborted
+  pub computing_begin : (m : Machine) (hashed number : ℕ) (aborted : Option T) → m ≡ started Compute hashed s.mode.resize s.initial number s.mode.limit → hashed ≡ hash s.store.hasher k → IsStanding m → IsComputing s.store (record { machine = m; key = Own k; value = None; answers = None }) (Some f) None aborted
   computing_begin m hashed number aborted is hash_same standing =
-      let begun : m ≡ started Compute (hash s.store.hasher k) s.mode s.initial number = is ∙ ap (λ n. started Compute n s.mode s.initial number) hash_same in
+      let begun : m ≡ started Compute (hash s.store.hasher k) s.mode.resize s.initial number s.mode.limit = is ∙ ap (λ n. started Compute n s.mode.resize s.initial number s.mode.limit) hash_same in
       subst (λ (x : Machine). IsComputing s.store (record { machine = x; key = Own k; value = None; answers = None }) (Some f) None aborted) (sym begun) (record {
         steps = made_none eq hash s (keyed_compute k) number;
         silence = refl;
         standing = subst IsStanding begun standing;
         unlogged = unlogged_none eq hash s (keyed_compute k) number;
-        phase = inl (record { closure_is = refl; unshown = refl; silent = begins_silent s.mode s.initial number (hash s.store.hasher k); ends = λ reply e. absurd cc; rooted = λ zero. (refl, refl, tt) });
+        phase = inl (record { closure_is = refl; unshown = refl; silent = begins_silent s.mode.resize s.initial number (hash s.store.hasher k) s.mode.limit; ends = λ reply e. absurd cc; rooted = λ zero. (refl, refl, tt) });
       })
 
   -- an answer that fits left the call under way, and nearer its end

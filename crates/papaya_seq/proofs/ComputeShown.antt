@@ -1,12 +1,11 @@
 -- What the closure of a compute is shown is what the map holds: the same call could go on otherwise, to a removal, which says so.
-use Rattle.std.proofs.Common.{◌≡◌, ℕ, ◌^◌, ◌<◌, negsuc, Bool, true, Option, None, Some, List, inr, refl, sym, ◌∙◌, ap, subst, eq-eqb}
+use Rattle.std.proofs.Common.{◌≡◌, ℕ, ◌^◌, ◌<◌, negsuc, Bool, true, Option, None, Some, List, inr, refl, ◌∙◌, ap, subst}
 use Rattle.std.specs.Cmp.{IsEquivalence}
-use Rattle.std.specs.Prelude.{MatchBool}
 use Rattle.papaya_words.specs.Counter.{added}
 use Rattle.papaya_words.specs.Word.{pair_of as number_of}
 use Rattle.papaya_words.specs.declared.probe.Refused.TheVariants.{RemoveNothing}
 use Rattle.papaya_call.specs.declared.answers.Operation.TheVariants as ops
-use Rattle.papaya_ask.specs.declared.ask.Answer.TheVariants.{Exchanged, Found as Found_instead, Op, Ok as Ok_done}
+use Rattle.papaya_ask.specs.declared.ask.Answer.TheVariants.{Exchanged, Op, Ok as Ok_done}
 use Rattle.papaya_ask.specs.declared.ask.Ask.TheVariants.{ShowNone, ShowPair}
 use Rattle.papaya_ask.specs.declared.ask.At.{At}
 use Rattle.papaya_ask.specs.declared.ask.At.TheVariants.{Slot}
@@ -22,8 +21,8 @@ use Rattle.papaya_call.specs.declared.machine.State.{State}
 use Rattle.papaya_call.specs.declared.machine.State.TheVariants.{Searching, Writing, Offering, Showing, Pairing}
 use Rattle.papaya_call.specs.declared.remove.Removal.{Removal}
 use Rattle.papaya_ask.specs.declared.search.Search.TheVariants.{Sizing, Looking, Reading, Comparing}
-use Rattle.papaya_call.specs.declared.write.Made.{Made}
-use Rattle.papaya_call.specs.declared.write.Made.TheVariants.{Nothing, Key, Pair}
+use Rattle.papaya_call.specs.declared.made.Made.{Made}
+use Rattle.papaya_call.specs.Compute.{in_place_of}
 use Rattle.papaya_call.specs.Machine.{asks}
 use Rattle.papaya_call.specs.Remove.{grave_word}
 use Rattle.papaya_chain.specs.declared.ask.Ask.TheVariants as asked
@@ -32,6 +31,7 @@ use Rattle.papaya_chain.specs.declared.machine.Machine.{Machine as Chain_machine
 use Rattle.papaya_chain.specs.declared.machine.Phase.TheVariants.{Calling}
 use Rattle.papaya_chain.specs.Machine.{ask_of}
 use Rattle.papaya_chain_rests.proofs.Names.{call_asks}
+use Rattle.papaya_rests.proofs.Makings.{HoldsOfPairAsks, pair_holds, write_holds}
 use Rattle.papaya_timeline.proofs.KeptCore.{keys_lawful}
 use Rattle.papaya_timeline.proofs.KeptSettings.{IsLawfulKeys, tables_hashed}
 use Rattle.papaya_timeline.proofs.MachineLemmas.{machine_shows}
@@ -40,16 +40,16 @@ use Rattle.papaya_timeline.specs.Content.{map_in}
 use Rattle.papaya_timeline.specs.Kept.{coding_of, low, setting_of}
 use Rattle.papaya_timeline.specs.Maps.{Does, Map}
 use Rattle.papaya_timeline.specs.Solo.{IsAnswered}
-use Rattle.papaya_store.specs.Performs.{Exchanges}
 use Rattle.papaya_store.specs.Store.{StoreState, Stored, pair_of}
 use Rattle.papaya_keys.specs.Hashes.{hash_of}
 use Rattle.papaya_store.specs.Tables.{put, word_at}
-use Rattle.papaya_store.specs.declared.pairs.KeyOf.{KeyOf}
+use Rattle.papaya_store.specs.declared.pairs.Part.{Part}
 use Rattle.papaya_store.specs.declared.pairs.Running.{Running}
 use Rattle.papaya_seq.specs.Map.{IsLawfulMap, MapState}
 use Rattle.papaya_seq.proofs.Alone.{map_answered}
 use Rattle.papaya_seq.proofs.Answered.{logged_there}
 use Rattle.papaya_seq.proofs.Answering.{answering}
+use Rattle.papaya_seq.proofs.Exchanging.{exchange_made}
 use Rattle.papaya_seq.proofs.KeyCalls.{keyed_compute}
 use Rattle.papaya_seq.proofs.Steps.{HasCome, came_more, made_alone, made_unchanged, stepped}
 
@@ -61,19 +61,22 @@ compute_of k = Compute_call k tt
 abbrev pub asking : {K V A : Type 0} → Running K V A → Running K V (Unit {0})
 asking r = answering (Some tt) r
 
+-- a call that makes a pair shows nothing
+pair_offers : HoldsOfPairAsks (λ ask. ask ≡ ShowNone → ⊥)
+pair_offers = record { loads = λ e. cc e; takes = λ count e. cc e; key = λ e. cc e; value = λ e. cc e; pair = λ e. cc e; pair_of = λ i e. cc e }
+
+pair_shows : (n : ℕ) → HoldsOfPairAsks (λ ask. ask ≡ ShowPair n → ⊥)
+pair_shows n = record { loads = λ e. cc e; takes = λ count e. cc e; key = λ e. cc e; value = λ e. cc e; pair = λ e. cc e; pair_of = λ i e. cc e }
+
 -- only where it would fill a gap a machine shows that there is none
 pub offering : (made : Made) (h : ℕ) (state : State) → asks made h state ≡ ShowNone → (gap : Gap) × (state ≡ Offering gap)
 offering made h (Searching (Sizing t)) e = absurd cc
 offering made h (Searching (Looking at)) e = absurd cc
 offering made h (Searching (Reading at)) e = absurd cc
 offering made h (Searching (Comparing at word)) e = absurd cc
-offering Nothing h (Writing write) e = absurd cc
-offering Key h (Writing write) e = absurd cc
-offering (Pair m) h (Writing write) e = absurd cc
+offering made h (Writing write) e = absurd (write_holds (λ ask. ask ≡ ShowNone → ⊥) pair_offers write (λ n f. cc f) made e)
 offering made h (Offering gap) e = (gap, refl)
-offering Nothing h (Pairing purpose) e = absurd cc
-offering Key h (Pairing purpose) e = absurd cc
-offering (Pair m) h (Pairing purpose) e = absurd cc
+offering made h (Pairing purpose) e = absurd (pair_holds (λ ask. ask ≡ ShowNone → ⊥) pair_offers made (in_place_of purpose) e)
 offering made h state e = absurd cc
 
 -- and only where it found a pair it shows one
@@ -82,20 +85,10 @@ showing made h n (Searching (Sizing t)) e = absurd cc
 showing made h n (Searching (Looking at)) e = absurd cc
 showing made h n (Searching (Reading at)) e = absurd cc
 showing made h n (Searching (Comparing at word)) e = absurd cc
-showing Nothing h n (Writing write) e = absurd cc
-showing Key h n (Writing write) e = absurd cc
-showing (Pair m) h n (Writing write) e = absurd cc
+showing made h n (Writing write) e = absurd (write_holds (λ ask. ask ≡ ShowPair n → ⊥) (pair_shows n) write (λ i f. cc f) made e)
 showing made h n (Showing removal) e = (removal, refl, cc)
-showing Nothing h n (Pairing purpose) e = absurd cc
-showing Key h n (Pairing purpose) e = absurd cc
-showing (Pair m) h n (Pairing purpose) e = absurd cc
+showing made h n (Pairing purpose) e = absurd (pair_holds (λ ask. ask ≡ ShowPair n → ⊥) (pair_shows n) made (in_place_of purpose) e)
 showing made h n state e = absurd cc
-
--- an exchange whose old word stands there
-exchange_made : {K V S : Type 0} (store : StoreState K V S) (at : At) (old new : ℕ) → word_at store.words at ≡ old → Exchanges (word_at store.words at) old (put store.words at new) Exchanged store (record store { words = put store.words at new })
-exchange_made store at old new here =
-    subst (λ b. MatchBool b ((Exchanged ≡ Exchanged) × (record store { words = put store.words at new } ≡ record store { words = put store.words at new })) ((Exchanged ≡ Found_instead (word_at store.words at)) × (record store { words = put store.words at new } ≡ store)))
-    (sym (eq-eqb (word_at store.words at) old here)) (refl, refl)
 
 module _ {K V S H : Type 0} (eq : K → K → Bool) (input : K → List (List ℕ)) (build : S → H) (write : H → List ℕ → H) (finish : H → ℕ) (classes : IsEquivalence eq) (respects : (x y : K) → eq x y ≡ true → input x ≡ input y)
     (s : MapState K V S) (lawful : IsLawfulMap eq (hash_of input build write finish s.store.hasher) s.store s.mode s.initial) (k : K) (fits : hash_of input build write finish s.store.hasher k < 2 ^ 64) where
@@ -126,7 +119,7 @@ module _ {K V S H : Type 0} (eq : K → K → Bool) (input : K → List (List �
   pair_there : (n : ℕ) (left : Map K V) → IsAnswered eq (compute_of k) (map_in eq s.store) (Removed n) left → (p : Stored K V) × (map_in eq s.store k ≡ Some p) × (p.number ≡ n)
   pair_there n left done = let (q, went, number) = pair_went n done.went done.came done.does in (q, done.update.before ∙ went, number)
 
-  module _ (store : StoreState K V S) (call : Machine) (number : ℕ) (helped : Bool) (key : KeyOf K) (left : Option V) where
+  module _ (store : StoreState K V S) (call : Machine) (number : ℕ) (helped : Bool) (key : Part K) (left : Option (Part V)) where
     -- the call in a state
     abbrev at_state : State → Running K V (Unit {0})
     at_state state = record { machine = record { call = record call { task = Compute; state = state }; number = number; helped = helped; phase = Calling }; key = key; value = left; answers = Some tt }
@@ -155,7 +148,7 @@ module _ {K V S H : Type 0} (eq : K → K → Bool) (input : K → List (List �
         let place : At = Slot removal.place.table removal.place.probe.i in
         let (p, logged) = shown_logged removal came in
         let r : Running K V (Unit {0}) = at_state (Showing removal) in
-        let read : word_at store.words place ≡ removal.word = (came.lone refl).current.0 in
+        let read : word_at store.words place ≡ removal.word = (came.lone refl).current.read.0 in
         let chosen = came_more eq (hash_of input build write finish) s (keyed_compute k) store r (answers.Call (Op kinds.Remove)) store r refl (Op kinds.Remove, refl, inr (p, logged, (tt, ops.Remove, tt, refl, tt, refl, refl, refl))) refl keys came in
         let r1 : Running K V (Unit {0}) = stepped r r.machine (answers.Call (Op kinds.Remove)) in
         let store1 : StoreState K V S = record store { words = put store.words place (grave_word removal.word) } in

@@ -8,7 +8,7 @@ use Rattle.papaya_words.specs.declared.probe.ResizeMode.TheVariants.{Incremental
 use Rattle.papaya_words.specs.declared.word.Kind.TheVariants as kinds
 use Rattle.papaya_ask.specs.Search.{at_yes as search_compared, hinted, look}
 use Rattle.papaya_ask.specs.declared.ask.Answer.{Answer as Call_answer}
-use Rattle.papaya_ask.specs.declared.ask.Answer.TheVariants.{Word as Word_read, Made as Made_number, Refused as Was_refused}
+use Rattle.papaya_ask.specs.declared.ask.Answer.TheVariants.{Word as Word_read, Found as Found_instead, Made as Made_number, Refused as Was_refused}
 use Rattle.papaya_ask.specs.declared.ask.Ask.TheVariants.{ShowNone, ShowPair}
 use Rattle.papaya_ask.specs.declared.ask.At.TheVariants.{Next, Slot}
 use Rattle.papaya_ask.specs.declared.call.Reply.TheVariants.{Removed}
@@ -20,15 +20,15 @@ use Rattle.papaya_call.specs.declared.compute.Choice.{Choice}
 use Rattle.papaya_call.specs.declared.compute.Choice.TheVariants.{Replace as To_replace, Remove as To_remove}
 use Rattle.papaya_call.specs.declared.compute.Gap.TheVariants.{NoRoot}
 use Rattle.papaya_call.specs.declared.compute.Purpose.{Purpose}
-use Rattle.papaya_call.specs.declared.compute.Purpose.TheVariants.{Fill, Replace}
+use Rattle.papaya_call.specs.declared.compute.Purpose.TheVariants.{Fill, Replace, Again}
 use Rattle.papaya_call.specs.declared.machine.Machine.{Machine as Call_machine}
 use Rattle.papaya_call.specs.declared.machine.State.{State}
 use Rattle.papaya_call.specs.declared.machine.State.TheVariants.{AtRoot, Searching, Offering, Showing, Pairing, Putting, Burying, Counting, Uncounting, Leaving, Growing, Ended}
 use Rattle.papaya_call.specs.Write.{claimed_by}
-use Rattle.papaya_call.specs.declared.write.Made.{Made}
-use Rattle.papaya_call.specs.declared.write.Made.TheVariants.{Nothing, Key, Pair}
+use Rattle.papaya_call.specs.declared.made.Made.{Made}
 use Rattle.papaya_call.specs.Answers.{Says}
 use Rattle.papaya_call.specs.Compute.{lacks, nothing}
+use Rattle.papaya_call.specs.Made.{grown, told as number_told}
 use Rattle.papaya_call.specs.Machine as calls
 use Rattle.papaya_call.specs.Machine.{asks, computes, goes_as}
 use Rattle.papaya_chain.specs.declared.ask.Ask.TheVariants as asked
@@ -41,6 +41,7 @@ use Rattle.papaya_chain_rests.specs.Rests.{left_by}
 use Rattle.papaya_rests.specs.Alone.{IsRead}
 use Rattle.papaya_rests.specs.Says.{Inserts, Makes, Removes, Said, StandsOn, said_to_choose, said_to_fill}
 use Rattle.papaya_rests.proofs.AloneSteps.{exchange_done}
+use Rattle.papaya_rests.proofs.Makings.{numbered_leads, paired_leads}
 use Rattle.papaya_store.specs.Asks.{PerformsAsk}
 use Rattle.papaya_store.specs.Performs.{Performs, own_key, same as compares, size_of}
 use Rattle.papaya_store.specs.Store.{StoreState, pair_of}
@@ -56,7 +57,7 @@ IsYetToMake _ = ⊥
 remembered_none : (fill : Option ℕ) (choice : Option Choice) → ((said : Said) → said_to_fill fill ≡ Some said → IsYetToMake said) → ((said : Said) → said_to_choose choice ≡ Some said → IsYetToMake said) → record { fill = fill; choice = choice } ≡ nothing
 remembered_none None None filled chosen = refl
 remembered_none (Some n) choice filled chosen = absurd (filled (Makes None n) refl)
-remembered_none None (Some (To_replace old new)) filled chosen = absurd (chosen (Makes (Some old) new) refl)
+remembered_none None (Some (To_replace old new)) filled chosen = absurd (chosen (Makes (Some old) new.pair) refl)
 remembered_none None (Some (To_remove old)) filled chosen = absurd (chosen (Removes old) refl)
 
 -- a machine that stands on nothing else remembers nothing
@@ -156,9 +157,10 @@ module _ {K V S A : Type 0} (eq : K → K → Bool) (says : Says K V A) (store :
   -- the pair that is made of its value leads to the exchange
   pairing_stays : (made : Made) (purpose : Purpose) (told : Call_answer) → IsReplacing (Pairing purpose) → IsReplacing (calls.after (compute_at made (Pairing purpose)) told).state
   pairing_stays made (Fill gap) told there = absurd there
-  pairing_stays Nothing (Replace write) (Made_number n) there = there
-  pairing_stays Key (Replace write) (Made_number n) there = there
-  pairing_stays (Pair i) (Replace write) (Made_number n) there = there
+  pairing_stays made (Again write) told there = absurd there
+  pairing_stays made (Replace write) (Word_read count) there = numbered_leads IsReplacing tt (Pairing (Replace write)) there (number_told made count)
+  pairing_stays made (Replace write) (Found_instead count) there = numbered_leads IsReplacing tt (Pairing (Replace write)) there (number_told made count)
+  pairing_stays made (Replace write) (Made_number n) there = paired_leads IsReplacing (Replace write) n there there (grown made write.old)
   pairing_stays made (Replace write) (Was_refused refused) there = tt
   pairing_stays made (Replace write) told there = there
 

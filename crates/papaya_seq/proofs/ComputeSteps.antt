@@ -1,30 +1,28 @@
 -- A compute of a map for one caller, over one answer that is not its closure's.
-use Rattle.std.proofs.Common.{◌≡◌, ◌⊎◌, inl, inr, ⊎_elim, ℕ, ◌+◌, ◌^◌, ◌<◌, ◌++◌, ◌∷◌, [], Bool, false, Option, None, Some, List, length, slice_get, refl, sym, ◌∙◌, ap, subst, arith}
-use Rattle.std.proofs.lemmas.Option.{slice_get_read}
-use Rattle.std.proofs.lemmas.List.{get_or_push, length_push}
+use Rattle.std.proofs.Common.{◌≡◌, ◌⊎◌, inl, inr, ⊎_elim, ℕ, ◌^◌, ◌<◌, Bool, false, Option, None, Some, [], option_map, refl, sym, ◌∙◌, ap, subst}
 use denote.Ref.{Bor}
-use Rattle.papaya_words.specs.Word.{kind_of}
-use Rattle.papaya_words.specs.declared.limits.TheConstants.{MAX_LOG_LEN}
+use Rattle.papaya_words.specs.Word.{kind_of, pair_of as number_of}
 use Rattle.papaya_words.specs.declared.probe.Refused.{Refused}
 use Rattle.papaya_words.specs.declared.word.Kind.TheVariants.{Marked}
 use Rattle.papaya_call.specs.Answers.{Says as Answers_say}
 use Rattle.papaya_call.specs.declared.answers.Operation.{Operation}
 use Rattle.papaya_call.specs.declared.answers.Operation.TheVariants as ops
-use Rattle.papaya_ask.specs.declared.ask.Answer.{Answer as Call_answer}
 use Rattle.papaya_ask.specs.declared.ask.Answer.TheVariants.{Made as Made_number}
 use Rattle.papaya_ask.specs.declared.ask.Ask.{Ask as Call_ask}
-use Rattle.papaya_ask.specs.declared.ask.Ask.TheVariants.{ShowNone, ShowPair, MakePair, Done as Ask_done}
+use Rattle.papaya_ask.specs.declared.ask.Ask.TheVariants.{ShowNone, ShowPair, Done as Ask_done}
 use Rattle.papaya_ask.specs.declared.ask.At.TheVariants.{Next, Slot}
 use Rattle.papaya_ask.specs.declared.call.Reply.{Reply}
 use Rattle.papaya_ask.specs.declared.call.Reply.TheVariants.{Inserted, Replaced, Removed, Aborted, Refused as Reply_refused}
 use Rattle.papaya_ask.specs.declared.call.Task.TheVariants.{Compute}
 use Rattle.papaya_call.specs.declared.compute.Purpose.{Purpose}
-use Rattle.papaya_call.specs.declared.compute.Purpose.TheVariants.{Fill, Replace}
+use Rattle.papaya_call.specs.declared.compute.Purpose.TheVariants.{Fill, Replace, Again}
 use Rattle.papaya_call.specs.declared.machine.Machine.{Machine as Call_machine}
-use Rattle.papaya_call.specs.declared.machine.State.TheVariants.{Pairing}
+use Rattle.papaya_call.specs.declared.machine.State.{State as Stage}
+use Rattle.papaya_call.specs.declared.machine.State.TheVariants.{Writing, Pairing}
+use Rattle.papaya_call.specs.declared.write.Write.{Write}
 use Rattle.papaya_call.specs.Compute.{nothing}
 use Rattle.papaya_call.specs.Machine as calls
-use Rattle.papaya_call.specs.Machine.{IsComputer}
+use Rattle.papaya_call.specs.Machine.{IsStandingState}
 use Rattle.papaya_alone.specs.Ahead.{IsPhaseRead}
 use Rattle.papaya_chain.specs.declared.ask.Ask.{Ask}
 use Rattle.papaya_chain.specs.declared.ask.Ask.TheVariants as asked
@@ -37,42 +35,34 @@ use Rattle.papaya_chain_rests.specs.Goes.{Goes, IsOwnStep}
 use Rattle.papaya_chain_rests.specs.Rests.{left_by}
 use Rattle.papaya_chain_rests.proofs.Once.{chain_once}
 use Rattle.papaya_rests.specs.Alone.{IsRead}
-use Rattle.papaya_rests.specs.Says.{Agrees, Inserts, IsSaidBy, Makes, Removes, Said, StandsOn, said_for, said_in, said_in_reply, said_of_compute, show}
+use Rattle.papaya_rests.specs.Says.{Agrees, Inserts, IsSaidBy, Makes, Removes, Said, ShowsIn, StandsOn, WasSaid, said_in, said_in_reply, said_of_compute, said_to_choose, show}
 use Rattle.papaya_rests.proofs.SaysOver.{machine_paired}
 use Rattle.papaya_store.specs.Asks.{PerformsAsk}
-use Rattle.papaya_store.specs.Performs.{LogsPair, Performs, Refuses, key_at}
-use Rattle.papaya_store.specs.Store.{KeepsPairs, StoreState, Stored, pair_of, stored_at, stored_in}
+use Rattle.papaya_store.specs.Performs.{Performs, own_value}
+use Rattle.papaya_store.specs.Store.{KeepsPairs, StoreState, Stored}
 use Rattle.papaya_store.specs.Tables.{word_at}
 use Rattle.papaya_store.specs.declared.pairs.Running.{Running}
 use Rattle.papaya_timeline.specs.Advances.{reply_in}
 use Rattle.papaya_timeline.specs.Content.{map_in}
 use Rattle.papaya_timeline.specs.Kept.{IsLawfulCore}
 use Rattle.papaya_timeline.specs.Solo.{whatever}
-use Rattle.papaya_timeline.proofs.ChainLemmas.{asks_own, chain_aborted, made_own, own_asks}
+use Rattle.papaya_timeline.proofs.ChainLemmas.{asks_own, chain_aborted}
 use Rattle.papaya_timeline.proofs.CoreLemmas.{reply_asked}
 use Rattle.papaya_timeline.proofs.KeptLemmas.{IsLawfulKeys}
 use Rattle.papaya_timeline.proofs.KeptStep as kept_steps
-use Rattle.papaya_timeline.proofs.StepTells.{at_hand}
+use Rattle.papaya_timeline.proofs.MadePairs.{MakesOver}
 use Rattle.papaya_timeline.proofs.StoreLemmas.{performed_ask, unnumbered}
 use Rattle.papaya_seq.specs.Map.{IsLawfulMap, IsWriteCauseAt, MapState, next_of}
 use Rattle.papaya_seq.proofs.Answering.{IsShowing, answering_performs}
-use Rattle.papaya_seq.proofs.Causes.{IsLogRefusal, IsNoTableRefusal, IsTableAsk, IsUnlogged, refused_so, unlogged_more, write_cause}
-use Rattle.papaya_seq.proofs.ComputeRun.{HasPair, IsAsked, IsComputing, IsDoing, IsFirstEnd, IsInsertEnd, IsInsertSaid, IsInserting, IsOnWay, IsToRemove, IsWaiting, Went, ended_by, map_at}
+use Rattle.papaya_seq.proofs.Causes.{IsLogRefusal, IsNoTableRefusal, IsPairStage, IsTableAsk, IsUnlogged, PairsFirst, refused_so, unlogged_more, write_cause}
+use Rattle.papaya_seq.proofs.ComputeRun.{HasPair, IsAsked, IsComputing, IsDoing, IsFirstEnd, IsInsertEnd, IsInsertSaid, IsInserting, IsOnWay, IsShown, IsToRemove, IsWaiting, Went, ended_by, map_at}
 use Rattle.papaya_seq.proofs.ComputeShown.{asking}
 use Rattle.papaya_seq.proofs.ComputeStages.{IsInRoot, IsRemoving, IsReplacing, IsYetToMake, bare_at, bare_is, remembers_nothing, removing_stands, removing_stays, replacing_stands, replacing_stays, root_stays}
+use Rattle.papaya_seq.proofs.Logs.{IsFirst}
 use Rattle.papaya_seq.proofs.OwnSteps.{own_performs, own_step}
 use Rattle.papaya_seq.proofs.Steps.{HasCome, came_more, made_goes, made_more, made_nears, made_ordered, made_says, seated}
 use Rattle.papaya_seq.proofs.KeyCalls.{keyed_compute}
 use Rattle.papaya_seq.proofs.Unmarked.{last_next, unmarked}
-
--- the last of a list that was pushed to
-pushed_last : {X : Type 0} (xs : List X) (x : X) → slice_get (xs ++ x ∷ []) (length xs) ≡ Some x
-pushed_last xs x = slice_get_read (xs ++ x ∷ []) (length xs + 1) (length xs) x (sym (length_push xs x)) (omega arith) (sym (get_or_push xs x x (length xs) refl))
-
--- what is made for a purpose is yet to be made
-pub purpose_said : (purpose : Purpose) → (shown : Option ℕ) × (said_for purpose ≡ Inserts shown)
-purpose_said (Fill gap) = (None, refl)
-purpose_said (Replace write) = (_, refl)
 
 -- an ask that is none of a closure
 pub unshown : (ask : Call_ask) → (ask ≡ ShowNone → ⊥) → ((n : ℕ) → ask ≡ ShowPair n → ⊥) → IsShowing ask → ⊥
@@ -117,14 +107,14 @@ module _ {K V S A : Type 0} (eq : K → K → Bool) (hash : S → K → ℕ) (s 
 
     -- a pair was made of the value
     abbrev HasMade : Said → Type 0
-    HasMade said = (shown : Option ℕ) × (n : ℕ) × (said ≡ Makes shown n) × StandsOn r.machine.call (Inserts shown) × (ask_of r.machine ≡ asked.Call MakePair) × (answer ≡ answers.Call (Made_number n))
+    HasMade said = (own : IsOwnStep r.machine answer) × (shown : Option ℕ) × (n : ℕ) × (said ≡ Makes shown n) × IsSaidBy r.machine.call own.told (Makes shown n)
 
     -- what it stands on it stood on, or a pair was made
     said_now : (said : Said) → (own : IsOwnStep r.machine answer) → IsSaidBy r.machine.call own.told said → HasMade said
     said_now (Agrees n agrees) own (asks_it, is) = absurd (no_pair n (asks_own r.machine own.phase ∙ ap asked.Call asks_it))
     said_now (Inserts shown) own (asks_it, is) = absurd (not_shown shown (asks_own r.machine own.phase ∙ ap asked.Call asks_it))
     said_now (Removes n) own (asks_it, is) = absurd (no_pair n (asks_own r.machine own.phase ∙ ap asked.Call asks_it))
-    said_now (Makes shown n) own (stands, asks_it, is) = (shown, n, refl, stands, asks_own r.machine own.phase ∙ ap asked.Call asks_it, own.is ∙ ap answers.Call is)
+    said_now (Makes shown n) own by = (own, shown, n, refl, by)
 
     said_goes : (said : Said) → StandsOn next.call said → StandsOn r.machine.call said ⊎ HasMade said
     said_goes said stands =
@@ -134,47 +124,51 @@ module _ {K V S A : Type 0} (eq : K → K → Bool) (hash : S → K → ℕ) (s 
         (made_says eq hash s (keyed_compute k) store (asking r) answer store' (asking later) going performs.0 same keys came said stands)
 
     -- and of a value of which a pair was made none is yet to be made
-    unpaired : (n : ℕ) (shown : Option ℕ) → ask_of r.machine ≡ asked.Call MakePair → answer ≡ answers.Call (Made_number n) → StandsOn next.call (Inserts shown) → ⊥
-    unpaired n shown e is stands =
+    unpaired : (own : IsOwnStep r.machine answer) (shown' : Option ℕ) (n : ℕ) → IsSaidBy r.machine.call own.told (Makes shown' n) → (shown : Option ℕ) → StandsOn next.call (Inserts shown) → ⊥
+    unpaired own shown' n (was, makes, told) shown stands =
         let standing = (lawful_now.core.standing 0 (asking r) refl).call in
-        let there : StandsOn (calls.after r.machine.call (Made_number n)) (Inserts shown) = subst (λ d. StandsOn d (Inserts shown)) (made_own r.machine n e) (subst (λ a. StandsOn (after r.machine a).call (Inserts shown)) is stands) in
-        ⊎_elim
-        (λ filled. ⊎_elim (λ f. absurd (cc f)) (λ kept. kept.2 shown refl) (filled.1 (Inserts shown) there))
-        (λ replaced. ⊎_elim (λ f. absurd (cc f)) (λ kept. absurd (cc kept.1)) (replaced.2 (Inserts shown) there))
-        (machine_paired r.machine.call n came.task standing came.shows (own_asks r.machine MakePair e).1)
+        let there : StandsOn (calls.after r.machine.call (Made_number n)) (Inserts shown) = subst (λ a. StandsOn (calls.after r.machine.call a) (Inserts shown)) told (subst (λ d. StandsOn d (Inserts shown)) own.call stands) in
+        elim (machine_paired r.machine.call n came.task standing came.shows makes) [
+          | inl filled ↦ let f : Inserts shown ≡ Makes None n = filled.1 (Inserts shown) there in cc f
+          | inr (i, was_said, only) ↦ elim (only (Inserts shown) there) [
+            | inl is ↦ cc is
+            | inr (m, is, stood) ↦ cc is
+          ]
+        ]
 
     -- the pair that was made has the value
-    pair_made : (v : V) (n : ℕ) → r.value ≡ Some v → ask_of r.machine ≡ asked.Call MakePair → answer ≡ answers.Call (Made_number n) → HasPair v store' n
-    pair_made v n has e is = by_told (subst (λ ask. PerformsAsk eq whatever hash false ask store (asking r) answer store' (asking later)) e performs.0)
+    pair_made : (v : V) → own_value store r ≡ Some v → (own : IsOwnStep r.machine answer) (shown : Option ℕ) (n : ℕ) → IsSaidBy r.machine.call own.told (Makes shown n) → HasPair v store' n
+    pair_made v has own shown n (was, makes, told) =
+        let (es, (tales, kept)) = lawful_now.law in
+        let made = kept_steps.made_now eq (hash s.store.hasher) keys whatever hash false (seated store (Some (asking r)) s.mode s.initial) 0 (seated store' (Some (asking r)) s.mode s.initial) (asking r) answer (asking later) refl performs.0 (ap hash came.hasher) refl es tales lawful_now.core kept n
+        (subst MakesOver (sym (asks_own r.machine own.phase)) makes) (own.is ∙ ap answers.Call told) in
+        let both : Some v ≡ Some made.pair.value = sym has ∙ made.before in
+        let value : v ≡ made.pair.value = cc both in
+        (made.pair, made.there, sym value)
+
+    -- and so has the call still
+    value_kept : (v : V) → own_value store r ≡ Some v → own_value store' later ≡ Some v
+    value_kept v has =
+        let (es, (tales, kept)) = lawful_now.law in
+        elim (kept_steps.left eq (hash s.store.hasher) keys whatever hash false (seated store (Some (asking r)) s.mode s.initial) 0 (seated store' (Some (asking r)) s.mode s.initial) (asking r) answer (asking later) refl performs.0 (ap hash came.hasher) refl es tales lawful_now.core kept).value [
+          | inl keeps ↦ keeps.same v has
+          | inr said ↦ elim said.shown [
+            | inl none ↦ absurd (no_none none)
+            | inr (n, shows, computes) ↦ absurd (no_pair n shows)
+          ]
+        ]
+
+    -- a compute that is to make a pair has made none before
+    pairs_first : ((purpose : Purpose) → r.machine.call.state ≡ Pairing purpose → r.machine.call.remembered ≡ nothing) → PairsFirst r.machine.call
+    pairs_first none pairing = subst (λ t. IsFirst t r.machine.call.made r.machine.call.remembered) (sym came.task) (by_stage r.machine.call.state refl pairing)
       where
-        logged : (told : Call_answer) → told ≡ Made_number n → LogsPair told store (asking r) store' (asking later) → HasPair v store' n
-        logged told made (m, w, key, value, e, few, stays, moved) =
-            let number : length store.pairs ≡ n = cc (e, made) in
-            let as_value : w ≡ v = cc (value, has) in
-            let there : slice_get store.keys m ≡ Some k = sym (ap (key_at store.keys) key) ∙ came.own in
-            let pushed : pair_of store' (length store.pairs) ≡ Some (record { number = length store.pairs; key = k; value = w }) =
-            ap (λ (y : StoreState K V S). pair_of y (length store.pairs)) stays ∙ ap (stored_in store.keys (length store.pairs)) (pushed_last store.pairs (record { key = m; value = w })) ∙ ap (stored_at (length store.pairs) w) there in
-            (record { number = length store.pairs; key = k; value = w }, sym (ap (pair_of store') number) ∙ pushed, as_value)
+        stands : IsStandingState Compute r.machine.call.state
+        stands = subst (λ t. IsStandingState t r.machine.call.state) came.task (lawful_now.core.standing 0 (asking r) refl).call.state
 
-        by_told : PerformsAsk eq whatever hash false (asked.Call MakePair) store (asking r) answer store' (asking later) → HasPair v store' n
-        by_told (told, also, inl (none, stays)) = absurd (unmade none (cc (also, is)))
-          where
-            unmade : Refuses MAX_LOG_LEN (length store.pairs) told → told ≡ Made_number n → ⊥
-            unmade (inl refused) made = absurd (cc (refused, made))
-            unmade (inr (refused, full)) made = absurd (cc (refused, made))
-        by_told (told, also, inr (inl ((done, has_none), stays))) = let made : told ≡ Made_number n = cc (also, is) in absurd (cc (done, made))
-        by_told (told, also, inr (inr logs)) = logged told (cc (also, is)) logs
-
-    -- its value stays at hand until then
-    value_kept : (shown : Option ℕ) → StandsOn next.call (Inserts shown) → later.value ≡ r.value
-    value_kept shown stands =
-        ⊎_elim
-        (λ kept. kept)
-        (λ z. ⊎_elim
-        (λ pair. absurd (unpaired pair.0 shown pair.1 pair.2 stands))
-        (λ showing. absurd (not_shown showing.0 showing.2))
-        z)
-        (at_hand eq whatever hash false store (asking r) answer store' (asking later) (ask_of r.machine) performs.0)
+        by_stage : (stage : Stage) → r.machine.call.state ≡ stage → IsPairStage r.machine.call.made stage → r.machine.call.remembered ≡ nothing
+        by_stage (Writing write) is h = absurd (subst (IsStandingState Compute) is stands).0
+        by_stage (Pairing purpose) is h = none purpose is
+        by_stage stage is h = absurd h
 
     -- the call after the answer
     abbrev then : Running K V A
@@ -192,9 +186,9 @@ module _ {K V S A : Type 0} (eq : K → K → Bool) (hash : S → K → ℕ) (s 
     unaborted t told = let (shown, asks_it, is) = chain_aborted r.machine answer goes t unreplied (reply_asked (ask_of next) (Aborted t) told) in not_shown shown asks_it
 
     -- why it is refused
-    refused_why : (IsComputer r.machine.call.task → (purpose : Purpose) → r.machine.call.state ≡ Pairing purpose → r.machine.call.remembered ≡ nothing) → (refused : Refused) → reply_in (ask_of next) ≡ Some (Reply_refused refused) → IsLogRefusal s refused ⊎ (IsTableAsk r.machine × IsNoTableRefusal (map_at s store') refused)
+    refused_why : ((purpose : Purpose) → r.machine.call.state ≡ Pairing purpose → r.machine.call.remembered ≡ nothing) → (refused : Refused) → reply_in (ask_of next) ≡ Some (Reply_refused refused) → IsLogRefusal s refused ⊎ (IsTableAsk r.machine × IsNoTableRefusal (map_at s store') refused)
     refused_why first refused told =
-        elim (refused_so eq hash s (keyed_compute k) store (asking r) answer store' (asking later) going performs.0 same keys came un first refused told) [
+        elim (refused_so eq hash s (keyed_compute k) store (asking r) answer store' (asking later) going performs.0 same keys came un (pairs_first first) refused told) [
           | inl log ↦ inl log
           | inr (inl table) ↦ inr table
           | inr (inr removes) ↦ absurd (no_none removes.1)
@@ -209,7 +203,7 @@ module _ {K V S A : Type 0} (eq : K → K → Bool) (hash : S → K → ℕ) (s 
 
     -- what it has read stands there
     read_now : r.machine.phase ≡ Calling → IsRead (word_at store.words) r.machine.call.state
-    read_now phase = (subst (λ p. IsPhaseRead r.machine.call.mode (word_at store.words) r.machine.call.state p) phase (came.lone going).current).0
+    read_now phase = (subst (λ p. IsPhaseRead r.machine.call.mode (word_at store.words) r.machine.call.state p) phase (came.lone going).current.read).0
 
     -- it is a compute
     as_compute : (Holds : Call_machine → Type 0) → Holds (record r.machine.call { task = Compute }) → Holds r.machine.call
@@ -234,50 +228,77 @@ module _ {K V S A : Type 0} (eq : K → K → Bool) (hash : S → K → ℕ) (s 
         )
 
     module _ (held : Option (Stored K V)) (v : V) (now : IsInserting s held v store r) where
-      -- the value is at hand, or is the pair's
-      insert_said : (said : Said) → StandsOn next.call said → IsInsertSaid v store' then said
-      insert_said (Agrees n agrees) stands = ⊎_elim (λ before. now.said (Agrees n agrees) before) (λ (made : HasMade (Agrees n agrees)). absurd (cc made.2)) (said_goes (Agrees n agrees) stands)
-      insert_said (Removes n) stands = ⊎_elim (λ before. now.said (Removes n) before) (λ (made : HasMade (Removes n)). absurd (cc made.2)) (said_goes (Removes n) stands)
-      insert_said (Makes shown n) stands =
-          ⊎_elim
-          (λ before. let (p, logged, value) = now.said (Makes shown n) before in (p, keeps n p logged, value))
-          (λ (made : HasMade (Makes shown n)).
-          let (shown', n', is, before, e, told) = made in
-          let number : n' ≡ n = cc is in
-          subst (HasPair v store') number (pair_made v n' (now.said (Inserts shown') before).0 e told))
-          (said_goes (Makes shown n) stands)
-      insert_said (Inserts shown) stands =
-          ⊎_elim
-          (λ before.
-          let (value, only) = now.said (Inserts shown) before in
-          (value_kept shown stands ∙ value, λ other there. ⊎_elim (λ was. only other was) (λ (made : HasMade other). absurd (unpaired made.1 shown made.4 made.5 stands)) (said_goes other there)))
-          (λ (made : HasMade (Inserts shown)). absurd (cc made.2))
-          (said_goes (Inserts shown) stands)
+      -- the value is the call's, and the pair's once it is made
+      insert_value : own_value store' then ≡ Some v
+      insert_value = value_kept v now.value
+
+      -- the closure was shown what was shown before
+      was_shown : (shown : Option ℕ) → WasSaid r.machine.call shown → IsShown held shown
+      was_shown shown (inl stands) = (now.said (Inserts shown) stands).0
+      was_shown shown (inr (n, stands)) = (now.said (Makes shown n) stands).0
+
+      insert_said : (said : Said) → StandsOn next.call said → IsInsertSaid held v store' then said
+      insert_said (Agrees n agrees) stands = elim (said_goes (Agrees n agrees) stands) [
+        | inl before ↦ now.said (Agrees n agrees) before
+        | inr (own, shown, m, is, by) ↦ cc is
+      ]
+      insert_said (Removes n) stands = elim (said_goes (Removes n) stands) [
+        | inl before ↦ now.said (Removes n) before
+        | inr (own, shown, m, is, by) ↦ cc is
+      ]
+      insert_said (Makes shown n) stands = elim (said_goes (Makes shown n) stands) [
+        | inl before ↦ (let (same_shown, (p, logged, value)) = now.said (Makes shown n) before in (same_shown, (p, keeps n p logged, value)))
+        | inr (own, shown', n', is, by) ↦
+            let number : n' ≡ n = cc is in
+            let showed : shown' ≡ shown = cc is in
+            (sym showed ∙ was_shown shown' by.0, subst (HasPair v store') number (pair_made v now.value own shown' n' by))
+      ]
+      insert_said (Inserts shown) stands = elim (said_goes (Inserts shown) stands) [
+        | inl before ↦
+            let (same_shown, only) = now.said (Inserts shown) before in (
+              same_shown,
+              λ other there. elim (said_goes other there) [
+                | inl was ↦ only other was
+                | inr (own, shown', n', is, by) ↦ absurd (unpaired own shown' n' by shown stands)
+              ],
+            )
+        | inr (own, shown', m, is, by) ↦ absurd (cc is)
+      ]
 
       -- a call that is to make a pair remembers none
+      only_said : (shown : Option ℕ) → StandsOn r.machine.call (Inserts shown) → r.machine.call.remembered ≡ nothing
+      only_said shown stands = remembers_nothing r.machine.call (λ other there. subst IsYetToMake (sym ((now.said (Inserts shown) stands).1 other there)) tt)
+
+      no_again : (held' : Option (Stored K V)) → held ≡ held' → (write : Write) → r.machine.call.state ≡ Pairing (Again write) → IsOnWay held' r.machine → ⊥
+      no_again None is write at way =
+          let (some, (new, choice)) = subst (ShowsIn r.machine.call.remembered.choice) at came.shows in
+          let shown : Some (number_of write.old) ≡ None = (now.said (Makes (Some (number_of write.old)) new.pair) (inr (inr (ap said_to_choose choice)))).0 ∙ ap (option_map (λ (p : Stored K V). p.number)) is in
+          cc shown
+      no_again (Some p) is write at way = subst IsReplacing at way.1
+
       insert_first : (purpose : Purpose) → r.machine.call.state ≡ Pairing purpose → r.machine.call.remembered ≡ nothing
-      insert_first purpose is =
-          let (shown, said) = purpose_said purpose in
-          let (value, only) = now.said (Inserts shown) (inl (ap (said_in r.machine.call.task) is ∙ ap Some said)) in
-          remembers_nothing r.machine.call (λ other stands. subst IsYetToMake (sym (only other stands)) tt)
+      insert_first (Fill gap) is = only_said None (inl (ap (said_in r.machine.call.task) is))
+      insert_first (Replace write) is = only_said (Some (number_of write.old)) (inl (ap (said_in r.machine.call.task) is))
+      insert_first (Again write) is = absurd (no_again held refl write is now.way)
 
       -- it is refused for a cause
       table_refused : (held' : Option (Stored K V)) → IsOnWay held' r.machine → IsTableAsk r.machine → (refused : Refused) → IsNoTableRefusal (map_at s store') refused → IsWriteCauseAt s held' refused (map_at s store')
       table_refused None way table refused (inl memory) = inl memory
-      table_refused None way table refused (inr (capacity, none)) = inr (capacity, inr (inl refl, none))
+      table_refused None way table refused (inr (capacity, none)) = inr (inl (capacity, inr (inl refl, none)))
       table_refused (Some p) way table refused why = absurd (subst IsReplacing (table way.0) way.1)
 
       insert_refused : (refused : Refused) → IsLogRefusal s refused ⊎ (IsTableAsk r.machine × IsNoTableRefusal (map_at s store') refused) → IsWriteCauseAt s held refused (map_at s store')
       insert_refused refused (inl (inl memory)) = inl memory
-      insert_refused refused (inl (inr (capacity, full))) = inr (capacity, inl full)
+      insert_refused refused (inl (inr (inl (capacity, full)))) = inr (inl (capacity, inl full))
+      insert_refused refused (inl (inr (inr spent))) = inr (inr spent)
       insert_refused refused (inr (table, why)) = table_refused held now.way table refused why
 
       insert_ends : (reply : Reply) → reply_in (ask_of next) ≡ Some reply → IsInsertEnd s held v store' reply
-      insert_ends (Inserted n) told = insert_said (Makes None n) (told_stands (Inserted n) told (Makes None n) refl)
-      insert_ends (Replaced m n) told = insert_said (Makes (Some m) n) (told_stands (Replaced m n) told (Makes (Some m) n) refl)
+      insert_ends (Inserted n) told = (insert_said (Makes None n) (told_stands (Inserted n) told (Makes None n) refl)).1
+      insert_ends (Replaced m n) told = (insert_said (Makes (Some m) n) (told_stands (Replaced m n) told (Makes (Some m) n) refl)).1
       insert_ends (Removed n) told = insert_said (Removes n) (told_stands (Removed n) told (Removes n) refl)
       insert_ends (Aborted t) told = unaborted t told
-      insert_ends (Reply_refused refused) told = insert_refused refused (refused_why (λ computes. insert_first) refused told)
+      insert_ends (Reply_refused refused) told = insert_refused refused (refused_why insert_first refused told)
       insert_ends reply told = tt
 
       insert_way : (held' : Option (Stored K V)) → IsOnWay held' r.machine → IsOnWay held' next
@@ -285,7 +306,7 @@ module _ {K V S A : Type 0} (eq : K → K → Bool) (hash : S → K → ℕ) (s 
       insert_way (Some p) way = replacing_more way
 
       inserting_more : IsInserting s held v store' then
-      inserting_more = record { said = insert_said; ends = insert_ends; way = insert_way held now.way }
+      inserting_more = record { value = insert_value; said = insert_said; ends = insert_ends; way = insert_way held now.way }
 
     -- what holds where its closure answered stays so
     asked_more : {T : Type 0} (held : Option (Stored K V)) (o : Operation V T) → IsAsked s held o store r → IsAsked s held o store' then
@@ -300,7 +321,13 @@ module _ {K V S A : Type 0} (eq : K → K → Bool) (hash : S → K → ℕ) (s 
     module _ {F T : Type 0} (post : F → Option (Bor K × Bor V) → Operation V T → Type 0) (f : F) (closure : Option F) (shown : Option ℕ) (lawful : IsLawfulMap eq (hash s.store.hasher) s.store s.mode s.initial) (now : IsWaiting {T = T} eq hash s k post f store r closure shown) where
       -- one whose closure was not called stands on nothing
       wait_silent : (said : Said) → StandsOn next.call said → ⊥
-      wait_silent said stands = ⊎_elim (λ before. now.silent said before) (λ (made : HasMade said). now.silent (Inserts made.0) made.3) (said_goes said stands)
+      wait_silent said stands = elim (said_goes said stands) [
+        | inl before ↦ now.silent said before
+        | inr (own, shown', n, is, (was, makes, told)) ↦ elim was [
+          | inl stood ↦ now.silent (Inserts shown') stood
+          | inr (m, stood) ↦ now.silent (Makes shown' m) stood
+        ]
+      ]
 
       wait_nothing : r.machine.call.remembered ≡ nothing
       wait_nothing = remembers_nothing r.machine.call (λ other stands. absurd (now.silent other stands))
@@ -325,7 +352,7 @@ module _ {K V S A : Type 0} (eq : K → K → Bool) (hash : S → K → ℕ) (s 
       wait_ends (Aborted t) told = unaborted t told
       wait_ends (Reply_refused refused) told = (
         λ zero. subst (IsInRoot store'.words.root) (ended_by next (Reply_refused refused) told).1 (wait_rooted zero).2,
-        write_cause s refused r.machine (map_at s store') (refused_why (λ computes purpose is. wait_nothing) refused told),
+        write_cause s refused r.machine (map_at s store') (refused_why (λ purpose is. wait_nothing) refused told),
       )
       wait_ends reply told = tt
 

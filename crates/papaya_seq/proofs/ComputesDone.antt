@@ -16,7 +16,7 @@ use Rattle.papaya_seq.specs.Answered.{IsParted}
 use Rattle.papaya_seq.specs.Computing.{IsComputed}
 use Rattle.papaya_seq.specs.MadeAlone.{IsComputedAlone}
 use Rattle.papaya_seq.specs.Computes.{Computes, ComputesBy, IsComputeRefusal, IsNew, IsRefusedFirst, Operates, Says, answer_map}
-use Rattle.papaya_seq.specs.Map.{Inserts, IsResizing, IsWriteCauseAt, KeepsAndGrows, MapState, Unchanged, deref_pair, entry_of, value_of}
+use Rattle.papaya_seq.specs.Map.{Inserts, IsResizing, IsWriteCauseAt, KeepsAndGrows, MapState, Unchanged, deref_pair, entry_of, kept_key, value_of}
 use Rattle.papaya_keys.specs.declared.compute.Computed.{Computed}
 use Rattle.papaya_keys.specs.declared.compute.Computed.TheVariants.{Inserted, Updated, Removed, Aborted}
 use Rattle.papaya_seq.proofs.Answered.{logged_there, update_leaves}
@@ -95,7 +95,7 @@ module _ {K V S T : Type 0} (post : Option (Bor K × Bor V) → Operation V T �
   Logged (Err refused) = Unit {0}
 
   -- a new pair was stored
-  stored : (held next : Option (Stored K V)) (v : V) (q : Stored K V) → Says post held (Insert v) → IsNew k v s.store s'.store q → next ≡ Some q → IsUpdate eq k held next (map_in eq s.store) (map_in eq s'.store) → KeepsAndGrows s s' → StoresPair held q.number
+  stored : (held next : Option (Stored K V)) (v : V) (q : Stored K V) → Says post held (Insert v) → IsNew (kept_key k held) v s.store s'.store q → next ≡ Some q → IsUpdate eq k held next (map_in eq s.store) (map_in eq s'.store) → KeepsAndGrows s s' → StoresPair held q.number
   stored held next v q says new comes u keeps =
       let update : IsUpdate eq k held (Some q) (map_in eq s.store) (map_in eq s'.store) = subst (λ (o : Option (Stored K V)). IsUpdate eq k held o (map_in eq s.store) (map_in eq s'.store)) comes u in
       let said : Says post held (Insert q.value) = subst (λ (w : V). Says post held (Insert w)) (sym new.value) says in

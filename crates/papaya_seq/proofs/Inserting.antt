@@ -1,5 +1,5 @@
 -- Where the machine of an insertion goes from the root, and from its write.
-use Rattle.std.proofs.Common.{◌≡◌, ℕ, ◌==◌, Bool, true, false, refl, sym, subst}
+use Rattle.std.proofs.Common.{◌≡◌, ℕ, ◌==◌, Bool, true, false, Option, None, Some, refl, sym, subst}
 use Rattle.std.proofs.lemmas.Bool.{cond_both}
 use Rattle.papaya_words.specs.Word.{kind_of, pair_of}
 use Rattle.papaya_words.specs.declared.probe.ResizeMode.{ResizeMode}
@@ -21,10 +21,11 @@ use Rattle.papaya_call.specs.declared.machine.Machine.{Machine}
 use Rattle.papaya_call.specs.declared.machine.State.{State}
 use Rattle.papaya_call.specs.declared.machine.State.TheVariants.{Searching, Writing, Counting, Noting, Growing, Ended}
 use Rattle.papaya_call.specs.declared.write.Claimed.{Claimed}
-use Rattle.papaya_call.specs.declared.write.Made.{Made}
-use Rattle.papaya_call.specs.declared.write.Made.TheVariants.{Nothing, Key, Pair}
+use Rattle.papaya_call.specs.declared.made.Made.{Made}
 use Rattle.papaya_call.specs.declared.write.Write.{Write}
-use Rattle.papaya_call.specs.Write.{claimed_by}
+use Rattle.papaya_call.specs.Made.{told as told_made}
+use Rattle.papaya_call.specs.Write.{claimed_by, serves}
+use Rattle.papaya_rests.proofs.Makings.{exchanged_leads, numbered_leads, refuses_leads, told_leads, write_then, write_then_is}
 use Rattle.papaya_call.specs.Machine.{after, found, goes_as, needed, occupies, replaces}
 use Rattle.papaya_alone.specs.Rank.{table_of}
 use Rattle.papaya_seq.proofs.TableSearch.{IsSeenIn, MayCompare, compared_in, loaded_in, sized_in}
@@ -103,26 +104,20 @@ module _ (m : Machine) (made : Made) where
   searches_in replace t search (Was_refused refused) task is = is
 
   -- a write that is not beaten stays one, is made or refused
-  pub writes_on : (write : Write) (told : Answer) → ((word : ℕ) → told ≡ Found_instead word → ⊥) → HasWritten (after (in_state (Writing write)) told).state
-  writes_on write (Word_read word) unbeaten = tt
-  writes_on write Exchanged unbeaten = exchanged_on made
+  pub writes_on : (write : Write) (told : Answer) → ((n word : ℕ) → serves made write ≡ Some n → told ≡ Found_instead word → ⊥) → HasWritten (after (in_state (Writing write)) told).state
+  writes_on write told unbeaten = subst HasWritten (sym (write_then_is m made write told)) (by_served (serves made write) refl told unbeaten)
     where
-      exchanged_on : (own : Made) → HasWritten (after (record m { made = own; state = Writing write }) Exchanged).state
-      exchanged_on Nothing = tt
-      exchanged_on Key = tt
-      exchanged_on (Pair n) = cond_both (write.old == 0) (Counting (claimed_by write n)) (Ended (Replaced (pair_of write.old) n)) HasWritten (λ _. tt) (λ _. tt)
-  writes_on write (Found_instead word) unbeaten = absurd (unbeaten word refl)
-  writes_on write (Yes same) unbeaten = tt
-  writes_on write (Op kind) unbeaten = tt
-  writes_on write (Size slots limit) unbeaten = tt
-  writes_on write (Made_number n) unbeaten = tt
-  writes_on write Ok_done unbeaten = tt
-  writes_on write (Was_refused refused) unbeaten = refused_on made
-    where
-      refused_on : (own : Made) → HasWritten (after (record m { made = own; state = Writing write }) (Was_refused refused)).state
-      refused_on Nothing = tt
-      refused_on Key = tt
-      refused_on (Pair n) = tt
+      by_served : (served : Option ℕ) → serves made write ≡ served → (told : Answer) → ((n word : ℕ) → serves made write ≡ Some n → told ≡ Found_instead word → ⊥) → HasWritten (write_then m served made write told)
+      by_served served is (Word_read word) unbeaten = told_leads HasWritten tt write tt served made word
+      by_served served is Exchanged unbeaten = exchanged_leads HasWritten write tt (λ n. cond_both (write.old == 0) (Counting (claimed_by write n)) (Ended (Replaced (pair_of write.old) n)) HasWritten (λ _. tt) (λ _. tt)) served
+      by_served None is (Found_instead word) unbeaten = numbered_leads HasWritten tt (Writing write) tt (told_made made word)
+      by_served (Some n) is (Found_instead word) unbeaten = absurd (unbeaten n word is refl)
+      by_served served is (Yes same) unbeaten = tt
+      by_served served is (Op kind) unbeaten = tt
+      by_served served is (Size slots limit) unbeaten = tt
+      by_served served is (Made_number n) unbeaten = tt
+      by_served served is Ok_done unbeaten = tt
+      by_served served is (Was_refused refused) unbeaten = refuses_leads HasWritten write refused tt tt served
 
   -- what was claimed is counted, and its hint written
   pub counts_on : (claimed : Claimed) (told : Answer) → HasWritten (after (in_state (Counting claimed)) told).state

@@ -15,20 +15,19 @@ use Rattle.papaya_chain_rests.proofs.Standing.{chain_stands}
 use Rattle.papaya_keys.specs.Hashes.{hash_of}
 use Rattle.papaya_store.specs.declared.pairs.Running.{Running}
 use Rattle.papaya_store.specs.Store.{StoreState}
-use Rattle.papaya_timeline.specs.Advances.{reply_in}
 use Rattle.papaya_timeline.specs.Content.{map_in}
 use Rattle.papaya_timeline.specs.Solo.{IsAnswered, IsNewIn, whatever}
 use Rattle.papaya_timeline.proofs.KeptSettings.{IsLawfulKeys}
-use Rattle.papaya_seq.specs.Drives.{Drives, IsReplied, at_hand}
+use Rattle.papaya_seq.specs.Drives.{Drives, IsOfStore, IsReplied, at_hand, value_left}
 use Rattle.papaya_seq.specs.MadeAlone.{IsMadeAlone}
 use Rattle.papaya_seq.specs.Map.{IsLawfulMap, IsTryCause, IsWriteCauseAt, KeepsAndGrows, LogsOne, MapState, insertion}
 use Rattle.papaya_seq.proofs.Alone.{map_answered, map_hasher, map_lawful, map_logged}
 use Rattle.papaya_seq.proofs.InsertingRun.{inserting_absent, inserting_alone, inserting_begin, inserting_cause, inserting_fit, inserting_left, inserting_more, inserting_tables, IsInserting}
 use Rattle.papaya_seq.proofs.Turns.{IsOver}
 
--- a call that has not replied asks for something
-pub still_asks : (ask : Ask) → reply_in ask ≡ None → (reply : replies.Reply) → ask ≡ asks.Call (Ask_done reply) → ⊥
-still_asks ask going reply e = let f : None ≡ Some reply = sym going ∙ ap reply_in e in absurd cc
+-- what the store answers is no reply
+still_asks : (ask : Ask) → IsOfStore ask → (reply : replies.Reply) → ask ≡ asks.Call (Ask_done reply) → ⊥
+still_asks ask asked reply e = subst IsOfStore e asked
 
 -- What an insertion leaves, with its reply and the value that is left.
 pub record InsertionDone {K V S : Type 0} (eq : K → K → Bool) (hash : S → K → ℕ) (s : MapState K V S) (replace : Bool) (k : K) (value : V) (reply : replies.Reply) (left : Option V) (s' : MapState K V S) : Type 0 where
@@ -47,7 +46,7 @@ module _ {K V S : Type 0} (eq : K → K → Bool) (hash : S → K → ℕ) (s : 
   inserting_drives : (told : List Answer) (store : StoreState K V S) (r : Running K V (Unit {0})) (store' : StoreState K V S) (r' : Running K V (Unit {0})) → Drives eq hash told store r store' r' → IsInserting eq hash s replace k value store r → IsInserting eq hash s replace k value store' r'
   inserting_drives [] store r store' r' (same, also) now = subst (λ x. IsInserting eq hash s replace k value x r') (sym same) (subst (IsInserting eq hash s replace k value store) (sym also) now)
   inserting_drives (answer ∷ rest) store r store' r' (middle, later, step, more) now =
-      let open_still = still_asks (ask_of r.machine) step.going in
+      let open_still = still_asks (ask_of r.machine) step.asked in
       let fit = inserting_fit eq hash s replace k value keys lawful fits whatever store r answer middle later (ask_of r.machine) refl open_still step.performs step.same now step.fit in
       inserting_drives rest middle (record later { machine = after r.machine answer }) store' r' more
       (inserting_more eq hash s replace k value keys lawful fits whatever store r answer middle later (ask_of r.machine) refl open_still step.performs step.same now (chain_stands r.machine now.standing answer fit))
@@ -58,9 +57,9 @@ module _ {K V S H : Type 0} (eq : K → K → Bool) (input : K → List (List �
   hash = hash_of input build write finish
 
   -- an insertion that has replied at once leaves what its machine does
-  pub insertion_done : (reply : replies.Reply) (left : Option V) (store : StoreState K V S) → IsStanding (at_hand {A = Unit {0}} (started (Insert replace) (hash s.store.hasher k) s.mode s.initial) k value).machine → IsReplied eq hash s.store (at_hand (started (Insert replace) (hash s.store.hasher k) s.mode s.initial) k value) reply left store → InsertionDone eq hash s replace k value reply left (record s { store = store })
+  pub insertion_done : (reply : replies.Reply) (left : Option V) (store : StoreState K V S) → IsStanding (at_hand {A = Unit {0}} (started (Insert replace) (hash s.store.hasher k) s.mode.resize s.initial s.mode.limit) k (Some value)).machine → IsReplied eq hash s.store (at_hand (started (Insert replace) (hash s.store.hasher k) s.mode.resize s.initial s.mode.limit) k (Some value)) reply left store → InsertionDone eq hash s replace k value reply left (record s { store = store })
   insertion_done reply left store standing done =
-      let begun = at_hand {A = Unit {0}} (started (Insert replace) (hash s.store.hasher k) s.mode s.initial) k value in
+      let begun = at_hand {A = Unit {0}} (started (Insert replace) (hash s.store.hasher k) s.mode.resize s.initial s.mode.limit) k (Some value) in
       let first : IsInserting eq hash s replace k value s.store begun = inserting_begin eq hash s replace k value begun.machine (hash s.store.hasher k) 0 refl refl standing in
       let ended = inserting_drives eq hash s replace k value keys lawful fits done.answers s.store begun store done.end done.drives first in
       let over : IsOver eq hash s (insertion replace k value) store reply = inserting_alone eq hash s replace k value keys lawful fits store done.end reply done.replied ended in
@@ -69,7 +68,7 @@ module _ {K V S H : Type 0} (eq : K → K → Bool) (input : K → List (List �
         fresh = (map_logged eq input build write finish classes respects s (insertion replace k value) reply store lawful over).0;
         cause = inserting_cause eq hash s replace k value keys lawful fits store done.end reply done.replied ended;
         absent = inserting_absent eq hash s replace k value keys lawful fits store done.end reply done.replied ended;
-        left_is = λ n e. sym done.value ∙ inserting_left eq hash s replace k value keys lawful fits store done.end reply done.replied ended n e;
+        left_is = λ n e. sym done.value ∙ ap value_left (inserting_left eq hash s replace k value keys lawful fits store done.end reply done.replied ended n e);
         alone = record { runs = over.ran };
         keeps = (
           record {

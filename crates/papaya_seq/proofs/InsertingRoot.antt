@@ -13,12 +13,14 @@ use Rattle.papaya_call.specs.declared.machine.State.{State}
 use Rattle.papaya_call.specs.declared.machine.State.TheVariants.{AtRoot, Making, Opening, Searching, Writing, Offering, Showing, Pairing, Putting, Burying, Counting, Noting, Uncounting, Leaving, Growing, Ended}
 use Rattle.papaya_call.specs.declared.need.Need.{Need}
 use Rattle.papaya_call.specs.declared.write.Claimed.{Claimed}
-use Rattle.papaya_call.specs.declared.write.Made.{Made}
-use Rattle.papaya_call.specs.declared.write.Made.TheVariants.{Nothing, Key, Pair}
+use Rattle.papaya_call.specs.declared.made.Made.{Made}
 use Rattle.papaya_call.specs.declared.write.Write.{Write}
+use Rattle.papaya_call.specs.Write.{serves}
 use Rattle.papaya_call.specs.Machine as calls
 use Rattle.papaya_call.specs.Machine.{at_root, needed}
 use Rattle.papaya_chain.specs.declared.ask.Answer.{Answer}
+use Rattle.papaya_chain.specs.declared.ask.Answer.TheVariants as answers
+use Rattle.papaya_chain.specs.declared.ask.Ask.TheVariants as asks
 use Rattle.papaya_chain.specs.declared.machine.Machine.{Machine}
 use Rattle.papaya_chain.specs.declared.machine.Phase.TheVariants.{Calling}
 use Rattle.papaya_chain.specs.Machine.{after, ask_of, asks_in}
@@ -26,6 +28,7 @@ use Rattle.papaya_chain_rests.specs.Goes.{IsOwnStep}
 use Rattle.papaya_chain_rests.specs.Rests.{left_by}
 use Rattle.papaya_rests.specs.Alone.{IsRead}
 use Rattle.papaya_rests.specs.Rests.{change_in}
+use Rattle.papaya_rests.proofs.Makings.{write_holds}
 use Rattle.papaya_alone.specs.Ahead.{IsPhaseRead}
 use Rattle.papaya_alone.specs.Rank.{table_of}
 use Rattle.papaya_store.specs.Asks.{PerformsAsk}
@@ -53,9 +56,7 @@ asking : (m : Machine) (state : State) → m.phase ≡ Calling → m.call.state 
 asking m state calling e = ap (λ p. reply_in (asks_in m.call p)) calling ∙ ap (λ x. reply_in (asks_in (record m.call { state = x }) Calling)) e
 
 writing_goes : (made : Made) (call : Call_machine) (write : Write) → reply_in (asks_in (record call { made = made; state = Writing write }) Calling) ≡ None
-writing_goes Nothing call write = refl
-writing_goes Key call write = refl
-writing_goes (Pair n) call write = refl
+writing_goes made call write = write_holds (λ ask. reply_in (asks.Call ask) ≡ None) (record { loads = refl; takes = λ count. refl; key = refl; value = refl; pair = refl; pair_of = λ n. refl }) write (λ n. refl) made
 
 module _ {K V S : Type 0} (eq : K → K → Bool) (hash : S → K → ℕ) (s : MapState K V S) (replace : Bool) (k : K) (value : V) where
   abbrev call : KeyCall K V
@@ -153,7 +154,7 @@ module _ {K V S : Type 0} (eq : K → K → Bool) (hash : S → K → ℕ) (s : 
 
       -- what a write looks for stands there
       has_read : (write : Write) → r.machine.phase ≡ Calling → r.machine.call.state ≡ Writing write → word_at store.words (Slot write.place.table write.place.probe.i) ≡ write.old
-      has_read write calling state = subst (IsRead (word_at store.words)) state (subst (IsPhaseRead r.machine.call.mode (word_at store.words) r.machine.call.state) calling (came.lone going).current).0
+      has_read write calling state = subst (IsRead (word_at store.words)) state (subst (IsPhaseRead r.machine.call.mode (word_at store.words) r.machine.call.state) calling (came.lone going).current.read).0
 
       writes : (write : Write) → r.machine.call.task ≡ Insert false → r.machine.phase ≡ Calling → r.machine.call.state ≡ Writing write → write.place.table ≡ store.words.root → map_in eq s.store k ≡ None
       writes write task calling state here =
@@ -232,6 +233,12 @@ module _ {K V S : Type 0} (eq : K → K → Bool) (hash : S → K → ℕ) (s : 
         wrote : (state : State) → next.machine.call.state ≡ state → replace ≡ true → HasWritten state → ((refused : Refused) → state ≡ Ended (Reply_refused refused) → IsLogRefusal s refused) → IsResting store' next.machine
         wrote state e only written refuses = inr (record { calling = own.goes_on; stage = subst (IsRootStage store') (sym e) (written_stage store' state only written refuses) })
 
+      -- no other word stands where it writes
+      pub unbeaten : (write : Write) → r.machine.phase ≡ Calling → r.machine.call.state ≡ Writing write → (told : Call_answer) → answer ≡ answers.Call told → (n word : ℕ) → serves r.machine.call.made write ≡ Some n → told ≡ Found_instead word → ⊥
+      unbeaten write calling e told is n word serves_so found =
+          write_unbeaten eq whatever store r told store' later r.machine.call.made write (has_read store r came going write calling e) n serves_so
+          (subst (λ x. Performs eq whatever false (calls.asks r.machine.call.made r.machine.call.hash x) store r told store' later) e (own_performs eq whatever hash store r answer store' later told calling is performs)) word found
+
       -- a write goes on, is made or refused
       pub written_more : (state : State) → r.machine.phase ≡ Calling → r.machine.call.state ≡ state → HasWritten state → (next.machine.phase ≡ Calling) × HasWritten next.machine.call.state
       written_more (Writing write) calling e written =
@@ -239,9 +246,7 @@ module _ {K V S : Type 0} (eq : K → K → Bool) (hash : S → K → ℕ) (s : 
           let told = (own calling unleft).told in (
             (own calling unleft).goes_on,
             subst HasWritten (sym (led calling unleft (Writing write) e))
-                (writes_on r.machine.call r.machine.call.made write told
-                (write_unbeaten eq whatever store r told store' later r.machine.call.made write (has_read store r came going write calling e)
-                (subst (λ x. Performs eq whatever false (calls.asks r.machine.call.made r.machine.call.hash x) store r told store' later) e (told_performs calling unleft)))),
+                (writes_on r.machine.call r.machine.call.made write told (unbeaten write calling e told (own calling unleft).is)),
           )
       written_more (Counting n) calling e written =
           let unleft : left_by r.machine.call.state ≡ None = ap left_by e in

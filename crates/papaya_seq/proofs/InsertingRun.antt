@@ -3,20 +3,20 @@ use Rattle.std.proofs.Common.{◌≡◌, ◌⊎◌, inl, inr, ℕ, ◌^◌, ◌<
 use Rattle.std.proofs.lemmas.Bool.{cases_eq}
 use Rattle.papaya_words.specs.declared.probe.Refused.{Refused}
 use Rattle.papaya_ask.specs.declared.ask.Answer.TheVariants.{Op, Ok as Ok_done}
-use Rattle.papaya_ask.specs.declared.ask.Ask.TheVariants.{Load, Exchange, LoadHint, WriteHint, SameKey, ShowNone, ShowPair, SizeOf, MakeKey, MakePair, MakeTable, AddToShard, Done as Ask_done}
+use Rattle.papaya_ask.specs.declared.ask.Ask.TheVariants.{Load, Exchange, LoadHint, WriteHint, SameKey, ShowNone, ShowPair, SizeOf, MakeKey, MakeValue, MakePair, MakePairOf, MakeTable, AddToShard, Done as Ask_done}
 use Rattle.papaya_ask.specs.declared.ask.OpKind.TheVariants.{Remove}
 use Rattle.papaya_ask.specs.declared.call.Reply.{Reply}
 use Rattle.papaya_ask.specs.declared.call.Reply.TheVariants.{Occupied, Refused as Reply_refused}
 use Rattle.papaya_ask.specs.declared.call.Task.TheVariants.{Insert}
 use Rattle.papaya_call.specs.Answers.{Says}
-use Rattle.papaya_call.specs.declared.compute.Remembered.{Remembered}
 use Rattle.papaya_call.specs.declared.machine.State.{State}
-use Rattle.papaya_call.specs.declared.machine.State.TheVariants.{Making, Writing, Ended}
-use Rattle.papaya_call.specs.declared.write.Made.{Made}
-use Rattle.papaya_call.specs.declared.write.Made.TheVariants.{Nothing, Key, Pair}
+use Rattle.papaya_call.specs.declared.machine.State.TheVariants.{Making, Searching, Writing, Ended}
+use Rattle.papaya_ask.specs.declared.search.Search.TheVariants.{Sizing}
+use Rattle.papaya_ask.specs.declared.ask.Ask.{Ask as Call_ask}
 use Rattle.papaya_call.specs.declared.write.Write.{Write}
 use Rattle.papaya_copy.specs.Link.{link_ask}
-use Rattle.papaya_call.specs.Machine.{IsStandingState, ask_of as call_ask}
+use Rattle.papaya_call.specs.declared.machine.Machine.{Machine as Call_machine}
+use Rattle.papaya_call.specs.Machine.{IsStandingState, ask_of as call_ask, at_root}
 use Rattle.papaya_chain.specs.declared.ask.Answer.{Answer}
 use Rattle.papaya_chain.specs.declared.ask.Answer.TheVariants as answers
 use Rattle.papaya_chain.specs.declared.ask.Ask.{Ask}
@@ -25,10 +25,15 @@ use Rattle.papaya_chain.specs.declared.machine.Machine.{Machine}
 use Rattle.papaya_chain.specs.declared.machine.Phase.{Phase}
 use Rattle.papaya_chain.specs.declared.machine.Phase.TheVariants.{Calling, Linking, Copying as Copying_root}
 use Rattle.papaya_chain.specs.Machine.{IsFit, IsFitAsk, IsStanding, after, ask_of, asks_in, started}
+use Rattle.papaya_rests.specs.Says.{MakesPair}
+use Rattle.papaya_rests.proofs.Makings.{IsPairAsk}
 use Rattle.papaya_rests.proofs.RestsHeld.{ended_in}
+use Rattle.papaya_chain_rests.specs.Goes.{Goes}
+use Rattle.papaya_chain_rests.specs.Rests.{left_by}
 use Rattle.papaya_store.specs.Asks.{PerformsAsk}
 use Rattle.papaya_store.specs.Store.{StoreState}
-use Rattle.papaya_store.specs.declared.pairs.KeyOf.TheVariants.{Own}
+use Rattle.papaya_store.specs.declared.pairs.Part.{Part}
+use Rattle.papaya_store.specs.declared.pairs.Part.TheVariants.{Own}
 use Rattle.papaya_store.specs.declared.pairs.Running.{Running}
 use Rattle.papaya_timeline.specs.Advances.{reply_in}
 use Rattle.papaya_timeline.specs.Content.{map_in}
@@ -37,20 +42,20 @@ use Rattle.papaya_timeline.proofs.KeptSettings.{IsLawfulKeys}
 use Rattle.papaya_timeline.proofs.StoreLemmas.{performed_ask, unnumbered}
 use Rattle.papaya_seq.specs.Map.{Grows, IsLawfulMap, IsResizing, LogsOne, IsTryCause, IsWriteCause, IsWriteCauseAt, MapState, insertion, next_of}
 use Rattle.papaya_seq.proofs.Answering.{answering, silent_performs}
-use Rattle.papaya_seq.proofs.Causes.{IsLogRefusal, IsNoTableRefusal, IsRemoveNothing, IsTableAsk, IsUnlogged, insert_pairs, refused_so, unlogged_more, unlogged_none, write_cause}
+use Rattle.papaya_seq.proofs.Causes.{IsLogRefusal, IsNoTableRefusal, IsRemoveNothing, IsTableAsk, IsUnlogged, pair_stage_of, refused_so, unlogged_more, unlogged_none, write_cause}
 use Rattle.papaya_seq.proofs.Ending.{left_of}
 use Rattle.papaya_seq.proofs.Grown.{copy_pairs, insertion_logs, logs_none, logs_still}
-use Rattle.papaya_seq.proofs.Logs.{IsFirst}
+use Rattle.papaya_seq.proofs.Served.{IsServed, left_unmade, served_after, served_pairs, unmade_served}
 use Rattle.papaya_seq.proofs.Inserting.{HasWritten}
-use Rattle.papaya_seq.proofs.InsertingRoot.{IsResting, IsRootStage, resting_more, written_more}
+use Rattle.papaya_seq.proofs.InsertingRoot.{IsResting, IsRootStage, resting_more, unbeaten, written_more}
 use Rattle.papaya_seq.proofs.InsertingSteps.{copy_stays, value_stays}
-use Rattle.papaya_seq.proofs.Steps.{HasCome, IsMade, came_nears, made_alone, made_more, made_none, made_tables}
+use Rattle.papaya_seq.proofs.Steps.{HasCome, IsMade, came_nears, made_alone, made_goes, made_more, made_none, made_tables}
 use Rattle.papaya_seq.proofs.KeyCalls.{keyed_insertion}
 use Rattle.papaya_seq.proofs.Turns.{IsOver}
 
 -- the value is at hand until the call writes
-abbrev pub IsAtHand : {V : Type 0} → V → Machine → Option V → Type 0
-IsAtHand value m left = (left ≡ Some value) ⊎ ((m.phase ≡ Calling) × HasWritten m.call.state)
+abbrev pub IsAtHand : {V : Type 0} → V → Machine → Option (Part V) → Type 0
+IsAtHand value m left = (left ≡ Some (Own value)) ⊎ ((m.phase ≡ Calling) × HasWritten m.call.state)
 
 -- the map with this store
 abbrev pub left_in : {K V S : Type 0} → MapState K V S → StoreState K V S → MapState K V S
@@ -65,10 +70,18 @@ module _ {K V S A : Type 0} (eq : K → K → Bool) (hash : S → K → ℕ) (s 
     pub hand : IsAtHand value r.machine r.value
     pub resting : next_of s.store ≡ 0 → IsResting eq hash s replace k value store r.machine
     pub unlogged : IsUnlogged eq hash s (keyed_insertion replace k value) store (answering None r)
+    -- it makes one pair
+    pub served : IsServed r.machine.call.made r.machine.call.state
     -- one pair was logged at most
     pub logs : LogsOne s.store store
     -- where it was refused there is a cause
     pub caused : (refused : Refused) → reply_in (ask_of r.machine) ≡ Some (Reply_refused refused) → IsWriteCause s refused (left_in s store)
+
+-- what makes a pair is asked for one
+pair_asked : (ask : Call_ask) → MakesPair ask → IsPairAsk ask
+pair_asked MakePair makes = tt
+pair_asked (MakePairOf n) makes = tt
+pair_asked ask makes = absurd makes
 
 -- a machine that asks on has not replied
 unreplied : (ask : Ask) → ((reply : Reply) → ask ≡ asks.Call (Ask_done reply) → ⊥) → reply_in ask ≡ None
@@ -83,22 +96,25 @@ unreplied (asks.Call (ShowPair n)) open_still = refl
 unreplied (asks.Call (SizeOf t)) open_still = refl
 unreplied (asks.Call MakeKey) open_still = refl
 unreplied (asks.Call MakePair) open_still = refl
+unreplied (asks.Call MakeValue) open_still = refl
+unreplied (asks.Call (MakePairOf i)) open_still = refl
 unreplied (asks.Call (MakeTable slots limit chunks)) open_still = refl
 unreplied (asks.Call (AddToShard by)) open_still = refl
 unreplied (asks.Copy ask) open_still = refl
 
 module _ {K V S A : Type 0} (eq : K → K → Bool) (hash : S → K → ℕ) (s : MapState K V S) (replace : Bool) (k : K) (value : V) where
   -- it begins
-  pub inserting_begin : (m : Machine) (hashed number : ℕ) → m ≡ started (Insert replace) hashed s.mode s.initial number → hashed ≡ hash s.store.hasher k → IsStanding m → IsInserting {A = A} eq hash s replace k value s.store (record { machine = m; key = Own k; value = Some value; answers = None })
+  pub inserting_begin : (m : Machine) (hashed number : ℕ) → m ≡ started (Insert replace) hashed s.mode.resize s.initial number s.mode.limit → hashed ≡ hash s.store.hasher k → IsStanding m → IsInserting {A = A} eq hash s replace k value s.store (record { machine = m; key = Own k; value = Some (Own value); answers = None })
   inserting_begin m hashed number is hash_same standing =
-      let machine : m ≡ started (Insert replace) (hash s.store.hasher k) s.mode s.initial number = is ∙ ap (λ n. started (Insert replace) n s.mode s.initial number) hash_same in
-      subst (λ (x : Machine). IsInserting {A = A} eq hash s replace k value s.store (record { machine = x; key = Own k; value = Some value; answers = None })) (sym machine) (record {
+      let machine : m ≡ started (Insert replace) (hash s.store.hasher k) s.mode.resize s.initial number s.mode.limit = is ∙ ap (λ n. started (Insert replace) n s.mode.resize s.initial number s.mode.limit) hash_same in
+      subst (λ (x : Machine). IsInserting {A = A} eq hash s replace k value s.store (record { machine = x; key = Own k; value = Some (Own value); answers = None })) (sym machine) (record {
         steps = made_none eq hash s (keyed_insertion replace k value) number;
         silence = refl;
         standing = subst IsStanding machine standing;
         hand = inl refl;
         resting = λ last. inr (record { calling = refl; stage = last });
         unlogged = unlogged_none eq hash s (keyed_insertion replace k value) number;
+        served = (refl, refl);
         logs = logs_none s.store s.store (refl, refl);
         caused = λ refused e. let f : None ≡ Some (Reply_refused refused) = e in absurd cc;
       })
@@ -159,7 +175,7 @@ module _ {K V S A : Type 0} (eq : K → K → Bool) (hash : S → K → ℕ) (s 
 
       -- a refusal is of a log, or of a table
       refusal : (refused : Refused) → reply_in (ask_of (after r.machine answer)) ≡ Some (Reply_refused refused) → IsLogRefusal s refused ⊎ (IsTableAsk r.machine × IsNoTableRefusal (left_in s store') refused)
-      refusal refused e = elim (refused_so eq hash s (keyed_insertion replace k value) store (answering None r) answer store' (answering None later) going silent.0 same keys came now.unlogged (insert_pairs r.machine.call replace task) refused e) [
+      refusal refused e = elim (refused_so eq hash s (keyed_insertion replace k value) store (answering None r) answer store' (answering None later) going silent.0 same keys came now.unlogged (served_pairs r.machine.call replace task now.served) refused e) [
         | inl log ↦ inl log
         | inr (inl table) ↦ inr table
         | inr (inr removes) ↦ absurd (unoffered refused removes)
@@ -175,15 +191,26 @@ module _ {K V S A : Type 0} (eq : K → K → Bool) (hash : S → K → ℕ) (s 
       -- one pair is logged at most
       logs_more : (phase : Phase) → PerformsAsk eq says hash false (asks_in r.machine.call phase) store r answer store' later → LogsOne s.store store'
       logs_more Calling (told, told_is, own) =
-          insertion_logs eq says false replace r.machine.call.made r.machine.call.hash r.machine.call.state s.store store r told store' later (subst (λ t. IsStandingState t r.machine.call.state) task now.standing.call.state)
-          (λ none. now.unlogged.pairs (subst (λ t. IsFirst t r.machine.call.made r.machine.call.remembered) (sym task) (unpaired r.machine.call.made r.machine.call.remembered none))) own now.logs
-        where
-          unpaired : (made : Made) (held : Remembered) → ((i : ℕ) → made ≡ Pair i → ⊥) → IsFirst (Insert replace) made held
-          unpaired Nothing held none = tt
-          unpaired Key held none = tt
-          unpaired (Pair i) held none = absurd (none i refl)
+          insertion_logs eq says false (call_ask r.machine.call) s.store store r told store' later
+          (λ makes. now.unlogged.pairs (served_pairs r.machine.call replace task now.served (pair_stage_of r.machine.call.made r.machine.call.hash r.machine.call.state (pair_asked (call_ask r.machine.call) makes)))) own now.logs
       logs_more (Linking link) (h, stays) = logs_still s.store store store' now.logs (copy_pairs eq hash false (link_ask link) store answer store' h)
       logs_more (Copying_root copying) (h, stays) = logs_still s.store store store' now.logs (copy_pairs eq hash false _ store answer store' h)
+
+      served_call : {then : Call_machine} → (after r.machine answer).call ≡ then → IsServed then.made then.state → IsServed (after r.machine answer).call.made (after r.machine answer).call.state
+      served_call is h = subst (λ (y : Call_machine). IsServed y.made y.state) (sym is) h
+
+      aside_served : (t : ℕ) → left_by r.machine.call.state ≡ Some t → (state : State) → IsServed r.machine.call.made state
+      aside_served t left state = unmade_served r.machine.call.made state (left_unmade r.machine.call.made r.machine.call.state t left now.served)
+
+      -- it makes one pair
+      served_more : Goes r.machine answer → IsServed (after r.machine answer).call.made (after r.machine answer).call.state
+      served_more (inl waits) = served_call waits.call now.served
+      served_more (inr (inl step)) =
+          served_call step.call (served_after r.machine.call step.told
+          (λ write n word is. unbeaten eq hash s replace k value keys lawful fits store (answering None r) answer store' (answering None later) going silent.0 same came write step.phase is step.told step.is n word) now.served)
+      served_more (inr (inr (inl enters))) = served_call enters.call (aside_served enters.from enters.left (Searching (Sizing enters.table)))
+      served_more (inr (inr (inr (inl begins)))) = served_call begins.call (aside_served begins.from begins.left (at_root r.machine.call.task r.machine.call.remembered.fill begins.root))
+      served_more (inr (inr (inr (inr ends)))) = served_call ends.call tt
 
       -- and it goes on
       pub inserting_more : IsStanding (after r.machine answer) → IsInserting eq hash s replace k value store' (record later { machine = after r.machine answer })
@@ -194,6 +221,7 @@ module _ {K V S A : Type 0} (eq : K → K → Bool) (hash : S → K → ℕ) (s 
         hand = hand_more now.hand;
         resting = λ last. resting_more eq hash s replace k value keys lawful fits store (answering None r) answer store' (answering None later) going silent.0 same came log_refusal (now.resting last);
         unlogged = unlogged_more eq hash s (keyed_insertion replace k value) store (answering None r) answer store' (answering None later) going silent.0 same keys came now.unlogged;
+        served = served_more (made_goes eq hash s (keyed_insertion replace k value) store (answering None r) answer store' (answering None later) going silent.0 same keys came);
         logs = logs_more r.machine.phase performs;
         caused = λ refused e. write_cause s refused r.machine (left_in s store') (refusal refused e);
       }
@@ -214,10 +242,10 @@ module _ {K V S A : Type 0} (eq : K → K → Bool) (hash : S → K → ℕ) (s 
           ended_in r.machine.call.made r.machine.call.hash r.machine.call.state reply (let f : Ask_done reply ≡ call_ask r.machine.call = cc asked in sym f)
 
       -- where the key is in the map, the value is left
-      pub inserting_left : (n : ℕ) → reply ≡ Occupied n → r.value ≡ Some value
+      pub inserting_left : (n : ℕ) → reply ≡ Occupied n → r.value ≡ Some (Own value)
       inserting_left n is = at_hand now.hand
         where
-          at_hand : IsAtHand value r.machine r.value → r.value ≡ Some value
+          at_hand : IsAtHand value r.machine r.value → r.value ≡ Some (Own value)
           at_hand (inl has) = has
           at_hand (inr (calling, written)) =
               absurd (subst HasWritten (ended calling ∙ ap Ended is) written)
@@ -242,10 +270,12 @@ module _ {K V S A : Type 0} (eq : K → K → Bool) (hash : S → K → ℕ) (s 
         where
           at : (((map_in eq s.store k ≡ None) ⊎ IsResizing s) ⊎ ((replace ≡ true) × IsLogRefusal s refused)) → IsWriteCause s refused (left_in s store) → IsWriteCauseAt s (map_in eq s.store k) refused (left_in s store)
           at (inr (only, inl memory)) cause = inl memory
-          at (inr (only, inr (capacity, full))) cause = inr (capacity, inl full)
+          at (inr (only, inr (inl (capacity, full)))) cause = inr (inl (capacity, inl full))
+          at (inr (only, inr (inr spent))) cause = inr (inr spent)
           at (inl away) (inl memory) = inl memory
-          at (inl away) (inr (capacity, inl full)) = inr (capacity, inl full)
-          at (inl away) (inr (capacity, inr none)) = inr (capacity, inr (away, none))
+          at (inl away) (inr (inl (capacity, inl full))) = inr (inl (capacity, inl full))
+          at (inl away) (inr (inl (capacity, inr none))) = inr (inl (capacity, inr (away, none)))
+          at (inl away) (inr (inr spent)) = inr (inr spent)
 
       -- and one that replaces nothing is refused only where the key is absent, or pairs are being moved
       pub inserting_absent : replace ≡ false → (refused : Refused) → reply ≡ Reply_refused refused → IsTryCause s (map_in eq s.store k) refused (left_in s store)

@@ -1,8 +1,7 @@
 -- What an answer leaves an insertion of a map for one caller.
-use Rattle.std.proofs.Common.{◌≡◌, ◌⊎◌, inl, inr, ℕ, Bool, false, length, refl, sym, ◌∙◌, ap, subst}
-use Rattle.papaya_words.specs.declared.probe.Refused.TheVariants.{Memory, Capacity}
+use Rattle.std.proofs.Common.{◌≡◌, ◌⊎◌, inl, inr, ℕ, Bool, false, Some, refl, sym, ◌∙◌, ap, subst}
 use Rattle.papaya_ask.specs.declared.ask.Answer.{Answer as Call_answer}
-use Rattle.papaya_ask.specs.declared.ask.Answer.TheVariants.{Exchanged, Found as Found_instead, Made as Made_number, Ok as Ok_done, Refused as Was_refused}
+use Rattle.papaya_ask.specs.declared.ask.Answer.TheVariants.{Exchanged, Found as Found_instead}
 use Rattle.papaya_ask.specs.declared.ask.At.TheVariants.{Slot}
 use Rattle.papaya_ask.specs.declared.call.Task.TheVariants.{Insert}
 use Rattle.papaya_ask.specs.declared.search.Search.{Search}
@@ -11,11 +10,10 @@ use Rattle.papaya_ask.specs.Search.{ask_of as search_ask}
 use Rattle.papaya_call.specs.Answers.{Says}
 use Rattle.papaya_call.specs.declared.machine.State.{State}
 use Rattle.papaya_call.specs.declared.machine.State.TheVariants.{AtRoot, Making, Opening, Searching, Writing, Offering, Showing, Pairing, Putting, Burying, Counting, Noting, Uncounting, Leaving, Growing, Ended}
-use Rattle.papaya_call.specs.declared.write.Made.{Made}
-use Rattle.papaya_call.specs.declared.write.Made.TheVariants.{Nothing, Key, Pair}
+use Rattle.papaya_call.specs.declared.made.Made.{Made}
 use Rattle.papaya_call.specs.declared.write.Write.{Write}
 use Rattle.papaya_call.specs.Machine.{IsStandingState, asks}
-use Rattle.papaya_call.specs.Write.{write_ask}
+use Rattle.papaya_call.specs.Write.{served_ask, serves, write_ask}
 use Rattle.papaya_chain.specs.declared.ask.Answer.{Answer}
 use Rattle.papaya_chain.specs.declared.machine.Phase.{Phase}
 use Rattle.papaya_chain.specs.declared.machine.Phase.TheVariants.{Calling, Linking, Copying as Copying_root}
@@ -47,17 +45,10 @@ module _ {K V S A : Type 0} (eq : K → K → Bool) (says : Says K V A) (store :
     search_stays (Comparing at word) (e, (same, stays)) = same
 
     -- the word that a write looks for stands there
-    pub write_unbeaten : (made : Made) (write : Write) → word_at store.words (Slot write.place.table write.place.probe.i) ≡ write.old → Performs eq says false (write_ask write made) store r told store' later → (word : ℕ) → told ≡ Found_instead word → ⊥
-    write_unbeaten Nothing write read (inl (inl e, stays)) word found = let f : Was_refused Memory ≡ Found_instead word = sym e ∙ found in absurd cc
-    write_unbeaten Nothing write read (inl (inr (e, full), stays)) word found = let f : Was_refused Capacity ≡ Found_instead word = sym e ∙ found in absurd cc
-    write_unbeaten Nothing write read (inr (inl (has, stays))) word found = let f : Ok_done ≡ Found_instead word = sym has.0 ∙ found in absurd cc
-    write_unbeaten Nothing write read (inr (inr (k, own, e, few, same, goes))) word found = let f : Made_number (length store.keys) ≡ Found_instead word = sym e ∙ found in absurd cc
-    write_unbeaten Key write read (inl (inl e, stays)) word found = let f : Was_refused Memory ≡ Found_instead word = sym e ∙ found in absurd cc
-    write_unbeaten Key write read (inl (inr (e, full), stays)) word found = let f : Was_refused Capacity ≡ Found_instead word = sym e ∙ found in absurd cc
-    write_unbeaten Key write read (inr (inl (has, stays))) word found = let f : Ok_done ≡ Found_instead word = sym has.0 ∙ found in absurd cc
-    write_unbeaten Key write read (inr (inr (n, v, key, value, e, few, same, goes))) word found = let f : Made_number (length store.pairs) ≡ Found_instead word = sym e ∙ found in absurd cc
-    write_unbeaten (Pair n) write read (made, stays) word found =
-        let done = exchange_done _ _ (word_at store.words (Slot write.place.table write.place.probe.i)) write.old read made in
+    pub write_unbeaten : (made : Made) (write : Write) → word_at store.words (Slot write.place.table write.place.probe.i) ≡ write.old → (n : ℕ) → serves made write ≡ Some n → Performs eq says false (write_ask write made) store r told store' later → (word : ℕ) → told ≡ Found_instead word → ⊥
+    write_unbeaten made write read n serves_so performs word found =
+        let (moved, stays) = subst (λ served. Performs eq says false (served_ask served write made) store r told store' later) serves_so performs in
+        let done = exchange_done _ _ (word_at store.words (Slot write.place.table write.place.probe.i)) write.old read moved in
         let f : Exchanged ≡ Found_instead word = sym done.0 ∙ found in
         absurd cc
 

@@ -1,6 +1,6 @@
 -- A call on one key as a value, with what it begins with.
 use Rattle.std.proofs.Common.{◌≡◌, ℕ, ◌^◌, ◌<◌, Bool, true, false, Option, None, Some, refl, subst}
-use Rattle.papaya_words.specs.declared.probe.ResizeMode.{ResizeMode}
+use Rattle.papaya_store.specs.declared.mode.Mode.{Mode}
 use Rattle.papaya_ask.specs.declared.call.Call.{Call}
 use Rattle.papaya_ask.specs.declared.call.Call.TheVariants as calls
 use Rattle.papaya_ask.specs.declared.call.Task.{Task}
@@ -19,10 +19,10 @@ pub record KeyCall (K V : Type 0) : Type 0 where
   pub value : Option V
   pub answers : Option (Unit {0})
   pub key_is : key_of call ≡ Some key
-  pub begins : (hash : K → ℕ) (mode : ResizeMode) (initial number : ℕ) → begun_work hash mode initial number call ≡ works.Call (begun hash mode initial number task key value answers)
+  pub begins : (hash : K → ℕ) (mode : Mode) (initial number : ℕ) → begun_work hash mode initial number call ≡ works.Call (begun hash mode initial number task key value answers)
 
 -- as it begins
-abbrev pub first_of : {K V : Type 0} → (K → ℕ) → ResizeMode → (initial number : ℕ) → KeyCall K V → Running K V (Unit {0})
+abbrev pub first_of : {K V : Type 0} → (K → ℕ) → Mode → (initial number : ℕ) → KeyCall K V → Running K V (Unit {0})
 first_of hash mode initial number call = begun hash mode initial number call.task call.key call.value call.answers
 
 -- the hash of its key, where that of this key has 64 bits
@@ -37,7 +37,7 @@ keyed_insertion replace k value = record { call = insertion replace k value; key
     key_is true k value = refl
     key_is false k value = refl
 
-    begins : {K V : Type 0} (replace : Bool) (k : K) (value : V) (hash : K → ℕ) (mode : ResizeMode) (initial number : ℕ) → begun_work hash mode initial number (insertion replace k value) ≡ works.Call (begun hash mode initial number (Insert replace) k (Some value) None)
+    begins : {K V : Type 0} (replace : Bool) (k : K) (value : V) (hash : K → ℕ) (mode : Mode) (initial number : ℕ) → begun_work hash mode initial number (insertion replace k value) ≡ works.Call (begun hash mode initial number (Insert replace) k (Some value) None)
     begins true k value hash mode initial number = refl
     begins false k value hash mode initial number = refl
 

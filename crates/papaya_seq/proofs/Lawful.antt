@@ -1,13 +1,12 @@
 -- What is known of the words and the logs of a map that is in order.
 use Rattle.std.proofs.Common.{◌≡◌, ◌⊎◌, ⊎_elim, inl, inr, ℕ, zero, suc, ◌<◌, ◌≤◌, Bool, true, false, List, [], ◌∷◌, length, Option, Some, None, refl, sym, ◌∙◌, ap, subst, arith}
 use Rattle.std.proofs.lemmas.Bool.{cases_Bool, cases_lt, cond-true, cond-false}
-use Rattle.std.proofs.lemmas.Option.{slice_get_past}
 use Rattle.std.proofs.lemmas.List.Elements.{All-append, All-cons, All-nil}
-use Rattle.std.specs.Prelude.{slice_get, slice_index_or}
+use Rattle.std.specs.Prelude.{slice_index_or}
 use Rattle.std.specs.List.{All, Contains}
 use Rattle.papaya_words.specs.Table.{TableWords}
 use Rattle.papaya_words.specs.Word.{kind_of, pair_of as number_of}
-use Rattle.papaya_words.specs.declared.probe.ResizeMode.{ResizeMode}
+use Rattle.papaya_store.specs.declared.mode.Mode.{Mode}
 use Rattle.papaya_words.specs.declared.word.Kind.{Kind}
 use Rattle.papaya_words.specs.declared.word.Kind.TheVariants as kinds
 use Rattle.papaya_rests.specs.Alone.{IsBare}
@@ -25,12 +24,13 @@ use Rattle.papaya_law.proofs.OneMap.{sound}
 use Rattle.papaya_timeline.specs.Content.{content, listed, pairs_from, pairs_of_kind, pairs_of_slots}
 use Rattle.papaya_timeline.specs.declared.seat.Seat.{Seat}
 use Rattle.papaya_timeline.specs.Kept.{IsLawfulCore, setting_of, coding_of, low}
-use Rattle.papaya_store.specs.Store.{StoreState, Stored, pair_of, stored_at, stored_in}
+use Rattle.papaya_store.specs.Store.{StoreState, Stored, pair_of}
 use Rattle.papaya_store.specs.Tables.{table_of, word_at}
+use Rattle.papaya_store.proofs.Logs.{pair_below, pair_number}
 use Rattle.papaya_timeline.proofs.KeptSettings.{IsLawfulKeys, tables_hashed}
 use Rattle.papaya_seq.specs.Map.{HasNone, Holds, IsLawfulMap}
 
-module _ {K V S A : Type 0} (eq : K → K → Bool) (hash : K → ℕ) (callers : List (Seat K V A)) (mode : ResizeMode) (store : StoreState K V S) (lawful : IsLawfulCore eq hash store callers mode) where
+module _ {K V S A : Type 0} (eq : K → K → Bool) (hash : K → ℕ) (callers : List (Seat K V A)) (mode : Mode) (store : StoreState K V S) (lawful : IsLawfulCore eq hash store callers mode) where
   -- the words of a core as the law has them
   abbrev law_words : State (Stored K V)
   law_words = run lawful.law.0 start
@@ -74,7 +74,7 @@ module _ {K V S A : Type 0} (eq : K → K → Bool) (hash : K → ℕ) (callers 
       let is : law_words.next t ≡ word_at store.words (Next t) = lawful.law.1.1.coded (Next t) in
       ⊎_elim (λ (zero : law_words.next t ≡ 0). absurd (some (sym is ∙ zero))) (λ (up : (0 < t) × (t < law_words.next t)). subst (λ n. t < n) is up.1) ((core_sound keys).rises t)
 
-module _ {K V S : Type 0} (eq : K → K → Bool) (hash : K → ℕ) (mode : ResizeMode) (store : StoreState K V S) {initial : ℕ} (lawful : IsLawfulMap eq hash store mode initial) where
+module _ {K V S : Type 0} (eq : K → K → Bool) (hash : K → ℕ) (mode : Mode) (store : StoreState K V S) {initial : ℕ} (lawful : IsLawfulMap eq hash store mode initial) where
   -- the word of an empty slot is 0
   pub bare : IsBare (λ at. word_at store.words at)
   bare = core_bare eq hash [] mode store lawful.lawful
@@ -83,31 +83,10 @@ module _ {K V S : Type 0} (eq : K → K → Bool) (hash : K → ℕ) (mode : Res
   pub sized : (n : ℕ) (t : TableWords) → table_of store.words.tables n ≡ Some t → IsSize (length t.slots) t.limit
   sized = lawful.lawful.core.sizes
 
-module _ {K V : Type 0} where
-  -- a pair has the number by which it was found
-  stored_number : (n : ℕ) (v : V) (o : Option K) (p : Stored K V) → stored_at n v o ≡ Some p → p.number ≡ n
-  stored_number n v None p e = cc
-  stored_number n v (Some k) p e = let is : record { number = n; key = k; value = v } ≡ p = cc e in sym (ap (λ (q : Stored K V). q.number) is)
-
 module _ {K V S : Type 0} (store : StoreState K V S) where
-  pub number_is : (n : ℕ) (p : Stored K V) → pair_of store n ≡ Some p → p.number ≡ n
-  number_is n p e = go (slice_get store.pairs n) refl
-    where
-      go : (o : Option _) → slice_get store.pairs n ≡ o → p.number ≡ n
-      go None is = let f : None ≡ Some p = sym (ap (stored_in store.keys n) is) ∙ e in cc
-      go (Some q) is = stored_number n q.value (slice_get store.keys q.key) p (sym (ap (stored_in store.keys n) is) ∙ e)
-
-  -- a number that names a pair is within the log
-  pub number_within : (n : ℕ) (p : Stored K V) → pair_of store n ≡ Some p → n < length store.pairs
-  number_within n p e =
-      ⊎_elim
-      (λ (less : n < length store.pairs). less)
-      (λ (least : length store.pairs ≤ n). let f : None ≡ Some p = sym (ap (stored_in store.keys n) (slice_get_past store.pairs n least)) ∙ e in absurd cc)
-      (cases_lt n (length store.pairs))
-
   -- a pair that was found by a number is logged under its own
   pub logged_itself : (n : ℕ) (p : Stored K V) → pair_of store n ≡ Some p → pair_of store p.number ≡ Some p
-  logged_itself n p e = ap (pair_of store) (number_is n p e) ∙ e
+  logged_itself n p e = ap (pair_of store) (pair_number store n p e) ∙ e
 
   -- each pair of these words' is logged
   abbrev AreLogged : List (Stored K V) → Type 0
@@ -193,7 +172,7 @@ module _ {K V S : Type 0} (store : StoreState K V S) where
 
     -- a pair of the log matches, or none does
     pub decided : IsMatched ⊎ MatchesNone
-    decided = ⊎_elim (λ (one : IsMatched). inl one) (λ (none : MatchesBelow (length store.pairs)). inr (λ n p e. none n p (number_within n p e) e)) (decided_below (length store.pairs))
+    decided = ⊎_elim (λ (one : IsMatched). inl one) (λ (none : MatchesBelow (length store.pairs)). inr (λ n p e. none n p (pair_below store n p e) e)) (decided_below (length store.pairs))
 
     -- where no pair of the log matches, none of the map's does
     pub none_held : (eq : K → K → Bool) → MatchesNone → HasNone eq matches store

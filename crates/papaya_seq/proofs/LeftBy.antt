@@ -1,6 +1,6 @@
 -- Calls that leave the map where they are refused: those on a key, and those that resize the map.
 use Rattle.std.proofs.Common.{◌≡◌, ℕ, None, Some, refl, sym, ◌∙◌, ap}
-use Rattle.papaya_words.specs.declared.probe.ResizeMode.{ResizeMode}
+use Rattle.papaya_store.specs.declared.mode.Mode.{Mode}
 use Rattle.papaya_ask.specs.declared.call.Call.{Call}
 use Rattle.papaya_ask.specs.declared.call.Call.TheVariants.{Get, Insert, TryInsert, RemoveIf, Compute, Reserve, CopyAll, Clear, Retain, Walk}
 use Rattle.papaya_chain.specs.declared.resizer.Resizer.{Resizer}
@@ -40,7 +40,7 @@ module _ {K V A : Type 0} where
   no_resize : (w : Work K V A) (z : Resizer) → resizer_in (Some w) ≡ None → w ≡ works.Resize z → ⊥
   no_resize w z none is = let f : None ≡ Some z = sym none ∙ ap (λ (x : Work K V A). resizer_in (Some x)) is in absurd cc
 
-  pub resized_same : (hash : K → ℕ) (mode : ResizeMode) (initial number : ℕ) (call : Call K V A) (z : Resizer) → begun_work hash mode initial number call ≡ works.Resize z → (m m' : Map K V) → (IsLeftBy call m m' → Same m m') × (IsDoneBy call m m' → Same m m')
+  pub resized_same : (hash : K → ℕ) (mode : Mode) (initial number : ℕ) (call : Call K V A) (z : Resizer) → begun_work hash mode initial number call ≡ works.Resize z → (m m' : Map K V) → (IsLeftBy call m m' → Same m m') × (IsDoneBy call m m' → Same m m')
   resized_same hash mode initial number (Get j) z is m m' = (λ h. h, λ h. h)
   resized_same hash mode initial number (Insert j v) z is m m' = (λ h. h, λ h. h)
   resized_same hash mode initial number (TryInsert j v) z is m m' = (λ h. h, λ h. h)

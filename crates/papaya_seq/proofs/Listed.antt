@@ -2,9 +2,9 @@
 use Rattle.std.proofs.Common.{◌≡◌, ℕ, ◌<◌, Bool, List, [], ◌∷◌, ◌++◌, length, map, None, Some, sym, ◌∙◌, ap, arith}
 use Rattle.std.proofs.lemmas.List.{append-nil, append_assoc}
 use Rattle.papaya_store.specs.Store.{StoreState, Stored}
+use Rattle.papaya_store.proofs.Logs.{pair_number}
 use Rattle.papaya_seq.specs.Walks.{IsNext, left_to}
 use Rattle.papaya_seq.specs.declared.stand.Stand.{Stand}
-use Rattle.papaya_seq.proofs.Lawful.{number_is}
 
 module _ {K V S : Type 0} (eq : K → K → Bool) (store : StoreState K V S) (at at' : Stand) where
   -- the numbers of these pairs
@@ -15,7 +15,7 @@ module _ {K V S : Type 0} (eq : K → K → Bool) (store : StoreState K V S) (at
   pub listed_more : (n : ℕ) (list all : List ℕ) → IsNext eq store at (Some n) at' → list ++ numbers (left_to eq store at) ≡ all → (list ++ n ∷ []) ++ numbers (left_to eq store at') ≡ all
   listed_more n list all (p, there, is) so_far =
       append_assoc list (n ∷ []) (numbers (left_to eq store at'))
-      ∙ ap (λ m. list ++ m ∷ numbers (left_to eq store at')) (sym (number_is store n p there))
+      ∙ ap (λ m. list ++ m ∷ numbers (left_to eq store at')) (sym (pair_number store n p there))
       ∙ ap (λ l. list ++ numbers l) (sym is)
       ∙ so_far
 

@@ -1,108 +1,167 @@
--- What an answered ask leaves of the logs: a call alone logs its key once, and a pair for what it writes.
-use Rattle.std.proofs.Common.{◌≡◌, ◌⊎◌, inl, inr, ℕ, ◌==◌, Bool, Some, None, length, refl, sym, ◌∙◌, ap, subst}
+-- When a call alone logs a pair, and takes a number for it: it logs one for what it writes.
+use Rattle.std.proofs.Common.{◌≡◌, ◌⊎◌, inl, inr, ℕ, ◌==◌, ◌&&◌, nat_lt, Bool, true, false, cond, Option, None, Some, refl, sym, ◌∙◌, ap, subst, eq-eqb}
+use Rattle.std.proofs.lemmas.Bool.{cond_both}
 use Rattle.papaya_words.specs.Word.{pair_of}
-use Rattle.papaya_words.specs.declared.limits.TheConstants.{MAX_LOG_LEN}
-use Rattle.papaya_ask.specs.declared.ask.Answer.{Answer as Call_answer}
-use Rattle.papaya_ask.specs.declared.ask.Answer.TheVariants.{Op, Made as Made_number}
 use Rattle.papaya_ask.specs.declared.ask.Ask.{Ask as Call_ask}
-use Rattle.papaya_ask.specs.declared.ask.Ask.TheVariants.{Load, Exchange, LoadHint, WriteHint, SameKey, ShowNone, ShowPair, SizeOf, MakeKey, MakePair, MakeTable, AddToShard, Done as Ask_done}
+use Rattle.papaya_ask.specs.declared.ask.Ask.TheVariants.{MakeKey, MakeValue, MakePair, MakePairOf}
+use Rattle.papaya_ask.specs.declared.ask.Answer.{Answer as Call_answer}
+use Rattle.papaya_ask.specs.declared.ask.Answer.TheVariants.{Exchanged, Op, Made as Made_number}
 use Rattle.papaya_ask.specs.declared.ask.OpKind.{OpKind}
 use Rattle.papaya_ask.specs.declared.ask.OpKind.TheVariants as kinds
 use Rattle.papaya_ask.specs.declared.call.Task.{Task}
 use Rattle.papaya_ask.specs.declared.call.Task.TheVariants as tasks
-use Rattle.papaya_ask.specs.declared.copy_ask.CopyAsk.{CopyAsk}
-use Rattle.papaya_ask.specs.declared.copy_ask.CopyAsk.TheVariants as copies
 use Rattle.papaya_ask.specs.declared.search.Search.TheVariants.{Sizing, Looking, Reading, Comparing}
-use Rattle.papaya_call.specs.Answers.{Says}
 use Rattle.papaya_call.specs.declared.compute.Choice.TheVariants.{Remove as To_remove}
 use Rattle.papaya_call.specs.declared.compute.Purpose.{Purpose}
-use Rattle.papaya_call.specs.declared.compute.Purpose.TheVariants.{Fill, Replace}
+use Rattle.papaya_call.specs.declared.compute.Purpose.TheVariants.{Fill, Replace, Again}
 use Rattle.papaya_call.specs.declared.compute.Remembered.{Remembered}
 use Rattle.papaya_call.specs.declared.machine.Machine.{Machine as Call_machine}
 use Rattle.papaya_call.specs.declared.machine.State.{State as Stage}
 use Rattle.papaya_call.specs.declared.machine.State.TheVariants.{AtRoot, Making, Opening, Searching, Writing, Offering, Showing, Pairing, Putting, Burying, Counting, Noting, Uncounting, Leaving, Growing, Ended}
+use Rattle.papaya_call.specs.declared.made.Grown.{Grown}
+use Rattle.papaya_call.specs.declared.made.Grown.TheVariants.{On, Pair}
+use Rattle.papaya_call.specs.declared.made.Made.{Made}
+use Rattle.papaya_call.specs.declared.made.Number.{Number}
+use Rattle.papaya_call.specs.declared.made.Number.TheVariants.{Wanted, Free, Taken}
 use Rattle.papaya_call.specs.declared.remove.Removal.{Removal}
-use Rattle.papaya_call.specs.declared.write.Made.{Made}
-use Rattle.papaya_call.specs.declared.write.Made.TheVariants.{Nothing, Key, Pair}
-use Rattle.papaya_call.specs.Compute.{nothing, with_pair}
-use Rattle.papaya_call.specs.Machine.{IsComputer, IsStandingState, IsWriter, after, asks as call_asks, decided_held, held_at_op, held_in, made_in}
-use Rattle.papaya_store.specs.declared.pairs.Running.{Running}
-use Rattle.papaya_store.specs.Copies.{PerformsCopy}
-use Rattle.papaya_store.specs.Performs.{HasKey, HasNoPair, LogsKey, LogsPair, Performs, Refuses, Stays}
-use Rattle.papaya_store.specs.Store.{StoreState}
-use Rattle.papaya_store.specs.Tables.{word_at}
-use Rattle.papaya_timeline.proofs.ShowLemmas.{none_shown, pair_shown}
-use Rattle.papaya_timeline.proofs.StoreLemmas.{matched}
+use Rattle.papaya_call.specs.declared.write.Write.{Write}
+use Rattle.papaya_call.specs.Compute.{in_place_of, nothing, with_pair}
+use Rattle.papaya_call.specs.Made.{answered, grown, grown_as, make_ask, number_ask, of_grown, own_grown, pair_ask, serves_at, paired as pair_done, taken, taken_as, told, told_as, told_limit}
+use Rattle.papaya_call.specs.Machine.{IsComputer, IsStandingState, IsWriter, after, ask_of, asks, decided_held, held_at_op, held_in, made_at_exchanged, made_in, made_to_pair, number_told, paired_held, write_taken}
+use Rattle.papaya_call.specs.Write.{made_of, made_to_write, served_ask, served_of, serves, with_pair_at, write_grown}
+use Rattle.papaya_chain.specs.declared.ask.Answer.TheVariants as answers
+use Rattle.papaya_chain.specs.declared.ask.Ask.TheVariants as chain_asks
+use Rattle.papaya_alone.specs.Limits.{IsNumberTaken, IsTakeAsk}
+use Rattle.papaya_rests.specs.Says.{MakesPair}
+use Rattle.papaya_rests.proofs.Makings.{IsMakeAsk, make_asks, makes_pair, pair_made}
+use Rattle.papaya_seq.proofs.MadeAfter.{made_after}
 
--- both logs stay
-abbrev pub SameLogs : {K V S : Type 0} → StoreState K V S → StoreState K V S → Type 0
-SameLogs s s' = (s'.keys ≡ s.keys) × (s'.pairs ≡ s.pairs)
+-- an insertion has made no pair yet
+abbrev pub IsUnmade : Made → Type 0
+IsUnmade made = (made.own ≡ None) × (made.of ≡ None)
 
 -- The call has logged no pair yet: a compute remembers each pair that was made for it.
 abbrev pub IsFirst : Task → Made → Remembered → Type 0
 IsFirst tasks.Compute made held = held ≡ nothing
-IsFirst task (Pair n) held = ⊥
-IsFirst task made held = Unit {0}
+IsFirst task made held = IsUnmade made
 
--- an ask for neither a key nor a pair
-abbrev IsPlain : Call_ask → Type 0
-IsPlain MakeKey = ⊥
-IsPlain MakePair = ⊥
-IsPlain ask = Unit {0}
+-- it has taken no number for the next one
+abbrev pub IsNumberless : Made → Type 0
+IsNumberless made = made.number ≡ Taken → ⊥
 
-module _ {K V S : Type 0} where
-  -- where all stays, the logs do
-  same_logs : (s s' : StoreState K V S) → s' ≡ s → SameLogs s s'
-  same_logs s s' same = (ap (λ (y : StoreState K V S). y.keys) same, ap (λ (y : StoreState K V S). y.pairs) same)
+-- one has no less than another, and has made the same pairs, or more
+abbrev pub IsAfter : Made → Made → Type 0
+IsAfter made made' = (made'.limit ≡ made.limit) × (IsUnmade made' → IsUnmade made)
 
-  module _ (eq : K → K → Bool) where
-    -- a copy changes neither
-    pub copy_logs : (hash : S → K → ℕ) (refuse : Bool) (ask : CopyAsk) (s : StoreState K V S) (a : _) (s' : StoreState K V S) → PerformsCopy eq hash refuse ask s a s' → SameLogs s s'
-    copy_logs hash refuse (copies.Load at) s a s' (is, same) = same_logs s s' same
-    copy_logs hash refuse (copies.Exchange at old new) s a s' (told, is, h) =
-        matched (SameLogs s s') (word_at s.words at == old) _ _ h
-        (λ _ done. (ap (λ (y : StoreState K V S). y.keys) done.1, ap (λ (y : StoreState K V S). y.pairs) done.1)) (λ _ lost. same_logs s s' lost.1)
-    copy_logs hash refuse (copies.LoadHint t x) s a s' (is, same) = same_logs s s' same
-    copy_logs hash refuse (copies.WriteHint t x hint) s a s' (is, same) = (ap (λ (y : StoreState K V S). y.keys) same, ap (λ (y : StoreState K V S). y.pairs) same)
-    copy_logs hash refuse (copies.SizeOf n) s a s' (is, same) = same_logs s s' same
-    copy_logs hash refuse (copies.HashOf n) s a s' (is, hashed, same) = same_logs s s' same
-    copy_logs hash refuse (copies.SamePair m n) s a s' (is, same) = same_logs s s' same
-    copy_logs hash refuse copies.Count s a s' (is, same) = same_logs s s' same
-    copy_logs hash refuse (copies.MakeTable slots limit chunks) s a s' (told, is, h) =
-        matched (SameLogs s s') refuse _ _ h (λ _ none. same_logs s s' none.1)
-        (λ _ makes. elim makes [ inl refused ↦ same_logs s s' refused.1 | inr (is, few, same) ↦ (ap (λ (y : StoreState K V S). y.keys) same, ap (λ (y : StoreState K V S). y.pairs) same) ])
+-- it is that but for its number and for what was logged of its next pair
+abbrev pub IsLike : Made → Made → Type 0
+IsLike made made' = (made'.limit ≡ made.limit) × (made'.own ≡ made.own) × (made'.of ≡ made.of)
 
-module _ {K V S A : Type 0} (eq : K → K → Bool) (says : Says K V A) where
-  -- such an ask changes neither
-  plain_logs : (refuse : Bool) (ask : Call_ask) (s : StoreState K V S) (r : Running K V A) (a : Call_answer) (s' : StoreState K V S) (r' : Running K V A) → IsPlain ask → Performs eq says refuse ask s r a s' r' → SameLogs s s'
-  plain_logs refuse (Load at) s r a s' r' plain (e, stays) = same_logs s s' stays.0
-  plain_logs refuse (Exchange at old new) s r a s' r' plain (h, moved) =
-      matched (SameLogs s s') (word_at s.words at == old) _ _ h
-      (λ _ done. (ap (λ (y : StoreState K V S). y.keys) done.1, ap (λ (y : StoreState K V S). y.pairs) done.1)) (λ _ lost. same_logs s s' lost.1)
-  plain_logs refuse (LoadHint t x) s r a s' r' plain (e, stays) = same_logs s s' stays.0
-  plain_logs refuse (WriteHint t x hint) s r a s' r' plain (e, same, moved) = (ap (λ (y : StoreState K V S). y.keys) same, ap (λ (y : StoreState K V S). y.pairs) same)
-  plain_logs refuse (SameKey n) s r a s' r' plain (e, stays) = same_logs s s' stays.0
-  plain_logs refuse ShowNone s r a s' r' plain h = same_logs s s' (none_shown says s r a s' r' h).store
-  plain_logs refuse (ShowPair n) s r a s' r' plain h = same_logs s s' (pair_shown says r.machine.call.task n s r a s' r' h).store
-  plain_logs refuse (SizeOf n) s r a s' r' plain (e, stays) = same_logs s s' stays.0
-  plain_logs refuse MakeKey s r a s' r' plain h = absurd plain
-  plain_logs refuse MakePair s r a s' r' plain h = absurd plain
-  plain_logs refuse (MakeTable slots limit chunks) s r a s' r' plain h =
-      matched (SameLogs s s') refuse _ _ h (λ _ none. same_logs s s' none.1.0)
-      (λ _ makes. elim makes.0 [ inl refused ↦ same_logs s s' refused.1 | inr (is, few, same) ↦ (ap (λ (y : StoreState K V S). y.keys) same, ap (λ (y : StoreState K V S). y.pairs) same) ])
-  plain_logs refuse (AddToShard by) s r a s' r' plain (e, (number, same), moved) = (ap (λ (y : StoreState K V S). y.keys) same, ap (λ (y : StoreState K V S). y.pairs) same)
-  plain_logs refuse (Ask_done reply) s r a s' r' plain (e, stays) = same_logs s s' stays.0
+like_after : (made made' : Made) → IsLike made made' → IsAfter made made'
+like_after made made' (limit, own, of) = (limit, λ unmade. (sym own ∙ unmade.0, sym of ∙ unmade.1))
+
+pub like_unmade : (made made' : Made) → IsLike made made' → IsUnmade made → IsUnmade made'
+like_unmade made made' (limit, own, of) unmade = (own ∙ unmade.0, of ∙ unmade.1)
+
+module _ (made : Made) where
+  limit_like : (limit : Option ℕ) (count : ℕ) → IsLike made (number_told (told_limit made limit count) made)
+  limit_like None count = (refl, refl, refl)
+  limit_like (Some most) count = cond_both (nat_lt count most) (Some (record made { number = Free count })) None (λ o. IsLike made (number_told o made)) (λ _. (refl, refl, refl)) (λ _. (refl, refl, refl))
+
+  pub told_like : (number : Number) (count : ℕ) → IsLike made (number_told (told_as made number count) made)
+  told_like Wanted count = limit_like made.limit count
+  told_like (Free n) count = limit_like made.limit count
+  told_like Taken count = (refl, refl, refl)
+
+  pub taken_like : (number : Number) → IsLike made (taken_as made number)
+  taken_like Wanted = (refl, refl, refl)
+  taken_like (Free n) = (refl, refl, refl)
+  taken_like Taken = (refl, refl, refl)
+
+  pub answered_like : (kind : OpKind) → IsLike made (answered kind made)
+  answered_like kinds.Insert = (refl, refl, refl)
+  answered_like kinds.Remove = (refl, refl, refl)
+  answered_like (kinds.Abort t) = (refl, refl, refl)
+
+  own_like : (keyed valued : Bool) → IsLike made (made_to_pair (own_grown keyed valued made))
+  own_like false valued = (refl, refl, refl)
+  own_like true false = (refl, refl, refl)
+  own_like true true = (refl, refl, refl)
+
+  of_like : (valued : Bool) → IsLike made (made_to_pair (of_grown valued made))
+  of_like false = (refl, refl, refl)
+  of_like true = (refl, refl, refl)
+
+  pub grown_like : (number : Number) (old : ℕ) → IsLike made (made_to_pair (grown_as number made old))
+  grown_like Wanted old = (refl, refl, refl)
+  grown_like (Free n) old = (refl, refl, refl)
+  grown_like Taken old = cond_both (old == 0) (own_grown made.keyed made.valued made) (of_grown made.valued made) (λ G. IsLike made (made_to_pair G)) (λ _. own_like made.keyed made.valued) (λ _. of_like made.valued)
+
+-- a pair that was made for a place is one, and serves there
+pub placed_made : (made : Made) (write : Write) (n : ℕ) → IsUnmade (with_pair_at made write n) → ⊥
+placed_made made write n = cond_both (write.old == 0) (record made { own = Some n }) (record made { of = Some (made_of write n) }) (λ (y : Made). IsUnmade y → ⊥) (λ _ unmade. let f : Some n ≡ None = unmade.0 in absurd cc) (λ _ unmade. let f : Some (made_of write n) ≡ None = unmade.1 in absurd cc)
+
+pub placed_serves : (made : Made) (write : Write) (n : ℕ) → serves (with_pair_at made write n) write ≡ Some n
+placed_serves made write n = by_old (write.old == 0)
+  where
+    here : serves_at (made_of write n) write.place.table write.place.probe.i ≡ true
+    here = ap (λ b. b && (write.place.probe.i == write.place.probe.i)) (eq-eqb write.place.table write.place.table refl) ∙ eq-eqb write.place.probe.i write.place.probe.i refl
+
+    by_old : (b : Bool) → cond b (cond b (record made { own = Some n }) (record made { of = Some (made_of write n) })).own (served_of (cond b (record made { own = Some n }) (record made { of = Some (made_of write n) })).of write.place) ≡ Some n
+    by_old true = refl
+    by_old false = ap (λ b. cond b (Some n) None) here
+
+placed_limit : (made : Made) (write : Write) (n : ℕ) → (with_pair_at made write n).limit ≡ made.limit
+placed_limit made write n = cond_both (write.old == 0) (record made { own = Some n }) (record made { of = Some (made_of write n) }) (λ (y : Made). y.limit ≡ made.limit) (λ _. refl) (λ _. refl)
+
+written_after : (made : Made) (write : Write) (n : ℕ) (G : Grown) → IsAfter made (made_to_pair G) → IsAfter made (made_to_write G write n)
+written_after made write n (On made') h = h
+written_after made write n (Pair made') h = (placed_limit made' write n ∙ h.0, λ unmade. absurd (placed_made made' write n unmade))
+
+grew_after : (made : Made) (write : Write) (n : ℕ) (served : Option ℕ) → IsAfter made (write_grown served made write n)
+grew_after made write n None = written_after made write n (grown made write.old) (like_after made (made_to_pair (grown made write.old)) (grown_like made made.number write.old))
+grew_after made write n (Some i) = (refl, λ h. h)
+
+logged_after : (made : Made) (n : ℕ) (s : Stage) → IsAfter made (made_in made n s)
+logged_after made n (Writing write) = grew_after made write n (serves made write)
+logged_after made n (Pairing purpose) = like_after made (made_to_pair (grown made (in_place_of purpose))) (grown_like made made.number (in_place_of purpose))
+logged_after made n AtRoot = (refl, λ h. h)
+logged_after made n Making = (refl, λ h. h)
+logged_after made n (Opening t) = (refl, λ h. h)
+logged_after made n (Searching search) = (refl, λ h. h)
+logged_after made n (Offering gap) = (refl, λ h. h)
+logged_after made n (Showing removal) = (refl, λ h. h)
+logged_after made n (Putting put) = (refl, λ h. h)
+logged_after made n (Burying removal) = (refl, λ h. h)
+logged_after made n (Counting claimed) = (refl, λ h. h)
+logged_after made n (Noting claimed) = (refl, λ h. h)
+logged_after made n (Uncounting i) = (refl, λ h. h)
+logged_after made n (Leaving t) = (refl, λ h. h)
+logged_after made n (Growing need) = (refl, λ h. h)
+logged_after made n (Ended reply) = (refl, λ h. h)
+
+-- the limit stays, and an insertion without a pair had none
+pub after_made : (m : Call_machine) (a : Call_answer) → IsAfter m.made (after m a).made
+after_made m a = made_after m (λ _ made'. IsAfter m.made made') (record {
+  same = λ _. (refl, λ h. h);
+  told = λ _ count. like_after m.made (number_told (told m.made count) m.made) (told_like m.made m.made.number count);
+  taken = λ _. like_after m.made (taken m.made) (taken_like m.made m.made.number);
+  answered = λ _ kind. like_after m.made (answered kind m.made) (answered_like m.made kind);
+}) (λ n. logged_after m.made n m.state) a
 
 -- a compute that remembers a pair remembers something
 paired_held_some : (held : Remembered) (purpose : Purpose) (n : ℕ) → with_pair held purpose n ≡ nothing → ⊥
 paired_held_some held (Fill gap) n e = absurd (cc (ap (λ (y : Remembered). y.fill) e))
 paired_held_some held (Replace write) n e = absurd (cc (ap (λ (y : Remembered). y.choice) e))
+paired_held_some held (Again write) n e = absurd (cc (ap (λ (y : Remembered). y.choice) e))
 
 -- one that remembers nothing remembered nothing
+held_grown : (G : Grown) (held : Remembered) (purpose : Purpose) (n : ℕ) → paired_held G held purpose n ≡ nothing → held ≡ nothing
+held_grown (On made) held purpose n e = e
+held_grown (Pair made) held purpose n e = absurd (paired_held_some held purpose n e)
+
 held_made : (made : Made) (held : Remembered) (n : ℕ) (stage : Stage) → held_in made held n stage ≡ nothing → held ≡ nothing
-held_made Nothing held n (Pairing purpose) e = e
-held_made Key held n (Pairing purpose) e = absurd (paired_held_some held purpose n e)
-held_made (Pair m) held n (Pairing purpose) e = absurd (paired_held_some held purpose n e)
+held_made made held n (Pairing purpose) e = held_grown (grown made (in_place_of purpose)) held purpose n e
 held_made made held n stage e = e
 
 held_decided : (task : Task) (held : Remembered) (removal : Removal) (kind : OpKind) → decided_held task held removal kind ≡ nothing → held ≡ nothing
@@ -120,114 +179,178 @@ held_before m (Made_number n) e = held_made m.made m.remembered n m.state e
 held_before m (Op kind) e = held_op m.task m.remembered kind m.state e
 held_before m told e = e
 
--- the pair that a call has made stays
-made_kept : (i n : ℕ) (stage : Stage) → made_in (Pair i) n stage ≡ Pair i
-made_kept i n (Writing write) = refl
-made_kept i n (Pairing purpose) = refl
-made_kept i n stage = refl
+-- and one without a pair had none
+first_held : (task : Task) (made made' : Made) (held held' : Remembered) → (IsUnmade made' → IsUnmade made) → (held' ≡ nothing → held ≡ nothing) → IsFirst task made' held' → IsFirst task made held
+first_held tasks.Compute made made' held held' unmade was h = was h
+first_held tasks.Get made made' held held' unmade was h = unmade h
+first_held (tasks.Insert replace) made made' held held' unmade was h = unmade h
+first_held tasks.RemoveIf made made' held held' unmade was h = unmade h
 
-made_before : (made : Made) (n : ℕ) (stage : Stage) → made_in made n stage ≡ Nothing → made ≡ Nothing
-made_before Nothing n stage e = refl
-made_before Key n (Writing write) e = absurd cc
-made_before Key n (Pairing purpose) e = absurd cc
-made_before Key n stage e = absurd cc
-made_before (Pair i) n stage e = let f : Pair i ≡ Nothing = sym (made_kept i n stage) ∙ e in absurd cc
-
--- a call without a key had none
-pub unmade_before : (m : Call_machine) (told : Call_answer) → (after m told).made ≡ Nothing → m.made ≡ Nothing
-unmade_before m (Made_number n) e = made_before m.made n m.state e
-unmade_before m told e = e
-
-first_held : (task : Task) (made made' : Made) (held held' : Remembered) → ((i : ℕ) → made ≡ Pair i → made' ≡ Pair i) → (held' ≡ nothing → held ≡ nothing) → IsFirst task made' held' → IsFirst task made held
-first_held tasks.Compute made made' held held' kept was h = was h
-first_held tasks.Get (Pair i) made' held held' kept was h = subst (λ y. IsFirst tasks.Get y held') (kept i refl) h
-first_held (tasks.Insert replace) (Pair i) made' held held' kept was h = subst (λ y. IsFirst (tasks.Insert replace) y held') (kept i refl) h
-first_held tasks.RemoveIf (Pair i) made' held held' kept was h = subst (λ y. IsFirst tasks.RemoveIf y held') (kept i refl) h
-first_held tasks.Get Nothing made' held held' kept was h = tt
-first_held (tasks.Insert replace) Nothing made' held held' kept was h = tt
-first_held tasks.RemoveIf Nothing made' held held' kept was h = tt
-first_held tasks.Get Key made' held held' kept was h = tt
-first_held (tasks.Insert replace) Key made' held held' kept was h = tt
-first_held tasks.RemoveIf Key made' held held' kept was h = tt
-
-pair_stays : (m : Call_machine) (told : Call_answer) (i : ℕ) → m.made ≡ Pair i → (after m told).made ≡ Pair i
-pair_stays m (Made_number n) i e = ap (λ y. made_in y n m.state) e ∙ made_kept i n m.state
-pair_stays m told i e = e
-
--- and one without a pair
 pub first_before : (m : Call_machine) (told : Call_answer) → IsFirst m.task (after m told).made (after m told).remembered → IsFirst m.task m.made m.remembered
-first_before m told h = first_held m.task m.made (after m told).made m.remembered (after m told).remembered (pair_stays m told) (held_before m told) h
+first_before m told h = first_held m.task m.made (after m told).made m.remembered (after m told).remembered (after_made m told).1 (held_before m told) h
 
--- an insertion whose pair is made has one
-written_first : (task : Task) (n : ℕ) (held : Remembered) → IsWriter task → IsFirst task (Pair n) held → ⊥
-written_first tasks.Get n held writes h = absurd writes
-written_first (tasks.Insert replace) n held writes h = h
-written_first tasks.RemoveIf n held writes h = absurd writes
-written_first tasks.Compute n held writes h = absurd writes
+-- a call whose pair is logged has one
+writer_first : (task : Task) (made : Made) (held : Remembered) → IsWriter task → IsFirst task made held → IsUnmade made
+writer_first tasks.Get made held writes h = absurd writes
+writer_first (tasks.Insert replace) made held writes h = h
+writer_first tasks.RemoveIf made held writes h = absurd writes
+writer_first tasks.Compute made held writes h = absurd writes
 
--- and so has a compute
-paired_first : (task : Task) (made : Made) (held : Remembered) (purpose : Purpose) (n : ℕ) → IsComputer task → IsFirst task made (with_pair held purpose n) → ⊥
-paired_first tasks.Get made held purpose n computes h = absurd computes
-paired_first (tasks.Insert replace) made held purpose n computes h = absurd computes
-paired_first tasks.RemoveIf made held purpose n computes h = absurd computes
-paired_first tasks.Compute made held purpose n computes h = paired_held_some held purpose n h
+computer_first : (task : Task) (made : Made) (held : Remembered) → IsComputer task → IsFirst task made held → held ≡ nothing
+computer_first tasks.Get made held computes h = absurd computes
+computer_first (tasks.Insert replace) made held computes h = absurd computes
+computer_first tasks.RemoveIf made held computes h = absurd computes
+computer_first tasks.Compute made held computes h = h
 
-module _ {K V S A : Type 0} (eq : K → K → Bool) (says : Says K V A) (refuse : Bool) (m : Call_machine) (s : StoreState K V S) (r : Running K V A) (s' : StoreState K V S) (r' : Running K V A) where
-  -- the machine in a stage, after an answer
-  abbrev next : Made → Stage → Call_answer → Call_machine
-  next made stage told = after (record m { made = made; state = stage }) told
-
-  -- a call without a key has logged none with this answer, and one without a pair no pair
-  abbrev IsLogged : Made → Stage → Call_answer → Type 0
-  IsLogged made stage told = ((next made stage told).made ≡ Nothing → s'.keys ≡ s.keys) × (IsFirst m.task (next made stage told).made (next made stage told).remembered → s'.pairs ≡ s.pairs)
-
-  same_logged : (made : Made) (stage : Stage) (told : Call_answer) → SameLogs s s' → IsLogged made stage told
-  same_logged made stage told same = (λ _. same.0, λ _. same.1)
-
-  plain : (made : Made) (stage : Stage) (told : Call_answer) → IsPlain (call_asks made m.hash stage) → Performs eq says refuse (call_asks made m.hash stage) s r told s' r' → IsLogged made stage told
-  plain made stage told is h = same_logged made stage told (plain_logs eq says refuse (call_asks made m.hash stage) s r told s' r' is h)
-
-  -- where the key is to be made
-  key_logged : (stage : Stage) (told : Call_answer) → ((n : ℕ) → (next Nothing stage (Made_number n)).made ≡ Key) → Performs eq says refuse MakeKey s r told s' r' → IsLogged Nothing stage told
-  key_logged stage told keyed h = matched (IsLogged Nothing stage told) refuse _ _ h (λ _ none. same_logged Nothing stage told (same_logs s s' none.1.0)) (λ _ makes. by_cases makes)
+module _ (m : Call_machine) where
+  -- where the pair that is asked for is logged, the call has one
+  first_not : (s : Stage) → IsStandingState m.task s → MakesPair (asks m.made m.hash s) → (n : ℕ) → IsFirst m.task (made_in m.made n s) (held_in m.made m.remembered n s) → ⊥
+  first_not (Writing write) stands makes n first = by_served (serves m.made write) makes (writer_first m.task (write_grown (serves m.made write) m.made write n) m.remembered stands.0 first)
     where
-      by_cases : (Refuses MAX_LOG_LEN (length s.keys) told × Stays s r s' r') ⊎ (HasKey told r × Stays s r s' r') ⊎ LogsKey told s r s' r' → IsLogged Nothing stage told
-      by_cases (inl (none, stays)) = same_logged Nothing stage told (same_logs s s' stays.0)
-      by_cases (inr (inl (has, stays))) = same_logged Nothing stage told (same_logs s s' stays.0)
-      by_cases (inr (inr (k, own, is, few, grown, later))) = (λ none. let f : Key ≡ Nothing = sym (keyed (length s.keys)) ∙ ap (λ y. (next Nothing stage y).made) (sym is) ∙ none in absurd cc, λ _. ap (λ (y : StoreState K V S). y.pairs) grown)
+      by_served : (served : Option ℕ) → MakesPair (served_ask served write m.made) → IsUnmade (write_grown served m.made write n) → ⊥
+      by_served None makes unmade = placed_made (pair_done m.made) write n (subst (λ G. IsUnmade (made_to_write G write n)) (pair_made m.made write.old makes) unmade)
+      by_served (Some i) makes unmade = makes
+  first_not (Pairing purpose) stands makes n first =
+      paired_held_some m.remembered purpose n (subst (λ G. paired_held G m.remembered purpose n ≡ nothing) (pair_made m.made (in_place_of purpose) makes)
+      (computer_first m.task (made_in m.made n (Pairing purpose)) (held_in m.made m.remembered n (Pairing purpose)) stands.0 first))
+  first_not AtRoot stands makes n first = makes
+  first_not Making stands makes n first = makes
+  first_not (Opening t) stands makes n first = makes
+  first_not (Searching (Sizing t)) stands makes n first = makes
+  first_not (Searching (Looking at)) stands makes n first = makes
+  first_not (Searching (Reading at)) stands makes n first = makes
+  first_not (Searching (Comparing at word)) stands makes n first = makes
+  first_not (Offering gap) stands makes n first = makes
+  first_not (Showing removal) stands makes n first = makes
+  first_not (Putting put) stands makes n first = makes
+  first_not (Burying removal) stands makes n first = makes
+  first_not (Counting claimed) stands makes n first = makes
+  first_not (Noting claimed) stands makes n first = makes
+  first_not (Uncounting i) stands makes n first = makes
+  first_not (Leaving t) stands makes n first = makes
+  first_not (Growing need) stands makes n first = makes
+  first_not (Ended reply) stands makes n first = makes
 
-  -- where a pair is
-  pair_logged : (made : Made) (stage : Stage) (told : Call_answer) → ((e : made ≡ Nothing) → ⊥) → ((n : ℕ) → IsFirst m.task (next made stage (Made_number n)).made (next made stage (Made_number n)).remembered → ⊥) → Performs eq says refuse MakePair s r told s' r' → IsLogged made stage told
-  pair_logged made stage told key paired h = matched (IsLogged made stage told) refuse _ _ h (λ _ none. same_logged made stage told (same_logs s s' none.1.0)) (λ _ makes. by_cases makes)
+  pub paired_first : IsStandingState m.task m.state → MakesPair (ask_of m) → (n : ℕ) → IsFirst m.task (after m (Made_number n)).made (after m (Made_number n)).remembered → ⊥
+  paired_first = first_not m.state
+
+-- what was logged leaves the number, unless it was the pair
+abbrev HasSameNumber : Made → Grown → Type 0
+HasSameNumber made (On made') = made'.number ≡ made.number
+HasSameNumber made (Pair made') = Unit {0}
+
+module _ (made : Made) where
+  own_number : (keyed valued : Bool) → HasSameNumber made (own_grown keyed valued made)
+  own_number false valued = refl
+  own_number true false = refl
+  own_number true true = tt
+
+  of_number : (valued : Bool) → HasSameNumber made (of_grown valued made)
+  of_number false = refl
+  of_number true = tt
+
+  grown_number : (number : Number) (old : ℕ) → HasSameNumber made (grown_as number made old)
+  grown_number Wanted old = refl
+  grown_number (Free n) old = refl
+  grown_number Taken old = cond_both (old == 0) (own_grown made.keyed made.valued made) (of_grown made.valued made) (HasSameNumber made) (λ _. own_number made.keyed made.valued) (λ _. of_number made.valued)
+
+module _ (m : Call_machine) (has : m.made.number ≡ Taken) where
+  -- a number that was taken is kept until the pair is logged
+  abbrev KeepsNumber : Stage → Call_answer → Made → Type 0
+  KeepsNumber s a made' = (made'.number ≡ Taken) ⊎ ((n : ℕ) × (a ≡ Made_number n) × MakesPair (asks m.made m.hash s))
+
+  answered_number : (kind : OpKind) → (answered kind m.made).number ≡ Taken
+  answered_number kinds.Insert = has
+  answered_number kinds.Remove = has
+  answered_number (kinds.Abort t) = has
+
+  write_number : (write : Write) (n : ℕ) (served : Option ℕ) → ((write_grown served m.made write n).number ≡ Taken) ⊎ ((i : ℕ) × (Made_number n ≡ Made_number i) × MakesPair (served_ask served write m.made))
+  write_number write n (Some i) = inl has
+  write_number write n None = by_grown (grown m.made write.old) refl (grown_number m.made m.made.number write.old)
     where
-      by_cases : (Refuses MAX_LOG_LEN (length s.pairs) told × Stays s r s' r') ⊎ (HasNoPair told r × Stays s r s' r') ⊎ LogsPair told s r s' r' → IsLogged made stage told
-      by_cases (inl (none, stays)) = same_logged made stage told (same_logs s s' stays.0)
-      by_cases (inr (inl (has, stays))) = same_logged made stage told (same_logs s s' stays.0)
-      by_cases (inr (inr (i, v, logged, value, is, few, grown, later))) =
-          (λ _. ap (λ (y : StoreState K V S). y.keys) grown, λ first. absurd (paired (length s.pairs) (subst (λ y. IsFirst m.task (next made stage y).made (next made stage y).remembered) is first)))
+      by_grown : (G : Grown) → grown m.made write.old ≡ G → HasSameNumber m.made G → ((made_to_write G write n).number ≡ Taken) ⊎ ((i : ℕ) × (Made_number n ≡ Made_number i) × MakesPair (pair_ask m.made write.old))
+      by_grown (On made') is same = inl (same ∙ has)
+      by_grown (Pair made') is same = inr (n, refl, makes_pair m.made write.old made' is)
 
-  -- in each stage
-  pub own_logs : (made : Made) (stage : Stage) (told : Call_answer) → IsStandingState m.task stage → Performs eq says refuse (call_asks made m.hash stage) s r told s' r' → IsLogged made stage told
-  own_logs Nothing (Writing write) told stands h = key_logged (Writing write) told (λ n. refl) h
-  own_logs Key (Writing write) told stands h = pair_logged Key (Writing write) told (λ e. absurd cc) (λ n. written_first m.task n m.remembered stands.0) h
-  own_logs Nothing (Pairing purpose) told stands h = key_logged (Pairing purpose) told (λ n. refl) h
-  own_logs Key (Pairing purpose) told stands h = pair_logged Key (Pairing purpose) told (λ e. absurd cc) (λ n. paired_first m.task Key m.remembered purpose n stands.0) h
-  own_logs (Pair i) (Pairing purpose) told stands h = pair_logged (Pair i) (Pairing purpose) told (λ e. absurd cc) (λ n. paired_first m.task (Pair i) m.remembered purpose n stands.0) h
-  own_logs (Pair i) (Writing write) told stands h = plain (Pair i) (Writing write) told tt h
-  own_logs made AtRoot told stands h = plain made AtRoot told tt h
-  own_logs made Making told stands h = plain made Making told tt h
-  own_logs made (Opening t) told stands h = plain made (Opening t) told tt h
-  own_logs made (Searching (Sizing t)) told stands h = plain made (Searching (Sizing t)) told tt h
-  own_logs made (Searching (Looking at)) told stands h = plain made (Searching (Looking at)) told tt h
-  own_logs made (Searching (Reading at)) told stands h = plain made (Searching (Reading at)) told tt h
-  own_logs made (Searching (Comparing at word)) told stands h = plain made (Searching (Comparing at word)) told tt h
-  own_logs made (Offering gap) told stands h = plain made (Offering gap) told tt h
-  own_logs made (Showing removal) told stands h = plain made (Showing removal) told tt h
-  own_logs made (Putting put) told stands h = plain made (Putting put) told tt h
-  own_logs made (Burying removal) told stands h = plain made (Burying removal) told tt h
-  own_logs made (Counting n) told stands h = plain made (Counting n) told tt h
-  own_logs made (Noting n) told stands h = plain made (Noting n) told tt h
-  own_logs made (Uncounting n) told stands h = plain made (Uncounting n) told tt h
-  own_logs made (Leaving t) told stands h = plain made (Leaving t) told tt h
-  own_logs made (Growing need) told stands h = plain made (Growing need) told tt h
-  own_logs made (Ended reply) told stands h = plain made (Ended reply) told tt h
+  pairing_number : (purpose : Purpose) (n : ℕ) → ((made_to_pair (grown m.made (in_place_of purpose))).number ≡ Taken) ⊎ ((i : ℕ) × (Made_number n ≡ Made_number i) × MakesPair (pair_ask m.made (in_place_of purpose)))
+  pairing_number purpose n = by_grown (grown m.made (in_place_of purpose)) refl (grown_number m.made m.made.number (in_place_of purpose))
+    where
+      by_grown : (G : Grown) → grown m.made (in_place_of purpose) ≡ G → HasSameNumber m.made G → ((made_to_pair G).number ≡ Taken) ⊎ ((i : ℕ) × (Made_number n ≡ Made_number i) × MakesPair (pair_ask m.made (in_place_of purpose)))
+      by_grown (On made') is same = inl (same ∙ has)
+      by_grown (Pair made') is same = inr (n, refl, makes_pair m.made (in_place_of purpose) made' is)
+
+  logged_number : (n : ℕ) (s : Stage) → KeepsNumber s (Made_number n) (made_in m.made n s)
+  logged_number n (Writing write) = write_number write n (serves m.made write)
+  logged_number n (Pairing purpose) = pairing_number purpose n
+  logged_number n AtRoot = inl has
+  logged_number n Making = inl has
+  logged_number n (Opening t) = inl has
+  logged_number n (Searching search) = inl has
+  logged_number n (Offering gap) = inl has
+  logged_number n (Showing removal) = inl has
+  logged_number n (Putting put) = inl has
+  logged_number n (Burying removal) = inl has
+  logged_number n (Counting claimed) = inl has
+  logged_number n (Noting claimed) = inl has
+  logged_number n (Uncounting i) = inl has
+  logged_number n (Leaving t) = inl has
+  logged_number n (Growing need) = inl has
+  logged_number n (Ended reply) = inl has
+
+  pub number_stays : (a : Call_answer) → KeepsNumber m.state a (after m a).made
+  number_stays = made_after m (KeepsNumber m.state) (record {
+    same = λ _. inl has;
+    told = λ _ count. inl (ap (λ y. (number_told (told_as m.made y count) m.made).number) has ∙ has);
+    taken = λ _. inl (ap (λ y. (taken_as m.made y).number) has ∙ has);
+    answered = λ _ kind. inl (answered_number kind);
+  }) (λ n. logged_number n m.state)
+
+-- so a call without a pair and without a number had no number
+pub numberless_before : (m : Call_machine) (a : Call_answer) → IsStandingState m.task m.state → IsFirst m.task (after m a).made (after m a).remembered → IsNumberless (after m a).made → IsNumberless m.made
+numberless_before m a stands first none has = elim (number_stays m has a) [
+  | inl still ↦ none still
+  | inr (n, is, makes) ↦ paired_first m stands makes n (subst (λ y. IsFirst m.task (after m y).made (after m y).remembered) is first)
+]
+
+-- what is logged takes no number
+make_takes : (ask : Call_ask) → IsMakeAsk ask → IsTakeAsk ask → ⊥
+make_takes MakeKey makes takes = takes
+make_takes MakeValue makes takes = takes
+make_takes MakePair makes takes = takes
+make_takes (MakePairOf n) makes takes = takes
+make_takes ask makes takes = absurd makes
+
+takes_number : (number : Number) (made : Made) (old : ℕ) → IsTakeAsk (number_ask number made old) → (taken_as made number).number ≡ Taken
+takes_number Wanted made old takes = absurd takes
+takes_number (Free n) made old takes = refl
+takes_number Taken made old takes = absurd (make_takes (make_ask made old) (make_asks made old) takes)
+
+takes_in : (made : Made) (hash : ℕ) (s : Stage) → IsTakeAsk (asks made hash s) → (made_at_exchanged made s).number ≡ Taken
+takes_in made hash (Writing write) takes = by_served (serves made write) takes
+  where
+    by_served : (served : Option ℕ) → IsTakeAsk (served_ask served write made) → (write_taken served made).number ≡ Taken
+    by_served None takes = takes_number made.number made write.old takes
+    by_served (Some i) takes = absurd takes
+takes_in made hash (Pairing purpose) takes = takes_number made.number made (in_place_of purpose) takes
+takes_in made hash (Searching (Sizing t)) takes = absurd takes
+takes_in made hash (Searching (Looking at)) takes = absurd takes
+takes_in made hash (Searching (Reading at)) takes = absurd takes
+takes_in made hash (Searching (Comparing at word)) takes = absurd takes
+takes_in made hash AtRoot takes = absurd takes
+takes_in made hash Making takes = absurd takes
+takes_in made hash (Opening t) takes = absurd takes
+takes_in made hash (Offering gap) takes = absurd takes
+takes_in made hash (Showing removal) takes = absurd takes
+takes_in made hash (Putting put) takes = absurd takes
+takes_in made hash (Burying removal) takes = absurd takes
+takes_in made hash (Counting claimed) takes = absurd takes
+takes_in made hash (Noting claimed) takes = absurd takes
+takes_in made hash (Uncounting n) takes = absurd takes
+takes_in made hash (Leaving t) takes = absurd takes
+takes_in made hash (Growing need) takes = absurd takes
+takes_in made hash (Ended reply) takes = absurd takes
+
+-- a number that was taken is the call's
+pub number_taken : (m : Call_machine) (told : Call_answer) → IsNumberTaken (chain_asks.Call (ask_of m)) (answers.Call told) → IsNumberless (after m told).made → ⊥
+number_taken m Exchanged took none = none (takes_in m.made m.hash m.state took)
+number_taken m told took none = absurd took

@@ -2,7 +2,7 @@
 use Rattle.std.proofs.Common.{◌≡◌, ⊎_elim, ℕ, ◌<◌, ◌^◌, Bool, true, List, [], ◌∷◌, Option, Some, None, option_map, refl, sym, ◌∙◌, ap, subst}
 use Rattle.std.specs.Int.{IsPowerOfTwo}
 use Rattle.std.specs.Cmp.{IsEquivalence}
-use Rattle.papaya_words.specs.declared.probe.ResizeMode.{ResizeMode}
+use Rattle.papaya_store.specs.declared.mode.Mode.{Mode}
 use Rattle.papaya_ask.specs.declared.ask.Answer.{Answer}
 use Rattle.papaya_ask.specs.declared.ask.Ask.TheVariants.{Done as Ask_done}
 use Rattle.papaya_ask.specs.declared.call.Call.TheVariants.{Get}
@@ -28,7 +28,7 @@ use Rattle.papaya_seq.proofs.Lawful.{IsMatched, MatchesNone, decided, logged_con
 use Rattle.papaya_seq.proofs.LookRun.{look_alone}
 use Rattle.papaya_seq.proofs.LookSteps.{IsLooking, IsLookReply, IsLookUp, look_replies, lookup_looks, lookup_meets_none, none_replies}
 
-module _ {K V S : Type 0} (eq : K → K → Bool) (hash : K → ℕ) (mode : ResizeMode) (store : StoreState K V S) (lawful : IsLawfulCore {A = Unit {0}} eq hash store [] mode) (keys : IsLawfulKeys eq hash) (matches : K → Bool) where
+module _ {K V S : Type 0} (eq : K → K → Bool) (hash : K → ℕ) (mode : Mode) (store : StoreState K V S) (lawful : IsLawfulCore {A = Unit {0}} eq hash store [] mode) (keys : IsLawfulKeys eq hash) (matches : K → Bool) where
   -- where no pair of the log matches, the reply is that there is none
   unmatched_reply : MatchesNone store matches → (answers : List Answer) (m : Machine) (reply : Reply) → m.task ≡ Get_task → IsLooking store m.state → HasMetNone m.state → Replies matches store m answers reply → reply ≡ Absent
   unmatched_reply none [] m reply is_get looking met done = none_replies m.made m.hash m.state reply met done
@@ -77,31 +77,31 @@ module _ {K V S H : Type 0} (eq : K → K → Bool) (input : K → List (List �
   keys = keys_lawful eq input build write finish classes respects s.store.hasher
 
   -- a lookup whose asks are answered by what stands in the tables finds the map's pair, or that there is none
-  pub looked_up : (answers : List Answer) (reply : Reply) → Replies matches s.store (started Get_task hashed s.mode s.initial) answers reply → Finds eq (hash_of input build write finish s.store.hasher) s.mode s.store lawful keys matches reply
+  pub looked_up : (answers : List Answer) (reply : Reply) → Replies matches s.store (started Get_task hashed s.mode.resize s.initial s.mode.limit) answers reply → Finds eq (hash_of input build write finish s.store.hasher) s.mode s.store lawful keys matches reply
   looked_up answers reply replies = ⊎_elim by_call by_none (decided s.store matches)
     where
       fit : IsLookReply reply
-      fit = reply_fits eq (hash_of input build write finish s.store.hasher) s.mode s.store lawful keys matches answers (started Get_task hashed s.mode s.initial) reply refl tt replies
+      fit = reply_fits eq (hash_of input build write finish s.store.hasher) s.mode s.store lawful keys matches answers (started Get_task hashed s.mode.resize s.initial s.mode.limit) reply refl tt replies
 
       by_call : IsMatched s.store matches → Finds eq (hash_of input build write finish s.store.hasher) s.mode s.store lawful keys matches reply
       by_call one =
           let k : K = one.pair.key in
           let same : hashed ≡ hash_of input build write finish s.store.hasher k = hashes_alike k one.matched in
-          let alone = look_alone eq (hash_of input build write finish) s lawful power keys k matches (λ l. alike k l one.matched) (subst (λ n. n < 2 ^ 64) same fits) answers reply (subst (λ n. Replies matches s.store (started Get_task n s.mode s.initial) answers reply) same replies) in
+          let alone = look_alone eq (hash_of input build write finish) s lawful power keys k matches (λ l. alike k l one.matched) (subst (λ n. n < 2 ^ 64) same fits) answers reply (subst (λ n. Replies matches s.store (started Get_task n s.mode.resize s.initial s.mode.limit) answers reply) same replies) in
           does_find eq (hash_of input build write finish s.store.hasher) s.mode s.store lawful keys matches k (λ l. alike k l one.matched) reply fit _ (alone_answered eq input build write finish classes respects (core_of s) _ (Get k) reply lawful alone)
 
       by_none : MatchesNone s.store matches → Finds eq (hash_of input build write finish s.store.hasher) s.mode s.store lawful keys matches reply
       by_none none =
-          let absent : reply ≡ Absent = unmatched_reply eq (hash_of input build write finish s.store.hasher) s.mode s.store lawful keys matches none answers (started Get_task hashed s.mode s.initial) reply refl tt tt replies in
+          let absent : reply ≡ Absent = unmatched_reply eq (hash_of input build write finish s.store.hasher) s.mode s.store lawful keys matches none answers (started Get_task hashed s.mode.resize s.initial s.mode.limit) reply refl tt tt replies in
           record { found = None; is_found = none_held s.store matches eq none; is_reply = sym absent }
 
   -- the pair that a lookup which was told of the tables has found when it replies
-  pub look_up_finds : (m : Machine) → IsLookUp matches s.store (started Get_task hashed s.mode s.initial) m → (reply : Reply) → ask_of m ≡ Ask_done reply
-      → (found : Option (Stored K V)) × LooksUp eq matches s.store (started Get_task hashed s.mode s.initial) found × (reply_of found ≡ reply)
+  pub look_up_finds : (m : Machine) → IsLookUp matches s.store (started Get_task hashed s.mode.resize s.initial s.mode.limit) m → (reply : Reply) → ask_of m ≡ Ask_done reply
+      → (found : Option (Stored K V)) × LooksUp eq matches s.store (started Get_task hashed s.mode.resize s.initial s.mode.limit) found × (reply_of found ≡ reply)
   look_up_finds m kept reply done =
       let all = kept.told [] reply done in
       let finds = looked_up all.0 reply all.1 in
-      (finds.found, (finds.is_found, (all.0, subst (Replies matches s.store (started Get_task hashed s.mode s.initial) all.0) (sym finds.is_reply) all.1)), finds.is_reply)
+      (finds.found, (finds.is_found, (all.0, subst (Replies matches s.store (started Get_task hashed s.mode.resize s.initial s.mode.limit) all.0) (sym finds.is_reply) all.1)), finds.is_reply)
 
 -- the number in a reply that names a pair that was found
 abbrev pub found_number : Reply → Option ℕ

@@ -5,7 +5,7 @@ use Rattle.papaya_words.specs.declared.probe.Refused.{Refused}
 use Rattle.papaya_ask.specs.declared.ask.Answer.{Answer}
 use Rattle.papaya_ask.specs.declared.ask.Answer.TheVariants.{Yes}
 use Rattle.papaya_ask.specs.declared.ask.Ask.{Ask}
-use Rattle.papaya_ask.specs.declared.ask.Ask.TheVariants.{Load, Exchange, LoadHint, WriteHint, SameKey, ShowNone, ShowPair, SizeOf, MakeKey, MakePair, MakeTable, AddToShard, Done as Ask_done}
+use Rattle.papaya_ask.specs.declared.ask.Ask.TheVariants.{Load, Exchange, LoadHint, WriteHint, SameKey, ShowNone, ShowPair, SizeOf, MakeKey, MakeValue, MakePair, MakePairOf, MakeTable, AddToShard, Done as Ask_done}
 use Rattle.papaya_ask.specs.declared.call.Call.TheVariants.{Get}
 use Rattle.papaya_ask.specs.declared.call.Task.TheVariants.{Get as Get_task}
 use Rattle.papaya_ask.specs.declared.call.Reply.{Reply}
@@ -20,7 +20,7 @@ use Rattle.papaya_chain.specs.declared.ask.Answer.TheVariants as answers
 use Rattle.papaya_chain.specs.declared.machine.Machine.{Machine as Chain_machine}
 use Rattle.papaya_chain.specs.Machine as chain
 use Rattle.papaya_rests.proofs.Tasks.{same_task}
-use Rattle.papaya_store.specs.declared.pairs.KeyOf.TheVariants.{Own}
+use Rattle.papaya_store.specs.declared.pairs.Part.TheVariants.{Own}
 use Rattle.papaya_store.specs.declared.pairs.Running.{Running}
 use Rattle.papaya_timeline.specs.declared.trace.Entry.{Entry}
 use Rattle.papaya_timeline.specs.declared.trace.Event.{Event}
@@ -67,6 +67,8 @@ module _ {K V S : Type 0} (eq : K → K → Bool) (hash : S → K → ℕ) (s : 
   told_performs m MakeKey answer told = absurd told
   told_performs m ShowNone answer told = absurd told
   told_performs m MakePair answer told = absurd told
+  told_performs m MakeValue answer told = absurd told
+  told_performs m (MakePairOf i) answer told = absurd told
   told_performs m (MakeTable slots limit chunks) answer told = absurd told
   told_performs m (AddToShard by) answer told = absurd told
   told_performs m (Ask_done reply) answer told = absurd told
@@ -83,6 +85,8 @@ module _ {K V S : Type 0} (eq : K → K → Bool) (hash : S → K → ℕ) (s : 
   told_goes MakeKey answer told = absurd told
   told_goes ShowNone answer told = absurd told
   told_goes MakePair answer told = absurd told
+  told_goes MakeValue answer told = absurd told
+  told_goes (MakePairOf i) answer told = absurd told
   told_goes (MakeTable slots limit chunks) answer told = absurd told
   told_goes (AddToShard by) answer told = absurd told
   told_goes (Ask_done reply) answer told = absurd told
@@ -140,10 +144,10 @@ module _ {K V S : Type 0} (eq : K → K → Bool) (hash : S → K → ℕ) (s : 
       run_rest begun (after m answer) (with_event 1 0 event so_far) (suc steps) next rest reply ((same_task m answer).0 ∙ is_get) looks (core_in (Some (getting m)), so_far, run, inl (event, None, inl step, refl)) more
 
   -- the whole call
-  pub look_alone : hash s.store.hasher k < 2 ^ 64 → (answers : List Answer) (reply : Reply) → Replies matches s.store (started Get_task (hash s.store.hasher k) s.mode s.initial) answers reply → RunsAlone eq hash (core_of s) (Get k) reply (core_in None)
+  pub look_alone : hash s.store.hasher k < 2 ^ 64 → (answers : List Answer) (reply : Reply) → Replies matches s.store (started Get_task (hash s.store.hasher k) s.mode.resize s.initial s.mode.limit) answers reply → RunsAlone eq hash (core_of s) (Get k) reply (core_in None)
   look_alone fits [] reply replies = absurd cc
   look_alone fits (answer ∷ rest) reply replies =
-      let m : Machine = started Get_task (hash s.store.hasher k) s.mode s.initial in
+      let m : Machine = started Get_task (hash s.store.hasher k) s.mode.resize s.initial s.mode.limit in
       let run : IsRun m reply = run_rest m m (with_event 0 0 Begun []) 0 answer rest reply refl tt (refl, refl) replies in
       record {
         idle = refl;

@@ -4,6 +4,7 @@ use Rattle.std.proofs.lemmas.Bool.{cond_both}
 use Rattle.papaya_words.specs.Table.{TableWords}
 use Rattle.papaya_words.specs.Word.{kind_of, may_hold, pair_of as number_of}
 use Rattle.papaya_words.specs.declared.probe.ResizeMode.{ResizeMode}
+use Rattle.papaya_store.specs.declared.mode.Mode.{Mode}
 use Rattle.papaya_words.specs.declared.probe.ResizeMode.TheVariants.{Incremental, Blocking}
 use Rattle.papaya_words.specs.declared.word.Kind.{Kind}
 use Rattle.papaya_words.specs.declared.word.Kind.TheVariants as word_kinds
@@ -24,8 +25,10 @@ use Rattle.papaya_ask.specs.declared.search.Place.{Place}
 use Rattle.papaya_ask.specs.declared.search.Search.TheVariants.{Sizing, Looking, Reading, Comparing}
 use Rattle.papaya_ask.specs.declared.search.Seen.{Seen}
 use Rattle.papaya_ask.specs.declared.search.Seen.TheVariants as seen
-use Rattle.papaya_call.specs.declared.write.Made.{Made}
-use Rattle.papaya_rests.specs.Alone.{HasMetNone, IsCurrent, IsPrompt, IsRead, IsSeeker, IsUnmatched, left_in}
+use Rattle.papaya_call.specs.declared.made.Made.{Made}
+use Rattle.papaya_call.specs.declared.made.Number.{Number}
+use Rattle.papaya_call.specs.declared.made.Number.TheVariants.{Wanted, Free, Taken}
+use Rattle.papaya_rests.specs.Alone.{HasMetNone, IsCurrent, IsNumberRead, IsPrompt, IsRead, IsSeeker, IsUnmatched, left_in}
 use Rattle.papaya_call.specs.Machine.{started, after, ask_of, asks, at_root, passes, goes_as}
 use Rattle.papaya_rests.proofs.AloneCurrent.{machine_stays}
 use Rattle.papaya_rests.proofs.AloneSteps.{machine_nears}
@@ -39,6 +42,7 @@ use Rattle.papaya_seq.specs.Looks.{IsToldBy, Replies, matches_in}
 use Rattle.papaya_timeline.specs.Kept.{IsLawfulCore}
 use Rattle.papaya_timeline.proofs.KeptSettings.{IsLawfulKeys}
 use Rattle.papaya_timeline.proofs.KeptTables.{table_low}
+use Rattle.papaya_seq.proofs.Numbered.{begun_number}
 use Rattle.papaya_seq.proofs.Lawful.{MatchesNone, core_bare, core_next_rises, core_next_there, core_root_there}
 
 -- what a lookup replies
@@ -130,7 +134,7 @@ stays_ahead : {tables tables' steps steps' : ℕ} → tables' ≤ tables → ste
 stays_ahead fewer nearer = omega (arith, fewer, nearer)
 
 -- and so does one to a further table
-enters : (tables t n : ℕ) → t < n → n ≤ tables → 2 ^ 41 * (tables - n) + 2 ^ 40 < 2 ^ 41 * (tables - t) + 5
+enters : (tables t n : ℕ) → t < n → n ≤ tables → 2 ^ 41 * (tables - n) + 2 ^ 40 < 2 ^ 41 * (tables - t) + 8
 enters tables t n up low = omega (arith, up, low)
 
 module _ {K V S : Type 0} (store : StoreState K V S) where
@@ -234,10 +238,16 @@ module _ {K V S : Type 0} (store : StoreState K V S) where
   unlinked (Next t) = 0
   unlinked at = word_at store.words at
 
+  -- what was read of the numbers for pairs is so of these
+  unlinked_number : (number : Number) → IsNumberRead (λ at. word_at store.words at) number → IsNumberRead unlinked number
+  unlinked_number Wanted known = tt
+  unlinked_number (Free count) known = known
+  unlinked_number Taken known = tt
+
   module _ (matches : K → Bool) (sized : (n : ℕ) (t : TableWords) → table_of store.words.tables n ≡ Some t → IsSize (length t.slots) t.limit)
       (next_there : (t : ℕ) → (word_at store.words (Next t) ≡ 0 → ⊥) → (v : TableWords) × (table_of store.words.tables (word_at store.words (Next t)) ≡ Some v))
       (next_rises : (t : ℕ) → (word_at store.words (Next t) ≡ 0 → ⊥) → t < word_at store.words (Next t))
-      (made : Made) (held : Remembered) (hash : ℕ) (mode : ResizeMode) (initial : ℕ) where
+      (made : Made) (held : Remembered) (hash : ℕ) (mode : ResizeMode) (initial : ℕ) (known : IsNumberRead (λ at. word_at store.words at) made.number) where
     -- the machine in this state
     abbrev in_state : State → Machine
     in_state s = record { task = Get; hash = hash; mode = mode; initial = initial; made = made; remembered = held; state = s }
@@ -256,22 +266,22 @@ module _ {K V S : Type 0} (store : StoreState K V S) where
     lowers_in : (s : State) (answer : Answer) → IsLooking s → IsRead (λ at. word_at store.words at) s → IsToldBy matches store (asks made hash s) answer → Lowers s answer
     lowers_in AtRoot answer looking read told =
         let ahead : tables_ahead (length store.words.tables) (at_root Get held.fill store.words.root) ≤ length store.words.tables = cond_both (store.words.root == 0) (Ended Absent) (Searching (Sizing store.words.root)) (λ s. tables_ahead (length store.words.tables) s ≤ length store.words.tables) (λ _. omega arith) (λ _. omega arith) in
-        subst (Lowers AtRoot) (sym told) (stays_ahead ahead (machine_nears unlinked unlinked (in_state AtRoot) (Word_read store.words.root) tt (λ t. refl) (refl, λ at. refl)))
+        subst (Lowers AtRoot) (sym told) (stays_ahead ahead (machine_nears unlinked unlinked (in_state AtRoot) (Word_read store.words.root) (unlinked_number made.number known) tt (λ t. refl) (refl, λ at. refl)))
     lowers_in (Searching (Sizing t)) answer (table, there) read told =
         let ahead : length store.words.tables - t ≤ length store.words.tables - t = omega arith in
-        subst (Lowers (Searching (Sizing t))) (sym (told ∙ ap size_of there)) (stays_ahead ahead (machine_nears unlinked unlinked (in_state (Searching (Sizing t))) (Size (length table.slots) table.limit) tt (λ u. refl) ((length table.slots, table.limit, sized t table there, refl), λ at. refl)))
+        subst (Lowers (Searching (Sizing t))) (sym (told ∙ ap size_of there)) (stays_ahead ahead (machine_nears unlinked unlinked (in_state (Searching (Sizing t))) (Size (length table.slots) table.limit) (unlinked_number made.number known) tt (λ u. refl) ((length table.slots, table.limit, sized t table there, refl), λ at. refl)))
     lowers_in (Searching (Looking at)) answer looking read told =
         let hint : ℕ = hint_at store.words at.table at.probe.i in
         let ahead = goes_ahead (length store.words.tables) mode held at.table (hinted at hash hint) (hinted_place at hash hint) in
-        subst (Lowers (Searching (Looking at))) (sym told) (stays_ahead ahead (machine_nears unlinked unlinked (in_state (Searching (Looking at))) (Word_read hint) tt (λ t. refl) ((hint, refl), λ at. refl)))
+        subst (Lowers (Searching (Looking at))) (sym told) (stays_ahead ahead (machine_nears unlinked unlinked (in_state (Searching (Looking at))) (Word_read hint) (unlinked_number made.number known) tt (λ t. refl) ((hint, refl), λ at. refl)))
     lowers_in (Searching (Reading at)) answer looking read told =
         let word : ℕ = word_at store.words (Slot at.table at.probe.i) in
         let ahead = goes_ahead (length store.words.tables) mode held at.table (look at word) (look_place (kind_of word) at word) in
-        subst (Lowers (Searching (Reading at))) (sym told) (stays_ahead ahead (machine_nears unlinked unlinked (in_state (Searching (Reading at))) (Word_read word) tt (λ t. refl) (refl, λ at. refl)))
+        subst (Lowers (Searching (Reading at))) (sym told) (stays_ahead ahead (machine_nears unlinked unlinked (in_state (Searching (Reading at))) (Word_read word) (unlinked_number made.number known) tt (λ t. refl) (refl, λ at. refl)))
     lowers_in (Searching (Comparing at word)) answer looking read told =
         let same : Bool = matches_in matches (pair_of store (number_of word)) in
         let ahead = goes_ahead (length store.words.tables) mode held at.table (search_compared (Comparing at word) same) (compared_place at word same) in
-        subst (Lowers (Searching (Comparing at word))) (sym told) (stays_ahead ahead (machine_nears unlinked unlinked (in_state (Searching (Comparing at word))) (Yes same) read (λ t. refl) ((same, refl), λ at. refl)))
+        subst (Lowers (Searching (Comparing at word))) (sym told) (stays_ahead ahead (machine_nears unlinked unlinked (in_state (Searching (Comparing at word))) (Yes same) (unlinked_number made.number known) read (λ t. refl) ((same, refl), λ at. refl)))
     lowers_in (Leaving t) answer looking read told =
         let word : ℕ = word_at store.words (Next t) in
         subst (Lowers (Leaving t)) (sym told)
@@ -369,11 +379,11 @@ none_replies made hash (Growing t) reply none e = absurd none
 pub record IsLookUp {K V S : Type 0} (matches : K → Bool) (store : StoreState K V S) (begun m : Machine) : Type 0 where
   pub task : m.task ≡ Get
   pub looking : IsLooking store m.state
-  pub current : IsCurrent (λ at. word_at store.words at) m.state
+  pub current : IsCurrent (λ at. word_at store.words at) m
   -- what it replies from here on, it replies from its begin
   pub told : (answers : List Answer) (reply : Reply) → Replies matches store m answers reply → (all : List Answer) × Replies matches store begun all reply
 
-module _ {K V S : Type 0} (eq : K → K → Bool) (hash : K → ℕ) (mode : ResizeMode) (store : StoreState K V S) (lawful : IsLawfulCore {A = Unit {0}} eq hash store [] mode) (keys : IsLawfulKeys eq hash) (matches : K → Bool)
+module _ {K V S : Type 0} (eq : K → K → Bool) (hash : K → ℕ) (mode : Mode) (store : StoreState K V S) (lawful : IsLawfulCore {A = Unit {0}} eq hash store [] mode) (keys : IsLawfulKeys eq hash) (matches : K → Bool)
     (m : Machine) (getting : m.task ≡ Get) (looking : IsLooking store m.state) (answer : Answer) (told : IsToldBy matches store (ask_of m) answer) where
   -- a lookup that is told what stands in the tables goes on, or has replied
   pub lookup_looks : IsLooking store (after m answer).state
@@ -382,15 +392,15 @@ module _ {K V S : Type 0} (eq : K → K → Bool) (hash : K → ℕ) (mode : Res
       (looks_in store matches (core_root_there eq hash [] mode store lawful keys) (core_next_there eq hash [] mode store lawful) m.made m.remembered m.hash m.mode m.initial m.state answer looking told)
 
   -- it is nearer its end
-  pub lookup_nears : IsCurrent (λ at. word_at store.words at) m.state → lookup_left (length store.words.tables) (after m answer) < lookup_left (length store.words.tables) m
+  pub lookup_nears : IsCurrent (λ at. word_at store.words at) m → lookup_left (length store.words.tables) (after m answer) < lookup_left (length store.words.tables) m
   lookup_nears current =
       subst (λ task. lookup_left (length store.words.tables) (after (record m { task = task }) answer) < lookup_left (length store.words.tables) m) (sym getting)
-      (lowers_in store matches lawful.core.sizes (core_next_there eq hash [] mode store lawful) (core_next_rises eq hash [] mode store lawful keys) m.made m.remembered m.hash m.mode m.initial m.state answer looking current.read told)
+      (lowers_in store matches lawful.core.sizes (core_next_there eq hash [] mode store lawful) (core_next_rises eq hash [] mode store lawful keys) m.made m.remembered m.hash m.mode m.initial current.number m.state answer looking current.read told)
 
   -- and what it has read stands there still
-  pub lookup_current : IsCurrent (λ at. word_at store.words at) m.state → IsCurrent (λ at. word_at store.words at) (after m answer).state
+  pub lookup_current : IsCurrent (λ at. word_at store.words at) m → IsCurrent (λ at. word_at store.words at) (after m answer)
   lookup_current current =
-      machine_stays (λ at. word_at store.words at) (λ at. word_at store.words at) m current.bare answer current.read
+      machine_stays (λ at. word_at store.words at) (λ at. word_at store.words at) m current.bare answer current.number current.read
       (prompt_in store matches m.made m.hash m.task lawful.core.sizes m.state answer looking told)
 
   -- where no pair of the log matches, it meets none
@@ -408,6 +418,6 @@ module _ {K V S : Type 0} (eq : K → K → Bool) (hash : K → ℕ) (mode : Res
       }
 
 -- and it is kept of one that begins
-pub look_up_begins : {K V S : Type 0} (eq : K → K → Bool) (hash : K → ℕ) (mode : ResizeMode) (store : StoreState K V S) → IsLawfulCore {A = Unit {0}} eq hash store [] mode → (matches : K → Bool) (hashed initial : ℕ) → IsLookUp matches store (started Get hashed mode initial) (started Get hashed mode initial)
+pub look_up_begins : {K V S : Type 0} (eq : K → K → Bool) (hash : K → ℕ) (mode : Mode) (store : StoreState K V S) → IsLawfulCore {A = Unit {0}} eq hash store [] mode → (matches : K → Bool) (hashed initial : ℕ) → IsLookUp matches store (started Get hashed mode.resize initial mode.limit) (started Get hashed mode.resize initial mode.limit)
 look_up_begins eq hash mode store lawful matches hashed initial =
-    record { task = refl; looking = tt; current = record { bare = core_bare eq hash [] mode store lawful; read = tt }; told = λ answers reply replies. (answers, replies) }
+    record { task = refl; looking = tt; current = record { bare = core_bare eq hash [] mode store lawful; number = begun_number mode.limit (λ at. word_at store.words at); read = tt }; told = λ answers reply replies. (answers, replies) }

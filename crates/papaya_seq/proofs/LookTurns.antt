@@ -16,6 +16,7 @@ use Rattle.papaya_call.specs.declared.machine.Machine.{Machine}
 use Rattle.papaya_call.specs.declared.machine.State.{State}
 use Rattle.papaya_call.specs.declared.machine.State.TheVariants.{AtRoot, Searching, Leaving, Ended}
 use Rattle.papaya_call.specs.Machine.{after, ask_of, goes, passes, started}
+use Rattle.papaya_store.specs.declared.mode.Mode.{Mode}
 use Rattle.papaya_store.specs.Performs.{size_of}
 use Rattle.papaya_store.specs.Store.{StoreState}
 use Rattle.papaya_store.specs.Tables.{table_of, word_at}
@@ -41,7 +42,7 @@ empty_else (turns.Empty at) on here over = (at, refl)
 empty_else (turns.Here at word) on here over = absurd (here at word refl)
 empty_else (turns.Over t) on here over = absurd (over t refl)
 
-module _ {K V S : Type 0} (eq : K → K → Bool) (hash : K → ℕ) (mode : ResizeMode) (store : StoreState K V S) (lawful : IsLawfulCore {A = Unit {0}} eq hash store [] mode) (keys : IsLawfulKeys eq hash) (matches : K → Bool) where
+module _ {K V S : Type 0} (eq : K → K → Bool) (hash : K → ℕ) (mode : Mode) (store : StoreState K V S) (lawful : IsLawfulCore {A = Unit {0}} eq hash store [] mode) (keys : IsLawfulKeys eq hash) (matches : K → Bool) where
   -- each answer by what stands in the tables leads a lookup on
   look_up_comes : (begun : Machine) (answers : List Answer) (m m' : Machine) → IsLookUp matches store begun m → Comes matches store m answers m' → IsLookUp matches store begun m' × (lookup_left (length store.words.tables) m' ≤ lookup_left (length store.words.tables) m)
   look_up_comes begun [] m m' kept is = subst (λ (x : Machine). IsLookUp matches store begun x × (lookup_left (length store.words.tables) x ≤ lookup_left (length store.words.tables) m)) (sym is) (kept, omega arith)
@@ -53,7 +54,7 @@ module _ {K V S : Type 0} (eq : K → K → Bool) (hash : K → ℕ) (mode : Res
 
   module _ (h initial : ℕ) where
     abbrev begun : Machine
-    begun = started Get h mode initial
+    begun = started Get h mode.resize initial mode.limit
 
     -- the lookup in this state
     abbrev pub stands_at : State → Machine
@@ -111,14 +112,14 @@ module _ {K V S : Type 0} (eq : K → K → Bool) (hash : K → ℕ) (mode : Res
         look_up_comes begun came.0 (stands_at (Searching (Looking at))) (stands_at (goes begun (seen_by turn))) kept came.1
 
     -- and past its table the number of the next one was loaded
-    pub next_loaded : (t chunk : ℕ) → mode ≡ Incremental chunk → HasCome (passes Get mode None t) → HasCome (numbered (word_at store.words (Next t))) × (left_at (numbered (word_at store.words (Next t))) < left_at (passes Get mode None t))
+    pub next_loaded : (t chunk : ℕ) → mode.resize ≡ Incremental chunk → HasCome (passes Get mode.resize None t) → HasCome (numbered (word_at store.words (Next t))) × (left_at (numbered (word_at store.words (Next t))) < left_at (passes Get mode.resize None t))
     next_loaded t chunk incremental kept =
-        let leaves : passes Get mode None t ≡ Leaving t = ap (λ (x : ResizeMode). passes Get x None t) incremental in
+        let leaves : passes Get mode.resize None t ≡ Leaving t = ap (λ (x : ResizeMode). passes Get x None t) incremental in
         let goes = answered (Leaving t) (Word_read (word_at store.words (Next t))) refl (subst HasCome leaves kept) in
         (goes.0, subst (λ s. left_at (numbered (word_at store.words (Next t))) < left_at s) (sym leaves) goes.1)
 
     -- where no further table is searched, it has ended
-    pub passed_last : (t : ℕ) → mode ≡ Blocking → HasCome (passes Get mode None t) → HasCome (Ended Absent)
+    pub passed_last : (t : ℕ) → mode.resize ≡ Blocking → HasCome (passes Get mode.resize None t) → HasCome (Ended Absent)
     passed_last t blocking kept = subst HasCome (ap (λ (x : ResizeMode). passes Get x None t) blocking) kept
 
     -- a table was searched

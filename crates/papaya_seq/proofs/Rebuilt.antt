@@ -10,7 +10,9 @@ use Rattle.std.specs.Cmp.{IsEquivalence}
 use Rattle.std.specs.Int.{IsNextPowerOfTwo, IsPowerOfTwo}
 use Rattle.std.specs.List.{All}
 use Rattle.std.proofs.lemmas.List.Elements.{All-nil}
+use Rattle.papaya_words.specs.Counter.{Count}
 use Rattle.papaya_words.specs.Mode.{IsChunked}
+use Rattle.papaya_store.specs.declared.mode.Mode.{Mode}
 use Rattle.papaya_words.specs.Probe.{IsEntriesFor}
 use Rattle.papaya_keys.specs.Sizes.{IsSizeRefusal, IsTooMuch}
 use Rattle.papaya_store.specs.New.{HasCapacity}
@@ -19,21 +21,23 @@ use Rattle.papaya_seq.specs.Lengths.{IsAskedFor, IsLongEnough, lengths_of}
 use Rattle.papaya_seq.proofs.TableLengths.{new_long}
 use Rattle.papaya_words.specs.declared.limits.TheConstants.{DEFAULT_CHUNK, MAX_SHARDS}
 use Rattle.papaya_words.specs.declared.probe.Refused.{Refused}
-use Rattle.papaya_words.specs.declared.probe.Refused.TheVariants.{Memory}
+use Rattle.papaya_words.specs.declared.probe.Refused.TheVariants.{Memory, Capacity, Limit}
 use Rattle.papaya_words.specs.declared.probe.ResizeMode.{ResizeMode}
 use Rattle.papaya_words.specs.declared.probe.ResizeMode.TheVariants.{Blocking, Incremental}
 use Rattle.papaya_law.specs.Content.{AreApart, lookup}
 use Rattle.papaya_timeline.specs.Content.{content, map_in}
+use Rattle.papaya_timeline.specs.Core.{unlimited}
 use Rattle.papaya_timeline.specs.New.{IsNew}
 use Rattle.papaya_store.specs.Store.{StoreState, Stored, pair_of}
-use Rattle.papaya_seq.specs.Clones.{AreEqual, HasParts, IsCloneRefusal, IsCloned, IsCopied, IsCopyCut, IsRebuildRefusal, IsRebuilt}
+use Rattle.papaya_store.proofs.Logs.{pair_below}
+use Rattle.papaya_seq.specs.Clones.{AreEqual, HasFreeParts, HasParts, IsCloneRefusal, IsCloned, IsCopied, IsCopyCut, IsRebuildRefusal, IsRebuilt}
 use Rattle.papaya_seq.specs.Map.{Keeps, MapState, Unchanged, core_of, entry_of}
 use Rattle.papaya_seq.specs.Resizes.{IsReserveCause}
 use Rattle.papaya_seq.proofs.Answered.{logged_there}
 use Rattle.papaya_seq.proofs.Cloned.{all_copied}
 use Rattle.papaya_seq.proofs.Equal.{covered, each_found, found_key}
 use Rattle.papaya_seq.proofs.Filled.{new_with_own}
-use Rattle.papaya_seq.proofs.Lawful.{number_within}
+use Rattle.papaya_seq.proofs.Numbering.{numbered_content, numbered_store}
 
 -- a power of two is the next one to itself
 pub same_power : (n m : ℕ) → IsPowerOfTwo n → IsNextPowerOfTwo n m → m ≡ n
@@ -66,7 +70,7 @@ asks_for initial power more = inr (omega arith, λ entries is. same_power initia
 -- so the first table of the map that is built anew is long enough
 pub asked_long : (initial capacity entries : ℕ) (words : Tables) → IsAskedFor initial capacity → IsEntriesFor capacity entries → HasCapacity capacity entries words → IsLongEnough initial words
 asked_long initial capacity entries words (inl (none, few)) is has =
-    let empty : words ≡ record { root = 0; tables = [] } = subst (λ n. HasCapacity n entries words) none has in
+    let empty : words ≡ record { root = 0; tables = []; made = 0 } = subst (λ n. HasCapacity n entries words) none has in
     record { tables = subst (λ (w : Tables). All (λ len. initial ≤ len) (lengths_of w)) (sym empty) (All-nil (λ len. initial ≤ len)); first = λ _. few }
 asked_long initial capacity entries words (inr (low, same)) is has = subst (λ n. IsLongEnough n words) (same entries is) (new_long capacity entries words is has)
 
@@ -142,7 +146,7 @@ module _ {K V S : Type 0} (eq : K → K → Bool) (law : IsEquivalence eq) (s : 
       found p is =
           let own : ClonedAt CK CV p.key (Some p) = subst (ClonedAt CK CV p.key) is (cloned p.key) in
           let there : pair_of s own.0.number ≡ Some own.0 = logged_there eq law s p.key own.0.number own.0 own.1 refl in
-          found_below p.key own.0 own.0.number there (found_key eq law (λ (r : Stored K V). r.key) (content eq s) p.key own.0 own.1) (length s.pairs) (number_within s own.0.number own.0 there)
+          found_below p.key own.0 own.0.number there (found_key eq law (λ (r : Stored K V). r.key) (content eq s) p.key own.0 own.1) (length s.pairs) (pair_below s own.0.number own.0 there)
 
 module _ {K V S : Type 0} (eq : K → K → Bool) (law : IsEquivalence eq) (CK : K → K → Type 0) (CV : V → V → Type 0) where
   -- a map without pairs and without a log, once clones were put into it
@@ -160,7 +164,7 @@ module _ {K V S : Type 0} (eq : K → K → Bool) (law : IsEquivalence eq) (CK :
       }
 
   -- a new map that was made for so many pairs
-  pub clone_parts : (n : ℕ) (hasher : S) (new made : MapState K V S) (es : List (K × V)) → IsNew {A = Unit {0}} (Incremental DEFAULT_CHUNK) n 1 hasher (core_of new) → IsCopied eq CK CV new es made → (len : ℕ) → n ≡ len → (made.mode ≡ Incremental DEFAULT_CHUNK) × IsEntriesFor len made.initial × (made.store.count.shards ≡ 1)
+  pub clone_parts : (n : ℕ) (hasher : S) (new made : MapState K V S) (es : List (K × V)) → IsNew {A = Unit {0}} (Incremental DEFAULT_CHUNK) n 1 hasher (core_of new) → IsCopied eq CK CV new es made → (len : ℕ) → n ≡ len → (made.mode ≡ unlimited (Incremental DEFAULT_CHUNK)) × IsEntriesFor len made.initial × (made.store.count.shards ≡ 1)
   clone_parts n hasher new made es is_new copied len is = (
     copied.fills.keeps.mode ∙ is_new.mode_is,
     subst (λ k. IsEntriesFor k made.initial) is (subst (IsEntriesFor n) (sym copied.fills.keeps.initial) is_new.store_is.initial),
@@ -168,7 +172,7 @@ module _ {K V S : Type 0} (eq : K → K → Bool) (law : IsEquivalence eq) (CK :
   )
 
   -- parts stay where clones are put in
-  pub parts_on : (s new made : MapState K V S) (es : List (K × V)) → HasParts s new → IsCopied eq CK CV new es made → HasParts s made
+  pub parts_on : (s new made : MapState K V S) (es : List (K × V)) → HasFreeParts s new → IsCopied eq CK CV new es made → HasFreeParts s made
   parts_on s new made es parts copied = record {
     mode = copied.fills.keeps.mode ∙ parts.mode;
     initial = copied.fills.keeps.initial ∙ parts.initial;
@@ -186,20 +190,55 @@ module _ {K V S : Type 0} (eq : K → K → Bool) (law : IsEquivalence eq) (CK :
   }))
 
   -- a new map that gets the initial capacity of this one
-  pub fresh_parts : (s fresh : MapState K V S) (mode : ResizeMode) (capacity shards : ℕ) (hasher : S) → mode ≡ s.mode → shards ≡ s.store.count.shards → IsPowerOfTwo shards → IsNew {A = Unit {0}} mode capacity shards hasher (core_of fresh) → (initial : ℕ) → initial ≡ s.initial → HasParts s (record fresh { initial = initial })
+  pub fresh_parts : (s fresh : MapState K V S) (mode : ResizeMode) (capacity shards : ℕ) (hasher : S) → mode ≡ s.mode.resize → shards ≡ s.store.count.shards → IsPowerOfTwo shards → IsNew {A = Unit {0}} mode capacity shards hasher (core_of fresh) → (initial : ℕ) → initial ≡ s.initial → HasFreeParts s (record fresh { initial = initial })
   fresh_parts s fresh mode capacity shards hasher mode_is shards_is power new initial initial_is = record {
-    mode = new.mode_is ∙ mode_is;
+    mode = new.mode_is ∙ ap unlimited mode_is;
     initial = initial_is;
     shards = same_power shards fresh.store.count.shards power new.store_is.count ∙ shards_is;
   }
 
   -- room changes none of its parts
-  pub roomy_parts : (s fresh roomy : MapState K V S) → HasParts s fresh → Keeps fresh roomy → roomy.store ≡ record fresh.store { words = roomy.store.words } → HasParts s roomy
+  pub roomy_parts : (s fresh roomy : MapState K V S) → HasFreeParts s fresh → Keeps fresh roomy → roomy.store ≡ record fresh.store { words = roomy.store.words } → HasFreeParts s roomy
   roomy_parts s fresh roomy parts keeps words = record {
     mode = keeps.mode ∙ parts.mode;
     initial = keeps.initial ∙ parts.initial;
     shards = ap (λ (y : StoreState K V S). y.count.shards) words ∙ parts.shards;
   }
+
+  -- the limit is the last of them
+  pub limited_parts : (s free made : MapState K V S) → HasFreeParts s free → made.mode ≡ record free.mode { limit = s.mode.limit } → made.initial ≡ free.initial → made.store.count ≡ free.store.count → HasParts s made
+  limited_parts s free made parts mode initial count = record {
+    mode = mode ∙ ap (λ (m : Mode). record m { limit = s.mode.limit }) parts.mode;
+    initial = initial ∙ parts.initial;
+    shards = ap (λ (n : Count). n.shards) count ∙ parts.shards;
+  }
+
+  -- so it is where the numbers are set
+  pub limited_rebuilt : (CS : S → S → Type 0) (s free : MapState K V S) (made : MapState K V S) (n : ℕ) → made.store ≡ numbered_store free.store n → IsRebuilt eq CK CV CS s free → IsRebuilt eq CK CV CS s made
+  limited_rebuilt CS s free made n is rebuilt = record {
+    cloned = λ k.
+        subst (λ (o : Option (Stored K V)). MatchOption (map_in eq s.store k) (o ≡ None) (λ p. (q : Stored K V) × (o ≡ Some q) × (CK p.key q.key × CV p.value q.value)))
+        (sym (ap (λ (y : StoreState K V S). map_in eq y k) is ∙ ap (λ (ps : List (Stored K V)). lookup eq (λ q. q.key) ps k) (numbered_content free.store n eq))) (rebuilt.cloned k);
+    logged = ap (λ (y : StoreState K V S). length y.pairs) is ∙ rebuilt.logged;
+    hasher = subst (CS s.store.hasher) (sym (ap (λ (y : StoreState K V S). y.hasher) is)) rebuilt.hasher;
+  }
+
+  -- a limit is no cause where there is none
+  pub cut_below : (from : StoreState K V S) (to left : MapState K V S) → to.mode.limit ≡ None → (e : Refused) → (e ≡ Memory) ⊎ IsCopyCut eq CK CV from to e left → e ≡ Limit → ⊥
+  cut_below from to left free e (inl memory) is = let f : Memory ≡ Limit = sym memory ∙ is in cc f
+  cut_below from to left free e (inr cut) is = elim cut.cut.cause [
+    | inl memory ↦ let f : Memory ≡ Limit = sym memory ∙ is in cc f
+    | inr (inl (capacity, why)) ↦ let f : Capacity ≡ Limit = sym capacity ∙ is in cc f
+    | inr (inr (limit, spent)) ↦ let f : None ≡ Some cut.cut.at.store.words.made = sym free ∙ ap (λ (m : Mode). m.limit) (sym cut.cut.fills.keeps.mode) ∙ spent in cc f
+  ]
+
+  -- a map has no more pairs than it has logged
+  pub pairs_logged : (s : StoreState K V S) → AreApart eq (λ p. p.key) (content eq s) → length (content eq s) ≤ length s.pairs
+  pairs_logged s apart = logged_least eq law s (λ k l. Unit {0}) (λ v w. Unit {0}) s apart (λ k. own (map_in eq s k))
+    where
+      own : (o : Option (Stored K V)) → MatchOption o (o ≡ None) (λ p. (q : Stored K V) × (o ≡ Some q) × (Unit {0} × Unit {0}))
+      own None = refl
+      own (Some p) = (p, refl, (tt, tt))
 
   -- a new map that was refused
   pub fresh_refused : (s : MapState K V S) (mode : ResizeMode) (capacity shards : ℕ) (initial : ℕ) → IsChunked mode → initial ≤ 2 ^ 32 → IsAskedFor initial capacity → shards ≡ s.store.count.shards → (e : Refused) → IsSizeRefusal mode capacity shards e → IsRebuildRefusal eq CK CV s e
@@ -210,7 +249,7 @@ module _ {K V S : Type 0} (eq : K → K → Bool) (law : IsEquivalence eq) (CK :
   fresh_refused s mode capacity shards initial chunked most asked shards_is e (inr (inr (memory, allowed))) = inl memory
 
   -- room for its pairs that was refused
-  pub room_refused : (s fresh left : MapState K V S) → HasParts s fresh → content eq fresh.store ≡ [] → (n : ℕ) → n ≡ length (content eq s.store) → (e : Refused) → IsReserveCause eq fresh n e left → IsRebuildRefusal eq CK CV s e
+  pub room_refused : (s fresh left : MapState K V S) → HasFreeParts s fresh → content eq fresh.store ≡ [] → (n : ℕ) → n ≡ length (content eq s.store) → (e : Refused) → IsReserveCause eq fresh n e left → IsRebuildRefusal eq CK CV s e
   room_refused s fresh left parts empty n is e cause = inr (inr (record {
     fresh = fresh;
     empty = empty;
@@ -220,7 +259,7 @@ module _ {K V S : Type 0} (eq : K → K → Bool) (law : IsEquivalence eq) (CK :
   }))
 
   -- a clone that was refused there
-  pub rebuild_cut : (s fresh roomy left : MapState K V S) → HasParts s fresh → content eq fresh.store ≡ [] → HasParts s roomy → content eq roomy.store ≡ [] → (e : Refused) → (e ≡ Memory) ⊎ IsCopyCut eq CK CV s.store roomy e left → IsRebuildRefusal eq CK CV s e
+  pub rebuild_cut : (s fresh roomy left : MapState K V S) → HasFreeParts s fresh → content eq fresh.store ≡ [] → HasFreeParts s roomy → content eq roomy.store ≡ [] → (e : Refused) → (e ≡ Memory) ⊎ IsCopyCut eq CK CV s.store roomy e left → IsRebuildRefusal eq CK CV s e
   rebuild_cut s fresh roomy left parts empty parts' empty' e (inl memory) = inl memory
   rebuild_cut s fresh roomy left parts empty parts' empty' e (inr cut) = inr (inr (record {
     fresh = fresh;

@@ -5,14 +5,12 @@ use Rattle.std.specs.Fn.{Mut}
 use Rattle.papaya_words.specs.Counter.{count_of}
 use Rattle.papaya_words.specs.Table.{TableWords, length_after}
 use Rattle.papaya_words.specs.declared.probe.Refused.{Refused}
-use Rattle.papaya_words.specs.declared.probe.Refused.TheVariants.{RemoveNothing}
 use Rattle.papaya_ask.specs.declared.ask.Ask.{Ask as Call_ask}
-use Rattle.papaya_ask.specs.declared.ask.Ask.TheVariants.{Load, Exchange, LoadHint, SameKey, ShowPair, SizeOf, AddToShard, MakeKey, MakePair, MakeTable as Make_own, ShowNone}
+use Rattle.papaya_ask.specs.declared.ask.Ask.TheVariants.{Load, Exchange, LoadHint, SameKey, ShowPair, SizeOf, AddToShard, MakeKey, MakeValue, MakePair, MakePairOf, MakeTable as Make_own, ShowNone}
 use Rattle.papaya_ask.specs.declared.ask.Answer.{Answer as Call_answer}
-use Rattle.papaya_ask.specs.declared.ask.Answer.TheVariants.{Op, Size, Refused as Was_refused}
+use Rattle.papaya_ask.specs.declared.ask.Answer.TheVariants.{Size, Refused as Was_refused}
 use Rattle.papaya_ask.specs.declared.ask.At.{At}
-use Rattle.papaya_ask.specs.declared.ask.At.TheVariants.{Root, Next, Aborted, Done, Slot}
-use Rattle.papaya_ask.specs.declared.ask.OpKind.TheVariants.{Remove}
+use Rattle.papaya_ask.specs.declared.ask.At.TheVariants.{Root, Next, Aborted, Done, Slot, Made}
 use Rattle.papaya_ask.specs.declared.call.Task.TheVariants.{RemoveIf}
 use Rattle.papaya_ask.specs.declared.copy_ask.CopyAsk.{CopyAsk}
 use Rattle.papaya_ask.specs.declared.copy_ask.CopyAsk.TheVariants as copies
@@ -26,6 +24,7 @@ use Rattle.papaya_chain.specs.declared.machine.Machine.{Machine}
 use Rattle.papaya_chain.specs.Machine.{after, ask_of, asks_in, started}
 use Rattle.papaya_chain_rests.specs.Goes.{IsCause, IsToMake, WasNotMade, WouldBeTooLong, link_in}
 use Rattle.papaya_chain_rests.proofs.LinkStates.{In}
+use Rattle.papaya_rests.specs.Rests.{IsNumberAsk}
 use Rattle.papaya_store.specs.Copies.{PerformsCopy}
 use Rattle.papaya_store.specs.Performs.{Exchanges, size_of}
 use Rattle.papaya_store.specs.Store.{StoreState}
@@ -60,6 +59,7 @@ put_at_grown w at n word = by_table (table_of w.tables n) refl
 
 pub put_grown : (w : Tables) (at : At) (word : ℕ) → HasMoreTables w.tables (put w at word).tables
 put_grown w Root word = grown-same w.tables
+put_grown w Made word = grown-same w.tables
 put_grown w (Next n) word = put_at_grown w (Next n) n word
 put_grown w (Aborted n) word = put_at_grown w (Aborted n) n word
 put_grown w (Done n chunk) word = put_at_grown w (Done n chunk) n word
@@ -113,7 +113,7 @@ module _ {K V S F : Type 0} (eq : K → K → Bool) (hash : S → K → ℕ) (g 
       pub initial : m.call.initial ≡ map.initial
 
     -- as it begins
-    pub counting_begun : (hashed number : ℕ) → IsCounting map.store (started RemoveIf hashed map.mode map.initial number)
+    pub counting_begun : (hashed number : ℕ) → IsCounting map.store (started RemoveIf hashed map.mode.resize map.initial number map.mode.limit)
     counting_begun hashed number = record { sized = tt; initial = refl }
 
     module _ (s : StoreState K V S) (f : F) (m : Machine) (answer : Answer) (s' : StoreState K V S) (f' : F) (answered : IsAnswered eq hash g matches (ask_of m) s f answer s' f') (now : IsCounting s m) where
@@ -149,6 +149,8 @@ module _ {K V S F : Type 0} (eq : K → K → Bool) (hash : S → K → ℕ) (g 
         makes_nothing : (ask : Call_ask) → IsToMake ask → (told : Call_answer) → IsRemovalAnswer g matches ask s f told s' f' → ⊥
         makes_nothing MakeKey makes told removes = removes
         makes_nothing MakePair makes told removes = removes
+        makes_nothing MakeValue makes told removes = removes
+        makes_nothing (MakePairOf i) makes told removes = removes
         makes_nothing (Make_own slots limit chunks) makes told removes = removes
         makes_nothing ask makes told removes = absurd makes
 
@@ -170,13 +172,13 @@ module _ {K V S F : Type 0} (eq : K → K → Bool) (hash : S → K → ℕ) (g 
             let at_initial : 2 ^ 32 < length_after because.slots (count_of s.count.sum) map.initial because.unfit = subst (λ n. 2 ^ 32 < length_after because.slots (count_of s.count.sum) n because.unfit) now.initial at_count in
             table_long map s s' refused because.capacity because.behind because.slots because.unfit (is_sized (HasSlots s) (link_in m.phase) now.sized because.behind because.slots because.copied because.unfit because.link) at_initial stays
 
-        -- so a refusal is one of a next table
-        pub cause_table : IsCause m answer refused → IsNoTableRefusal then refused
-        cause_table (inl by) =
+        -- so a refusal is one of a next table, where it asks nothing of the numbers for pairs
+        pub cause_table : (IsNumberAsk (calls.ask_of m.call) → ⊥) → IsCause m answer refused → IsNoTableRefusal then refused
+        cause_table unnumbered (inl by) =
             let (told, is, removes) = answered_at (asks.Call (calls.ask_of m.call)) (ap (asks_in m.call) by.own.phase) in
-            ⊎_elim
-            (λ (makes : IsToMake (calls.ask_of m.call) × (by.own.told ≡ Was_refused refused)). absurd (makes_nothing (calls.ask_of m.call) makes.0 told removes))
-            (λ (shows : (refused ≡ RemoveNothing) × (ask_of m ≡ asks.Call ShowNone) × (by.own.told ≡ Op Remove)).
-            let (shown, e, none) = answered_at (asks.Call ShowNone) shows.1 in absurd none)
-            by.why
-        cause_table (inr by) = ⊎_elim next_refused next_long by.why
+            elim by.why [
+              | inl makes ↦ absurd (makes_nothing (calls.ask_of m.call) makes.0 told removes)
+              | inr (inl (full, (most, count, limit, over, numbers, found))) ↦ absurd (unnumbered numbers)
+              | inr (inr (nothing, shows, said)) ↦ let (shown, e, none) = answered_at (asks.Call ShowNone) shows in absurd none
+            ]
+        cause_table unnumbered (inr by) = ⊎_elim next_refused next_long by.why

@@ -14,7 +14,7 @@ use Rattle.papaya_call.specs.declared.compute.Remembered.{Remembered}
 use Rattle.papaya_call.specs.declared.machine.State.{State}
 use Rattle.papaya_call.specs.declared.machine.State.TheVariants.{AtRoot, Making, Opening, Searching, Writing, Offering, Showing, Pairing, Putting, Burying, Counting, Noting, Uncounting, Leaving, Growing, Ended}
 use Rattle.papaya_call.specs.declared.remove.Removal.{Removal}
-use Rattle.papaya_call.specs.declared.write.Made.{Made}
+use Rattle.papaya_call.specs.declared.made.Made.{Made}
 use Rattle.papaya_ask.specs.Search.{hinted, look}
 use Rattle.papaya_ask.specs.declared.ask.Answer.{Answer as Call_answer}
 use Rattle.papaya_ask.specs.declared.ask.Answer.TheVariants.{Word as Word_read, Exchanged, Yes, Ok as Ok_done}
@@ -131,8 +131,8 @@ pub record IsInRoot {K V S : Type 0} (first s : StoreState K V S) (m : Machine) 
   pub stage : IsRootStage first.words.root m.call.state
 
 -- as it begins
-pub in_root_begun : {K V S : Type 0} (first : StoreState K V S) (hashed : ℕ) (mode : ResizeMode) (initial number : ℕ) → IsInRoot first first (started RemoveIf hashed mode initial number)
-in_root_begun first hashed mode initial number = record { kept = record { root = refl; slots = refl; next = refl }; phase = refl; stage = tt }
+pub in_root_begun : {K V S : Type 0} (first : StoreState K V S) (hashed : ℕ) (mode : ResizeMode) (initial number : ℕ) (limit : Option ℕ) → IsInRoot first first (started RemoveIf hashed mode initial number limit)
+in_root_begun first hashed mode initial number limit = record { kept = record { root = refl; slots = refl; next = refl }; phase = refl; stage = tt }
 
 module _ {K V S F : Type 0} (g : Mut F (Bor K × (Bor V × Unit {0})) Bool) (matches : K → Bool) (s : StoreState K V S) (f : F) (s' : StoreState K V S) (f' : F) (last : next_of s ≡ 0) (open_still : (i : ℕ) → kind_of (word_at s.words (Slot s.words.root i)) ≡ kinds.Marked → ⊥)
     (made : Made) (hashed : ℕ) (mode : ResizeMode) (initial : ℕ) (held : Remembered) (number : ℕ) (helped : Bool) where

@@ -9,6 +9,7 @@ use Rattle.papaya_words.specs.declared.probe.Refused.{Refused}
 use Rattle.papaya_chain_rests.specs.Goes.{IsCause}
 use Rattle.papaya_ask.specs.declared.call.Task.TheVariants.{RemoveIf}
 use Rattle.papaya_alone.specs.Ahead.{IsPhaseRead}
+use Rattle.papaya_call.specs.Machine.{IsStandingState}
 use Rattle.papaya_call.specs.declared.machine.State.TheVariants.{Ended}
 use Rattle.papaya_chain.specs.declared.ask.Answer.{Answer}
 use Rattle.papaya_chain.specs.declared.ask.Ask.TheVariants as asks
@@ -62,12 +63,12 @@ module _ {K V S F : Type 0} (g : Mut F (Bor K × (Bor V × Unit {0})) Bool) (eq 
     pub rooted : next_of map.store ≡ 0 → IsInRoot map.store s m
 
   -- as it begins
-  pub matched_begun : (number : ℕ) (k : K) → IsKey k → IsMatchedRun k map.store agrees (started RemoveIf hashed map.mode map.initial number)
+  pub matched_begun : (number : ℕ) (k : K) → IsKey k → IsMatchedRun k map.store agrees (started RemoveIf hashed map.mode.resize map.initial number map.mode.limit)
   matched_begun number k key = record {
-    came = subst (λ h. HasCome eq hash map (keyed_removal k) map.store (removing (started RemoveIf h map.mode map.initial number) k)) key.hashes
+    came = subst (λ h. HasCome eq hash map (keyed_removal k) map.store (removing (started RemoveIf h map.mode.resize map.initial number map.mode.limit) k)) key.hashes
         (made_none eq hash map (keyed_removal k) number key.keys key.lawful (subst (λ h. h < 2 ^ 64) (sym key.hashes) key.fits));
     judged = refl;
-    rooted = λ single. in_root_begun map.store hashed map.mode map.initial number;
+    rooted = λ single. in_root_begun map.store hashed map.mode.resize map.initial number map.mode.limit;
   }
 
   module _ (k : K) (key : IsKey k) (s : StoreState K V S) (f : F) (m : Machine) (now : IsMatchedRun k s f m) (log : IsLogOf map.store s) (answer : Answer) (s' : StoreState K V S) (f' : F) (told : IsAnswered eq hash g matches (ask_of m) s f answer s' f') where
@@ -82,8 +83,11 @@ module _ {K V S F : Type 0} (g : Mut F (Bor K × (Bor V × Unit {0})) Bool) (eq 
     stands : IsStanding m
     stands = (now.came.lone going).lawful.core.standing 0 (removing m k) refl
 
+    pub matched_stands : IsStandingState RemoveIf m.call.state
+    matched_stands = subst (λ t. IsStandingState t m.call.state) now.came.task stands.call.state
+
     read : m.phase ≡ Calling → IsRead (word_at s.words) m.call.state
-    read is = (subst (IsPhaseRead m.call.mode (word_at s.words) m.call.state) is (now.came.lone going).current).0
+    read is = (subst (IsPhaseRead m.call.mode (word_at s.words) m.call.state) is (now.came.lone going).current.read).0
 
     -- the answer is within the limits
     pub matched_fit : IsFitAsk (ask_of m) → IsFit answer

@@ -16,6 +16,7 @@ use Rattle.papaya_chain.specs.declared.machine.Phase.{Phase}
 use Rattle.papaya_chain.specs.declared.machine.Phase.TheVariants.{Calling, Linking, Copying as Copying_root}
 use Rattle.papaya_chain.specs.Machine.{IsFit, IsFitAsk, IsStanding, after, ask_of, asks_in, started}
 use Rattle.papaya_call.specs.Machine.{IsStandingState, ask_of as call_ask_of}
+use Rattle.papaya_rests.specs.Rests.{IsNumberAsk}
 use Rattle.papaya_store.specs.Store.{StoreState}
 use Rattle.papaya_store.specs.Tables.{word_at}
 use Rattle.papaya_alone.specs.Ahead.{IsPhaseRead}
@@ -28,11 +29,11 @@ use Rattle.papaya_chain_rests.specs.Goes.{IsCause}
 use Rattle.papaya_seq.proofs.Causes.{IsNoTableRefusal}
 use Rattle.papaya_seq.proofs.RemovalRefused.{IsCounting, cause_table, counting_begun, counting_more}
 use Rattle.papaya_seq.proofs.RemovalRoot.{IsInRoot, IsRootStage, in_root_begun, in_root_more}
-use Rattle.papaya_seq.proofs.RemovalRun.{IsKey, IsMatchedRun, ended_at, matched_begun, matched_caused, matched_fit, matched_more, matched_nears}
+use Rattle.papaya_seq.proofs.RemovalRun.{IsKey, IsMatchedRun, ended_at, matched_begun, matched_caused, matched_fit, matched_more, matched_nears, matched_stands}
 use Rattle.papaya_seq.proofs.SeekLaw.{seek_caused, seek_core, seek_fit, seek_more, seek_nears}
 use Rattle.papaya_seq.proofs.Seeking.{IsSeeking, seek_begin}
 use Rattle.papaya_seq.proofs.SeekTurns.{IsAnswered}
-use Rattle.papaya_seq.proofs.Removing.{IsLogOf, answered_going, answered_log, log_more, removal_asks, same_log}
+use Rattle.papaya_seq.proofs.Removing.{IsLogOf, answered_going, answered_log, log_more, removal_asks, removal_numbers, same_log}
 use Rattle.papaya_seq.proofs.Unmarked.{unmarked}
 
 -- an ask of the call is the machine's own
@@ -82,12 +83,12 @@ module _ {K V S F : Type 0} (g : Mut F (Bor K × (Bor V × Unit {0})) Bool) (eq 
     pub refusal : IsQuery → (refused : Refused) → reply_in (ask_of m) ≡ Some (Reply_refused refused) → IsNoTableRefusal (record map { store = s }) refused
 
   -- as it begins
-  pub under_way : (number : ℕ) → IsUnderWay map.store agrees (started RemoveIf hashed map.mode map.initial number)
+  pub under_way : (number : ℕ) → IsUnderWay map.store agrees (started RemoveIf hashed map.mode.resize map.initial number map.mode.limit)
   under_way number = record {
     log = same_log map.store map.store refl;
     way = λ query. ⊎_elim
         (λ (one : IsMatched map.store matches). inl (record { one = one; run = matched_begun g eq hash matches hashed map agrees number one.pair.key (key_of query one) }))
-        (λ (none : MatchesNone map.store matches). inr (record { none = none; seeking = seek_begin eq hash map hashed query.keys query.fits number query.lawful; rooted = λ single. in_root_begun map.store hashed map.mode map.initial number }))
+        (λ (none : MatchesNone map.store matches). inr (record { none = none; seeking = seek_begin eq hash map hashed query.keys query.fits number query.lawful; rooted = λ single. in_root_begun map.store hashed map.mode.resize map.initial number map.mode.limit }))
         (decided map.store matches);
     counting = counting_begun eq hash g matches map hashed number;
     refusal = λ query refused e. absurd cc;
@@ -104,7 +105,7 @@ module _ {K V S F : Type 0} (g : Mut F (Bor K × (Bor V × Unit {0})) Bool) (eq 
         let seeking = lacks.seeking in
         in_root_more g eq hash matches map.store s f s' f' m answer single seeking.task
         (unmarked eq (hash s.hasher) [] map.mode s (subst (λ y. IsLawfulKeys eq (hash y)) (sym now.log.hasher) query.keys) (seek_core eq hash map hashed s m seeking))
-        (λ calling. (subst (IsPhaseRead m.call.mode (word_at s.words) m.call.state) calling seeking.current).0) (lacks.rooted single) told
+        (λ calling. (subst (IsPhaseRead m.call.mode (word_at s.words) m.call.state) calling seeking.current.read).0) (lacks.rooted single) told
 
     -- a refusal has a cause
     caused : IsQuery → (refused : Refused) → reply_in (ask_of (after m answer)) ≡ Some (Reply_refused refused) → IsCause m answer refused
@@ -112,6 +113,13 @@ module _ {K V S F : Type 0} (g : Mut F (Bor K × (Bor V × Unit {0})) Bool) (eq 
         (λ (has : HasMatch s f m). matched_caused g eq hash matches hashed map agrees has.one.pair.key (key_of query has.one) s f m has.run now.log answer s' f' told refused e)
         (λ (lacks : HasNoMatch s m). seek_caused eq hash g matches map hashed query.keys query.fits lacks.none s m f answer s' f' lacks.seeking going told refused e)
         (now.way query)
+
+    -- it asks nothing of the numbers for pairs
+    unnumbered : IsQuery → IsNumberAsk (call_ask_of m.call) → ⊥
+    unnumbered query = removal_numbers m.call.made m.call.hash m.call.state (⊎_elim
+        (λ (has : HasMatch s f m). matched_stands g eq hash matches hashed map agrees has.one.pair.key (key_of query has.one) s f m has.run now.log answer s' f' told)
+        (λ (lacks : HasNoMatch s m). subst (λ t. IsStandingState t m.call.state) lacks.seeking.task lacks.seeking.standing.call.state)
+        (now.way query))
 
     -- after an answer
     pub under_way_more : IsUnderWay s' f' (after m answer)
@@ -129,7 +137,7 @@ module _ {K V S F : Type 0} (g : Mut F (Bor K × (Bor V × Unit {0})) Bool) (eq 
           }))
           (now.way query);
       counting = counting_more eq hash g matches map s f m answer s' f' told now.counting;
-      refusal = λ query refused e. cause_table eq hash g matches map s f m answer s' f' told now.counting refused (caused query refused e);
+      refusal = λ query refused e. cause_table eq hash g matches map s f m answer s' f' told now.counting refused (unnumbered query) (caused query refused e);
     }
 
     -- it is nearer its end

@@ -6,11 +6,11 @@ use Rattle.std.specs.Prelude.{◌==◌}
 use Rattle.papaya_call.specs.declared.machine.State.{State}
 use Rattle.papaya_call.specs.declared.machine.State.TheVariants.{AtRoot, Making, Opening, Searching, Writing, Offering, Showing, Pairing, Putting, Burying, Counting, Noting, Uncounting, Leaving, Growing, Ended}
 use Rattle.papaya_call.specs.Machine.{IsStandingState, asks as call_asks}
-use Rattle.papaya_call.specs.declared.write.Made.{Made}
+use Rattle.papaya_call.specs.declared.made.Made.{Made}
 use Rattle.papaya_ask.specs.declared.ask.Answer.{Answer as Call_answer}
 use Rattle.papaya_ask.specs.declared.ask.Answer.TheVariants.{Yes}
 use Rattle.papaya_ask.specs.declared.ask.Ask.{Ask as Call_ask}
-use Rattle.papaya_ask.specs.declared.ask.Ask.TheVariants.{Load, Exchange, LoadHint, WriteHint, SameKey, ShowNone, ShowPair, SizeOf, MakeKey, MakePair, MakeTable, AddToShard, Done as Ask_done}
+use Rattle.papaya_ask.specs.declared.ask.Ask.TheVariants.{Load, Exchange, LoadHint, WriteHint, SameKey, ShowNone, ShowPair, SizeOf, MakeKey, MakeValue, MakePair, MakePairOf, MakeTable, AddToShard, Done as Ask_done}
 use Rattle.papaya_ask.specs.declared.call.Call.{Call}
 use Rattle.papaya_ask.specs.declared.call.Call.TheVariants.{RemoveIf as RemoveIf_call}
 use Rattle.papaya_ask.specs.declared.call.Reply.{Reply}
@@ -24,12 +24,13 @@ use Rattle.papaya_chain.specs.declared.ask.Ask.{Ask}
 use Rattle.papaya_chain.specs.declared.ask.Ask.TheVariants as asks
 use Rattle.papaya_chain.specs.declared.machine.Machine.{Machine}
 use Rattle.papaya_chain.specs.Machine.{ask_of}
+use Rattle.papaya_rests.specs.Rests.{IsNumberAsk}
 use Rattle.papaya_store.specs.Asks.{PerformsAsk}
 use Rattle.papaya_store.specs.Copies.{PerformsCopy}
 use Rattle.papaya_store.specs.Performs.{Exchanges, Judges, Performs, ShowsPair, same}
 use Rattle.papaya_store.specs.Store.{StoreState, Stored, pair_of, stored_in}
 use Rattle.papaya_store.specs.Tables.{Tables}
-use Rattle.papaya_store.specs.declared.pairs.KeyOf.TheVariants.{Own}
+use Rattle.papaya_store.specs.declared.pairs.Part.TheVariants.{Own}
 use Rattle.papaya_store.specs.declared.pairs.Running.{Running}
 use Rattle.papaya_timeline.specs.Advances.{reply_in}
 use Rattle.papaya_timeline.specs.Solo.{whatever}
@@ -46,26 +47,24 @@ removal_by k = RemoveIf_call k tt
 abbrev pub removing : {K V : Type 0} → Machine → K → Running K V (Unit {0})
 removing m k = record { machine = m; key = Own k; value = None; answers = Some tt }
 
--- the logs and the hasher are as they were
+-- the log and the hasher are as they were
 pub record IsLogOf {K V S : Type 0} (s s' : StoreState K V S) : Type 0 where
-  pub keys : s'.keys ≡ s.keys
   pub pairs : s'.pairs ≡ s.pairs
   pub hasher : s'.hasher ≡ s.hasher
 
 pub same_log : {K V S : Type 0} (s s' : StoreState K V S) → s' ≡ s → IsLogOf s s'
 same_log {K} {V} {S} s s' same = record {
-  keys = ap (λ (y : StoreState K V S). y.keys) same;
   pairs = ap (λ (y : StoreState K V S). y.pairs) same;
   hasher = ap (λ (y : StoreState K V S). y.hasher) same;
 }
 
 -- one after the other
 pub log_more : {K V S : Type 0} (first s s' : StoreState K V S) → IsLogOf first s → IsLogOf s s' → IsLogOf first s'
-log_more first s s' log more = record { keys = more.keys ∙ log.keys; pairs = more.pairs ∙ log.pairs; hasher = more.hasher ∙ log.hasher }
+log_more first s s' log more = record { pairs = more.pairs ∙ log.pairs; hasher = more.hasher ∙ log.hasher }
 
 -- so each pair is logged as it was
 pub log_kept : {K V S : Type 0} (s s' : StoreState K V S) → IsLogOf s s' → (n : ℕ) → pair_of s' n ≡ pair_of s n
-log_kept s s' log n = ap (λ keys. stored_in keys n (slice_get s'.pairs n)) log.keys ∙ ap (λ pairs. stored_in s.keys n (slice_get pairs n)) log.pairs
+log_kept s s' log n = ap (λ pairs. stored_in pairs n (slice_get pairs n)) log.pairs
 
 -- a key that matches as k is equal compares as k does
 same_matches : {K V : Type 0} (eq : K → K → Bool) (matches : K → Bool) (k : K) → ((l : K) → matches l ≡ eq k l) → (o : Option (Stored K V)) → matches_in matches o ≡ same eq (Some k) o
@@ -93,6 +92,28 @@ removal_asks made hash (Uncounting n) stands going = tt
 removal_asks made hash (Leaving t) stands going = tt
 removal_asks made hash (Growing need) stands going = tt
 removal_asks made hash (Ended reply) stands going = absurd (going reply refl)
+
+-- and it asks nothing of the numbers for pairs
+pub removal_numbers : (made : Made) (hash : ℕ) (state : State) → IsStandingState RemoveIf state → IsNumberAsk (call_asks made hash state) → ⊥
+removal_numbers made hash AtRoot stands asks = asks
+removal_numbers made hash Making stands asks = asks
+removal_numbers made hash (Opening t) stands asks = asks
+removal_numbers made hash (Searching (Sizing t)) stands asks = asks
+removal_numbers made hash (Searching (Looking at)) stands asks = asks
+removal_numbers made hash (Searching (Reading at)) stands asks = asks
+removal_numbers made hash (Searching (Comparing at word)) stands asks = asks
+removal_numbers made hash (Writing write) stands asks = stands.0
+removal_numbers made hash (Offering gap) stands asks = asks
+removal_numbers made hash (Showing removal) stands asks = asks
+removal_numbers made hash (Pairing purpose) stands asks = stands.0
+removal_numbers made hash (Putting put) stands asks = stands.0
+removal_numbers made hash (Burying removal) stands asks = asks
+removal_numbers made hash (Counting n) stands asks = asks
+removal_numbers made hash (Noting n) stands asks = asks
+removal_numbers made hash (Uncounting n) stands asks = asks
+removal_numbers made hash (Leaving t) stands asks = asks
+removal_numbers made hash (Growing need) stands asks = asks
+removal_numbers made hash (Ended reply) stands asks = asks
 
 module _ {K V S F : Type 0} (g : Mut F (Bor K × (Bor V × Unit {0})) Bool) (eq : K → K → Bool) (hash : S → K → ℕ) (matches : K → Bool) where
   -- an ask of the call that was answered so, and one of a copy, in the words of a driver
@@ -126,6 +147,8 @@ module _ {K V S F : Type 0} (g : Mut F (Bor K × (Bor V × Unit {0})) Bool) (eq 
   going_call MakeKey s f answer s' f' told = absurd told
   going_call ShowNone s f answer s' f' told = absurd told
   going_call MakePair s f answer s' f' told = absurd told
+  going_call MakeValue s f answer s' f' told = absurd told
+  going_call (MakePairOf i) s f answer s' f' told = absurd told
   going_call (MakeTable slots limit chunks) s f answer s' f' told = absurd told
   going_call (Ask_done reply) s f answer s' f' told = absurd told
 
@@ -137,7 +160,7 @@ module _ {K V S F : Type 0} (g : Mut F (Bor K × (Bor V × Unit {0})) Bool) (eq 
   log_exchanged : (found old : ℕ) (after : Tables) (answer : Call_answer) (s s' : StoreState K V S) → Exchanges found old after answer s s' → IsLogOf s s'
   log_exchanged found old after answer s s' made =
       matched (IsLogOf s s') (found == old) _ _ made
-      (λ _ done. let log = same_log (record s { words = after }) s' done.1 in record { keys = log.keys; pairs = log.pairs; hasher = log.hasher })
+      (λ _ done. let log = same_log (record s { words = after }) s' done.1 in record { pairs = log.pairs; hasher = log.hasher })
       (λ _ lost. same_log s s' lost.1)
 
   log_call : (ask : Call_ask) (s : StoreState K V S) (f : F) (answer : Call_answer) (s' : StoreState K V S) (f' : F) → IsRemovalAnswer g matches ask s f answer s' f' → IsLogOf s s'
@@ -148,7 +171,6 @@ module _ {K V S F : Type 0} (g : Mut F (Bor K × (Bor V × Unit {0})) Bool) (eq 
   log_call (ShowPair n) s f answer s' f' (_, same) = same_log s s' same
   log_call (SizeOf t) s f answer s' f' (_, same, _) = same_log s s' same
   log_call (AddToShard by) s f answer s' f' (_, (number, is), _) = record {
-    keys = ap (λ (y : StoreState K V S). y.keys) is;
     pairs = ap (λ (y : StoreState K V S). y.pairs) is;
     hasher = ap (λ (y : StoreState K V S). y.hasher) is;
   }
@@ -156,6 +178,8 @@ module _ {K V S F : Type 0} (g : Mut F (Bor K × (Bor V × Unit {0})) Bool) (eq 
   log_call MakeKey s f answer s' f' told = absurd told
   log_call ShowNone s f answer s' f' told = absurd told
   log_call MakePair s f answer s' f' told = absurd told
+  log_call MakeValue s f answer s' f' told = absurd told
+  log_call (MakePairOf i) s f answer s' f' told = absurd told
   log_call (MakeTable slots limit chunks) s f answer s' f' told = absurd told
   log_call (Ask_done reply) s f answer s' f' told = absurd told
 
@@ -164,7 +188,6 @@ module _ {K V S F : Type 0} (g : Mut F (Bor K × (Bor V × Unit {0})) Bool) (eq 
   log_copy (copies.Exchange at old new) s answer s' (told, _, made) = log_exchanged _ old _ told s s' made
   log_copy (copies.LoadHint t x) s answer s' (_, same) = same_log s s' same
   log_copy (copies.WriteHint t x hint) s answer s' (_, is) = record {
-    keys = ap (λ (y : StoreState K V S). y.keys) is;
     pairs = ap (λ (y : StoreState K V S). y.pairs) is;
     hasher = ap (λ (y : StoreState K V S). y.hasher) is;
   }
@@ -174,7 +197,6 @@ module _ {K V S F : Type 0} (g : Mut F (Bor K × (Bor V × Unit {0})) Bool) (eq 
   log_copy copies.Count s answer s' (_, same) = same_log s s' same
   log_copy (copies.MakeTable slots limit chunks) s answer s' (told, _, inl (_, same)) = same_log s s' same
   log_copy (copies.MakeTable slots limit chunks) s answer s' (told, _, inr (_, _, is)) = record {
-    keys = ap (λ (y : StoreState K V S). y.keys) is;
     pairs = ap (λ (y : StoreState K V S). y.pairs) is;
     hasher = ap (λ (y : StoreState K V S). y.hasher) is;
   }
@@ -200,6 +222,8 @@ module _ {K V S F : Type 0} (g : Mut F (Bor K × (Bor V × Unit {0})) Bool) (eq 
   performed_call k alike m is_removal MakeKey s f answer s' f' told = absurd told
   performed_call k alike m is_removal ShowNone s f answer s' f' told = absurd told
   performed_call k alike m is_removal MakePair s f answer s' f' told = absurd told
+  performed_call k alike m is_removal MakeValue s f answer s' f' told = absurd told
+  performed_call k alike m is_removal (MakePairOf i) s f answer s' f' told = absurd told
   performed_call k alike m is_removal (MakeTable slots limit chunks) s f answer s' f' told = absurd told
   performed_call k alike m is_removal (Ask_done reply) s f answer s' f' told = absurd told
 

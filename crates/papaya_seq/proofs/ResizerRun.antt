@@ -97,13 +97,13 @@ module _ {K V S H : Type 0} (eq : K → K → Bool) (input : K → List (List �
   IsGoing store z = IsResizingTo eq hash s resize store z
 
   -- it begins
-  pub resizing_begun : (resize ≡ resizes.Chunk → ⊥) → (z : Resizer) (number : ℕ) → z ≡ begun resize s.mode s.initial number → IsStandingResizer z → IsGoing s.store z
+  pub resizing_begun : (resize ≡ resizes.Chunk → ⊥) → (z : Resizer) (number : ℕ) → z ≡ begun resize s.mode.resize s.initial number → IsStandingResizer z → IsGoing s.store z
   resizing_begun whole z number is standing =
       let call = call_for resize whole in
       subst (IsGoing s.store) (sym is) (record {
         call = call;
         came = resize_begun eq input build write finish classes respects s resize call lawful number;
-        causes = caused_begun eq hash s resize (begun resize s.mode s.initial number) call.at_root;
+        causes = caused_begun eq hash s resize (begun resize s.mode.resize s.initial number) call.at_root;
         standing = subst IsStandingResizer is standing;
       })
 
@@ -202,7 +202,7 @@ module _ {K V S H : Type 0} (eq : K → K → Bool) (input : K → List (List �
 
       -- a call that resizes the map leaves it
       same_by : (IsLeftBy now.call.call (map_in eq s.store) (map_in eq store) → Same (map_in eq s.store) (map_in eq store)) × (IsDoneBy now.call.call (map_in eq s.store) (map_in eq store) → Same (map_in eq s.store) (map_in eq store))
-      same_by = resized_same (λ k. 0) s.mode s.initial 0 now.call.call (begun resize s.mode s.initial 0) (now.call.begins (λ k. 0) s.mode s.initial 0) (map_in eq s.store) (map_in eq store)
+      same_by = resized_same (λ k. 0) s.mode s.initial 0 now.call.call (begun resize s.mode.resize s.initial 0) (now.call.begins (λ k. 0) s.mode s.initial 0) (map_in eq s.store) (map_in eq store)
 
       -- no pair of the map changes
       pub resized_unchanged : ask_of z ≡ None → Unchanged eq s.store store

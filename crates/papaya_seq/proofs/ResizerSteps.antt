@@ -1,13 +1,15 @@
 -- A call of a map for one caller that resizes it, as the steps of a core with one seat.
-use Rattle.std.proofs.Common.{◌≡◌, ℕ, suc, ◌^◌, ◌<◌, Bool, true, false, Option, None, Some, List, [], ◌∷◌, inl, inr, refl, sym, ◌∙◌, ap, subst, arith}
+use Rattle.std.proofs.Common.{◌≡◌, ℕ, suc, ◌^◌, ◌<◌, ◌≤◌, Bool, true, false, Option, None, Some, List, [], ◌∷◌, length, inl, inr, refl, sym, ◌∙◌, ap, subst, arith}
 use Rattle.std.specs.Cmp.{IsEquivalence}
 use Rattle.papaya_words.specs.declared.probe.Refused.{Refused}
-use Rattle.papaya_words.specs.declared.probe.ResizeMode.{ResizeMode}
+use Rattle.papaya_store.specs.declared.mode.Mode.{Mode}
 use Rattle.papaya_ask.specs.declared.call.Call.{Call}
 use Rattle.papaya_ask.specs.declared.call.Call.TheVariants as calls
 use Rattle.papaya_ask.specs.declared.call.Reply.{Reply}
 use Rattle.papaya_ask.specs.declared.call.Reply.TheVariants.{Done as Reply_done, Refused as Reply_refused}
+use Rattle.papaya_ask.specs.declared.ask.At.TheVariants.{Made}
 use Rattle.papaya_ask.specs.declared.copy_ask.CopyAsk.{CopyAsk}
+use Rattle.papaya_ask.specs.declared.copy_ask.CopyAsk.TheVariants.{Exchange}
 use Rattle.papaya_alone.specs.Resizers.{resizer_measure}
 use Rattle.papaya_chain.specs.declared.ask.Ask.TheVariants as asks
 use Rattle.papaya_chain.specs.declared.ask.Answer.{Answer}
@@ -19,6 +21,8 @@ use Rattle.papaya_chain.specs.declared.resizer.State.TheVariants as stages
 use Rattle.papaya_chain.specs.Resizer.{after, ask_of, asks_in, begun, begun_in, kind_of_ask, reply_in, reply_of}
 use Rattle.papaya_chain_rests.specs.Resizers.{IsResizeCause}
 use Rattle.papaya_law.specs.Exchange.{run, start as first_state}
+use Rattle.papaya_law.specs.Meaning.{map_left}
+use Rattle.papaya_law.proofs.OneMap.{keeping}
 use Rattle.papaya_keys.specs.Hashes.{hash_of}
 use Rattle.papaya_store.specs.Copies.{PerformsCopy}
 use Rattle.papaya_store.specs.Store.{StoreState}
@@ -43,14 +47,15 @@ use Rattle.papaya_timeline.proofs.CallersLemmas.{same_item}
 use Rattle.papaya_timeline.proofs.KeptCore.{keys_lawful}
 use Rattle.papaya_timeline.proofs.HeadlineLemmas.{resize-core}
 use Rattle.papaya_timeline.proofs.KeptResized.{left as resize_left, resize_kept, stage_left}
-use Rattle.papaya_timeline.proofs.KeptSettings.{IsLawfulKeys}
+use Rattle.papaya_timeline.proofs.KeptSettings.{IsLawfulKeys, tables_hashed}
 use Rattle.papaya_timeline.proofs.KeptTables.{HasMoreTables}
-use Rattle.papaya_timeline.proofs.ResizerLaws.{resizer_refused}
+use Rattle.papaya_timeline.proofs.ResizerLaws.{resizer_names, resizer_refused}
 use Rattle.papaya_timeline.proofs.SoloEnds.{lone_begin}
 use Rattle.papaya_timeline.proofs.SoloResizes.{resizer_done, resizer_nears}
 use Rattle.papaya_seq.specs.Map.{IsLawfulMap, MapState, core_of}
 use Rattle.papaya_seq.proofs.Ending.{left_to}
 use Rattle.papaya_seq.proofs.ResizerLengths.{IsLongResize, resize_long_begun, resize_long_left, resize_long_more}
+use Rattle.papaya_seq.proofs.Numbered.{copied_made}
 use Rattle.papaya_seq.proofs.RootStays.{root_stays}
 use Rattle.papaya_seq.proofs.SeekTurns.{turn_words}
 use Rattle.papaya_seq.proofs.Turns.{IsOver, begins_so, last_entry, made_over, seated_work, start}
@@ -59,7 +64,7 @@ use Rattle.papaya_seq.proofs.Turns.{IsOver, begins_so, last_entry, made_over, se
 pub record ResizeCall (K V : Type 0) (resize : Resize) : Type 0 where
   pub call : Call K V (Unit {0})
   pub no_key : key_of call ≡ None
-  pub begins : (hash : K → ℕ) (mode : ResizeMode) (initial number : ℕ) → begun_work hash mode initial number call ≡ works.Resize (begun resize mode initial number)
+  pub begins : (hash : K → ℕ) (mode : Mode) (initial number : ℕ) → begun_work hash mode initial number call ≡ works.Resize (begun resize mode.resize initial number)
   pub at_root : begun_in resize ≡ stages.AtRoot
 
 pub call_for : {K V : Type 0} (resize : Resize) → (resize ≡ resizes.Chunk → ⊥) → ResizeCall K V resize
@@ -100,6 +105,8 @@ module _ {K V S : Type 0} (eq : K → K → Bool) (hash : S → K → ℕ) (s : 
     pub initial_is : z.initial ≡ s.initial
     -- nothing but the words is another
     pub logs : store ≡ record s.store { words = store.words }
+    -- no number was taken for a pair
+    pub taken : store.words.made ≡ s.store.words.made
     -- no table is shorter than the initial capacity
     pub long : IsLongResize s store z
 
@@ -117,15 +124,15 @@ module _ {K V S H : Type 0} (eq : K → K → Bool) (input : K → List (List �
 
   module _ (lawful : IsLawfulMap eq (hash s.store.hasher) s.store s.mode s.initial) where
     -- as it begins
-    begun_going : (number : ℕ) → reply_of (begun resize s.mode s.initial number) ≡ None
+    begun_going : (number : ℕ) → reply_of (begun resize s.mode.resize s.initial number) ≡ None
     begun_going number = ap reply_in call.at_root
 
-    pub resize_begun : (number : ℕ) → HasCome s.store (begun resize s.mode s.initial number)
+    pub resize_begun : (number : ℕ) → HasCome s.store (begun resize s.mode.resize s.initial number)
     resize_begun number = record {
       number = number;
       steps = 0;
       history = with_event 0 0 Begun [];
-      runs = (ap (λ o. seated_work s.store o s.mode s.initial) (ap (λ o. goes_on o (works.Resize (begun resize s.mode s.initial number))) (begun_going number) ∙ ap (λ w. Some w) (sym (call.begins (hash s.store.hasher) s.mode s.initial number))), refl);
+      runs = (ap (λ o. seated_work s.store o s.mode s.initial) (ap (λ o. goes_on o (works.Resize (begun resize s.mode.resize s.initial number))) (begun_going number) ∙ ap (λ w. Some w) (sym (call.begins (hash s.store.hasher) s.mode s.initial number))), refl);
       replied = λ reply e. let f : None ≡ Some reply = sym (begun_going number) ∙ e in absurd cc;
       lone = λ going. subst (λ w. IsLoneWork eq hash (seated_work {A = Unit {0}} s.store (Some w) s.mode s.initial) w) (call.begins (hash s.store.hasher) s.mode s.initial number)
           (lone_begin eq hash (core_of s) (keys_lawful eq input build write finish classes respects s.store.hasher) call.call (start eq hash s call.call number) refl lawful.lawful (begins_so eq hash s call.call number hashed lawful.power));
@@ -133,7 +140,8 @@ module _ {K V S H : Type 0} (eq : K → K → Bool) (input : K → List (List �
       resize_is = refl;
       initial_is = refl;
       logs = refl;
-      long = resize_long_begun s lawful.long (begun resize s.mode s.initial number) call.at_root;
+      taken = refl;
+      long = resize_long_begun s lawful.long (begun resize s.mode.resize s.initial number) call.at_root;
     }
 
     -- it has replied: it was made alone
@@ -143,6 +151,9 @@ module _ {K V S H : Type 0} (eq : K → K → Bool) (input : K → List (List �
         made_over eq hash s call.call came.number hashed lawful.power came.steps store came.history
         (subst (λ (o : Option Reply). StepsRun eq whatever hash 1 0 came.steps (start eq hash s call.call came.number) (with_event 0 0 Begun []) (seated_work store (goes_on o (works.Resize z)) s.mode s.initial) came.history) told came.runs)
         reply ends.0 ends.1 ends.2 ends.3 (resize_long_left s store z came.long)
+        (λ most limit.
+        subst (λ n. n ≤ store.words.made) (sym (ap (λ (y : StoreState K V S). length y.pairs) came.logs))
+        (subst (λ n. length s.store.pairs ≤ n) (sym came.taken) (lawful.numbered most limit)))
 
     module _ (store : StoreState K V S) (z : Resizer) (ask : CopyAsk) (answer : Answer) (store' : StoreState K V S) (asked : ask_of z ≡ Some ask) (performs : PerformsCopy eq hash false ask store answer store') (came : HasCome store z) where
       going : reply_of z ≡ None
@@ -176,6 +187,16 @@ module _ {K V S H : Type 0} (eq : K → K → Bool) (input : K → List (List �
       resize_grown =
           let (es, (tales, kept)) = lone.lawful.law in
           (stage_left eq (hash store.hasher) keys_now hash false now es (tales 0) lone.lawful.core z refl kept.allowed kept.coded kept.made kept.hints (kept.resizers 0 z refl) z.state refl ask asked answer store' performs).grown
+
+      -- it takes no number for a pair
+      resize_taken : store'.words.made ≡ store.words.made
+      resize_taken =
+          let (es, (tales, kept)) = lone.lawful.law in
+          let g = setting_of eq (low (hash store.hasher)) s.mode store.words.tables in
+          let placed = tables_hashed eq (hash store.hasher) keys_now s.mode store.words.tables lone.lawful.core.sizes in
+          copied_made store store' eq hash false ask answer
+          (λ old new is. resizer_names g (coding_of (low (hash store.hasher))) placed (run es first_state) (map_left g es) (keeping g placed.lawful es kept.allowed) z (tales 0).hands (kept.resizers 0 z refl).rests (Exchange Made old new) (asked ∙ ap Some is))
+          performs
 
       -- a refusal has a cause
       pub resize_caused : (refused : Refused) → reply ≡ Some (Reply_refused refused) → IsResizeCause z answer refused
@@ -254,6 +275,7 @@ module _ {K V S H : Type 0} (eq : K → K → Bool) (input : K → List (List �
         done = λ e. subst (λ y. IsResized y store') came.resize_is (resizer_done eq input build write finish classes respects false now (seated_work store' None s.mode s.initial) event z lone (stepped_to (Some Reply_done) e));
         resize_is = came.resize_is;
         initial_is = came.initial_is;
+        taken = resize_taken ∙ came.taken;
         logs = turn_words eq hash store (asks.Copy ask) answer store' performs ∙ ap (λ (y : StoreState K V S). record y { words = store'.words }) came.logs;
         long = resize_long_more s eq hash store z ask answer store' asked performs came.initial_is root_kept came.long;
       }

@@ -11,7 +11,7 @@ use Rattle.papaya_words.specs.Word.{buried_word, kind_of, pair_of as number_of}
 use Rattle.papaya_words.specs.declared.word.Kind.TheVariants as kinds
 use Rattle.papaya_ask.specs.Search.{IsSize}
 use Rattle.papaya_ask.specs.declared.ask.At.{At}
-use Rattle.papaya_ask.specs.declared.ask.At.TheVariants.{Root, Next, Aborted, Done, Slot}
+use Rattle.papaya_ask.specs.declared.ask.At.TheVariants.{Root, Next, Aborted, Done, Slot, Made}
 use Rattle.papaya_chain_rests.specs.Told.{no_hands}
 use Rattle.papaya_law.specs.Allows.{MayBury}
 use Rattle.papaya_law.specs.ChainContent.{joined}
@@ -181,6 +181,7 @@ module _ {K V S : Type 0} (eq : K → K → Bool) (hash : K → ℕ) (s : MapSta
     where
       others : (at : At) → (at ≡ Slot root i → ⊥) → word_of g c (after now (Bury root i p)) at ≡ word_of g c now at
       others Root differ = refl
+      others Made differ = refl
       others (Next t) differ = refl
       others (Aborted t) differ = refl
       others (Done t chunk) differ = refl
@@ -202,6 +203,7 @@ module _ {K V S : Type 0} (eq : K → K → Bool) (hash : K → ℕ) (s : MapSta
   leaving = record {
     allowed = allowed_append g es made start kept.allowed (may, tt);
     keys = λ at k h. h;
+    values = λ part v h. h;
     logged = λ n q h. h;
     few = λ h. h;
     tables_few = λ h. let many = placed-many s.store.words (Slot root i) grave placed in omega (arith, many, h);
@@ -251,7 +253,7 @@ module _ {K V S : Type 0} (eq : K → K → Bool) (hash : K → ℕ) (s : MapSta
 
   lawful_core : IsLawfulCore {A = Unit {0}} eq hash store' [] s.mode
   lawful_core = record {
-    core = record { chunked = lawful.lawful.core.chunked; sizes = sizes'; standing = λ d q e. absurd cc; going = λ d q e. absurd cc; resizers = λ d z e. absurd cc; visitors = λ d v e. absurd cc };
+    core = record { chunked = lawful.lawful.core.chunked; limit = lawful.lawful.core.limit; sizes = sizes'; standing = λ d q e. absurd cc; going = λ d q e. absurd cc; resizers = λ d z e. absurd cc; visitors = λ d v e. absurd cc };
     law = (es ++ made, kept');
   }
 
@@ -293,4 +295,5 @@ module _ {K V S : Type 0} (eq : K → K → Bool) (hash : K → ℕ) (s : MapSta
         tables = subst (All (λ len. s.initial ≤ len)) (sym (put_lengths s.store.words (Slot root i) grave)) lawful.long.tables;
         first = λ none. lawful.long.first (sym root_same ∙ none);
       };
+      numbered = λ most limit. subst (λ n. length s.store.pairs ≤ n) (sym (placed-other s.store.words (Slot root i) grave placed Made (λ e. absurd cc))) (lawful.numbered most limit);
     }

@@ -151,13 +151,6 @@ module _ {F K V S : Type 0} (g : Mut F (Bor K × (Bor V × Unit {0})) Bool) (s :
         order = λ none. ap (content eq) (alone none);
       }
 
--- an exchange of the word that stands there was made
-pub exchange_made : {K V S : Type 0} (s s' : StoreState K V S) (at : At) (old new : ℕ) (told : Answer) → word_at s.words at ≡ old → Exchanges (word_at s.words at) old (put s.words at new) told s s' → s' ≡ record s { words = put s.words at new }
-exchange_made {K} {V} {S} s s' at old new told stands made =
-    matched (s' ≡ record s { words = put s.words at new }) (word_at s.words at == old) _ _ made
-    (λ _ done. done.1)
-    (λ missed lost. let hit : (word_at s.words at == old) ≡ true = eq-eqb (word_at s.words at) old stands in absurd cc)
-
 -- what a closure was shown that there is
 pub shown_answers : {F K V : Type 0} (g : Mut F (Bor K × (Bor V × Unit {0})) Bool) (f f' : F) (p : Stored K V) (o : Option (Stored K V)) (answer : Answer) → o ≡ Some p → IsShown g o f answer f' → (agrees : Bool) × Answers g f p agrees f' × (answer ≡ Yes agrees)
 shown_answers g f f' p None answer is shown = absurd cc

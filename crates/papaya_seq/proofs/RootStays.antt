@@ -1,6 +1,6 @@
 -- A map that has a root has one after further exchanges.
 use Rattle.std.proofs.Common.{◌≡◌, ℕ, ◌<◌, Bool, List, ◌++◌, arith}
-use Rattle.papaya_words.specs.declared.probe.ResizeMode.{ResizeMode}
+use Rattle.papaya_store.specs.declared.mode.Mode.{Mode}
 use Rattle.papaya_ask.specs.declared.ask.At.TheVariants.{Root}
 use Rattle.papaya_law.specs.Code.{IsHashed}
 use Rattle.papaya_law.specs.Exchange.{Exchange, Setting, run, start}
@@ -12,7 +12,7 @@ use Rattle.papaya_timeline.specs.Kept.{IsKept, Tale, coding_of, low, setting_of}
 use Rattle.papaya_timeline.specs.declared.seat.Seat.{Seat}
 use Rattle.papaya_timeline.proofs.KeptSettings.{IsLawfulKeys, tables_hashed}
 
-module _ {K V S A : Type 0} (eq : K → K → Bool) (hash : K → ℕ) (keys : IsLawfulKeys eq hash) (mode : ResizeMode) (store store' : StoreState K V S) (callers callers' : List (Seat K V A)) where
+module _ {K V S A : Type 0} (eq : K → K → Bool) (hash : K → ℕ) (keys : IsLawfulKeys eq hash) (mode : Mode) (store store' : StoreState K V S) (callers callers' : List (Seat K V A)) where
   pub root_stays : (es made : List (Exchange (Stored K V))) (tales tales' : ℕ → Tale K V) → IsKept eq hash mode store callers es tales → IsCore store' callers' mode → IsKept eq hash mode store' callers' (es ++ made) tales' → 0 < store.words.root → 0 < store'.words.root
   root_stays es made tales tales' kept core kept' some =
       let g : Setting K (Stored K V) = setting_of eq (low hash) mode store'.words.tables in

@@ -1,5 +1,5 @@
 -- The law of a removal by a query that no pair of the log matches.
-use Rattle.std.proofs.Common.{◌≡◌, ◌⊎◌, ℕ, ◌^◌, ◌<◌, Bool, None, Some, [], ◌++◌, pos, ◌+ℤ◌, length, sym, ◌∙◌, ap, subst}
+use Rattle.std.proofs.Common.{◌≡◌, ◌⊎◌, ℕ, ◌^◌, ◌<◌, ◌≤◌, Bool, None, Some, [], ◌++◌, pos, ◌+ℤ◌, length, sym, ◌∙◌, ap, subst}
 use denote.Ref.{Bor}
 use Rattle.std.specs.Fn.{Mut}
 use Rattle.std.specs.Int.{int_wrap, w64}
@@ -10,7 +10,7 @@ use Rattle.papaya_ask.specs.declared.call.Reply.TheVariants.{Absent, Refused as 
 use Rattle.papaya_ask.specs.declared.search.Search.TheVariants.{Sizing, Looking, Reading, Comparing}
 use Rattle.papaya_call.specs.declared.machine.State.{State}
 use Rattle.papaya_call.specs.declared.machine.State.TheVariants.{AtRoot, Searching, Leaving, Ended}
-use Rattle.papaya_call.specs.declared.write.Made.{Made}
+use Rattle.papaya_call.specs.declared.made.Made.{Made}
 use Rattle.papaya_call.specs.Machine as calls
 use Rattle.papaya_chain.specs.declared.ask.Ask.TheVariants as asks
 use Rattle.papaya_chain.specs.declared.ask.Answer.{Answer}
@@ -97,4 +97,7 @@ seek_lawful {K = K} {V = V} {S = S} eq hash s h keys fits lawful store m seeking
       power = lawful.power;
       most = lawful.most;
       long = long_left s store m seeking.long;
+      numbered = λ most limit.
+          subst (λ n. n ≤ store.words.made) (sym (ap (λ (y : StoreState K V S). length y.pairs) seeking.logs))
+          (subst (λ n. length s.store.pairs ≤ n) (sym seeking.taken) (lawful.numbered most limit));
     }

@@ -17,7 +17,7 @@ use Rattle.papaya_ask.specs.declared.copy_ask.CopyAsk.TheVariants as copies
 use Rattle.papaya_call.specs.declared.machine.Machine.{Machine as Call_machine}
 use Rattle.papaya_call.specs.declared.machine.State.{State}
 use Rattle.papaya_call.specs.declared.machine.State.TheVariants.{AtRoot, Searching, Leaving, Ended}
-use Rattle.papaya_call.specs.declared.write.Made.{Made}
+use Rattle.papaya_call.specs.declared.made.Made.{Made}
 use Rattle.papaya_call.specs.Machine as calls
 use Rattle.papaya_copy.specs.declared.link.Link.TheVariants.{Linking}
 use Rattle.papaya_chain.specs.declared.ask.Ask.{Ask}
@@ -164,7 +164,7 @@ module _ {K V S : Type 0} (eq : K → K → Bool) (hash : S → K → ℕ) (s : 
   seek_fit = fits_all.fit
 
   pub core' : IsCore {A = Unit {0}} store' [] s.mode
-  core' = record { chunked = seeking.core.chunked; sizes = numbered store'.words.tables fits_all.sized; standing = λ d q e. absurd cc; going = λ d q e. absurd cc; resizers = λ d z e. absurd cc; visitors = λ d v e. absurd cc }
+  core' = record { chunked = seeking.core.chunked; limit = seeking.core.limit; sizes = numbered store'.words.tables fits_all.sized; standing = λ d q e. absurd cc; going = λ d q e. absurd cc; resizers = λ d z e. absurd cc; visitors = λ d v e. absurd cc }
 
   pub standing' : IsStanding (after m answer)
   standing' = chain_stands m seeking.standing answer seek_fit
@@ -294,6 +294,7 @@ module _ {K V S : Type 0} (eq : K → K → Bool) (hash : S → K → ℕ) (s : 
     hash_is = (chain_task m answer ordered).1 ∙ seeking.hash_is;
     seeks = seeks';
     logs = turn_words eq hash store (ask_of m) answer store' turn ∙ ap (λ (y : StoreState K V S). record y { words = store'.words }) seeking.logs;
+    taken = turns.turn_taken eq hash s h keys fits store m answer store' seeking going turn ∙ seeking.taken;
     same = λ k. turns.map_stays eq hash s h keys fits store m answer store' seeking going turn core' k ∙ seeking.same k;
     long = long_more s eq hash store store' m answer going stepped seeking.long;
   }
@@ -317,7 +318,7 @@ module _ {K V S : Type 0} (eq : K → K → Bool) (hash : S → K → ℕ) (s : 
 
   -- a slot's chunk has no greater number than the slot
   cut_low : (x : ℕ) → gq.chunk_of x ≤ x
-  cut_low x = div-le_self x (chunk_len s.mode)
+  cut_low x = div-le_self x (chunk_len s.mode.resize)
 
   -- an exchange of its copy was made
   copy_exchanges : (at : At) (old new : ℕ) → ask_of m ≡ asks.Copy (copies.Exchange at old new) → (word_at store.words at == old) ≡ true → ((budget_in (put store.words at new)).tables ≡ (budget_of store).tables) × ((budget_in (put store.words at new)).exchanges < (budget_of store).exchanges)

@@ -3,7 +3,7 @@ use Rattle.std.proofs.Common.{◌≡◌, ◌⊎◌, inl, inr, ℕ, ◌%◌, ◌^
 use denote.Ref.{Bor}
 use Rattle.std.specs.Fn.{Mut}
 use Rattle.papaya_ask.specs.declared.ask.At.{At}
-use Rattle.papaya_ask.specs.declared.ask.At.TheVariants.{Root, Next, Aborted, Done, Slot}
+use Rattle.papaya_ask.specs.declared.ask.At.TheVariants.{Root, Next, Aborted, Done, Slot, Made as Made_word}
 use Rattle.papaya_ask.specs.declared.ask.Ask.{Ask as Call_ask}
 use Rattle.papaya_ask.specs.declared.ask.Ask.TheVariants.{Load, Exchange as Ask_exchange, LoadHint, SameKey, SizeOf, MakeTable}
 use Rattle.papaya_ask.specs.declared.ask.Answer.{Answer as Call_answer}
@@ -14,7 +14,7 @@ use Rattle.papaya_ask.specs.declared.copy_ask.CopyAsk.TheVariants as copies
 use Rattle.papaya_ask.specs.declared.search.Search.TheVariants.{Sizing, Looking, Reading, Comparing}
 use Rattle.papaya_call.specs.declared.machine.State.{State}
 use Rattle.papaya_call.specs.declared.machine.State.TheVariants.{AtRoot, Searching, Leaving, Ended}
-use Rattle.papaya_call.specs.declared.write.Made.{Made}
+use Rattle.papaya_call.specs.declared.made.Made.{Made}
 use Rattle.papaya_call.specs.Machine as calls
 use Rattle.papaya_chain.specs.declared.ask.Ask.{Ask}
 use Rattle.papaya_chain.specs.declared.ask.Ask.TheVariants as asks
@@ -25,7 +25,7 @@ use Rattle.papaya_chain.specs.Machine.{after, ask_of, follows_of, kind_of_ask}
 use Rattle.papaya_chain_rests.specs.Rests.{Rests}
 use Rattle.papaya_chain_rests.specs.Told.{IsTold}
 use Rattle.papaya_chain_rests.proofs.Learns.{all_learns}
-use Rattle.papaya_chain_rests.proofs.Names.{call_asks}
+use Rattle.papaya_chain_rests.proofs.Names.{call_asks, copies_there}
 use Rattle.papaya_chain_rests.proofs.Stays.{all_carries as rests_carries}
 use Rattle.papaya_law.specs.Allows.{AllAllowed}
 use Rattle.papaya_law.specs.Class.{IsOn}
@@ -52,7 +52,7 @@ use Rattle.papaya_store.specs.Copies.{IsCallAnswer, PerformsCopy}
 use Rattle.papaya_store.specs.Performs.{own_key, size_of}
 use Rattle.papaya_store.specs.Store.{StoreState, Stored, pair_of}
 use Rattle.papaya_store.specs.Tables.{hint_at, table_of, word_at}
-use Rattle.papaya_store.specs.declared.pairs.KeyOf.TheVariants.{Logged}
+use Rattle.papaya_store.specs.declared.pairs.Part.TheVariants.{Logged}
 use Rattle.papaya_store.specs.declared.pairs.Running.{Running}
 use Rattle.papaya_timeline.specs.Advances.{reply_in}
 use Rattle.papaya_timeline.specs.Content.{map_in}
@@ -76,6 +76,7 @@ use Rattle.papaya_seq.specs.Looks.{matches_in}
 use Rattle.papaya_seq.specs.Map.{MapState}
 use Rattle.papaya_seq.specs.Removes.{IsRemovalAnswer}
 use Rattle.papaya_seq.proofs.Lawful.{MatchesNone}
+use Rattle.papaya_seq.proofs.Numbered.{copied_made}
 use Rattle.papaya_seq.proofs.Seeking.{IsSeeking, Seeks, own_coding, own_hashed, own_hint, own_setting, sought_coding, sought_hashed, sought_hint, sought_setting, sought_word}
 
 -- what a search asks for
@@ -349,6 +350,16 @@ module _ {K V S : Type 0} (eq : K → K → Bool) (hash : S → K → ℕ) (s : 
     visitors = λ d v e. absurd cc;
     apart = λ d e q q' x. absurd cc;
   }
+
+  -- it takes no number for a pair
+  pub turn_taken : store'.words.made ≡ store.words.made
+  turn_taken = by_ask (ask_of m) refl turn
+    where
+      by_ask : (ask : Ask) → ask_of m ≡ ask → IsTurn eq hash store ask answer store' → store'.words.made ≡ store.words.made
+      by_ask (asks.Call ask) e (told, is, looks, same) = ap (λ (y : StoreState K V S). y.words.made) same
+      by_ask (asks.Copy ask) e copied =
+          copied_made store store' eq hash false ask answer
+          (λ old new is. copies_there gq cq hashed tale.begun tale.since may None m tale.hands seeking.rests (copies.Exchange Made_word old new) (e ∙ ap asks.Copy is)) copied
 
   -- a refusal has a cause
   pub turn_caused : (refused : Refused) → reply_in (ask_of (after m answer)) ≡ Some (Reply_refused refused) → IsCause m answer refused

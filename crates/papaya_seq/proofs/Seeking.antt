@@ -7,7 +7,7 @@ use Rattle.papaya_words.specs.declared.probe.ResizeMode.TheVariants.{Incremental
 use Rattle.papaya_words.specs.declared.probe.Refused.{Refused}
 use Rattle.papaya_ask.specs.Search.{IsSize}
 use Rattle.papaya_ask.specs.declared.ask.At.{At}
-use Rattle.papaya_ask.specs.declared.ask.At.TheVariants.{Root, Next, Aborted, Done, Slot}
+use Rattle.papaya_ask.specs.declared.ask.At.TheVariants.{Root, Next, Aborted, Done, Slot, Made}
 use Rattle.papaya_ask.specs.declared.call.Reply.TheVariants.{Absent, Refused as Reply_refused}
 use Rattle.papaya_ask.specs.declared.call.Task.TheVariants.{RemoveIf}
 use Rattle.papaya_call.specs.declared.machine.State.{State}
@@ -26,6 +26,7 @@ use Rattle.papaya_law.specs.Hints.{IsHintOf}
 use Rattle.papaya_law.specs.Further.{IsLawfulKey, coding_with, with_key}
 use Rattle.papaya_law.proofs.Further.{key_code, key_lawful}
 use Rattle.papaya_rests.specs.Rests.{IsModeOf}
+use Rattle.papaya_rests.proofs.RestsLearnPairs.{wanted_rests}
 use Rattle.papaya_rests.specs.Told.{IsOneOf, word_of}
 use Rattle.papaya_store.specs.Store.{StoreState, Stored}
 use Rattle.papaya_store.specs.Tables.{table_of, word_at}
@@ -34,6 +35,7 @@ use Rattle.papaya_chain_rests.specs.VisitTold as visits
 use Rattle.papaya_timeline.specs.Kept.{IsKept, IsLogged, IsMadeFor, Tale, coding_of, is_blocking, low, setting_of, slots_in}
 use Rattle.papaya_timeline.proofs.KeptSettings.{IsLawfulKeys, tables_hashed}
 use Rattle.papaya_seq.proofs.CallLengths.{IsLong, long_begun}
+use Rattle.papaya_seq.proofs.Numbered.{begun_number}
 use Rattle.papaya_seq.specs.Map.{IsLawfulMap, MapState, Unchanged}
 
 -- the call looks for its key and has met no pair with it, or ended so, or was refused a table
@@ -84,12 +86,15 @@ module _ {K V S : Type 0} (eq : K → K → Bool) (hash : S → K → ℕ) (s : 
     pub hash_is : m.call.hash ≡ h
     pub seeks : Seeks m.call.state
     pub logs : store ≡ record s.store { words = store.words }
+    -- no number was taken for a pair
+    pub taken : store.words.made ≡ s.store.words.made
     pub same : Unchanged eq s.store store
     pub long : IsLong s store m
 
   -- a word has the number that it had
   pub sought_word : (tables : List TableWords) (z : Words (Stored K V)) (at : At) → word_of (sought_setting tables) sought_coding z at ≡ word_of (own_setting tables) own_coding z at
   sought_word tables z Root = refl
+  sought_word tables z Made = refl
   sought_word tables z (Next t) = refl
   sought_word tables z (Aborted t) = refl
   sought_word tables z (Done t chunk) = refl
@@ -125,7 +130,7 @@ module _ {K V S : Type 0} (eq : K → K → Bool) (hash : S → K → ℕ) (s : 
         key_lawful g (λ k. false) h own_coding (own_hashed store core) form (λ t. sized_slot (table_of store.words.tables t) (λ w e. core.sizes t w e))
 
     -- a removal that begins
-    pub seek_begin : (number : ℕ) → IsLawfulMap eq (hash s.store.hasher) s.store s.mode s.initial → IsSeeking s.store (started RemoveIf h s.mode s.initial number)
+    pub seek_begin : (number : ℕ) → IsLawfulMap eq (hash s.store.hasher) s.store s.mode s.initial → IsSeeking s.store (started RemoveIf h s.mode.resize s.initial number s.mode.limit)
     seek_begin number lawful =
         let (es, (tales, kept)) = lawful.lawful.law in
         let tale : Tale K V = record { begun = es; since = []; hands = no_hands; visit = visits.no_hands } in
@@ -138,19 +143,20 @@ module _ {K V S : Type 0} (eq : K → K → Bool) (hash : S → K → ℕ) (s : 
               (record { allowed = kept.allowed; coded = kept.coded; hints = kept.hints; made = kept.made; logged = kept.logged; few = kept.few; tables_few = kept.tables_few; calls = λ d r e. absurd cc; resizers = λ d z e. absurd cc; visitors = λ d v e. absurd cc; apart = λ d e r q x. absurd cc });
           rests = record {
             cut = λ x. refl;
-            call = record { hash = refl; mode = mode_of s.mode; made = record { keys = λ q l. absurd l; made_is = tt; fill_is = tt; choice_is = tt }; stage = tt };
+            call = record { hash = refl; mode = mode_of s.mode.resize; made = record { keys = λ q l. absurd l; limit = refl; number_is = wanted_rests (sought_setting s.store.words.tables) sought_coding es [] None s.mode.limit; own_is = tt; of_is = tt; fill_is = tt; choice_is = tt }; stage = tt };
             phase = tt;
           };
           last = λ p l. absurd cc;
           carried = λ p l. absurd cc;
           made = λ p l. absurd l;
           links = λ behind t chunks l. absurd cc;
-          standing = started_stands RemoveIf h s.mode s.initial number core.chunked lawful.power;
-          current = (tt, tt);
+          standing = started_stands RemoveIf h s.mode.resize s.initial number s.mode.limit core.limit core.chunked lawful.power;
+          current = record { number = begun_number s.mode.limit (λ at. word_at s.store.words at); read = (tt, tt) };
           task = refl;
           hash_is = refl;
           seeks = tt;
           logs = refl;
+          taken = refl;
           same = λ k. refl;
-          long = long_begun s lawful.long (started RemoveIf h s.mode s.initial number) refl refl;
+          long = long_begun s lawful.long (started RemoveIf h s.mode.resize s.initial number s.mode.limit) refl refl;
         }

@@ -1,19 +1,24 @@
 -- The call of a map for one caller as the steps of a core with one seat.
 use Rattle.std.proofs.Common.{◌≡◌, ◌⊎◌, ℕ, suc, ◌^◌, ◌<◌, Bool, false, Option, None, Some, List, [], ◌∷◌, ◌++◌, inl, refl, sym, ◌∙◌, ap, subst, arith}
 use Rattle.papaya_words.specs.declared.probe.Refused.{Refused}
-use Rattle.papaya_words.specs.declared.probe.ResizeMode.{ResizeMode}
+use Rattle.papaya_store.specs.declared.mode.Mode.{Mode}
 use Rattle.papaya_ask.specs.declared.call.Reply.{Reply}
 use Rattle.papaya_ask.specs.declared.call.Reply.TheVariants.{Refused as Reply_refused}
 use Rattle.papaya_rests.specs.Rests.{change_in}
 use Rattle.papaya_rests.specs.Says.{IsSaidBy, Said, ShowsPairs, StandsOn}
+use Rattle.papaya_ask.specs.declared.ask.At.TheVariants.{Made}
+use Rattle.papaya_ask.specs.declared.copy_ask.CopyAsk.TheVariants.{Exchange}
 use Rattle.papaya_chain.specs.declared.ask.Answer.{Answer}
+use Rattle.papaya_chain.specs.declared.ask.Ask.TheVariants as asks
 use Rattle.papaya_chain.specs.declared.machine.Machine.{Machine}
 use Rattle.papaya_chain.specs.Machine.{after, ask_of, kind_of_ask}
 use Rattle.papaya_chain_rests.specs.Goes.{Goes, IsCause, IsInOrder, IsOwnStep}
 use Rattle.papaya_chain_rests.proofs.Goes.{machine_goes}
+use Rattle.papaya_chain_rests.proofs.Names.{copies_there}
 use Rattle.papaya_chain_rests.proofs.Order.{in_order}
 use Rattle.papaya_chain_rests.proofs.Refusals.{chain_refused}
 use Rattle.papaya_chain_rests.proofs.Replies.{chain_said, chain_shows, chain_task}
+use Rattle.papaya_law.specs.Allows.{AllAllowed}
 use Rattle.papaya_law.specs.Exchange.{run, start as first_state}
 use Rattle.papaya_store.specs.Asks.{PerformsAsk}
 use Rattle.papaya_store.specs.Performs.{own_key}
@@ -37,17 +42,19 @@ use Rattle.papaya_timeline.proofs.CoreLemmas.{reply_asked}
 use Rattle.papaya_timeline.proofs.HeadlineLemmas.{advance-core}
 use Rattle.papaya_timeline.proofs.KeptCore.{performs-hasher}
 use Rattle.papaya_timeline.proofs.KeptLemmas.{IsLawfulKeys, IsStep, kept_step}
+use Rattle.papaya_timeline.proofs.KeptSettings.{tables_hashed}
 use Rattle.papaya_timeline.proofs.KeptStep as kept_steps
 use Rattle.papaya_timeline.proofs.SoloEnds.{lone_begin, lone_step}
 use Rattle.papaya_seq.specs.Map.{Grows, IsLawfulMap, MapState, Unchanged, core_of}
 use Rattle.papaya_seq.proofs.CallLengths.{IsLong, long_begun, long_left, long_more, performed_so}
 use Rattle.papaya_seq.proofs.Ending.{left_of, left_to}
 use Rattle.papaya_seq.proofs.KeyCalls.{KeyCall, first_of, key_fits}
+use Rattle.papaya_seq.proofs.Numbered.{IsLogStep, IsNumbered, log_step, numbered_begun, numbered_more}
 use Rattle.papaya_seq.proofs.RootStays.{root_stays}
 use Rattle.papaya_seq.proofs.Turns.{IsOver, begins_so, last_entry, made_over, seated_work, start, turns_made}
 
 -- a core whose one seat has this call on a key
-abbrev pub seated : {K V S A : Type 0} → StoreState K V S → Option (Running K V A) → ResizeMode → ℕ → CoreState K V S A
+abbrev pub seated : {K V S A : Type 0} → StoreState K V S → Option (Running K V A) → Mode → ℕ → CoreState K V S A
 seated store call mode initial = seated_work store (as_work call) mode initial
 
 -- a call is under way until it has replied
@@ -73,8 +80,10 @@ module _ {K V S : Type 0} (eq : K → K → Bool) (hash : S → K → ℕ) (s : 
     pub own : own_key store r ≡ Some call.key
     pub task : r.machine.call.task ≡ call.task
     pub hash_is : r.machine.call.hash ≡ hash s.store.hasher call.key
-    pub shows : ShowsPairs r.machine.call.state
+    pub shows : ShowsPairs r.machine.call
     pub hasher : store.hasher ≡ s.store.hasher
+    -- where there is a limit, a number was taken for each pair
+    pub numbered : IsNumbered s.mode.limit store r.machine
     -- no table is shorter than the initial capacity, and each that it makes follows another
     pub long : IsLong s store r.machine
 
@@ -102,6 +111,7 @@ module _ {K V S : Type 0} (eq : K → K → Bool) (hash : S → K → ℕ) (s : 
         hash_is = refl;
         shows = tt;
         hasher = refl;
+        numbered = numbered_begun s.store call.task (hash s.store.hasher call.key) s.mode.resize s.initial number s.mode.limit lawful.numbered;
         long = long_begun s lawful.long first.machine refl refl;
       }
 
@@ -171,6 +181,23 @@ module _ {K V S : Type 0} (eq : K → K → Bool) (hash : S → K → ℕ) (s : 
     pub made_goes : Goes r.machine answer
     made_goes = machine_goes r.machine answer made_ordered
 
+    -- it has the map's limit
+    limit_is : r.machine.call.made.limit ≡ s.mode.limit
+    limit_is = let (es, (tales, kept)) = now_lawful.law in (kept.calls 0 r refl).rests.call.made.limit
+
+    -- and takes no number while it copies
+    takes_none : (old new : ℕ) → ask_of r.machine ≡ asks.Copy (Exchange Made old new) → ⊥
+    takes_none old new e =
+        let (es, (tales, kept)) = now_lawful.law in
+        let call_kept = kept.calls 0 r refl in
+        let g = setting_of eq (low (hash s.store.hasher)) s.mode store.words.tables in
+        copies_there g (coding_of (low (hash s.store.hasher))) (tables_hashed eq (hash s.store.hasher) keys s.mode store.words.tables now_lawful.core.sizes)
+        (tales 0).begun (tales 0).since (subst (AllAllowed g first_state) (sym call_kept.split) kept.allowed) call_kept.key r.machine (tales 0).hands call_kept.rests (Exchange Made old new) e
+
+    -- what it does to the log of pairs, and to how many numbers were taken
+    pub made_logs : IsLogStep store store' (ask_of r.machine) answer
+    made_logs = log_step eq whatever hash false r.machine store store' r later (came.lone going).current.number takes_none answer performs
+
     -- what it stands on it stood on, or its closure says so with this answer
     pub made_says : (said : Said) → StandsOn (after r.machine answer).call said → StandsOn r.machine.call said ⊎ ((own : IsOwnStep r.machine answer) × IsSaidBy r.machine.call own.told said)
     made_says said stands = chain_said r.machine answer made_ordered (now_lawful.core.standing 0 r refl).call came.shows said stands
@@ -228,6 +255,7 @@ module _ {K V S : Type 0} (eq : K → K → Bool) (hash : S → K → ℕ) (s : 
           hash_is = told.1 ∙ came.hash_is;
           shows = chain_shows r.machine answer made_ordered came.shows;
           hasher = performs-hasher eq whatever hash false (ask_of r.machine) store r answer store' later performs ∙ came.hasher;
+          numbered = numbered_more eq whatever hash false r.machine store store' r later (came.lone going).current.number takes_none answer performs s.mode.limit limit_is came.numbered;
           long = long_more s eq hash store store' r.machine answer going
               (performed_so eq hash store store' r.machine answer r later refl performs (came.lone going).current
               (root_stays eq (hash s.store.hasher) keys s.mode store store' now.callers (seated store' (goes_on reply next) s.mode s.initial).callers es step.made tales (told_tales tales 0 step.made step.hands) kept core step.kept)) came.long;
@@ -260,4 +288,4 @@ module _ {K V S : Type 0} (eq : K → K → Bool) (hash : S → K → ℕ) (s : 
       let ends = came.replied reply told in
       made_over eq hash s call.call came.number (key_fits (hash s.store.hasher) call fits) lawful.power came.steps store came.history
       (subst (λ (o : Option Reply). StepsRun eq whatever hash 1 0 came.steps (start eq hash s call.call came.number) (with_event 0 0 Begun []) (seated store (goes_on o r) s.mode s.initial) came.history) told came.runs)
-      reply ends.0 ends.1 ends.2 ends.3 (long_left s store r.machine came.long)
+      reply ends.0 ends.1 ends.2 ends.3 (long_left s store r.machine came.long) (λ most e. (came.numbered most e).0)

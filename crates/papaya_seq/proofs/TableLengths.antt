@@ -8,9 +8,9 @@ use Rattle.papaya_words.specs.Probe.{IsEntriesFor}
 use Rattle.papaya_words.specs.Table.{TableWords, new_table}
 use Rattle.papaya_ask.specs.declared.ask.Answer.{Answer as Call_answer}
 use Rattle.papaya_ask.specs.declared.ask.At.{At}
-use Rattle.papaya_ask.specs.declared.ask.At.TheVariants.{Root, Next, Aborted, Done, Slot}
+use Rattle.papaya_ask.specs.declared.ask.At.TheVariants.{Root, Next, Aborted, Done, Slot, Made}
 use Rattle.papaya_ask.specs.declared.ask.Ask.{Ask as Call_ask}
-use Rattle.papaya_ask.specs.declared.ask.Ask.TheVariants.{Load, Exchange, LoadHint, WriteHint, SameKey, ShowNone, ShowPair, SizeOf, MakeKey, MakePair, MakeTable, AddToShard, Done as Ask_done}
+use Rattle.papaya_ask.specs.declared.ask.Ask.TheVariants.{Load, Exchange, LoadHint, WriteHint, SameKey, ShowNone, ShowPair, SizeOf, MakeKey, MakeValue, MakePair, MakePairOf, MakeTable, AddToShard, Done as Ask_done}
 use Rattle.papaya_ask.specs.declared.ask.Answer.TheVariants.{Ok as Ok_done}
 use Rattle.papaya_ask.specs.declared.copy_ask.CopyAsk.{CopyAsk}
 use Rattle.papaya_ask.specs.declared.copy_ask.CopyAsk.TheVariants as copies
@@ -25,7 +25,7 @@ use Rattle.papaya_store.specs.Tables.{Tables, hinted, note, put, put_at, put_in,
 use Rattle.papaya_timeline.proofs.KeptHints.{by-table, hinted-same}
 use Rattle.papaya_timeline.proofs.KeptTables.{table_there}
 use Rattle.papaya_timeline.proofs.ShowLemmas.{none_shown, pair_shown}
-use Rattle.papaya_timeline.proofs.StoreLemmas.{matched}
+use Rattle.papaya_timeline.proofs.StoreLemmas.{LogsOrNot, matched, of_logs, own_logs, part_logs}
 use Rattle.papaya_seq.specs.Lengths.{IsLongEnough, lengths_of}
 
 -- how long a table is
@@ -35,6 +35,7 @@ long t = length t.slots
 -- a write leaves that
 written_long : (at : At) (t : TableWords) (word : ℕ) → long (written at t word) ≡ long t
 written_long Root t word = refl
+written_long Made t word = refl
 written_long (Next n) t word = refl
 written_long (Aborted n) t word = refl
 written_long (Done n chunk) t word = elim (nat_lt chunk (length t.done)) as (λ b. long (cond b (record t { done = slice_set t.done chunk word }) t) ≡ long t) [ true ↦ refl | false ↦ refl ]
@@ -59,6 +60,7 @@ put_at_lengths at n w word = go (n == 0)
 -- of the words of all tables
 pub put_lengths : (w : Tables) (at : At) (word : ℕ) → lengths_of (put w at word) ≡ lengths_of w
 put_lengths w Root word = refl
+put_lengths w Made word = refl
 put_lengths w (Next n) word = put_at_lengths (Next n) n w word
 put_lengths w (Aborted n) word = put_at_lengths (Aborted n) n w word
 put_lengths w (Done n chunk) word = put_at_lengths (Done n chunk) n w word
@@ -128,6 +130,11 @@ IsCountedBy (AddToShard by) s a s' = a ≡ Ok_done
 IsCountedBy (WriteHint t x hint) s a s' = (a ≡ Ok_done) × (s'.count ≡ s.count)
 IsCountedBy ask s a s' = s'.count ≡ s.count
 
+-- what is logged leaves the words and the count
+pub logged_same : {K V S A : Type 0} (s : StoreState K V S) (r : Running K V A) (a : Call_answer) (s' : StoreState K V S) (r' : Running K V A) → LogsOrNot s r a s' r' → (s'.words ≡ s.words) × (s'.count ≡ s.count)
+logged_same {K} {V} {S} s r a s' r' (inl (none, stays)) = (ap (λ (y : StoreState K V S). y.words) stays.0, ap (λ (y : StoreState K V S). y.count) stays.0)
+logged_same {K} {V} {S} s r a s' r' (inr (key, left, (value, has, made, few, more, moved))) = (ap (λ (y : StoreState K V S). y.words) more, ap (λ (y : StoreState K V S). y.count) more)
+
 module _ {K V S A : Type 0} (eq : K → K → Bool) (says : Says K V A) (refuse : Bool) where
   -- an ask of a call for itself
   pub own_long : (ask : Call_ask) (s : StoreState K V S) (r : Running K V A) (a : Call_answer) (s' : StoreState K V S) (r' : Running K V A) → Performs eq says refuse ask s r a s' r' → IsLengthened (λ slots. (limit chunks : ℕ) × (ask ≡ MakeTable slots limit chunks)) s s'
@@ -139,12 +146,10 @@ module _ {K V S A : Type 0} (eq : K → K → Bool) (says : Says K V A) (refuse 
   own_long ShowNone s r a s' r' h = as_long _ s s' (none_shown says s r a s' r' h).store
   own_long (ShowPair n) s r a s' r' h = as_long _ s s' (pair_shown says r.machine.call.task n s r a s' r' h).store
   own_long (SizeOf n) s r a s' r' (e, stays) = as_long _ s s' stays.0
-  own_long MakeKey s r a s' r' h =
-      matched (IsLengthened (λ slots. (limit chunks : ℕ) × (MakeKey ≡ MakeTable slots limit chunks)) s s') refuse _ _ h (λ _ none. as_long _ s s' none.1.0)
-      (λ _ makes. elim makes [ inl refused ↦ as_long _ s s' refused.1.0 | inr (inl has) ↦ as_long _ s s' has.1.0 | inr (inr (k, has, made, few, more, moved)) ↦ inl (ap (λ (y : StoreState K V S). lengths_of y.words) more) ])
-  own_long MakePair s r a s' r' h =
-      matched (IsLengthened (λ slots. (limit chunks : ℕ) × (MakePair ≡ MakeTable slots limit chunks)) s s') refuse _ _ h (λ _ none. as_long _ s s' none.1.0)
-      (λ _ makes. elim makes [ inl refused ↦ as_long _ s s' refused.1.0 | inr (inl has) ↦ as_long _ s s' has.1.0 | inr (inr (n, v, logged, value, made, few, more, moved)) ↦ inl (ap (λ (y : StoreState K V S). lengths_of y.words) more) ])
+  own_long MakeKey s r a s' r' h = inl (ap lengths_of (logged_same s r a s' r' (part_logs s r a s' r' refuse h)).0)
+  own_long MakeValue s r a s' r' h = inl (ap lengths_of (logged_same s r a s' r' (part_logs s r a s' r' refuse h)).0)
+  own_long MakePair s r a s' r' h = inl (ap lengths_of (logged_same s r a s' r' (own_logs s r a s' r' refuse h)).0)
+  own_long (MakePairOf n) s r a s' r' h = inl (ap lengths_of (logged_same s r a s' r' (of_logs s r a s' r' refuse n h)).0)
   own_long (MakeTable slots limit chunks) s r a s' r' h =
       matched (IsLengthened (λ n. (l c : ℕ) × (MakeTable slots limit chunks ≡ MakeTable n l c)) s s') refuse _ _ h (λ _ none. as_long _ s s' none.1.0)
       (λ _ makes. elim makes.0 [ inl refused ↦ as_long _ s s' refused.1 | inr made ↦ made_long _ s s' slots limit chunks a (limit, chunks, refl) made ])
@@ -161,12 +166,10 @@ module _ {K V S A : Type 0} (eq : K → K → Bool) (says : Says K V A) (refuse 
   own_counts ShowNone s r a s' r' h = ap (λ (y : StoreState K V S). y.count) (none_shown says s r a s' r' h).store
   own_counts (ShowPair n) s r a s' r' h = ap (λ (y : StoreState K V S). y.count) (pair_shown says r.machine.call.task n s r a s' r' h).store
   own_counts (SizeOf n) s r a s' r' (e, stays) = ap (λ (y : StoreState K V S). y.count) stays.0
-  own_counts MakeKey s r a s' r' h =
-      matched (s'.count ≡ s.count) refuse _ _ h (λ _ none. ap (λ (y : StoreState K V S). y.count) none.1.0)
-      (λ _ makes. elim makes [ inl refused ↦ ap (λ (y : StoreState K V S). y.count) refused.1.0 | inr (inl has) ↦ ap (λ (y : StoreState K V S). y.count) has.1.0 | inr (inr (k, has, made, few, more, moved)) ↦ ap (λ (y : StoreState K V S). y.count) more ])
-  own_counts MakePair s r a s' r' h =
-      matched (s'.count ≡ s.count) refuse _ _ h (λ _ none. ap (λ (y : StoreState K V S). y.count) none.1.0)
-      (λ _ makes. elim makes [ inl refused ↦ ap (λ (y : StoreState K V S). y.count) refused.1.0 | inr (inl has) ↦ ap (λ (y : StoreState K V S). y.count) has.1.0 | inr (inr (n, v, logged, value, made, few, more, moved)) ↦ ap (λ (y : StoreState K V S). y.count) more ])
+  own_counts MakeKey s r a s' r' h = (logged_same s r a s' r' (part_logs s r a s' r' refuse h)).1
+  own_counts MakeValue s r a s' r' h = (logged_same s r a s' r' (part_logs s r a s' r' refuse h)).1
+  own_counts MakePair s r a s' r' h = (logged_same s r a s' r' (own_logs s r a s' r' refuse h)).1
+  own_counts (MakePairOf n) s r a s' r' h = (logged_same s r a s' r' (of_logs s r a s' r' refuse n h)).1
   own_counts (MakeTable slots limit chunks) s r a s' r' h =
       matched (s'.count ≡ s.count) refuse _ _ h (λ _ none. ap (λ (y : StoreState K V S). y.count) none.1.0)
       (λ _ makes. elim makes.0 [ inl refused ↦ ap (λ (y : StoreState K V S). y.count) refused.1 | inr (e, few, made) ↦ ap (λ (y : StoreState K V S). y.count) made ])

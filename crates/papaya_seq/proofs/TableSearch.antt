@@ -1,5 +1,5 @@
 -- A search stays in its table until it is over, and compares only words that it may.
-use Rattle.std.proofs.Common.{◌≡◌, ℕ, nat_lt, Bool, true, false, refl}
+use Rattle.std.proofs.Common.{◌≡◌, ℕ, nat_lt, Bool, true, false, Option, None, Some, IsSome, refl}
 use Rattle.std.proofs.lemmas.Bool.{cond_both}
 use Rattle.papaya_words.specs.Word.{kind_of, may_hold}
 use Rattle.papaya_words.specs.declared.word.Kind.{Kind}
@@ -11,6 +11,8 @@ use Rattle.papaya_ask.specs.declared.search.Search.TheVariants.{Sizing, Looking,
 use Rattle.papaya_ask.specs.declared.search.Seen.{Seen}
 use Rattle.papaya_ask.specs.declared.search.Seen.TheVariants as seen
 use Rattle.papaya_alone.specs.Rank.{table_of}
+use Rattle.papaya_store.specs.Store.{Stored}
+use Rattle.papaya_seq.specs.Looks.{matches_in}
 
 -- a word of this kind names a pair in whose key the search may find its own
 abbrev pub IsPairKind : Kind → Type 0
@@ -100,3 +102,8 @@ pub settled_live : (kind : Kind) → IsSettledKind kind → (kind ≡ kinds.Copi
 settled_live kinds.Live settled uncopied = refl
 settled_live kinds.Copied settled uncopied = absurd (uncopied refl)
 settled_live kind settled uncopied = absurd settled
+
+-- a pair that matches is there
+pub some_matched : {K V : Type 0} (matches : K → Bool) (o : Option (Stored K V)) → matches_in matches o ≡ true → IsSome o
+some_matched matches None e = let f : false ≡ true = e in absurd cc
+some_matched matches (Some p) e = refl

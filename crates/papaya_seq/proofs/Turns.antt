@@ -1,7 +1,7 @@
 -- The whole of one call of a map for one caller, as turns of a core with one seat.
-use Rattle.std.proofs.Common.{◌≡◌, ℕ, ◌^◌, ◌<◌, Bool, Option, None, Some, [], ◌∷◌, inl, refl, subst}
+use Rattle.std.proofs.Common.{◌≡◌, ℕ, ◌^◌, ◌<◌, ◌≤◌, Bool, Option, None, Some, [], ◌∷◌, length, inl, refl, subst}
 use Rattle.std.specs.Int.{IsPowerOfTwo}
-use Rattle.papaya_words.specs.declared.probe.ResizeMode.{ResizeMode}
+use Rattle.papaya_store.specs.declared.mode.Mode.{Mode}
 use Rattle.papaya_ask.specs.declared.call.Call.{Call}
 use Rattle.papaya_ask.specs.declared.call.Reply.{Reply}
 use Rattle.papaya_store.specs.Store.{StoreState}
@@ -19,7 +19,7 @@ use Rattle.papaya_seq.specs.Lengths.{IsLongEnough}
 use Rattle.papaya_seq.specs.Map.{MapState, core_of}
 
 -- a core whose one seat has this
-abbrev pub seated_work : {K V S A : Type 0} → StoreState K V S → Option (Work K V A) → ResizeMode → ℕ → CoreState K V S A
+abbrev pub seated_work : {K V S A : Type 0} → StoreState K V S → Option (Work K V A) → Mode → ℕ → CoreState K V S A
 seated_work store work mode initial = record { store = store; callers = record { caller = 0; work = work } ∷ []; mode = mode; initial = initial }
 
 -- the last of a step's entries is its reply
@@ -53,15 +53,21 @@ module _ {K V S : Type 0} (eq : K → K → Bool) (hash : S → K → ℕ) (s : 
     runs,
   )
 
-  -- The call has replied: it was made alone, and left no table shorter than the initial capacity.
+  -- where there is a limit, a number was taken for each pair
+  abbrev pub HasNumbers : StoreState K V S → Type 0
+  HasNumbers store = (most : ℕ) → s.mode.limit ≡ Some most → length store.pairs ≤ store.words.made
+
+  -- The call has replied: it was made alone, and left no table shorter than the initial capacity, and a number for each pair.
   pub record IsOver (store : StoreState K V S) (reply : Reply) : Type 0 where
     pub ran : RunsAlone eq hash (core_of s) call reply (seated_work store None s.mode s.initial)
     pub long : IsLongEnough s.initial store.words
+    pub numbered : HasNumbers store
 
   pub made_over : (number : ℕ) → IsHashed → IsPowerOfTwo s.initial → (steps : ℕ) (store : StoreState K V S) (history : History) → StepsRun eq whatever hash 1 0 steps (start number) (with_event 0 0 Begun []) (seated_work store None s.mode s.initial) history
-      → (reply : Reply) (last : Entry) (before : History) → history ≡ last ∷ before → last.event ≡ Replied reply → IsLongEnough s.initial store.words → IsOver store reply
-  made_over number fits power steps store history runs reply last before ends replied long = record {
+      → (reply : Reply) (last : Entry) (before : History) → history ≡ last ∷ before → last.event ≡ Replied reply → IsLongEnough s.initial store.words → HasNumbers store → IsOver store reply
+  made_over number fits power steps store history runs reply last before ends replied long numbered = record {
     long = long;
+    numbered = numbered;
     ran = record {
       idle = refl;
       steps = steps;

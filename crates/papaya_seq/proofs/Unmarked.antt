@@ -2,7 +2,7 @@
 use Rattle.std.proofs.Common.{◌≡◌, ℕ, ◌<◌, Bool, None, Option, Some, List, refl, ◌∙◌, ap, subst, arith}
 use Rattle.papaya_words.specs.Table.{TableWords}
 use Rattle.papaya_words.specs.Word.{kind_of}
-use Rattle.papaya_words.specs.declared.probe.ResizeMode.{ResizeMode}
+use Rattle.papaya_store.specs.declared.mode.Mode.{Mode}
 use Rattle.papaya_words.specs.declared.word.Kind.TheVariants as kinds
 use Rattle.papaya_ask.specs.declared.ask.At.TheVariants.{Next, Slot}
 use Rattle.papaya_law.specs.Code.{IsOfKind}
@@ -30,7 +30,7 @@ pub last_next : {K V S : Type 0} (store : StoreState K V S) → next_of store �
 last_next store last = next_is store.words.tables store.words.root ∙ last
 
 -- no pair is marked in a table without a next one
-pub unmarked : {K V S A : Type 0} (eq : K → K → Bool) (hash : K → ℕ) (callers : List (Seat K V A)) (mode : ResizeMode) (store : StoreState K V S) → IsLawfulKeys eq hash → IsLawfulCore eq hash store callers mode
+pub unmarked : {K V S A : Type 0} (eq : K → K → Bool) (hash : K → ℕ) (callers : List (Seat K V A)) (mode : Mode) (store : StoreState K V S) → IsLawfulKeys eq hash → IsLawfulCore eq hash store callers mode
     → (t : ℕ) → word_at store.words (Next t) ≡ 0 → (i : ℕ) → kind_of (word_at store.words (Slot t i)) ≡ kinds.Marked → ⊥
 unmarked {K} {V} {S} {A} eq hash callers mode store keys lawful t last i marked =
     let (es, (tales, kept)) = lawful.law in

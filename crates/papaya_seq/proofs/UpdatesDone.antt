@@ -8,10 +8,10 @@ use Rattle.papaya_call.specs.declared.answers.Operation.TheVariants.{Insert, Rem
 use Rattle.papaya_timeline.specs.Content.{map_in}
 use Rattle.papaya_store.specs.Store.{Stored, pair_of}
 use Rattle.papaya_seq.specs.Computes.{ComputesBy, IsComputeRefusal, IsTriedWith, IsUpdated, IsUpdatedOrInserted, Says}
-use Rattle.papaya_seq.specs.Map.{IsMakeRefusal, IsOccupied, KeepsAndGrows, MapState, Unchanged}
+use Rattle.papaya_seq.specs.Map.{IsOccupied, IsStoreRefusal, KeepsAndGrows, MapState, Unchanged}
 use Rattle.papaya_keys.specs.declared.compute.Computed.{Computed}
 use Rattle.papaya_keys.specs.declared.compute.Computed.TheVariants.{Inserted, Updated, Removed, Aborted}
-use Rattle.papaya_seq.proofs.Answered.{logged_there, make_refusal, write_cause}
+use Rattle.papaya_seq.proofs.Answered.{logged_there, store_refusal, write_cause}
 use Rattle.papaya_seq.proofs.ComputesDone.{IsFirst, IsRefused, Leaves, Refuses, facts_of, said_none, said_some, value_stored}
 
 module _ {K V T : Type 0} (post : Option (Bor K × Bor V) → Operation V T → Type 0) where
@@ -127,15 +127,15 @@ module _ {K V S T : Type 0} {post : Option (Bor K × Bor V) → Operation V T �
 
   -- a refused update found one
   pub update_refused : (computes : V → V → Type 0) (t : T) (refused : Refused) → result ≡ Err refused → ComputesBy eq k (λ p. p.number) (Says post) s result s' → ComputesOf post computes → AbortsOfNone post t
-      → IsUpdated eq k computes s (Err refused) s' × IsMakeRefusal refused
+      → IsUpdated eq k computes s (Err refused) s' × IsStoreRefusal s refused
   update_refused computes t refused is c computing aborting =
       ⊎_elim
       (λ (f : IsRefused post eq law k s s' refused). go f.held f.operation f.leaves f.refuses)
-      (λ (f : IsFirst post eq law k s s' refused). ((inr f.0, f.1), make_refusal s s' refused f.1.0))
+      (λ (f : IsFirst post eq law k s s' refused). ((inr f.0, f.1), store_refusal s s' refused f.1.0))
       (facts_of post eq law k s s' result (Err refused) is c)
     where
-      go : (held : Option (Stored K V)) (o : Operation V T) → Leaves post eq law k s s' held o → Refuses post eq law k s s' held o refused → IsUpdated eq k computes s (Err refused) s' × IsMakeRefusal refused
-      go (Some p) (Insert v) l r = let cause = write_cause s s' (Some p) refused r in ((inl (p, l.before), (cause, l.same, l.keeps)), make_refusal s s' refused cause)
+      go : (held : Option (Stored K V)) (o : Operation V T) → Leaves post eq law k s s' held o → Refuses post eq law k s s' held o refused → IsUpdated eq k computes s (Err refused) s' × IsStoreRefusal s refused
+      go (Some p) (Insert v) l r = let cause = write_cause s s' (Some p) refused r in ((inl (p, l.before), (cause, l.same, l.keeps)), store_refusal s s' refused cause)
       go (Some p) Remove l r = absurd (computing_no_remove post computes p l.says computing)
       go None (Insert v) l r = absurd (none_no_insert post t v l.says aborting)
       go None Remove l r = absurd (none_no_remove post t l.says aborting)
@@ -160,15 +160,15 @@ module _ {K V S T : Type 0} {post : Option (Bor K × Bor V) → Operation V T �
       ((inl (f.0.value, computed, stores.inserts), stores.keeps), subst (λ (o : Option (Stored K V)). MatchOption o (makes w) (λ p. computes p.value w)) (sym stores.before) computed)
 
   pub upsert_refused : (computes : V → V → Type 0) (makes : V → Type 0) (refused : Refused) → result ≡ Err refused → ComputesBy eq k (λ p. p.number) (Says post) s result s' → ComputesOf post computes → MakesOfNone post makes
-      → IsUpdatedOrInserted eq k computes makes s (Err refused) s' × IsMakeRefusal refused
+      → IsUpdatedOrInserted eq k computes makes s (Err refused) s' × IsStoreRefusal s refused
   upsert_refused computes makes refused is c computing making =
       ⊎_elim
       (λ (f : IsRefused post eq law k s s' refused). go f.held f.operation f.leaves f.refuses)
-      (λ (f : IsFirst post eq law k s s' refused). (f.1, make_refusal s s' refused f.1.0))
+      (λ (f : IsFirst post eq law k s s' refused). (f.1, store_refusal s s' refused f.1.0))
       (facts_of post eq law k s s' result (Err refused) is c)
     where
-      go : (held : Option (Stored K V)) (o : Operation V T) → Leaves post eq law k s s' held o → Refuses post eq law k s s' held o refused → IsComputeRefusal eq s refused s' × IsMakeRefusal refused
-      go held (Insert v) l r = let cause = write_cause s s' held refused r in ((cause, l.same, l.keeps), make_refusal s s' refused cause)
+      go : (held : Option (Stored K V)) (o : Operation V T) → Leaves post eq law k s s' held o → Refuses post eq law k s s' held o refused → IsComputeRefusal eq s refused s' × IsStoreRefusal s refused
+      go held (Insert v) l r = let cause = write_cause s s' held refused r in ((cause, l.same, l.keeps), store_refusal s s' refused cause)
       go (Some p) Remove l r = absurd (computing_no_remove post computes p l.says computing)
       go None Remove l r = absurd (making_no_remove post makes l.says making)
       go held (Abort u) l r = absurd r
@@ -198,15 +198,15 @@ module _ {K V S T : Type 0} {post : Option (Bor K × Bor V) → Operation V T �
           record { pair = p; there = l.before; logged = subst (λ (j : ℕ). pair_of s'.store j ≡ Some p) same (l.keeps.0.pairs p.number p logged); same = l.same; keeps = l.keeps }
 
   pub tried_refused : (makes : V → Type 0) (t : T) (refused : Refused) → result ≡ Err refused → ComputesBy eq k (λ p. p.number) (Says post) s result s' → AbortsOfSome post t → MakesOfNone post makes
-      → IsTriedWith eq k makes s (Err refused) s' × IsMakeRefusal refused
+      → IsTriedWith eq k makes s (Err refused) s' × IsStoreRefusal s refused
   tried_refused makes t refused is c aborting making =
       ⊎_elim
       (λ (f : IsRefused post eq law k s s' refused). go f.held f.operation f.leaves f.refuses)
-      (λ (f : IsFirst post eq law k s s' refused). ((inr f.0, f.1), make_refusal s s' refused f.1.0))
+      (λ (f : IsFirst post eq law k s s' refused). ((inr f.0, f.1), store_refusal s s' refused f.1.0))
       (facts_of post eq law k s s' result (Err refused) is c)
     where
-      go : (held : Option (Stored K V)) (o : Operation V T) → Leaves post eq law k s s' held o → Refuses post eq law k s s' held o refused → IsTriedWith eq k makes s (Err refused) s' × IsMakeRefusal refused
-      go None (Insert v) l r = let cause = write_cause s s' None refused r in ((inl l.before, (cause, l.same, l.keeps)), make_refusal s s' refused cause)
+      go : (held : Option (Stored K V)) (o : Operation V T) → Leaves post eq law k s s' held o → Refuses post eq law k s s' held o refused → IsTriedWith eq k makes s (Err refused) s' × IsStoreRefusal s refused
+      go None (Insert v) l r = let cause = write_cause s s' None refused r in ((inl l.before, (cause, l.same, l.keeps)), store_refusal s s' refused cause)
       go (Some p) (Insert v) l r = absurd (some_no_insert post t p v l.says aborting)
       go (Some p) Remove l r = absurd (some_no_remove post t p l.says aborting)
       go None Remove l r = absurd (making_no_remove post makes l.says making)

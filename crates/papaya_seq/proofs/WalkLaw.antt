@@ -4,7 +4,7 @@ use Rattle.std.proofs.lemmas.Bool.{cases_lt}
 use Rattle.papaya_words.specs.Probe.{place}
 use Rattle.papaya_words.specs.Table.{TableWords}
 use Rattle.papaya_words.specs.Word.{kind_of, pair_of as number_of}
-use Rattle.papaya_words.specs.declared.probe.ResizeMode.{ResizeMode}
+use Rattle.papaya_store.specs.declared.mode.Mode.{Mode}
 use Rattle.papaya_words.specs.declared.probe.ResizeMode.TheVariants.{Blocking}
 use Rattle.papaya_words.specs.declared.word.Kind.TheVariants as kinds
 use Rattle.papaya_ask.specs.declared.ask.At.TheVariants.{Next, Root, Slot}
@@ -46,7 +46,7 @@ adds_none : {A : Type 0} (ps zs : List A) → ps ++ zs ≡ ps → zs ≡ []
 adds_none [] zs e = e
 adds_none (p ∷ ps) zs e = let behind : ps ++ zs ≡ ps = cc e in adds_none ps zs behind
 
-module _ {K V S A : Type 0} (eq : K → K → Bool) (hash : K → ℕ) (callers : List (Seat K V A)) (mode : ResizeMode) (store : StoreState K V S) (lawful : IsLawfulCore eq hash store callers mode) (keys : IsLawfulKeys eq hash) where
+module _ {K V S A : Type 0} (eq : K → K → Bool) (hash : K → ℕ) (callers : List (Seat K V A)) (mode : Mode) (store : StoreState K V S) (lawful : IsLawfulCore eq hash store callers mode) (keys : IsLawfulKeys eq hash) where
   abbrev g : Setting K (Stored K V)
   g = setting_of eq (low hash) mode store.words.tables
 
@@ -146,7 +146,7 @@ module _ {K V S A : Type 0} (eq : K → K → Bool) (hash : K → ℕ) (callers 
       of_table None none = let within = subst (λ n. mark.slot < n) (ap slots_in none) mark.within in absurd (omega (arith, within))
       of_table (Some table) there = found table there (lookup eq (λ q. q.key) (pairs_at store t) p.key) refl
 
-  module _ (inc : is_blocking mode ≡ false) (t u x h : ℕ) (p : Stored K V) (h_is : h ≡ low hash p.key) (on : IsOn now.first now.next t) (before : t < u) (holds : Holds (now.slot u x) p) (none : HasNoMark store h t p.number) where
+  module _ (inc : is_blocking mode.resize ≡ false) (t u x h : ℕ) (p : Stored K V) (h_is : h ≡ low hash p.key) (on : IsOn now.first now.next t) (before : t < u) (holds : Holds (now.slot u x) p) (none : HasNoMark store h t p.number) where
     class : IsIncrementalClass (IsOn now.first now.next) g.places (g.place p.key) (look g now p.key) (map_left g es p.key)
     class = (incremental_state g now (map_left g es) keeps inc).class p.key
 
@@ -222,12 +222,12 @@ module _ {K V S A : Type 0} (eq : K → K → Bool) (hash : K → ℕ) (callers 
             ])
 
   -- with blocking, nothing is left behind the root
-  pub blocking_end : mode ≡ Blocking → (slot : ℕ) → slots_in (table_of store.words.tables store.words.root) ≤ slot → left_from eq store zero slot (length store.words.tables) store.words.root ≡ []
+  pub blocking_end : mode.resize ≡ Blocking → (slot : ℕ) → slots_in (table_of store.words.tables store.words.root) ≤ slot → left_from eq store zero slot (length store.words.tables) store.words.root ≡ []
   blocking_end blocks slot past = of_many (length store.words.tables) refl
     where
       alone : content eq store ≡ pairs_in (now.slot now.root) (g.size now.root)
       alone = kept_content eq hash mode store hashed callers es lawful.law.1.0 kept
-          ∙ chain_alone g hashed.lawful now (map_left g es) keeps (λ inc. let b : is_blocking mode ≡ true = ap is_blocking blocks in absurd cc) (length store.words.tables) (chain_ends eq hash mode store hashed callers es lawful.law.1.0 kept)
+          ∙ chain_alone g hashed.lawful now (map_left g es) keeps (λ inc. let b : is_blocking mode.resize ≡ true = ap is_blocking blocks in absurd cc) (length store.words.tables) (chain_ends eq hash mode store hashed callers es lawful.law.1.0 kept)
 
       of_table : (n : ℕ) → length store.words.tables ≡ suc n → (o : Option TableWords) → table_of store.words.tables store.words.root ≡ o → rest_of eq store slot n o ≡ []
       of_table n many None there = refl

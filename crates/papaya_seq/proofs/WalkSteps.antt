@@ -21,6 +21,7 @@ use Rattle.papaya_timeline.specs.Kept.{IsLawfulCore, is_blocking, low}
 use Rattle.papaya_store.specs.Performs.{size_of}
 use Rattle.papaya_store.specs.Store.{StoreState, Stored, pair_of}
 use Rattle.papaya_store.specs.Tables.{table_of, word_at, word_in}
+use Rattle.papaya_store.proofs.Logs.{pair_number}
 use Rattle.papaya_timeline.proofs.KeptSettings.{IsLawfulKeys}
 use Rattle.papaya_timeline.proofs.KeptTables.{table_low}
 use Rattle.papaya_seq.specs.Map.{MapState, slots_in}
@@ -28,7 +29,7 @@ use Rattle.papaya_seq.specs.Walks.{HasMark, HasNoMark, HasNoMarkIn, IsNext, IsNe
 use Rattle.papaya_seq.specs.declared.stand.Stand.{Stand}
 use Rattle.papaya_seq.proofs.WalkLaw.{after_far, after_low, after_on, blocking_end, none_unmarked, now, pair_logged, some_marked}
 use Rattle.papaya_seq.proofs.WalkLists.{given, left_bare, left_none, left_pair, left_past, pairs_of_word}
-use Rattle.papaya_seq.proofs.Lawful.{core_next_rises, core_next_there, number_is}
+use Rattle.papaya_seq.proofs.Lawful.{core_next_rises, core_next_there}
 
 module _ {K V S : Type 0} (store : StoreState K V S) where
   -- no place of this hash before the probe says that the pair is being copied
@@ -93,10 +94,10 @@ module _ {K V S : Type 0} (eq : K → K → Bool) (hash : K → ℕ) (s : MapSta
 
   module _ (at : Stand) (stand : IsStand s at) where
     -- where a table was passed, the mode is not blocking
-    going : 0 < at.passed → is_blocking s.mode ≡ false
-    going some = of_mode s.mode refl
+    going : 0 < at.passed → is_blocking s.mode.resize ≡ false
+    going some = of_mode s.mode.resize refl
       where
-        of_mode : (mode : ResizeMode) → s.mode ≡ mode → is_blocking s.mode ≡ false
+        of_mode : (mode : ResizeMode) → s.mode.resize ≡ mode → is_blocking s.mode.resize ≡ false
         of_mode (Incremental chunk) e = ap is_blocking e
         of_mode Blocking e = let none = stand.alone e in absurd (omega (arith, some, none))
 
@@ -138,7 +139,7 @@ module _ {K V S : Type 0} (eq : K → K → Bool) (hash : K → ℕ) (s : MapSta
             let some : 0 < at.passed = let all = passing.all in omega (arith, all) in
             none_unmarked eq hash [] s.mode s.store lawful keys (going some) t at.table at.slot h p h_is on behind.1
             (subst (Holds ((now eq hash [] s.mode s.store lawful keys).slot at.table at.slot)) same holds)
-            (subst (HasNoMark s.store h t) (sym (number_is s.store n p logged)) none)
+            (subst (HasNoMark s.store h t) (sym (pair_number s.store n p logged)) none)
 
         -- then the search goes past it
         pub passing_more : ((p : Stored K V) → pair_of s.store n ≡ Some p → h ≡ low hash p.key) → HasNoMark s.store h t n → IsPassing s.store eq n at (word_at s.store.words (Next t)) passed
@@ -153,7 +154,7 @@ module _ {K V S : Type 0} (eq : K → K → Bool) (hash : K → ℕ) (s : MapSta
         -- or it has the pair
         pub passing_marked : HasMark s.store t n → (p : Stored K V) → pair_of s.store n ≡ Some p → true ≡ has_in eq s.store at.passed s.store.words.root p.key
         passing_marked mark p logged =
-            let number : p.number ≡ n = number_is s.store n p logged in
+            let number : p.number ≡ n = pair_number s.store n p logged in
             sym (passing.same p logged
             ∙ ap (λ b. b || has_in eq s.store passed (word_at s.store.words (Next t)) p.key)
             (some_marked eq hash [] s.mode s.store lawful keys t p (ap (pair_of s.store) number ∙ logged) (subst (HasMark s.store t) (sym number) mark)))
@@ -230,14 +231,14 @@ module _ {K V S : Type 0} (eq : K → K → Bool) (hash : K → ℕ) (s : MapSta
       over_last last = past_table ∙ left_none eq s.store zero (suc at.passed) (length s.store.words.tables) s.store.words.root (ap (table_of s.store.words.tables) (next_after ∙ last))
 
       -- so it is behind the root with blocking
-      pub over_blocking : s.mode ≡ Blocking → left_to eq s.store at ≡ []
+      pub over_blocking : s.mode.resize ≡ Blocking → left_to eq s.store at ≡ []
       over_blocking blocks =
           let none : at.passed ≡ 0 = stand.alone blocks in
           let root : s.store.words.root ≡ at.table = ap (λ n. table_after s.store n s.store.words.root) (sym none) ∙ stand.on in
           ap (λ n. left_from eq s.store n at.slot (length s.store.words.tables) s.store.words.root) none
           ∙ blocking_end eq hash [] s.mode s.store lawful keys blocks at.slot (subst (λ t. slots_in (table_of s.store.words.tables t) ≤ at.slot) (sym root) past)
 
-      module _ (some : word_at s.store.words (Next at.table) ≡ 0 → ⊥) (going_on : s.mode ≡ Blocking → ⊥) where
+      module _ (some : word_at s.store.words (Next at.table) ≡ 0 → ⊥) (going_on : s.mode.resize ≡ Blocking → ⊥) where
         -- the stand before the next table's first slot
         abbrev pub next_stand : Stand
         next_stand = record { table = word_at s.store.words (Next at.table); slot = 0; passed = at.passed + 1 }

@@ -1,5 +1,5 @@
 -- A removal, several of whose asks its driver answers at once.
-use Rattle.std.specs.Prelude.{◌≡◌, ℕ, Bool, false, List, [], ◌∷◌}
+use Rattle.std.specs.Prelude.{◌≡◌, ℕ, Bool, false, List, [], ◌∷◌, Option}
 use denote.Ref.{Bor}
 use Rattle.std.specs.Fn.{Mut}
 use Rattle.papaya_words.specs.declared.probe.ResizeMode.{ResizeMode}
@@ -56,5 +56,5 @@ module _ {K V S F : Type 0} (g : Mut F (Bor K × (Bor V × Unit {0})) Bool) (mat
   -- a removal has replied, whatever the map's settings are
   abbrev pub IsRemovedAtOnce : (hashed : ℕ) → StoreState K V S → F → Reply → StoreState K V S → F
       → Type 0
-  IsRemovedAtOnce hashed s f reply s' f' = (mode : ResizeMode) (initial : ℕ)
-      → IsRemovedFrom s f (itself (started RemoveIf hashed mode initial)) reply s' f'
+  IsRemovedAtOnce hashed s f reply s' f' = (mode : ResizeMode) (initial : ℕ) (limit : Option ℕ)
+      → IsRemovedFrom s f (itself (started RemoveIf hashed mode initial limit)) reply s' f'

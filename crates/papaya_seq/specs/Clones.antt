@@ -8,6 +8,7 @@ use Rattle.papaya_words.specs.declared.probe.ResizeMode.TheVariants.{Incremental
 use Rattle.papaya_keys.specs.Sizes.{IsTooMuch}
 use Rattle.papaya_store.specs.Store.{StoreState, Stored}
 use Rattle.papaya_timeline.specs.Content.{content, map_in}
+use Rattle.papaya_timeline.specs.Core.{unlimited}
 use Rattle.papaya_timeline.specs.New.{IsNew}
 use Rattle.papaya_seq.specs.Map.{MapState, core_of, entry_of, value_of}
 use Rattle.papaya_seq.specs.Resizes.{IsReserveCause}
@@ -68,9 +69,15 @@ module _ {K V : Type 0} (eq : K → K → Bool) (clones_key : K → K → Type 0
     pub cloned : Clones clones_key clones_value next clone
     pub cut : IsCut eq (λ c. c) to clones clone refused to'
 
--- the map resizes as this one does, and counts in as many shards
+-- the map resizes as this one does, has its limit, and counts in as many shards
 pub record HasParts {K V S : Type 0} (s s' : MapState K V S) : Type 0 where
   pub mode : s'.mode ≡ s.mode
+  pub initial : s'.initial ≡ s.initial
+  pub shards : s'.store.count.shards ≡ s.store.count.shards
+
+-- the same without a limit, as a map is that is built anew, until it has its pairs
+pub record HasFreeParts {K V S : Type 0} (s s' : MapState K V S) : Type 0 where
+  pub mode : s'.mode ≡ unlimited s.mode.resize
   pub initial : s'.initial ≡ s.initial
   pub shards : s'.store.count.shards ≡ s.store.count.shards
 
@@ -97,14 +104,15 @@ module _ {K V S : Type 0} (eq : K → K → Bool) (clones_key : K → K → Type
       ⊎ ((refused ≡ Capacity) × IsTooMuch (length (content eq from)))
       ⊎ IsCloneCut from refused
 
-  -- A map without pairs, with the parts of this one, was refused room for its pairs, or a clone.
+  -- A map without pairs and without a limit, with the other parts of this one, was refused room for
+  -- its pairs, or a clone.
   pub record IsRebuildCut (s : MapState K V S) (refused : Refused) : Type 0 where
     pub fresh : MapState K V S
     pub empty : content eq fresh.store ≡ []
-    pub parts : HasParts s fresh
+    pub parts : HasFreeParts s fresh
     pub left : MapState K V S
     pub cause : IsReserveCause eq fresh (length (content eq s.store)) refused left
-        ⊎ ((roomy : MapState K V S) × (content eq roomy.store ≡ []) × HasParts s roomy
+        ⊎ ((roomy : MapState K V S) × (content eq roomy.store ≡ []) × HasFreeParts s roomy
         × IsCopyCut eq clones_key clones_value s.store roomy refused left)
 
   -- Why a map is not rebuilt: for want of memory, as it has more shards than a new one may have, or

@@ -28,7 +28,7 @@ abbrev pub Says : {K V T : Type 0} → (Option (Bor K × Bor V) → Operation V 
 Says {K = K} {V = V} post held operation = (shown : Option (Bor K × Bor V)) × AreOf shown held
     × post shown operation
 
--- a pair of the key that was handed in and of this value, with a number never used before
+-- a pair of this key and this value, with a number never used before
 pub record IsNew {K V S : Type 0} (k : K) (v : V) (s s' : StoreState K V S)
     (q : Stored K V) : Type 0 where
   pub key : q.key ≡ k
@@ -38,13 +38,13 @@ pub record IsNew {K V S : Type 0} (k : K) (v : V) (s s' : StoreState K V S)
 
 module _ {K V S T : Type 0} (k : K) where
   -- What a compute does where the class of its key has `held` and its closure answered so: what it
-  -- answers, and which pair the class has next.
+  -- answers, and which pair the class has next. What takes the place of a pair keeps its key.
   abbrev pub Operates : MapState K V S → MapState K V S → Option (Stored K V) → Operation V T
       → Result (Computed (Stored K V) T) Refused → Option (Stored K V) → Type 0
   Operates s s' None (Insert v) (Ok (Inserted q)) next = IsNew k v s.store s'.store q
       × (next ≡ Some q)
   Operates s s' (Some p) (Insert v) (Ok (Updated old q)) next = (old ≡ p)
-      × IsNew k v s.store s'.store q × (next ≡ Some q)
+      × IsNew p.key v s.store s'.store q × (next ≡ Some q)
   Operates s s' held (Insert v) (Err refused) next = IsWriteCauseAt s held refused s'
       × (next ≡ held)
   Operates s s' None Remove (Err refused) next = (refused ≡ RemoveNothing) × (next ≡ None)

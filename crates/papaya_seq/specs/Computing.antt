@@ -9,15 +9,17 @@ use Rattle.papaya_ask.specs.declared.ask.Answer.TheVariants.{Op}
 use Rattle.papaya_ask.specs.declared.ask.OpKind.TheVariants as kinds
 use Rattle.papaya_ask.specs.declared.call.Reply.{Reply}
 use Rattle.papaya_ask.specs.declared.call.Reply.TheVariants as replies
+use Rattle.papaya_store.specs.declared.pairs.Part.{Part}
+use Rattle.papaya_store.specs.declared.pairs.Part.TheVariants.{Own}
 use Rattle.papaya_keys.specs.declared.compute.Computed.{Computed}
 use Rattle.papaya_keys.specs.declared.compute.Computed.TheVariants.{Inserted, Updated, Removed, Aborted}
 
 -- a closure's answer is told without what it owns, and that is kept: the value of an insertion, and
 -- what the call is ended with
-abbrev pub IsKept : {V T : Type 0} → Operation V T → Answer → Option V → Option V → Option T
-    → Option T → Type 0
+abbrev pub IsKept : {V T : Type 0} → Operation V T → Answer → Option (Part V) → Option (Part V)
+    → Option T → Option T → Type 0
 IsKept (Insert v) answer value value' aborted aborted' = (answer ≡ Op kinds.Insert)
-    × (value' ≡ Some v) × (aborted' ≡ aborted)
+    × (value' ≡ Some (Own v)) × (aborted' ≡ aborted)
 IsKept Remove answer value value' aborted aborted' = (answer ≡ Op kinds.Remove) × (value' ≡ value)
     × (aborted' ≡ aborted)
 IsKept (Abort t) answer value value' aborted aborted' = (answer ≡ Op (kinds.Abort 0))

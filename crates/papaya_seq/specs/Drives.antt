@@ -1,39 +1,50 @@
 -- A call under way, each of whose asks is answered by the store: what its driver does at once.
-use Rattle.std.specs.Prelude.{◌≡◌, ℕ, Bool, false, Option, Some, None, List, [], ◌∷◌}
+use Rattle.std.specs.Prelude.{◌≡◌, ℕ, Bool, false, Option, Some, None, option_map, List, [], ◌∷◌}
 use Rattle.papaya_words.specs.declared.probe.ResizeMode.{ResizeMode}
-use Rattle.papaya_ask.specs.declared.ask.Ask.TheVariants.{Done}
+use Rattle.papaya_ask.specs.declared.ask.Ask.TheVariants.{Done, ShowNone, ShowPair}
 use Rattle.papaya_ask.specs.declared.call.Reply.{Reply}
 use Rattle.papaya_ask.specs.declared.call.Task.TheVariants.{Insert}
 use Rattle.papaya_call.specs.declared.machine.Machine.{Machine as Call_machine}
-use Rattle.papaya_call.specs.declared.machine.State.TheVariants.{Writing}
-use Rattle.papaya_call.specs.declared.write.Made.TheVariants.{Nothing}
-use Rattle.papaya_call.specs.declared.write.Write.{Write}
 use Rattle.papaya_call.specs.Machine.{started}
 use Rattle.papaya_chain.specs.declared.ask.Answer.{Answer}
+use Rattle.papaya_chain.specs.declared.ask.Ask.{Ask}
 use Rattle.papaya_chain.specs.declared.ask.Ask.TheVariants as asks
 use Rattle.papaya_chain.specs.declared.machine.Phase.TheVariants.{Calling}
 use Rattle.papaya_chain.specs.Machine.{IsFitAsk, after, ask_of}
 use Rattle.papaya_store.specs.Asks.{PerformsAsk}
-use Rattle.papaya_store.specs.declared.pairs.KeyOf.TheVariants.{Own}
+use Rattle.papaya_store.specs.declared.pairs.Part.{Part}
+use Rattle.papaya_store.specs.declared.pairs.Part.TheVariants.{Own, Logged}
 use Rattle.papaya_store.specs.declared.pairs.Running.{Running}
 use Rattle.papaya_store.specs.Store.{StoreState}
-use Rattle.papaya_timeline.specs.Advances.{reply_in}
 use Rattle.papaya_timeline.specs.Solo.{whatever}
 
--- a call that goes on for itself, with its key and value at hand
-abbrev pub at_hand : {K V A : Type 0} → Call_machine → K → V → Running K V A
+-- a call that goes on for itself, with its key at hand, and its value, if it has one
+abbrev pub at_hand : {K V A : Type 0} → Call_machine → K → Option V → Running K V A
 at_hand m key value = record {
   machine = record { call = m; number = 0; helped = false; phase = Calling };
   key = Own key;
-  value = Some value;
+  value = option_map (λ v. Own v) value;
   answers = None;
 }
 
+-- the store answers this: it is no reply, and no closure is shown anything
+abbrev pub IsOfStore : Ask → Type 0
+IsOfStore (asks.Call ShowNone) = ⊥
+IsOfStore (asks.Call (ShowPair n)) = ⊥
+IsOfStore (asks.Call (Done reply)) = ⊥
+IsOfStore ask = Unit {0}
+
+-- the value that a call has of its own: it is in no pair of the log
+abbrev pub value_left : {V : Type 0} → Option (Part V) → Option V
+value_left (Some (Own value)) = Some value
+value_left (Some (Logged n)) = None
+value_left None = None
+
 module _ {K V S : Type 0} (eq : K → K → Bool) (hash : S → K → ℕ) where
-  -- one ask was answered, of a call that has not replied
+  -- one ask was answered by the store
   pub record IsDriven (s : StoreState K V S) (r : Running K V (Unit {0})) (answer : Answer)
       (s' : StoreState K V S) (later : Running K V (Unit {0})) : Type 0 where
-    pub going : reply_in (ask_of r.machine) ≡ None
+    pub asked : IsOfStore (ask_of r.machine)
     pub fit : IsFitAsk (ask_of r.machine)
     pub performs : PerformsAsk eq whatever hash false (ask_of r.machine) s r answer s' later
     pub same : later.machine ≡ r.machine
@@ -53,18 +64,11 @@ module _ {K V S : Type 0} (eq : K → K → Bool) (hash : S → K → ℕ) where
     pub end : Running K V (Unit {0})
     pub drives : Drives answers s r s' end
     pub replied : asks.Call (Done reply) ≡ ask_of end.machine
-    pub value : end.value ≡ left
-
-  -- any call that was to write a pair of this key and value so, and hashes so, has replied
-  abbrev pub IsWritten : (hashed : ℕ) → Write → K → V → StoreState K V S → Reply × Option V
-      → StoreState K V S → Type 0
-  IsWritten hashed write key value s done s' = (m : Call_machine)
-      → IsReplied s (at_hand (record m { hash = hashed; made = Nothing; state = Writing write })
-      key value) done.0 done.1 s'
+    pub value : value_left end.value ≡ left
 
   -- an insertion has replied, whatever the map's settings are
   abbrev pub IsInsertedAtOnce : (hashed : ℕ) → Bool → K → V → StoreState K V S
       → Reply × Option V → StoreState K V S → Type 0
   IsInsertedAtOnce hashed replace key value s done s' = (mode : ResizeMode) (initial : ℕ)
-      → IsReplied s (at_hand (started (Insert replace) hashed mode initial) key value) done.0 done.1
-      s'
+      → IsReplied s (at_hand (started (Insert replace) hashed mode initial None) key (Some value))
+      done.0 done.1 s'

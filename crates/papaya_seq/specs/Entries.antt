@@ -7,6 +7,7 @@ use Rattle.papaya_words.specs.declared.probe.Refused.{Refused}
 use Rattle.papaya_words.specs.declared.probe.ResizeMode.TheVariants.{Incremental}
 use Rattle.papaya_store.specs.Store.{StoreState}
 use Rattle.papaya_timeline.specs.Content.{map_in}
+use Rattle.papaya_timeline.specs.Core.{unlimited}
 use Rattle.papaya_timeline.specs.New.{IsNew}
 use Rattle.papaya_seq.specs.Map.{Inserts, IsWriteCauseAt, Keeps, KeepsAndGrows, MapState, Unchanged, core_of, entry_of, slots_of}
 
@@ -30,13 +31,19 @@ IsPut {V = V} eq k v s (Ok absent) s' = (went : Option V) × (absent ≡ is_none
 IsPut eq k v s (Err refused) s' = IsWriteCauseAt s (map_in eq s.store k) refused s'
     × Unchanged eq s.store s'.store × KeepsAndGrows s s'
 
-module _ {K V : Type 0} (eq : K → K → Bool) where
-  -- the class of the pair's key has the pair, and each other class has what it had
-  abbrev pub put : Entries K V → K × V → Entries K V
-  put m p k = cond (eq k p.0) (Some p) (m k)
+-- an entry of this value, of the key that is there, or else of this one
+abbrev pub kept : {K V : Type 0} → Option (K × V) → K × V → K × V
+kept None p = p
+kept (Some there) p = (there.0, p.1)
 
-  -- The pairs that the items show are put in one after the other, a later one in the place of an
-  -- earlier one of its class.
+module _ {K V : Type 0} (eq : K → K → Bool) where
+  -- the class of the pair's key has its value, by the key that it had, or else by this one, and each
+  -- other class has what it had
+  abbrev pub put : Entries K V → K × V → Entries K V
+  put m p k = cond (eq k p.0) (Some (kept (m p.0) p)) (m k)
+
+  -- The pairs that the items show are put in one after the other. A later one of a class keeps the
+  -- key of the first.
   abbrev pub put_all : {A : Type 0} → (A → K × V) → Entries K V → List A → Entries K V
   put_all shows m items = fold (λ n item. put n (shows item)) m items
 
@@ -62,7 +69,7 @@ module _ {K V S A : Type 0} (eq : K → K → Bool) (shows : A → K × V) where
   pub record HasJust (items : List A) (s : MapState K V S) : Type 0 where
     pub entries : (k : K) → entries_in eq s.store k ≡ put_all eq shows nothing items k
     pub no_table : items ≡ [] → slots_of s.store ≡ 0
-    pub mode : s.mode ≡ Incremental DEFAULT_CHUNK
+    pub mode : s.mode ≡ unlimited (Incremental DEFAULT_CHUNK)
     pub initial : IsEntriesFor 0 s.initial
 
 module _ {K V A : Type 0} (S : Type 0) (eq : K → K → Bool) (shows : A → K × V) where

@@ -2,8 +2,10 @@ pub mod Answered
 pub mod Buries
 pub mod Calls
 pub mod Clones
+pub mod ComputeRuns
 pub mod Computes
 pub mod Computing
+pub mod Copies
 pub mod Drives
 pub mod Ends
 pub mod Entries
@@ -16,3 +18,4 @@ pub mod Resizes
 pub mod Retains
 pub mod Searches
 pub mod Walks
+pub mod Writes

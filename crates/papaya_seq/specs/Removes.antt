@@ -6,7 +6,7 @@ use Rattle.papaya_words.specs.declared.probe.Refused as words
 use Rattle.papaya_ask.specs.declared.ask.Answer.{Answer}
 use Rattle.papaya_ask.specs.declared.ask.Answer.TheVariants.{Word as Word_read, Yes, Ok as Ok_done}
 use Rattle.papaya_ask.specs.declared.ask.Ask.{Ask}
-use Rattle.papaya_ask.specs.declared.ask.Ask.TheVariants.{Load, Exchange, LoadHint, WriteHint, SameKey, ShowNone, ShowPair, SizeOf, MakeKey, MakePair, MakeTable, AddToShard, Done as Ask_done}
+use Rattle.papaya_ask.specs.declared.ask.Ask.TheVariants.{Load, Exchange, LoadHint, WriteHint, SameKey, ShowNone, ShowPair, SizeOf, MakeKey, MakeValue, MakePair, MakePairOf, MakeTable, AddToShard, Done as Ask_done}
 use Rattle.papaya_ask.specs.declared.call.Reply.{Reply}
 use Rattle.papaya_ask.specs.declared.call.Reply.TheVariants.{Absent, Removed, Kept, Refused}
 use Rattle.papaya_store.specs.Performs.{Exchanges, size_of}
@@ -36,7 +36,9 @@ abbrev pub IsRemovalAsk : Ask → Type 0
 IsRemovalAsk (WriteHint t i hint) = ⊥
 IsRemovalAsk ShowNone = ⊥
 IsRemovalAsk MakeKey = ⊥
+IsRemovalAsk MakeValue = ⊥
 IsRemovalAsk MakePair = ⊥
+IsRemovalAsk (MakePairOf n) = ⊥
 IsRemovalAsk (MakeTable slots limit chunks) = ⊥
 IsRemovalAsk (Ask_done reply) = ⊥
 IsRemovalAsk _ = Unit {0}

@@ -114,4 +114,4 @@ pub record IsWord {K V S : Type 0} (store : StoreState K V S) (at : Stand) (n : 
 pub record IsStand {K V S : Type 0} (s : MapState K V S) (at : Stand) : Type 0 where
   pub on : table_after s.store at.passed s.store.words.root ≡ at.table
   -- with blocking the root has all
-  pub alone : s.mode ≡ Blocking → at.passed ≡ 0
+  pub alone : s.mode.resize ≡ Blocking → at.passed ≡ 0

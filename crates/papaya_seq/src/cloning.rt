@@ -1,15 +1,17 @@
 //! Maps of clones: a copy of a map, and the map built anew without the pairs that it has no more.
-ghost use Rattle.std.specs.Prelude.{◌≡◌, ◌⊎◌, true, IfOk, IfErr, OnOk, length, map};
+ghost use Rattle.std.specs.Prelude.{◌≡◌, ◌≢◌, ◌⊎◌, ◌≤◌, ℕ, true, Some, None, IfOk, IfErr, OnOk, length, map};
 ghost use Rattle.std.specs.Int.{IsPowerOfTwo};
 ghost use Rattle.papaya_words.specs.Probe.{IsEntriesFor};
 ghost use Rattle.papaya_words.specs.declared.limits.TheConstants.{DEFAULT_CHUNK};
 ghost use Rattle.papaya_timeline.specs.Content.{content};
-ghost use Rattle.papaya_seq.specs.Clones.{HasParts, IsCloneRefusal, IsCopied, IsCopyCut};
+ghost use Rattle.papaya_timeline.specs.Core.{unlimited};
+ghost use Rattle.papaya_seq.specs.Clones.{HasFreeParts, HasParts, IsCloneRefusal, IsCopied, IsCopyCut};
 ghost use Rattle.papaya_seq.specs.Lengths.{IsAskedFor};
 ghost use Rattle.papaya_seq.specs.Clones.{IsRebuildRefusal, IsRebuilt};
 ghost use Rattle.papaya_seq.specs.Map.{entry_of};
 
 use crate::seq::HashMap;
+use papaya_ask::ask::At;
 use papaya_words::limits::LEAST_TABLE_LEN;
 use papaya_words::probe::{Refused, ResizeMode};
 use std::alloc::Global;
@@ -54,7 +56,7 @@ impl<K: Hash + Eq + Clone + Drop, V: Clone + Drop, S: BuildHasher> HashMap<K, V,
 
 impl<K: Hash + Eq + Clone + Drop, V: Clone + Drop, S: BuildHasher + Clone + Drop> HashMap<K, V, S> {
     /// A map of clones: what `Clone` makes in 0.2.5. It is made for as many pairs as this one has,
-    /// with [`ResizeMode::default`], one shard and a clone of the hasher.
+    /// with [`ResizeMode::default`], no limit, one shard and a clone of the hasher.
     ///
     /// A clone of a key has to be equal to it. `Refused::Memory` where a clone was refused; else
     /// refused as [`HashMap::with_capacity_and_hasher`], or as [`HashMap::insert`] of a clone.
@@ -62,11 +64,13 @@ impl<K: Hash + Eq + Clone + Drop, V: Clone + Drop, S: BuildHasher + Clone + Drop
         requires { (k l : K) → K.is_clone k l → K.eq k l ≡ true }
         ensures clones { IfOk result (λ made. IsRebuilt K.eq K.is_clone V.is_clone S.is_clone
             self.now made) }
-        ensures parts { IfOk result (λ made. (made.mode ≡ ResizeMode.Incremental DEFAULT_CHUNK)
+        ensures parts { IfOk result (λ made.
+            (made.mode ≡ unlimited (ResizeMode.Incremental DEFAULT_CHUNK))
             × IsEntriesFor (length (content K.eq self.now.store)) made.initial
             × (made.store.count.shards ≡ 1)) }
         ensures err { IfErr result (λ e. IsCloneRefusal K.eq K.is_clone V.is_clone self.now.store
             e) }
+        ensures below { IfErr result (λ e. e ≢ Refused.Limit) }
     {
         let Ok(hasher) = self.store.hasher().clone() else {
             return Err(Refused::Memory);
@@ -78,34 +82,66 @@ impl<K: Hash + Eq + Clone + Drop, V: Clone + Drop, S: BuildHasher + Clone + Drop
         }
     }
 
-    /// A map of clones with the parts of this one.
+    /// Gives a map that has no limit this one, if there is one, with so many numbers taken.
+    fn number(&mut self, limit: Option<u64>, made: u64)
+        requires free { self.old.mode.limit ≡ None }
+        requires most { (n : ℕ) → limit ≡ Some n → made ≤ n }
+        requires each { length self.old.store.pairs ≤ made }
+        ensures store { self.new.store ≡ record self.old.store {
+          words = record self.old.store.words { made = made };
+        } }
+        ensures mode { self.new.mode ≡ record self.old.mode { limit = limit } }
+        ensures initial { self.new.initial ≡ self.old.initial }
+    {
+        let taken = self.store.word(At::Made);
+        let _ = self.store.exchange(At::Made, taken, made);
+        self.mode.limit = limit;
+    }
+
+    /// A map of clones with the parts of this one. It gets its limit once it has its pairs: no call
+    /// that fills it takes a number.
     fn rebuilt(&self) -> Result<HashMap<K, V, S>, Refused>
         requires { (k l : K) → K.is_clone k l → K.eq k l ≡ true }
         ensures clones { IfOk result (λ made. IsRebuilt K.eq K.is_clone V.is_clone S.is_clone
             self.now made) }
         ensures parts { IfOk result (λ made. HasParts self.now made) }
+        ensures numbers { IfOk result (λ made. made.store.words.made
+            ≡ length (content K.eq self.now.store)) }
         ensures err { IfErr result (λ e. IsRebuildRefusal K.eq K.is_clone V.is_clone self.now e) }
+        ensures below { IfErr result (λ e. e ≢ Refused.Limit) }
     {
         let Ok(hasher) = self.store.hasher().clone() else {
             return Err(Refused::Memory);
         };
         let shards = self.store.shards();
         let capacity = pairs_for(self.initial);
-        let mut fresh = HashMap::with_parts(self.alloc, self.mode, capacity, shards, hasher)?;
+        let mut fresh = HashMap::with_parts(
+            self.alloc,
+            self.mode.resize,
+            capacity,
+            shards,
+            hasher,
+            None,
+        )?;
         fresh.initial = self.initial;
-        match fresh.reserve(self.len()) {
+        let pairs = self.len();
+        match fresh.reserve(pairs) {
             Ok(()) => {}
             Err(refused) => return Err(refused),
         }
         match fresh.copy_from(self) {
-            Ok(()) => Ok(fresh),
+            Ok(()) => {
+                fresh.number(self.mode.limit, pairs as u64);
+                Ok(fresh)
+            }
             Err(refused) => Err(refused),
         }
     }
 
     /// Builds the map anew from clones of its pairs, and gives back the memory of those that were
-    /// replaced or removed. Pairs are numbered anew. Mode, initial capacity and number of shards stay,
-    /// and there is room for the pairs. 0.2.5 frees pairs while the map is used, and has no such call.
+    /// replaced or removed. Pairs are numbered anew. Mode, limit, initial capacity and number of
+    /// shards stay, and there is room for the pairs. So many numbers are taken then as there are
+    /// pairs, and no limit refuses it. 0.2.5 frees pairs while the map is used, and has no such call.
     ///
     /// A clone of a key has to be equal to it. While the new map is filled both need memory. It is
     /// refused as [`HashMap::try_clone`] is, and then the map is as it was.
@@ -114,8 +150,11 @@ impl<K: Hash + Eq + Clone + Drop, V: Clone + Drop, S: BuildHasher + Clone + Drop
         ensures clones { OnOk result (IsRebuilt K.eq K.is_clone V.is_clone S.is_clone self.old
             self.new) }
         ensures parts { OnOk result (HasParts self.old self.new) }
+        ensures numbers { OnOk result (self.new.store.words.made
+            ≡ length (content K.eq self.old.store)) }
         ensures err { IfErr result (λ e. (self.new ≡ self.old)
             × IsRebuildRefusal K.eq K.is_clone V.is_clone self.old e) }
+        ensures below { IfErr result (λ e. e ≢ Refused.Limit) }
     {
         match self.rebuilt() {
             Ok(fresh) => {

@@ -30,8 +30,8 @@ impl<K: Hash + Eq + Drop, V: Drop, S: BuildHasher> HashMap<K, V, S> {
     }
 
     /// Stores pairs in the order in which they come: what the trait `Extend` does in 0.2.5. Of two
-    /// pairs with equal keys the later one stays. No room is made ahead, so for no pairs nothing is
-    /// done at all.
+    /// pairs with equal keys the first one's key stays, and the later one's value. No room is made
+    /// ahead, so for no pairs nothing is done at all.
     ///
     /// Refused as [`HashMap::insert`] is for a pair. The pairs before it are in the map then, and
     /// those after it were not asked for.
@@ -81,7 +81,7 @@ impl<K: Hash + Eq + Copy + Drop, V: Copy + Drop, S: BuildHasher> HashMap<K, V, S
 
 impl<K: Hash + Eq + Drop, V: Drop, S: BuildHasher + Default + Drop> HashMap<K, V, S> {
     /// A map of these pairs: what the trait `FromIterator` makes in 0.2.5. Of two pairs with equal
-    /// keys it has the later one, and of no pairs it has no table.
+    /// keys it has the first one's key and the later one's value, and of no pairs it has no table.
     ///
     /// `Refused::Memory` where the map was not made; else refused as [`HashMap::extend`].
     pub fn from_iter<U: IntoIterator<Item = (K, V)>>(
@@ -110,7 +110,7 @@ impl<K: Hash + Eq + Drop, V: Drop, S: BuildHasher + Default + Drop> HashMap<K, V
 
 impl<K: Hash + Eq + Drop, V: Drop> HashMap<K, V, BuildHasherDefault<FoldHasher>> {
     /// A map of the pairs of an array: what `From<[(K, V); N]>` makes in 0.2.5. Of two pairs with
-    /// equal keys it has the later one.
+    /// equal keys it has the first one's key and the later one's value.
     ///
     /// `Refused::Memory` where the map was not made, or the array had no room in memory; else
     /// refused as [`HashMap::extend`].

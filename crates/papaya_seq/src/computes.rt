@@ -10,7 +10,7 @@ ghost use Rattle.papaya_seq.specs.Computes.{ComputesBy, HasValueOf, IsTriedWith,
 ghost use Rattle.papaya_seq.specs.Computes.{IsUpdatedOrInserted, Says, Takes, compute_answered};
 ghost use Rattle.papaya_seq.specs.Computes.{tried_answered};
 ghost use Rattle.papaya_seq.specs.MadeAlone.{IsComputedAlone};
-ghost use Rattle.papaya_seq.specs.Map.{IsMakeRefusal, MapState, entry_of};
+ghost use Rattle.papaya_seq.specs.Map.{IsStoreRefusal, MapState, entry_of};
 
 use crate::seq::HashMap;
 use papaya_call::answers::Operation;
@@ -144,7 +144,7 @@ impl<K: Hash + Eq + Drop, V: Drop, S: BuildHasher> HashMap<K, V, S> {
         ensures new { IfOk result (λ new. MatchOption new (map_in K.eq self.old.store key ≡ None)
             (λ v. (p : _) × (map_in K.eq self.old.store key ≡ Some p)
             × FnReturnsAt F.Fn f p.value v.now)) }
-        ensures err { IfErr result IsMakeRefusal }
+        ensures err { IfErr result (IsStoreRefusal self.old) }
     {
         let (_, computed) = self.compute_by(
             key,
@@ -182,7 +182,7 @@ impl<K: Hash + Eq + Drop, V: Drop, S: BuildHasher> HashMap<K, V, S> {
             (value_answered result))) }
         ensures value { IfOk result (λ v. MatchOption (map_in K.eq self.old.store key)
             (v.now ≡ value) (λ p. FnReturnsAt U.Fn update p.value v.now)) }
-        ensures err { IfErr result IsMakeRefusal }
+        ensures err { IfErr result (IsStoreRefusal self.old) }
     {
         self.update_or_insert_with(key, update, || value)
     }
@@ -204,7 +204,7 @@ impl<K: Hash + Eq + Drop, V: Drop, S: BuildHasher> HashMap<K, V, S> {
             (value_answered result))) }
         ensures value { IfOk result (λ v. MatchOption (map_in K.eq self.old.store key)
             (F.post f v.now) (λ p. FnReturnsAt U.Fn update p.value v.now)) }
-        ensures err { IfErr result IsMakeRefusal }
+        ensures err { IfErr result (IsStoreRefusal self.old) }
     {
         let (_, computed) = self.compute_by(
             key,
@@ -247,7 +247,7 @@ impl<K: Hash + Eq + Drop, V: Drop, S: BuildHasher> HashMap<K, V, S> {
             (λ v. F.post f v.now × (map_in K.eq self.old.store key ≡ None))) }
         ensures occupied { IfOk result (λ tried. IfErr tried
             (λ v. (p : _) × (map_in K.eq self.old.store key ≡ Some p) × (p.value ≡ v.now))) }
-        ensures err { IfErr result IsMakeRefusal }
+        ensures err { IfErr result (IsStoreRefusal self.old) }
     {
         let (shown, computed) = self.compute_by(
             key,
@@ -281,7 +281,7 @@ impl<K: Hash + Eq + Drop, V: Drop, S: BuildHasher> HashMap<K, V, S> {
             S.Hasher.Hasher self.entry (HasValueOf K.eq key (F.post f) self.old (value_answered result))) }
         ensures value { IfOk result (λ v. MatchOption (map_in K.eq self.old.store key)
             (F.post f v.now) (λ p. p.value ≡ v.now)) }
-        ensures err { IfErr result IsMakeRefusal }
+        ensures err { IfErr result (IsStoreRefusal self.old) }
     {
         match self.try_insert_with(key, f)? {
             Ok(value) | Err(value) => Ok(value),

@@ -1,36 +1,68 @@
-//! Computes: their machine, answered by the store and by one call of a closure.
-ghost use Rattle.std.specs.Prelude.{◌≡◌, IfOk, Some, None, option_map};
+//! Computes: at once where that will do, and else by their machine, answered by the store and by one
+//! call of a closure.
+ghost use Rattle.std.specs.Prelude.{◌≡◌, ◌≢◌, ℕ, IfOk, IfErr, IsSome, Some, None, length, option_map};
+ghost use Rattle.papaya_words.specs.Word.{kind_of, pair_of as number_of};
+ghost use Rattle.papaya_words.specs.declared.word.Kind.TheVariants.{Live};
+ghost use Rattle.papaya_ask.specs.Search.{IsSize};
 ghost use Rattle.papaya_keys.specs.Hashes.{hash_of};
+ghost use Rattle.papaya_rests.specs.Alone.{IsBare};
+ghost use Rattle.papaya_store.specs.Store.{pair_of};
+ghost use Rattle.papaya_store.specs.Tables.{table_of, word_at};
 ghost use Rattle.papaya_timeline.specs.Content.{map_in};
+ghost use Rattle.papaya_seq.specs.ComputeRuns.{IsComputedAtOnce, IsOperated, TakesAt};
 ghost use Rattle.papaya_seq.specs.Computes.{ComputesBy, Says, Takes};
 ghost use Rattle.papaya_seq.specs.Computing.{IsComputed, IsKept, Replies};
 ghost use Rattle.papaya_seq.specs.MadeAlone.{IsComputedAlone};
+ghost use Rattle.papaya_seq.specs.Searches.{IsRootTurn};
+ghost use Rattle.papaya_seq.specs.Writes.{slot_of};
+ghost use Rattle.papaya_seq.specs.declared.search.Turn.{Turn};
 
+use crate::chunk::copy_for_call;
 use crate::copies::copies_from;
+use crate::removal::take_out;
+use crate::search::{Turn, search_root};
 use crate::seq::HashMap;
+use crate::writing::write;
 use papaya_ask::ask::{Answer as CallAnswer, Ask as CallAsk, OpKind};
 use papaya_ask::call::{Reply, Task};
 use papaya_call::answers::{Listed, Operation};
+use papaya_call::remove::Removal;
+use papaya_call::write::Write;
 use papaya_chain::ask::{Answer, Ask};
 use papaya_chain::machine::Machine;
 use papaya_keys::compute::Computed;
-use papaya_store::pairs::{KeyOf, Running};
+use papaya_store::pairs::{Part, Running};
 use papaya_store::store::Store;
 use papaya_words::probe::Refused;
+use papaya_words::word::{Kind, Word};
+use std::alloc::Global;
 use std::hash::{BuildHasher, Hash};
 
 /// What a closure is shown where there is no pair: like a pair it borrows the store.
+#[inline(always)]
 fn no_pair<K: Hash + Eq, V, S: BuildHasher>(_store: &Store<K, V, S>) -> Option<(&K, &V)>
     ensures { result ≡ None }
 {
     None
 }
 
+/// What the closure answers that is shown this.
+#[inline(always)]
+fn decide<K, V, T, F: FnOnce(Option<(&K, &V)>) -> Operation<V, T>>(
+    shown: Option<(&K, &V)>,
+    f: F,
+) -> Operation<V, T>
+    requires { F.pre f shown }
+    ensures { F.post f shown.entry result }
+{
+    f(shown)
+}
+
 /// Shows what is there to the closure, which was not called yet, and keeps what it answered.
 fn show<K, V: Drop, T: Drop, F: FnOnce(Option<(&K, &V)>) -> Operation<V, T>>(
     shown: Option<(&K, &V)>,
     closure: &mut Option<F>,
-    value: &mut Option<V>,
+    value: &mut Option<Part<V>>,
     aborted: &mut Option<T>,
 ) -> CallAnswer
     requires { (f : F) × (closure.old ≡ Some f) × F.pre f shown }
@@ -43,7 +75,7 @@ fn show<K, V: Drop, T: Drop, F: FnOnce(Option<(&K, &V)>) -> Operation<V, T>>(
     };
     CallAnswer::Op(match f(shown) {
         Operation::Insert(made) => {
-            *value = Some(made);
+            *value = Some(Part::Own(made));
             OpKind::Insert
         }
         Operation::Remove => OpKind::Remove,
@@ -55,6 +87,7 @@ fn show<K, V: Drop, T: Drop, F: FnOnce(Option<(&K, &V)>) -> Operation<V, T>>(
 }
 
 /// What the machine replied, with what its closure ended the call with.
+#[inline(always)]
 fn computed<T: Drop>(reply: Reply, aborted: Option<T>) -> Result<Computed<u64, T>, Refused>
     requires { Replies reply aborted }
     ensures { IsComputed reply aborted result }
@@ -69,9 +102,111 @@ fn computed<T: Drop>(reply: Reply, aborted: Option<T>) -> Result<Computed<u64, T
     }
 }
 
+/// Does what the closure of a compute answered, at the place where it was shown the pair of this word,
+/// or that there is none.
+#[inline(always)]
+fn operate<K: Hash + Eq + Drop, V: Drop, S: BuildHasher, T: Drop>(
+    store: &mut Store<K, V, S>,
+    alloc: Global,
+    key: K,
+    hash: u64,
+    at: Write,
+    operation: Operation<V, T>,
+) -> Result<Computed<u64, T>, Refused>
+    requires stands { word_at store.old.words (slot_of at.place) ≡ at.old }
+    requires pair { at.old ≢ 0 → IsSome (pair_of store.old (number_of at.old)) }
+    ensures { IsOperated store.old hash at key operation result store.new }
+{
+    match operation {
+        Operation::Insert(value) => {
+            let (reply, _) = write(store, alloc, key, value, hash, at);
+            computed(reply, None)
+        }
+        Operation::Remove if at.old == 0 => Err(Refused::RemoveNothing),
+        Operation::Remove => {
+            let Write { place, old: word } = at;
+            let removal = Removal { place, word };
+            take_out(store, removal);
+            Ok(Computed::Removed(removal.pair()))
+        }
+        Operation::Abort(with) => Ok(Computed::Aborted(with)),
+    }
+}
+
+/// Makes a compute at once, or gives key and closure back: where there is no root, where the root has
+/// no place for the key, and where the key's pair is being moved.
+#[inline(always)]
+fn compute_at_once<
+    K: Hash + Eq + Drop,
+    V: Drop,
+    S: BuildHasher,
+    T: Drop,
+    F: FnOnce(Option<(&K, &V)>) -> Operation<V, T>,
+>(
+    store: &mut Store<K, V, S>,
+    alloc: Global,
+    key: K,
+    f: F,
+    hash: u64,
+) -> Result<(Option<u64>, Result<Computed<u64, T>, Refused>), (K, F)>
+    requires sized { (n : ℕ) (t : _) → table_of store.old.words.tables n ≡ Some t
+        → IsSize (length t.slots) t.limit }
+    requires bare { IsBare (λ at. word_at store.old.words at) }
+    requires takes { (turn : _) → IsRootTurn (K.eq key) store.old hash turn
+        → TakesAt (F.pre f) store.old turn }
+    ensures ok { IfOk result (λ done. IsComputedAtOnce K.eq
+        (hash_of K.hash_input S.build_hasher S.Hasher.write S.Hasher.finish) key (Says (F.post f))
+        hash store.old done store.new) }
+    ensures err { IfErr result (λ back. (back ≡ (key, f)) × (store.new ≡ store.old)) }
+{
+    match search_root(store, &key, hash) {
+        Some(Turn::Empty(place)) => {
+            let operation = decide(no_pair(store), f);
+            let at = Write { place, old: 0 };
+            Ok((None, operate(store, alloc, key, hash, at, operation)))
+        }
+        Some(Turn::Here(place, word)) if Word(word).kind() == Kind::Live => {
+            let pair = Word(word).pair();
+            let operation = decide(store.pair(pair), f);
+            let at = Write { place, old: word };
+            Ok((Some(pair), operate(store, alloc, key, hash, at, operation)))
+        }
+        _ => Err((key, f)),
+    }
+}
+
 impl<K: Hash + Eq + Drop, V: Drop, S: BuildHasher> HashMap<K, V, S> {
     /// Makes a compute: the number of the pair that its closure was shown, if any, and what it did.
+    /// Most computes end where the root's search does, and run no machine.
+    #[inline]
     pub(crate) fn compute_by<T: Drop, F: FnOnce(Option<(&K, &V)>) -> Operation<V, T>>(
+        &mut self,
+        key: K,
+        f: F,
+    ) -> (Option<u64>, Result<Computed<u64, T>, Refused>)
+        requires { Takes (F.pre f) (map_in K.eq self.old.store key) }
+        ensures shown { IfOk result.1 (λ _. result.0 ≡ option_map (λ p. p.number)
+            (map_in K.eq self.old.store key)) }
+        ensures computes { ComputesBy K.eq key (λ p. p.number) (Says (F.post f)) self.old result.1
+            self.new }
+        ensures alone { IsComputedAlone K.eq
+            (hash_of K.hash_input S.build_hasher S.Hasher.write S.Hasher.finish) self.old key
+            result.1 self.new }
+    {
+        // A call that takes a number for its pair goes by the machine.
+        if self.mode.limit.is_some() {
+            return self.compute_stepwise(key, f);
+        }
+        let hash = self.store.hash(&key);
+        match compute_at_once(&mut self.store, self.alloc, key, f, hash) {
+            Ok(done) => done,
+            Err((key, f)) => self.compute_stepwise(key, f),
+        }
+    }
+
+    /// The same by the machine, step by step.
+    #[inline(never)]
+    fn compute_stepwise<T: Drop, F: FnOnce(Option<(&K, &V)>) -> Operation<V, T>>(
         &mut self,
         key: K,
         f: F,
@@ -88,8 +223,15 @@ impl<K: Hash + Eq + Drop, V: Drop, S: BuildHasher> HashMap<K, V, S> {
         let hash = self.store.hash(&key);
         let number = copies_from(&self.store);
         let mut running: Running<K, V, Listed<V>> = Running {
-            machine: Machine::new(Task::Compute, hash, self.mode, self.initial, number),
-            key: KeyOf::Own(key),
+            machine: Machine::new(
+                Task::Compute,
+                hash,
+                self.mode.resize,
+                self.initial,
+                number,
+                self.mode.limit,
+            ),
+            key: Part::Own(key),
             value: None,
             answers: None,
         };
@@ -114,6 +256,7 @@ impl<K: Hash + Eq + Drop, V: Drop, S: BuildHasher> HashMap<K, V, S> {
                     .perform_ask(self.alloc, 0, &mut running, ask, false),
             };
             running.machine.answer(answer);
+            copy_for_call(&mut self.store, &mut running.machine);
         }
     }
 }

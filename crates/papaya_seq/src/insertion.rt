@@ -4,9 +4,11 @@ ghost use Rattle.papaya_words.specs.declared.probe.Refused.{Refused};
 ghost use Rattle.papaya_keys.specs.Hashes.{hash_of};
 ghost use Rattle.papaya_timeline.specs.Content.{map_in};
 ghost use Rattle.papaya_timeline.specs.Solo.{IsAnswered, IsNewIn};
+ghost use Rattle.papaya_seq.specs.Drives.{value_left};
 ghost use Rattle.papaya_seq.specs.MadeAlone.{IsMadeAlone};
 ghost use Rattle.papaya_seq.specs.Map.{IsTryCause, IsWriteCauseAt, KeepsAndGrows, LogsOne, insertion};
 
+use crate::chunk::copy_for_call;
 use crate::copies::copies_from;
 use crate::seq::HashMap;
 use crate::writing::insert_at_once;
@@ -15,16 +17,19 @@ use papaya_ask::call::{Reply, Task};
 use papaya_call::answers::Listed;
 use papaya_chain::ask::Ask;
 use papaya_chain::machine::Machine;
-use papaya_store::pairs::{KeyOf, Running};
+use papaya_store::pairs::{Part, Running};
 use std::hash::{BuildHasher, Hash};
 
 /// The value that a call was handed and has not logged.
 #[inline(always)]
 pub(crate) fn value_left<K: Drop, V, A: Drop>(running: Running<K, V, A>) -> Option<V>
-    ensures { result ≡ running.value }
+    ensures { result ≡ value_left running.value }
 {
     let Running { value, .. } = running;
-    value
+    match value {
+        Some(Part::Own(value)) => Some(value),
+        _ => None,
+    }
 }
 
 impl<K: Hash + Eq + Drop, V: Drop, S: BuildHasher> HashMap<K, V, S> {
@@ -46,6 +51,10 @@ impl<K: Hash + Eq + Drop, V: Drop, S: BuildHasher> HashMap<K, V, S> {
         ensures keeps { KeepsAndGrows self.old self.new }
         ensures logs { LogsOne self.old.store self.new.store }
     {
+        // A call that takes a number for its pair goes by the machine.
+        if self.mode.limit.is_some() {
+            return self.insert_stepwise(key, value, replace);
+        }
         let hash = self.store.hash(&key);
         match insert_at_once(&mut self.store, self.alloc, key, value, hash, replace) {
             Ok(done) => done,
@@ -76,12 +85,13 @@ impl<K: Hash + Eq + Drop, V: Drop, S: BuildHasher> HashMap<K, V, S> {
             machine: Machine::new(
                 Task::Insert { replace },
                 hash,
-                self.mode,
+                self.mode.resize,
                 self.initial,
                 number,
+                self.mode.limit,
             ),
-            key: KeyOf::Own(key),
-            value: Some(value),
+            key: Part::Own(key),
+            value: Some(Part::Own(value)),
             answers: None,
         };
         loop {
@@ -93,6 +103,7 @@ impl<K: Hash + Eq + Drop, V: Drop, S: BuildHasher> HashMap<K, V, S> {
                 .store
                 .perform_ask(self.alloc, 0, &mut running, ask, false);
             running.machine.answer(answer);
+            copy_for_call(&mut self.store, &mut running.machine);
         }
     }
 }

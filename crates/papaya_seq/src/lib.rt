@@ -5,6 +5,7 @@
 pub use papaya_keys::{compute, guard, occupied};
 pub use papaya_timeline::outcome;
 
+mod chunk;
 mod clearing;
 mod cloning;
 mod collecting;

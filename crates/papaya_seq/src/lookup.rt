@@ -37,7 +37,8 @@ impl<K: Hash + Eq, V, S: BuildHasher> HashMap<K, V, S> {
     pub(crate) fn look_up<Q: Equivalent<K>>(&self, key: &Q) -> Option<u64>
         ensures { (found : _) × LooksUp K.eq (Q.matches key.now) self.now.store
             (started Get (hash_of Q.hash_input S.build_hasher S.Hasher.write S.Hasher.finish
-            self.now.store.hasher key.now) self.now.mode self.now.initial) found
+            self.now.store.hasher key.now) self.now.mode.resize self.now.initial
+            self.now.mode.limit) found
             × (result ≡ option_map (λ p. p.number) found) }
     {
         let hash = self.store.hash(key);
@@ -46,7 +47,7 @@ impl<K: Hash + Eq, V, S: BuildHasher> HashMap<K, V, S> {
             let first = Place::first(hash, table, len, limit);
             match search(&self.store, key, hash, first) {
                 Turn::Here(_, word) => return Some(Word(word).pair()),
-                Turn::Over(passed) => match self.mode {
+                Turn::Over(passed) => match self.mode.resize {
                     ResizeMode::Incremental(_) => table = self.store.word(At::Next(passed)),
                     ResizeMode::Blocking => return None,
                 },

@@ -2,7 +2,6 @@
 ghost use Rattle.std.specs.Prelude.{◌≡◌, ℕ, Bool, IsSome, MatchOption, Some, length};
 ghost use Rattle.papaya_words.specs.Word.{pair_of as number_of};
 ghost use Rattle.papaya_ask.specs.Search.{IsSize};
-ghost use Rattle.papaya_ask.specs.declared.ask.At.TheVariants.{Slot};
 ghost use Rattle.papaya_store.specs.Tables.{table_of, word_at};
 ghost use Rattle.papaya_seq.specs.Buries.{IsBuried, IsRemovedAtOnce};
 ghost use Rattle.papaya_words.specs.declared.probe.Refused.{Refused};
@@ -11,7 +10,9 @@ ghost use Rattle.papaya_seq.specs.Map.{KeepsRemoving};
 ghost use Rattle.papaya_seq.specs.Resizes.{IsCopyCause};
 ghost use Rattle.papaya_seq.specs.Removes.{IsRemovalAnswer, IsRemovalAsk, IsRemovalBy, IsShown};
 ghost use Rattle.papaya_seq.specs.Removes.{Judges};
+ghost use Rattle.papaya_seq.specs.Writes.{burying, slot_of};
 
+use crate::chunk::copy_for_call;
 use crate::copies::copies_from;
 use crate::lookup::matches;
 use crate::search::{Turn, search_root};
@@ -72,10 +73,26 @@ fn answer_removal<K: Hash + Eq, V, S: BuildHasher, Q: Equivalent<K>, F: FnMut(&K
         CallAsk::WriteHint(..)
         | CallAsk::ShowNone
         | CallAsk::MakeKey
+        | CallAsk::MakeValue
         | CallAsk::MakePair
+        | CallAsk::MakePairOf(_)
         | CallAsk::MakeTable { .. }
         | CallAsk::Done(_) => unreachable!(),
     }
+}
+
+/// Buries a pair, and counts it out.
+#[inline(always)]
+pub(crate) fn take_out<K: Hash + Eq, V, S: BuildHasher>(
+    store: &mut Store<K, V, S>,
+    removal: Removal,
+)
+    requires { word_at store.old.words (slot_of removal.place) ≡ removal.word }
+    ensures { store.new ≡ burying store.old removal }
+{
+    let at = At::Slot(removal.place.table, removal.place.probe.i);
+    let _ = store.exchange(at, removal.word, Word::buried(removal.pair()).0);
+    store.add_to_shard(0, -1);
 }
 
 /// Shows the pair to the closure of a removal, and buries it where the closure agrees.
@@ -86,8 +103,7 @@ fn bury<K: Hash + Eq, V, S: BuildHasher, F: FnMut(&K, &V) -> bool>(
     agrees: &mut F,
 ) -> Reply
     requires callable { F.IsAlwaysCallable agrees.old }
-    requires stands { word_at store.old.words
-        (Slot removal.place.table removal.place.probe.i) ≡ removal.word }
+    requires stands { word_at store.old.words (slot_of removal.place) ≡ removal.word }
     requires logged { IsSome (pair_of store.old (number_of removal.word)) }
     ensures callable { F.IsAlwaysCallable agrees.new }
     ensures buried { (matches : K → Bool) → IsBuried F.FnMut matches removal store.old agrees.old
@@ -99,9 +115,7 @@ fn bury<K: Hash + Eq, V, S: BuildHasher, F: FnMut(&K, &V) -> bool>(
         CallAnswer::Yes(false) => return Reply::Kept(pair),
         _ => unreachable!(),
     }
-    let at = At::Slot(removal.place.table, removal.place.probe.i);
-    let _ = store.exchange(at, removal.word, Word::buried(pair).0);
-    store.add_to_shard(0, -1);
+    take_out(store, removal);
     Reply::Removed(pair)
 }
 
@@ -170,7 +184,14 @@ impl<K: Hash + Eq + Drop, V: Drop, S: BuildHasher> HashMap<K, V, S> {
     {
         let hash = self.store.hash(key);
         let number = copies_from(&self.store);
-        let mut machine = Machine::new(Task::RemoveIf, hash, self.mode, self.initial, number);
+        let mut machine = Machine::new(
+            Task::RemoveIf,
+            hash,
+            self.mode.resize,
+            self.initial,
+            number,
+            self.mode.limit,
+        );
         loop {
             let answer = match machine.ask() {
                 Ask::Call(ask) => match ask {
@@ -180,6 +201,7 @@ impl<K: Hash + Eq + Drop, V: Drop, S: BuildHasher> HashMap<K, V, S> {
                 Ask::Copy(ask) => self.store.perform_copy(self.alloc, ask, false),
             };
             machine.answer(answer);
+            copy_for_call(&mut self.store, &mut machine);
         }
     }
 }

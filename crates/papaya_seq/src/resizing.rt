@@ -5,6 +5,7 @@ ghost use Rattle.papaya_seq.specs.Map.{Keeps, Unchanged, next_of};
 ghost use Rattle.papaya_seq.specs.Resizes.{HasRoomFor, IsCopyCause, IsPastLimit, IsReserveCause};
 ghost use Rattle.papaya_seq.specs.Resizes.{IsResizeRefusal, IsResizedTo, pairs_with};
 
+use crate::chunk::copy_for_resizer;
 use crate::copies::copies_from;
 use crate::seq::HashMap;
 use papaya_chain::resizer::{Resize, Resizer, State};
@@ -26,10 +27,11 @@ impl<K: Hash + Eq + Drop, V: Drop, S: BuildHasher> HashMap<K, V, S> {
         // By this read the count is known to have 64 bits.
         let _count = self.store.count();
         let number = copies_from(&self.store);
-        let mut resizer = Resizer::new(resize, self.mode, self.initial, number);
+        let mut resizer = Resizer::new(resize, self.mode.resize, self.initial, number);
         while let Some(ask) = resizer.ask() {
             let answer = self.store.perform_copy(self.alloc, ask, false);
             resizer.answer(answer);
+            copy_for_resizer(&mut self.store, &mut resizer);
         }
         match resizer.state {
             State::Refused(refused) => Err(refused),

@@ -1,5 +1,5 @@
 //! The map for one caller.
-ghost use Rattle.std.specs.Prelude.{◌≡◌, ◌≢◌, ◌⊎◌, ◌<◌, ◌≤◌, true, false, Some, None};
+ghost use Rattle.std.specs.Prelude.{◌≡◌, ◌≢◌, ◌⊎◌, ℕ, ◌<◌, ◌≤◌, true, false, Some, None};
 ghost use Rattle.std.specs.Prelude.{[], ◌∷◌, ◌++◌};
 ghost use Rattle.std.specs.Prelude.{IfOk, IfErr, IsOk, IsSome, MatchOption, MatchResult, MatchBool, is_some};
 ghost use Rattle.std.specs.Prelude.{length, option_map, vec_len, vec_capacity};
@@ -9,7 +9,7 @@ ghost use Rattle.papaya_call.specs.Machine.{started};
 ghost use Rattle.papaya_ask.specs.declared.call.Task.TheVariants.{Get};
 ghost use Rattle.papaya_law.specs.Content.{AreApart};
 ghost use Rattle.papaya_timeline.specs.Content.{content, map_in};
-ghost use Rattle.papaya_timeline.specs.New.{IsNew};
+ghost use Rattle.papaya_timeline.specs.New.{IsNew, IsNewLimited};
 ghost use Rattle.papaya_timeline.specs.Outcomes.{reply_told};
 ghost use Rattle.papaya_keys.specs.Sizes.{IsSizeRefusal};
 ghost use Rattle.papaya_keys.specs.Sizes.{IsAllowed};
@@ -23,6 +23,7 @@ ghost use Rattle.papaya_seq.specs.Looks.{LooksUp};
 ghost use Rattle.papaya_seq.specs.MadeAlone.{IsMadeAlone, IsRefusedAlone};
 ghost use Rattle.papaya_seq.specs.Removes.{IsJudged, IsRemoved, Judges};
 ghost use Rattle.papaya_seq.specs.Map.{HasNone, HasValue, Holds, IsInserted, IsMakeRefusal};
+ghost use Rattle.papaya_seq.specs.Map.{IsStoreRefusal};
 ghost use Rattle.papaya_seq.specs.Map.{IsResizing, IsTried, IsTriedInto, IsTryCause, core_of};
 ghost use Rattle.papaya_seq.specs.Map.{deref_pair, entry_of, next_of, slots_of, value_of};
 
@@ -31,6 +32,7 @@ use papaya_call::answers::Answers;
 use papaya_keys::compute::Computed;
 use papaya_keys::guard::Equivalent;
 use papaya_keys::occupied::{NotInserted, OccupiedError};
+use papaya_store::mode::Mode;
 use papaya_store::store::Store;
 use papaya_timeline::outcome::Outcome;
 use papaya_words::probe::{Refused, ResizeMode};
@@ -82,7 +84,7 @@ fn resized(done: Result<(), Refused>) -> Reply
 pub struct HashMap<K: Hash + Eq, V, S: BuildHasher = BuildHasherDefault<FoldHasher>> {
     pub(crate) alloc: Global,
     pub(crate) store: Store<K, V, S>,
-    pub(crate) mode: ResizeMode,
+    pub(crate) mode: Mode,
     pub(crate) initial: usize,
 }
 
@@ -101,7 +103,10 @@ impl<K: Hash + Eq, V, S: BuildHasher> Model for HashMap<K, V, S> {
 
 impl<K: Hash + Eq + Drop, V: Drop, S: BuildHasher + Drop> HashMap<K, V, S> {
     /// A map of all its parts. `capacity` is for how many pairs its first table is made at once;
-    /// with 0 the first change makes one. `shards` is rounded up to a power of two.
+    /// with 0 the first change makes one. `shards` is rounded up to a power of two. With a `limit` the
+    /// map logs so many pairs at most: a call that needs one more is refused `Refused::Limit`. One
+    /// that took a number for its pair, and was then refused the memory for it, has used the number
+    /// up.
     ///
     /// `Refused::ZeroChunk` for chunks of no slots. `Refused::Capacity` for more shards than
     /// [`papaya_words::limits::MAX_SHARDS`], and for a table past
@@ -112,17 +117,19 @@ impl<K: Hash + Eq + Drop, V: Drop, S: BuildHasher + Drop> HashMap<K, V, S> {
         capacity: usize,
         shards: usize,
         hasher: S,
+        limit: Option<u64>,
     ) -> Result<HashMap<K, V, S>, Refused>
         ensures ok { IfOk result (λ map. IsAllowed mode capacity shards
-            × IsNew {A = Unit {0}} mode capacity shards hasher (core_of map)) }
+            × IsNewLimited {A = Unit {0}} mode capacity shards hasher limit (core_of map)) }
         ensures empty { IfOk result (λ map. content K.eq map.store ≡ []) }
         ensures err { IfErr result (λ e. IsSizeRefusal mode capacity shards e) }
     {
         let (store, initial) = Store::with_parts(alloc, mode, capacity, shards, hasher)?;
+        let resize = mode;
         Ok(HashMap {
             alloc,
             store,
-            mode,
+            mode: Mode { resize, limit },
             initial,
         })
     }
@@ -140,7 +147,7 @@ impl<K: Hash + Eq + Drop, V: Drop, S: BuildHasher + Drop> HashMap<K, V, S> {
             capacity 1
             e) }
     {
-        HashMap::with_parts(alloc, ResizeMode::default(), capacity, 1, hasher)
+        HashMap::with_parts(alloc, ResizeMode::default(), capacity, 1, hasher, None)
     }
 
     /// A map with this hasher: `with_hasher` of 0.2.5. The first change makes its first table.
@@ -196,9 +203,14 @@ impl<K: Hash + Eq + Drop, V: Drop> HashMap<K, V, BuildHasherDefault<FoldHasher>>
 
 impl<K: Hash + Eq, V, S: BuildHasher> HashMap<K, V, S> {
     /// How many pairs the map has.
+    ///
+    /// The contract also says of any map that it has logged no more pairs than its limit says, where
+    /// it has one.
     pub fn len(&self) -> usize
         ensures count { result ≡ length (content K.eq self.now.store) }
         ensures apart { AreApart K.eq (λ p. p.key) (content K.eq self.now.store) }
+        ensures limit { (n : ℕ) → self.now.mode.limit ≡ Some n
+            → length self.now.store.pairs ≤ n }
     {
         self.store.count()
     }
@@ -253,7 +265,8 @@ impl<K: Hash + Eq, V, S: BuildHasher> HashMap<K, V, S> {
             (λ v. (p : _) × Holds K.eq (Q.matches key.now) self.now.store p × (p.value ≡ v.now)) }
         ensures machine { (found : _) × LooksUp K.eq (Q.matches key.now) self.now.store
             (started Get (hash_of Q.hash_input S.build_hasher S.Hasher.write S.Hasher.finish
-            self.now.store.hasher key.now) self.now.mode self.now.initial) found
+            self.now.store.hasher key.now) self.now.mode.resize self.now.initial
+            self.now.mode.limit) found
             × (option_map (λ v. v.now) result ≡ value_of found) }
     {
         match self.get_key_value(key) {
@@ -272,7 +285,8 @@ impl<K: Hash + Eq, V, S: BuildHasher> HashMap<K, V, S> {
             × (p.key ≡ found.0.now) × (p.value ≡ found.1.now)) }
         ensures machine { (found : _) × LooksUp K.eq (Q.matches key.now) self.now.store
             (started Get (hash_of Q.hash_input S.build_hasher S.Hasher.write S.Hasher.finish
-            self.now.store.hasher key.now) self.now.mode self.now.initial) found
+            self.now.store.hasher key.now) self.now.mode.resize self.now.initial
+            self.now.mode.limit) found
             × (option_map deref_pair result ≡ option_map entry_of found) }
     {
         match self.look_up(key) {
@@ -291,7 +305,8 @@ impl<K: Hash + Eq, V, S: BuildHasher> HashMap<K, V, S> {
             (HasNone K.eq (Q.matches key.now) self.now.store) }
         ensures machine { (found : _) × LooksUp K.eq (Q.matches key.now) self.now.store
             (started Get (hash_of Q.hash_input S.build_hasher S.Hasher.write S.Hasher.finish
-            self.now.store.hasher key.now) self.now.mode self.now.initial) found
+            self.now.store.hasher key.now) self.now.mode.resize self.now.initial
+            self.now.mode.limit) found
             × (result ≡ is_some found) }
     {
         // By this read the map is known to be in order.
@@ -317,22 +332,23 @@ impl<K: Hash + Eq, V, S: BuildHasher> HashMap<K, V, S> {
 impl<K: Hash + Eq + Drop, V: Drop, S: BuildHasher> HashMap<K, V, S> {
     ghost use Rattle.papaya_seq.specs.Ends.{ends_so};
 
-    /// Stores a pair, and answers the value that its key had: `insert` of 0.2.5. As there, the new
-    /// key takes the old one's place too.
+    /// Stores a pair, and answers the value that its key had: `insert` of 0.2.5. Where the key was
+    /// in the map, the key that is stored stays, and the new one is dropped.
     ///
     /// A table whose places are filled is followed by a further one, and while pairs are being moved
     /// to it, each call that may change the map moves a chunk of them, or with `Blocking` all.
     ///
-    /// `Refused::Memory` where a growth was refused. `Refused::Capacity` where the log of keys or of
-    /// pairs is full, and where a further table is needed, and there are as many as there may be or
-    /// it would have more than [`papaya_words::limits::MAX_TABLE_LEN`] slots. The map is as it was
-    /// then, and what was handed in is dropped, at once or with the map.
+    /// `Refused::Memory` where a growth was refused. `Refused::Capacity` where the log of pairs is
+    /// full, and where a further table is needed, and there are as many as there may be or it would
+    /// have more than [`papaya_words::limits::MAX_TABLE_LEN`] slots. `Refused::Limit` where the map
+    /// has a limit, and as many numbers were taken for pairs. The map is as it was then, and what was
+    /// handed in is dropped, at once or with the map.
     pub fn insert(&mut self, key: K, value: V) -> Result<Option<&V>, Refused>
         ensures* inserts { sem 𝓛 (ends_so K.row V.row S.row S.Hasher.row K.Hash S.BuildHasher
             S.Hasher.Hasher self.entry (IsInserted K.eq key value self.old (old_answered result))) }
         ensures old { IfOk result (λ old. option_map (λ v. v.now) old ≡ value_of
             (map_in K.eq self.old.store key)) }
-        ensures err { IfErr result IsMakeRefusal }
+        ensures err { IfErr result (IsStoreRefusal self.old) }
     {
         let (reply, _) = self.insert_by(key, value, true);
         match reply {
@@ -439,7 +455,7 @@ impl<K: Hash + Eq + Drop, V: Drop, S: BuildHasher> HashMap<K, V, S> {
             (value_answered result))) }
         ensures value { IfOk result (λ v. MatchOption (value_of (map_in K.eq self.old.store key))
             (v.now ≡ value) (λ current. v.now ≡ current)) }
-        ensures err { IfErr result (λ refused. IsMakeRefusal refused
+        ensures err { IfErr result (λ refused. IsStoreRefusal self.old refused
             × ((map_in K.eq self.old.store key ≡ None) ⊎ IsResizing self.old)) }
     {
         let (pair, _) = self.insert_absent(key, value)?;

@@ -126,7 +126,7 @@ impl<K: Hash + Eq, V, S: BuildHasher> HashMap<K, V, S> {
             if pair.is_some() {
                 return pair;
             }
-            let next = match self.mode {
+            let next = match self.mode.resize {
                 ResizeMode::Incremental(_) => self.store.word(At::Next(at.table)),
                 ResizeMode::Blocking => 0,
             };

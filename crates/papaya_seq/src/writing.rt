@@ -1,12 +1,14 @@
-//! An insertion whose search ends where most do: its pair is logged and written at once. The machine
-//! stands in the proof.
-ghost use Rattle.std.specs.Prelude.{◌≡◌, ℕ, IfOk, IfErr, length, Some};
+//! A pair that is logged and written at one place, and an insertion whose search ends where most do:
+//! its pair is written at once. The machine stands in the proof.
+ghost use Rattle.std.specs.Prelude.{◌≡◌, ◌≢◌, ℕ, IfOk, IfErr, IsSome, length, Some};
+ghost use Rattle.papaya_words.specs.Word.{pair_of as number_of};
 ghost use Rattle.papaya_ask.specs.Search.{IsSize};
-ghost use Rattle.papaya_ask.specs.declared.ask.At.TheVariants.{Slot};
 ghost use Rattle.papaya_keys.specs.Hashes.{hash_of};
 ghost use Rattle.papaya_rests.specs.Alone.{IsBare};
+ghost use Rattle.papaya_store.specs.Store.{pair_of};
 ghost use Rattle.papaya_store.specs.Tables.{table_of, word_at};
-ghost use Rattle.papaya_seq.specs.Drives.{IsInsertedAtOnce, IsWritten};
+ghost use Rattle.papaya_seq.specs.Drives.{IsInsertedAtOnce};
+ghost use Rattle.papaya_seq.specs.Writes.{IsWritten, slot_of};
 
 use crate::insertion::value_left;
 use crate::search::{Turn, search_root};
@@ -15,17 +17,17 @@ use papaya_ask::call::{Reply, Task};
 use papaya_call::answers::Listed;
 use papaya_call::write::Write;
 use papaya_chain::machine::Machine;
-use papaya_store::pairs::{KeyOf, Running};
+use papaya_store::pairs::{Part, Running};
 use papaya_store::store::Store;
 use papaya_words::probe::ResizeMode;
 use papaya_words::word::{Kind, Word, hint};
 use std::alloc::Global;
 use std::hash::{BuildHasher, Hash};
 
-/// Logs a key and its pair, and writes the pair where its search ended, in place of the word that
-/// stands there.
+/// Logs a pair, and writes it where its search ended, in place of the word that stands there. It has
+/// the key of the pair that this word names, or else the key that was handed in.
 #[inline(always)]
-fn write<K: Hash + Eq + Drop, V: Drop, S: BuildHasher>(
+pub(crate) fn write<K: Hash + Eq + Drop, V: Drop, S: BuildHasher>(
     store: &mut Store<K, V, S>,
     alloc: Global,
     key: K,
@@ -33,22 +35,24 @@ fn write<K: Hash + Eq + Drop, V: Drop, S: BuildHasher>(
     hash: u64,
     write: Write,
 ) -> (Reply, Option<V>)
-    requires { word_at store.old.words (Slot write.place.table write.place.probe.i) ≡ write.old }
-    ensures { IsWritten K.eq (hash_of K.hash_input S.build_hasher S.Hasher.write S.Hasher.finish)
-        hash write key value store.old result store.new }
+    requires stands { word_at store.old.words (slot_of write.place) ≡ write.old }
+    requires pair { write.old ≢ 0 → IsSome (pair_of store.old (number_of write.old)) }
+    ensures { IsWritten store.old hash write key value result.0 result.1 store.new }
 {
     let mut running: Running<K, V, Listed<V>> = Running {
         // The store asks the key and the value alone.
-        machine: Machine::new(Task::Get, hash, ResizeMode::Blocking, 1, 0),
-        key: KeyOf::Own(key),
-        value: Some(value),
+        machine: Machine::new(Task::Get, hash, ResizeMode::Blocking, 1, 0, None),
+        key: Part::Own(key),
+        value: Some(Part::Own(value)),
         answers: None,
     };
-    let logged = store.perform(alloc, 0, &mut running, Ask::MakeKey, false);
-    if let Answer::Refused(refused) = logged {
-        return (Reply::Refused(refused), value_left(running));
-    }
-    let pair = match store.perform(alloc, 0, &mut running, Ask::MakePair, false) {
+    let old = Word(write.old).pair();
+    let ask = if write.old == 0 {
+        Ask::MakePair
+    } else {
+        Ask::MakePairOf(old)
+    };
+    let pair = match store.perform(alloc, 0, &mut running, ask, false) {
         Answer::Made(pair) => pair,
         Answer::Refused(refused) => return (Reply::Refused(refused), value_left(running)),
         _ => unreachable!(),
@@ -60,7 +64,6 @@ fn write<K: Hash + Eq + Drop, V: Drop, S: BuildHasher>(
         store.note(write.place.table, write.place.probe.i, hint(hash));
         return (Reply::Inserted(pair), None);
     }
-    let old = Word(write.old).pair();
     (Reply::Replaced { old, new: pair }, None)
 }
 

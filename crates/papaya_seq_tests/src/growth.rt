@@ -16,7 +16,7 @@ pub fn made(
     capacity: usize,
     hasher: Times,
 ) -> Result<Numbers, Refused> {
-    HashMap::with_parts(alloc, mode, capacity, 1, hasher)
+    HashMap::with_parts(alloc, mode, capacity, 1, hasher, None)
 }
 
 /// The keys from one to another are new, and each is its own value.

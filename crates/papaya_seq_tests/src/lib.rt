@@ -12,6 +12,8 @@ mod expect;
 #[cfg(test)]
 mod growth;
 #[cfg(test)]
+mod limits;
+#[cfg(test)]
 mod new;
 #[cfg(test)]
 mod numbers;
@@ -21,6 +23,8 @@ mod refused;
 mod removals;
 #[cfg(test)]
 mod resizing;
+#[cfg(test)]
+mod stored_keys;
 #[cfg(test)]
 mod texts;
 #[cfg(test)]

@@ -38,7 +38,9 @@ fn slots_of_new_maps(rt: HostRuntime) -> Result<(), Fail> {
 
 /// Why there is no map of these parts.
 fn refusal(alloc: Global, mode: ResizeMode, shards: usize) -> Option<Refused> {
-    let made: Result<Numbers, Refused> = HashMap::with_parts(alloc, mode, 0, shards, TOGETHER);
+    let made: Result<Numbers, Refused> = HashMap::with_parts(
+        alloc, mode, 0, shards, TOGETHER, None,
+    );
     made.err()
 }
 

@@ -1,5 +1,5 @@
 //! The session, and its calls.
-ghost use Rattle.std.specs.Prelude.{◌≡◌, ◌⊎◌, [], is_ok, is_some, Option, Err, IfErr, IfOk};
+ghost use Rattle.std.specs.Prelude.{◌≡◌, ◌⊎◌, [], is_ok, is_some, Option, Err, IfErr, IfOk, Some};
 ghost use Rattle.std.specs.Borrow.{Bor};
 ghost use Rattle.std.specs.Fn.{FnReturnsAt};
 ghost use mathlib.Core.List.{IsPrefix};
@@ -11,7 +11,8 @@ ghost use Rattle.papaya_change.specs.Showings.{Judges, Operates};
 ghost use Rattle.papaya_change.specs.Writing.{IsMemoryOrCapacity};
 ghost use Rattle.papaya_compute.specs.ComputeAnswers.{IsComputeBy, changes};
 ghost use Rattle.papaya_lookup.specs.Answers.{IsAnsweredBetween, IsPairAnsweredBetween};
-ghost use Rattle.papaya_lookup.specs.History.{Makes};
+ghost use Rattle.papaya_lookup.specs.History.{IsLegalHistory, Makes, key_of};
+ghost use Rattle.papaya_map.specs.Limited.{IsWriteRefusal};
 ghost use Rattle.papaya_map.specs.Storing.{IsThereBy, IsTried, IsTriedWith, IsUpdated, IsUpserted, stored};
 ghost use Rattle.papaya_sweep.specs.Leaving.{HasDropped, HasKept, IsCleared};
 
@@ -20,6 +21,7 @@ use papaya_keys::compute::Compute;
 use papaya_keys::guard::Equivalent;
 use papaya_keys::occupied::OccupiedError;
 use papaya_map::map::{HashMap, HashMapRef, Pass};
+use papaya_map::told::Told;
 use papaya_sweep::walk::Iter;
 use papaya_words::probe::Refused;
 use std::hash::{BuildHasher, BuildHasherDefault, FoldHasher, Hash};
@@ -28,8 +30,9 @@ use std::sync::Wait;
 
 /// One thread's way to a map: the map, pinned, and a pass of it. Contracts see what of the map is
 /// fixed, the history that was seen, and the changes that were made by this session, oldest first. They
-/// see how many slots each table has that was seen to come; and, where the last change was refused for
-/// want of room, the number that a full log gave or the sum of the map's count.
+/// see how many slots each table has that was seen to come; where the last change was refused for want
+/// of room, the number that a full log gave or the sum of the map's count; and how many numbers were
+/// taken for pairs, where the map has a limit on them.
 ///
 /// Each call stands in the history after all that the session had seen before, and afterwards
 /// the session has seen the call's own moment. So a thread reads its own writes: what it reads is the
@@ -52,6 +55,7 @@ impl<'a, K: Hash + Eq, V, S: BuildHasher> Model for Session<'a, K, V, S> {
       made = s.pass.made;
       tables = s.pass.tables;
       given = s.pass.given;
+      taken = s.pass.taken;
     } };
 
     ghost invariant = { λ s. s.pass.book ≡ s.map.map.book };
@@ -71,6 +75,17 @@ impl<'a, K: Hash + Eq, V, S: BuildHasher> Session<'a, K, V, S> {
             map: map.pin(),
             pass: map.pass(),
         }
+    }
+
+    /// Does nothing. Its contract says that the history which was seen is legal: each change takes out what
+    /// the map has there, and puts in a pair of its class, with the key of the pair that it replaces.
+    pub fn legal(&self)
+        ensures { IsLegalHistory K.eq key_of self.now.history }
+    {
+        let Told {
+            answer: _,
+            marker: _,
+        } = self.pass.tell(());
     }
 
     /// Tells each of two sessions what the other has seen. Afterwards both have seen one history, which
@@ -273,8 +288,8 @@ impl<'a, K: Hash + Eq, V, S: BuildHasher> Session<'a, K, V, S> {
 }
 
 impl<'a, K: Hash + Eq + Drop, V: Drop, S: BuildHasher> Session<'a, K, V, S> {
-    /// Stores a pair, and answers the value that its key had: `insert` of 0.2.5. As there, the new key
-    /// takes the old one's place too.
+    /// Stores a pair, and answers the value that its key had: `insert` of 0.2.5. As its text says,
+    /// a key that is stored stays: the one that was handed in is dropped then.
     ///
     /// `Refused::Memory` where a growth was refused. `Refused::Capacity` where a log is full, or a
     /// further table would be too long. Refused, it changes nothing.
@@ -285,8 +300,7 @@ impl<'a, K: Hash + Eq + Drop, V: Drop, S: BuildHasher> Session<'a, K, V, S> {
         ensures made { Makes (is_ok result) self.old.made self.new.made self.new.history }
         ensures put { IfOk result (λ answer. IsPut K.eq key value self.old.history self.new.history
             answer) }
-        ensures refused { IfErr result (λ refused. (refused ≡ Refused.Memory)
-            ⊎ (refused ≡ Refused.Capacity)) }
+        ensures refused { IfErr result (IsWriteRefusal self.old.map.begun.limit self.new.taken) }
         ensures crowded { result ≡ Err Refused.Capacity → HasNoRoom self.old.map.initial
             self.new.tables self.new.given }
     {
@@ -307,7 +321,7 @@ impl<'a, K: Hash + Eq + Drop, V: Drop, S: BuildHasher> Session<'a, K, V, S> {
         ensures tables { IsPrefix self.old.tables self.new.tables }
         ensures made { Makes (stored result) self.old.made self.new.made self.new.history }
         ensures tried { IfOk result (IsTried K.eq key self.old.history self.new.history value) }
-        ensures refused { IfErr result IsMemoryOrCapacity }
+        ensures refused { IfErr result (IsWriteRefusal self.old.map.begun.limit self.new.taken) }
         ensures crowded { result ≡ Err Refused.Capacity → HasNoRoom self.old.map.initial
             self.new.tables self.new.given }
     {
@@ -329,7 +343,7 @@ impl<'a, K: Hash + Eq + Drop, V: Drop, S: BuildHasher> Session<'a, K, V, S> {
         ensures made { Makes (stored result) self.old.made self.new.made self.new.history }
         ensures tried { IfOk result (IsTriedWith K.eq key self.old.history self.new.history
             (F.post f)) }
-        ensures refused { IfErr result IsMemoryOrCapacity }
+        ensures refused { IfErr result (IsWriteRefusal self.old.map.begun.limit self.new.taken) }
         ensures crowded { result ≡ Err Refused.Capacity → HasNoRoom self.old.map.initial
             self.new.tables self.new.given }
     {
@@ -344,7 +358,7 @@ impl<'a, K: Hash + Eq + Drop, V: Drop, S: BuildHasher> Session<'a, K, V, S> {
         ensures tables { IsPrefix self.old.tables self.new.tables }
         ensures there { IsThereBy K.eq key self.old.history self.new.history (λ w. w ≡ value)
             self.old.made self.new.made result }
-        ensures refused { IfErr result IsMemoryOrCapacity }
+        ensures refused { IfErr result (IsWriteRefusal self.old.map.begun.limit self.new.taken) }
         ensures crowded { result ≡ Err Refused.Capacity → HasNoRoom self.old.map.initial
             self.new.tables self.new.given }
     {
@@ -365,7 +379,7 @@ impl<'a, K: Hash + Eq + Drop, V: Drop, S: BuildHasher> Session<'a, K, V, S> {
         ensures tables { IsPrefix self.old.tables self.new.tables }
         ensures there { IsThereBy K.eq key self.old.history self.new.history (F.post f)
             self.old.made self.new.made result }
-        ensures refused { IfErr result IsMemoryOrCapacity }
+        ensures refused { IfErr result (IsWriteRefusal self.old.map.begun.limit self.new.taken) }
         ensures crowded { result ≡ Err Refused.Capacity → HasNoRoom self.old.map.initial
             self.new.tables self.new.given }
     {
@@ -388,7 +402,7 @@ impl<'a, K: Hash + Eq + Drop, V: Drop, S: BuildHasher> Session<'a, K, V, S> {
         ensures made { Makes (took result) self.old.made self.new.made self.new.history }
         ensures updated { IfOk result (IsUpdated K.eq key self.old.history self.new.history
             (FnReturnsAt F.Fn f)) }
-        ensures refused { IfErr result IsMemoryOrCapacity }
+        ensures refused { IfErr result (IsWriteRefusal self.old.map.begun.limit self.new.taken) }
         ensures crowded { result ≡ Err Refused.Capacity → HasNoRoom self.old.map.initial
             self.new.tables self.new.given }
     {
@@ -410,7 +424,7 @@ impl<'a, K: Hash + Eq + Drop, V: Drop, S: BuildHasher> Session<'a, K, V, S> {
         ensures made { Makes (is_ok result) self.old.made self.new.made self.new.history }
         ensures upserted { IfOk result (IsUpserted K.eq key self.old.history self.new.history
             (FnReturnsAt F.Fn update) (λ w. w ≡ value)) }
-        ensures refused { IfErr result IsMemoryOrCapacity }
+        ensures refused { IfErr result (IsWriteRefusal self.old.map.begun.limit self.new.taken) }
         ensures crowded { result ≡ Err Refused.Capacity → HasNoRoom self.old.map.initial
             self.new.tables self.new.given }
     {
@@ -435,7 +449,7 @@ impl<'a, K: Hash + Eq + Drop, V: Drop, S: BuildHasher> Session<'a, K, V, S> {
         ensures made { Makes (is_ok result) self.old.made self.new.made self.new.history }
         ensures upserted { IfOk result (IsUpserted K.eq key self.old.history self.new.history
             (FnReturnsAt U.Fn update) (F.post f)) }
-        ensures refused { IfErr result IsMemoryOrCapacity }
+        ensures refused { IfErr result (IsWriteRefusal self.old.map.begun.limit self.new.taken) }
         ensures crowded { result ≡ Err Refused.Capacity → HasNoRoom self.old.map.initial
             self.new.tables self.new.given }
     {
@@ -466,6 +480,8 @@ impl<'a, K: Hash + Eq + Drop, V: Drop, S: BuildHasher> Session<'a, K, V, S> {
         ensures made { Makes (changes result) self.old.made self.new.made self.new.history }
         ensures crowded { result ≡ Err Refused.Capacity → HasNoRoom self.old.map.initial
             self.new.tables self.new.given }
+        ensures spent { result ≡ Err Refused.Limit → self.old.map.begun.limit
+            ≡ Some self.new.taken }
         ensures computed { IsComputeBy K.eq key self.old.history self.new.history
             (Operates F.FnMut) f result }
     {

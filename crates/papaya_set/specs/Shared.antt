@@ -23,8 +23,8 @@ module _ {K : Type 0} (eq : K → K → Bool) where
       × (answer ≡ option_map (λ entry. entry.0) found)
       × IsPairAnsweredBetween eq matches old new found
 
-  -- The last change put the key in: where there was none of its class, and so it is new, or in the
-  -- place of one.
+  -- The last change put the key in where there was none of its class, and so it is new. Or it took
+  -- the place of one, which stays the key.
   abbrev pub IsInsertedBetween : K → (old new : List (Change K (Stored K (Unit {0})))) → Bool → Type 0
   IsInsertedBetween key old new is_new = (taken : Option (Bor (Unit {0})))
       × (is_new ≡ is_none taken) × IsPut eq key tt old new taken

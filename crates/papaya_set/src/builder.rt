@@ -1,16 +1,17 @@
 //! The builder of a set, which asks for its parts one by one.
-ghost use Rattle.std.specs.Prelude.{◌≡◌, [], IfErr, IfOk};
+ghost use Rattle.std.specs.Prelude.{◌≡◌, [], IfErr, IfOk, None, Some};
 ghost use Rattle.std.specs.Arc.{arc_value};
 ghost use Rattle.papaya_words.specs.declared.limits.TheConstants.{DEFAULT_CHUNK, DEFAULT_SHARDS};
 ghost use Rattle.papaya_keys.specs.Sizes.{IsAllowed, IsSizeRefusal};
 ghost use Rattle.papaya_timeline.specs.Content.{content};
-ghost use Rattle.papaya_timeline.specs.New.{IsNew};
+ghost use Rattle.papaya_timeline.specs.New.{IsNewLimited};
 ghost use Rattle.papaya_seq.specs.Map.{core_of};
 ghost use Rattle.papaya_map.specs.Fixed.{IsFor};
 
 use crate::seq;
 use crate::set::HashSet;
 use papaya_keys::guard::Collector;
+use papaya_map::builder::HashMapBuilder;
 use papaya_map::map::HashMap;
 use papaya_words::limits::DEFAULT_SHARDS;
 use papaya_words::probe::{Refused, ResizeMode};
@@ -29,6 +30,7 @@ pub struct HashSetBuilder<K, S = BuildHasherDefault<FoldHasher>> {
     capacity: usize,
     mode: ResizeMode,
     shards: usize,
+    limit: Option<u64>,
     keys: PhantomData<K>,
 }
 
@@ -43,17 +45,20 @@ impl<K, S> Model for HashSetBuilder<K, S> {
       capacity = b.capacity;
       mode = b.mode;
       shards = b.shards;
+      limit = b.limit;
     } };
 }
 
 impl<K: Hash + Eq> HashSet<K, BuildHasherDefault<FoldHasher>> {
     /// A builder of a set for no keys, which resizes as [`ResizeMode::default`] says, counts its keys
-    /// over [`DEFAULT_SHARDS`] shards, and has a collector of number 0: `builder` of 0.2.5.
+    /// over [`DEFAULT_SHARDS`] shards, has no limit on the keys that it logs, and has a collector of
+    /// number 0: `builder` of 0.2.5.
     pub fn builder() -> HashSetBuilder<K, BuildHasherDefault<FoldHasher>>
         ensures collector { result.collector ≡ 0 }
         ensures capacity { result.capacity ≡ 0 }
         ensures mode { result.mode ≡ ResizeMode.Incremental DEFAULT_CHUNK }
         ensures shards { result.shards ≡ DEFAULT_SHARDS }
+        ensures limit { result.limit ≡ None }
     {
         HashSetBuilder {
             hasher: BuildHasherDefault::new(),
@@ -61,6 +66,7 @@ impl<K: Hash + Eq> HashSet<K, BuildHasherDefault<FoldHasher>> {
             capacity: 0,
             mode: ResizeMode::default(),
             shards: DEFAULT_SHARDS,
+            limit: None,
             keys: PhantomData,
         }
     }
@@ -75,6 +81,7 @@ impl<K, S: Drop> HashSetBuilder<K, S> {
           capacity = self.capacity;
           mode = self.mode;
           shards = self.shards;
+          limit = self.limit;
         } }
     {
         let HashSetBuilder {
@@ -83,6 +90,7 @@ impl<K, S: Drop> HashSetBuilder<K, S> {
             capacity,
             mode,
             shards,
+            limit,
             keys,
         } = self;
         HashSetBuilder {
@@ -91,6 +99,7 @@ impl<K, S: Drop> HashSetBuilder<K, S> {
             capacity,
             mode,
             shards,
+            limit,
             keys,
         }
     }
@@ -105,6 +114,7 @@ impl<K, S> HashSetBuilder<K, S> {
           capacity = self.capacity;
           mode = self.mode;
           shards = self.shards;
+          limit = self.limit;
         } }
     {
         HashSetBuilder { collector, ..self }
@@ -120,6 +130,7 @@ impl<K, S> HashSetBuilder<K, S> {
           capacity = self.capacity;
           mode = self.mode;
           shards = self.shards;
+          limit = self.limit;
         } }
     {
         let number = collector.number();
@@ -134,6 +145,7 @@ impl<K, S> HashSetBuilder<K, S> {
           capacity = capacity;
           mode = self.mode;
           shards = self.shards;
+          limit = self.limit;
         } }
     {
         HashSetBuilder { capacity, ..self }
@@ -147,6 +159,7 @@ impl<K, S> HashSetBuilder<K, S> {
           capacity = self.capacity;
           mode = mode;
           shards = self.shards;
+          limit = self.limit;
         } }
     {
         HashSetBuilder { mode, ..self }
@@ -161,9 +174,47 @@ impl<K, S> HashSetBuilder<K, S> {
           capacity = self.capacity;
           mode = self.mode;
           shards = shards;
+          limit = self.limit;
         } }
     {
         HashSetBuilder { shards, ..self }
+    }
+
+    /// Asks for a limit on the keys that the set logs, as
+    /// [`papaya_map::builder::HashMapBuilder::pair_limit`] does for a map: one that was removed
+    /// counts until `reclaim`, and so does one that was inserted where an equal one was stored.
+    pub fn pair_limit(self, keys: u64) -> HashSetBuilder<K, S>
+        ensures { result ≡ record {
+          hasher = self.hasher;
+          collector = self.collector;
+          capacity = self.capacity;
+          mode = self.mode;
+          shards = self.shards;
+          limit = Some keys;
+        } }
+    {
+        HashSetBuilder {
+            limit: Some(keys),
+            ..self
+        }
+    }
+}
+
+/// Asks a map's builder that was asked for no limit for this one, if there is one.
+fn limited<K, S>(builder: HashMapBuilder<K, (), S>, limit: Option<u64>) -> HashMapBuilder<K, (), S>
+    requires { builder.limit ≡ None }
+    ensures { result ≡ record {
+      hasher = builder.hasher;
+      collector = builder.collector;
+      capacity = builder.capacity;
+      mode = builder.mode;
+      shards = builder.shards;
+      limit = limit;
+    } }
+{
+    match limit {
+        Some(keys) => builder.pair_limit(keys),
+        None => builder,
     }
 }
 
@@ -171,7 +222,7 @@ impl<K: Hash + Eq + Drop, S: BuildHasher + Drop> HashSetBuilder<K, S> {
     /// The set: `build` of 0.2.5. Refused as [`HashSet::with_parts`].
     pub fn build<R: Wait>(self, rt: &R, alloc: Global) -> Result<HashSet<K, S>, Refused>
         ensures ok { IfOk result (λ set. IsAllowed self.mode self.capacity self.shards) }
-        ensures made { IfOk result (IsFor self.mode self.capacity self.shards) }
+        ensures made { IfOk result (IsFor self.mode self.capacity self.shards self.limit) }
         ensures hasher { IfOk result (λ set. set.begun.hasher ≡ self.hasher) }
         ensures collector { IfOk result (λ set. set.collector ≡ self.collector) }
         ensures err { IfErr result (λ e. IsSizeRefusal self.mode self.capacity self.shards e) }
@@ -182,15 +233,16 @@ impl<K: Hash + Eq + Drop, S: BuildHasher + Drop> HashSetBuilder<K, S> {
             capacity,
             mode,
             shards,
+            limit,
             keys: _,
         } = self;
-        let map = HashMap::builder()
+        let builder = HashMap::builder()
             .hasher(hasher)
             .collector(collector)
             .capacity(capacity)
             .resize_mode(mode)
-            .shards(shards)
-            .build(rt, alloc)?;
+            .shards(shards);
+        let map = limited(builder, limit).build(rt, alloc)?;
         Ok(HashSet { map })
     }
 
@@ -198,7 +250,7 @@ impl<K: Hash + Eq + Drop, S: BuildHasher + Drop> HashSetBuilder<K, S> {
     /// Refused as [`seq::HashSet::with_parts`].
     pub fn build_seq(self, alloc: Global) -> Result<seq::HashSet<K, S>, Refused>
         ensures ok { IfOk result (λ set. IsAllowed self.mode self.capacity self.shards
-            × IsNew {A = Unit {0}} self.mode self.capacity self.shards self.hasher
+            × IsNewLimited {A = Unit {0}} self.mode self.capacity self.shards self.hasher self.limit
             (core_of set)) }
         ensures empty { IfOk result (λ set. content K.eq set.store ≡ []) }
         ensures err { IfErr result (IsSizeRefusal self.mode self.capacity self.shards) }
@@ -208,9 +260,10 @@ impl<K: Hash + Eq + Drop, S: BuildHasher + Drop> HashSetBuilder<K, S> {
             capacity,
             mode,
             shards,
+            limit,
             ..
         } = self;
-        seq::HashSet::with_parts(alloc, mode, capacity, shards, hasher)
+        seq::HashSet::with_parts(alloc, mode, capacity, shards, hasher, limit)
     }
 }
 

@@ -14,7 +14,7 @@ use std::hash::{BuildHasher, BuildHasherDefault, FoldHasher, Hash};
 
 impl<K: Hash + Eq + Drop, S: BuildHasher> HashSet<K, S> {
     /// Stores keys in the order in which they come: what the trait `Extend` does in 0.2.5. Of two
-    /// equal keys the later one stays. No room is made ahead, so for no keys nothing is done at
+    /// equal keys the earlier one stays. No room is made ahead, so for no keys nothing is done at
     /// all.
     ///
     /// Refused as [`HashSet::insert`] is for a key. The keys before it are in the set then, and
@@ -61,7 +61,7 @@ impl<K: Hash + Eq + Copy + Drop, S: BuildHasher> HashSet<K, S> {
 
 impl<K: Hash + Eq + Drop, S: BuildHasher + Default + Drop> HashSet<K, S> {
     /// A set of these keys: what the trait `FromIterator` makes in 0.2.5. Of two equal keys it has
-    /// the later one, and of no keys it has no table.
+    /// the earlier one, and of no keys it has no table.
     ///
     /// `Refused::Memory` where the set was not made; else refused as [`HashSet::extend`].
     pub fn from_iter<U: IntoIterator<Item = K>>(
@@ -90,7 +90,7 @@ impl<K: Hash + Eq + Drop, S: BuildHasher + Default + Drop> HashSet<K, S> {
 
 impl<K: Hash + Eq + Drop> HashSet<K, BuildHasherDefault<FoldHasher>> {
     /// A set of the keys of an array: what `From<[K; N]>` makes in 0.2.5. Of two equal keys it has
-    /// the later one.
+    /// the earlier one.
     ///
     /// `Refused::Memory` where the set was not made, or the array had no room in memory; else
     /// refused as [`HashSet::extend`].

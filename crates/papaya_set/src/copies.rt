@@ -1,11 +1,13 @@
 //! Sets of clones, and sets that are compared.
-ghost use Rattle.std.specs.Prelude.{◌≡◌, ℕ, true, IfErr, IfOk, OnOk, length};
+ghost use Rattle.std.specs.Prelude.{◌≡◌, ◌≢◌, ℕ, true, IfErr, IfOk, None, OnOk, length};
 ghost use Rattle.papaya_words.specs.Probe.{IsEntriesFor};
 ghost use Rattle.papaya_words.specs.declared.limits.TheConstants.{DEFAULT_CHUNK, DEFAULT_SHARDS};
 ghost use Rattle.papaya_timeline.specs.Content.{content};
+ghost use Rattle.papaya_timeline.specs.Core.{unlimited};
 ghost use Rattle.papaya_seq.specs.Clones.{HasParts, IsCloneRefusal, IsRebuildRefusal, IsRebuilt};
 ghost use Rattle.papaya_change.specs.Writing.{IsMemoryOrCapacity};
 ghost use Rattle.papaya_map.specs.Fixed.{HasSettingsOf, IsFor};
+ghost use Rattle.papaya_map.specs.Limited.{IsPlainRefusal};
 
 use crate::seq;
 use crate::set::HashSet;
@@ -21,11 +23,13 @@ impl<K: Hash + Eq + Clone + Drop, S: BuildHasher + Clone + Drop> seq::HashSet<K,
         requires { (k l : K) → K.is_clone k l → K.eq k l ≡ true }
         ensures clones { IfOk result (λ made. IsRebuilt K.eq K.is_clone (λ v w. w ≡ v) S.is_clone
             self.now made) }
-        ensures parts { IfOk result (λ made. (made.mode ≡ ResizeMode.Incremental DEFAULT_CHUNK)
+        ensures parts { IfOk result (λ made. (made.mode
+            ≡ unlimited (ResizeMode.Incremental DEFAULT_CHUNK))
             × IsEntriesFor (length (content K.eq self.now.store)) made.initial
             × (made.store.count.shards ≡ 1)) }
         ensures err { IfErr result (λ e. IsCloneRefusal K.eq K.is_clone (λ v w. w ≡ v)
             self.now.store e) }
+        ensures below { IfErr result (λ e. e ≢ Refused.Limit) }
     {
         match self.map.try_clone(alloc) {
             Ok(map) => Ok(seq::HashSet { map }),
@@ -33,16 +37,20 @@ impl<K: Hash + Eq + Clone + Drop, S: BuildHasher + Clone + Drop> seq::HashSet<K,
         }
     }
 
-    /// Builds the set anew from clones of its keys, and gives back the memory of those that were
-    /// replaced or removed, as [`papaya_seq::seq::HashMap::reclaim`] does for a map. A clone of a key
-    /// has to be equal to it. Refused, the set is as it was.
+    /// Builds the set anew from clones of its keys, and gives back the memory of all else that it
+    /// logged, as [`papaya_seq::seq::HashMap::reclaim`] does for a map. A clone of a key has to be
+    /// equal to it. Just the keys that are there count against a limit then, and it refuses nothing
+    /// here. Refused, the set is as it was.
     pub fn reclaim(&mut self) -> Result<(), Refused>
         requires { (k l : K) → K.is_clone k l → K.eq k l ≡ true }
         ensures clones { OnOk result (IsRebuilt K.eq K.is_clone (λ v w. w ≡ v) S.is_clone self.old
             self.new) }
         ensures parts { OnOk result (HasParts self.old self.new) }
+        ensures numbers { OnOk result (self.new.store.words.made
+            ≡ length (content K.eq self.old.store)) }
         ensures err { IfErr result (λ e. (self.new ≡ self.old)
             × IsRebuildRefusal K.eq K.is_clone (λ v w. w ≡ v) self.old e) }
+        ensures below { IfErr result (λ e. e ≢ Refused.Limit) }
     {
         self.map.reclaim()
     }
@@ -65,7 +73,7 @@ impl<K: Hash + Eq + Clone + Drop, S: BuildHasher + Clone + Drop> HashSet<K, S> {
     /// removed meanwhile may be copied or not.
     pub fn try_clone<R: Wait>(&self, rt: &R, alloc: Global) -> Result<HashSet<K, S>, Refused>
         ensures made { IfOk result (λ set. (keys : ℕ)
-            × IsFor (ResizeMode.Incremental DEFAULT_CHUNK) keys DEFAULT_SHARDS set) }
+            × IsFor (ResizeMode.Incremental DEFAULT_CHUNK) keys DEFAULT_SHARDS None set) }
         ensures hasher { IfOk result (λ set. S.is_clone self.now.begun.hasher set.begun.hasher) }
         ensures refused { IfErr result IsMemoryOrCapacity }
     {
@@ -82,7 +90,7 @@ impl<K: Hash + Eq + Clone + Drop, S: BuildHasher + Clone + Drop> HashSet<K, S> {
         ensures ok { IfOk result (λ _. HasSettingsOf self.old self.new) }
         ensures hasher { IfOk result (λ _. S.is_clone self.old.begun.hasher
             self.new.begun.hasher) }
-        ensures err { IfErr result (λ refused. IsMemoryOrCapacity refused
+        ensures err { IfErr result (λ refused. IsPlainRefusal self.old.begun.limit refused
             × (self.new ≡ self.old)) }
     {
         self.map.reclaim(rt)

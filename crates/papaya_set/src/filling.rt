@@ -1,9 +1,10 @@
 //! Calls that put many keys into the set that threads share, one after the other.
-ghost use Rattle.std.specs.Prelude.{◌≡◌, IfErr, IfOk};
+ghost use Rattle.std.specs.Prelude.{◌≡◌, IfErr, IfOk, None};
 ghost use Rattle.std.specs.Iterator.{IsFiniteIterable};
 ghost use Rattle.papaya_words.specs.declared.limits.TheConstants.{DEFAULT_CHUNK, DEFAULT_SHARDS};
 ghost use Rattle.papaya_change.specs.Writing.{IsMemoryOrCapacity};
 ghost use Rattle.papaya_map.specs.Fixed.{IsFor};
+ghost use Rattle.papaya_map.specs.Limited.{IsPlainRefusal};
 
 use crate::set::HashSet;
 use papaya_words::probe::{Refused, ResizeMode};
@@ -13,7 +14,7 @@ use std::sync::Wait;
 
 impl<K: Hash + Eq + Drop, S: BuildHasher> HashSet<K, S> {
     /// Stores keys in the order in which they come: what the trait `Extend` does in 0.2.5. Of two
-    /// equal keys the later one stays. No room is made ahead, so for no keys nothing is done at all.
+    /// equal keys the earlier one stays. No room is made ahead, so for no keys nothing is done at all.
     ///
     /// Refused as [`HashSetRef::insert`](crate::set::HashSetRef::insert) is for a key. The keys before
     /// it are in the set then, and those after it were not asked for.
@@ -22,7 +23,7 @@ impl<K: Hash + Eq + Drop, S: BuildHasher> HashSet<K, S> {
         U::IntoIter: Drop,
         requires { IsFiniteIterable U.into_iter_gives U.IntoIter.can_next U.IntoIter.remaining
             iter }
-        ensures { IfErr result IsMemoryOrCapacity }
+        ensures { IfErr result (IsPlainRefusal self.now.begun.limit) }
     {
         for key in iter {
             match self.pin().insert(rt, key) {
@@ -47,7 +48,7 @@ impl<K: Hash + Eq + Copy + Drop, S: BuildHasher> HashSet<K, S> {
         U::IntoIter: Drop,
         requires { IsFiniteIterable U.into_iter_gives U.IntoIter.can_next U.IntoIter.remaining
             iter }
-        ensures { IfErr result IsMemoryOrCapacity }
+        ensures { IfErr result (IsPlainRefusal self.now.begun.limit) }
     {
         for key in iter {
             match self.pin().insert(rt, *key) {
@@ -61,7 +62,7 @@ impl<K: Hash + Eq + Copy + Drop, S: BuildHasher> HashSet<K, S> {
 
 impl<K: Hash + Eq + Drop, S: BuildHasher + Default + Drop> HashSet<K, S> {
     /// A set of these keys: what the trait `FromIterator` makes in 0.2.5. Of two equal keys it has
-    /// the later one, and of no keys it has no table. Refused as [`HashSet::extend`].
+    /// the earlier one, and of no keys it has no table. Refused as [`HashSet::extend`].
     pub fn from_iter<R: Wait, U: IntoIterator<Item = K>>(
         rt: &R,
         alloc: Global,
@@ -73,7 +74,7 @@ impl<K: Hash + Eq + Drop, S: BuildHasher + Default + Drop> HashSet<K, S> {
         requires { IsFiniteIterable U.into_iter_gives U.IntoIter.can_next U.IntoIter.remaining
             iter }
         ensures made { IfOk result (IsFor (ResizeMode.Incremental DEFAULT_CHUNK) 0
-            DEFAULT_SHARDS) }
+            DEFAULT_SHARDS None) }
         ensures err { IfErr result IsMemoryOrCapacity }
     {
         let set = HashSet::with_hasher(rt, alloc, S::default())?;
@@ -86,7 +87,7 @@ impl<K: Hash + Eq + Drop, S: BuildHasher + Default + Drop> HashSet<K, S> {
 
 impl<K: Hash + Eq + Drop> HashSet<K, BuildHasherDefault<FoldHasher>> {
     /// A set of the keys of an array: what `From<[K; N]>` makes in 0.2.5. Of two equal keys it has
-    /// the later one. `Refused::Memory` where the array had no room in memory; else refused as
+    /// the earlier one. `Refused::Memory` where the array had no room in memory; else refused as
     /// [`HashSet::extend`].
     pub fn from_array<R: Wait, const N: usize>(
         rt: &R,
@@ -94,7 +95,7 @@ impl<K: Hash + Eq + Drop> HashSet<K, BuildHasherDefault<FoldHasher>> {
         keys: [K; N],
     ) -> Result<HashSet<K, BuildHasherDefault<FoldHasher>>, Refused>
         ensures made { IfOk result (IsFor (ResizeMode.Incremental DEFAULT_CHUNK) 0
-            DEFAULT_SHARDS) }
+            DEFAULT_SHARDS None) }
         ensures err { IfErr result IsMemoryOrCapacity }
     {
         match Vec::from_array(alloc, keys) {

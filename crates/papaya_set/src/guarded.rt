@@ -9,6 +9,7 @@ ghost use mathlib.Core.List.{IsPrefix};
 ghost use Rattle.papaya_book.specs.contracts.rule.entry.Event.{the_row as EventOf};
 ghost use Rattle.papaya_change.specs.Writing.{IsMemoryOrCapacity};
 ghost use Rattle.papaya_lookup.specs.History.{IsLegalHistory, history_of, key_of};
+ghost use Rattle.papaya_map.specs.Limited.{IsPlainRefusal};
 ghost use Rattle.papaya_map.specs.Plain.{IsDone, IsOfHistory, of_its_history, rule_of, unpinned};
 ghost use Rattle.papaya_sweep.specs.Leaving.{HasKept, IsCleared};
 ghost use Rattle.papaya_set.specs.Shared.{IsContained, IsInserted, IsKeyFound, IsRemovedKey};
@@ -349,7 +350,7 @@ impl<K: Hash + Eq + Drop, S: BuildHasher> HashSet<K, S> {
         ensures put { IfOk result.answer (IsInsertedBetween K.eq key self.now.seen
             (history_of result.log)) }
         ensures right { G.collector_number guard.now ≡ self.now.collector
-            → IfErr result.answer IsMemoryOrCapacity }
+            → IfErr result.answer (IsPlainRefusal self.now.begun.limit) }
         ensures wrong { (G.collector_number guard.now ≡ self.now.collector → ⊥)
             → result.answer ≡ Err Refused.WrongGuard }
     {
@@ -363,8 +364,8 @@ impl<K: Hash + Eq + Drop, S: BuildHasher> HashSet<K, S> {
         }
     }
 
-    /// Stores a key, and answers whether it was absent: `insert` of 0.2.5. As there, the new key
-    /// takes the place of an equal one. Refused for a wrong guard, and as
+    /// Stores a key, and answers whether it was absent: `insert` of 0.2.5. As its text says, an equal
+    /// key that is stored stays. Refused for a wrong guard, and as
     /// [`HashSetRef::insert`](crate::set::HashSetRef::insert).
     pub fn insert<R: Wait, G: Guard>(&self, rt: &R, key: K, guard: &G) -> Result<bool, Refused>
         ensures* own { sem 𝓛 (of_its_history (EventOf K.row unit-field.row S.row).coded.code
@@ -372,7 +373,7 @@ impl<K: Hash + Eq + Drop, S: BuildHasher> HashSet<K, S> {
             K.eq (λ h. IfOk result (IsInsertedBetween K.eq key self.now.seen h))) }
         ensures put { IfOk result (IsInserted K.eq key) }
         ensures right { G.collector_number guard.now ≡ self.now.collector
-            → IfErr result IsMemoryOrCapacity }
+            → IfErr result (IsPlainRefusal self.now.begun.limit) }
         ensures wrong { (G.collector_number guard.now ≡ self.now.collector → ⊥)
             → result ≡ Err Refused.WrongGuard }
     {

@@ -8,6 +8,7 @@ ghost use mathlib.Core.List.{IsPrefix};
 ghost use Rattle.papaya_book.specs.contracts.rule.entry.Event.{the_row as EventOf};
 ghost use Rattle.papaya_change.specs.Writing.{IsMemoryOrCapacity};
 ghost use Rattle.papaya_lookup.specs.History.{IsLegalHistory, history_of, key_of};
+ghost use Rattle.papaya_map.specs.Limited.{IsPlainRefusal};
 ghost use Rattle.papaya_map.specs.Plain.{IsOfHistory, of_its_history, rule_of};
 ghost use Rattle.papaya_sweep.specs.Leaving.{HasKept, IsCleared};
 ghost use Rattle.papaya_set.specs.Shared.{IsContained, IsInserted, IsKeyFound, IsRemovedKey};
@@ -236,7 +237,7 @@ impl<'a, K: Hash + Eq + Drop, S: BuildHasher> HashSetRef<'a, K, S> {
         ensures seen { IsPrefix self.now.seen (history_of result.log) }
         ensures put { IfOk result.answer (IsInsertedBetween K.eq key self.now.seen
             (history_of result.log)) }
-        ensures refused { IfErr result.answer IsMemoryOrCapacity }
+        ensures refused { IfErr result.answer (IsPlainRefusal self.now.map.begun.limit) }
     {
         let mut pass = self.keys.begun(self.keys.map().number());
         match self.keys.insert_as(rt, key, (), &mut pass) {
@@ -245,18 +246,18 @@ impl<'a, K: Hash + Eq + Drop, S: BuildHasher> HashSetRef<'a, K, S> {
         }
     }
 
-    /// Stores a key, and answers whether it was absent: `insert` of 0.2.5. As there, the new key
-    /// takes the place of an equal one. Of threads that store equal keys at once just one is answered
-    /// true.
+    /// Stores a key, and answers whether it was absent: `insert` of 0.2.5. As its text says, an equal
+    /// key that is stored stays. Of threads that store equal keys at once just one is answered true.
     ///
     /// `Refused::Memory` where a growth was refused. `Refused::Capacity` where a log is full, or a
-    /// further table would be too long. Refused, it changes nothing.
+    /// further table would be too long. `Refused::Limit` where the set has a limit on keys, and as
+    /// many were logged, or were about to be. Refused, it changes nothing.
     pub fn insert<R: Wait>(&self, rt: &R, key: K) -> Result<bool, Refused>
         ensures* own { sem 𝓛 (of_its_history (EventOf K.row unit-field.row S.row).coded.code
             (rule_of ⟦<Law<K, (), S> as Rule<Event<K, (), S>, Named<K, ()>>>⟧) self.now K.eq
             (λ h. IfOk result (IsInsertedBetween K.eq key self.now.seen h))) }
         ensures put { IfOk result (IsInserted K.eq key) }
-        ensures refused { IfErr result IsMemoryOrCapacity }
+        ensures refused { IfErr result (IsPlainRefusal self.now.map.begun.limit) }
     {
         let Told { answer, marker: _ } = self.insert_told(rt, key);
         answer

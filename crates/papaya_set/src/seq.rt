@@ -4,7 +4,7 @@ ghost use Rattle.std.specs.Prelude.{MatchOption, length, option_map, is_some};
 ghost use Rattle.papaya_words.specs.declared.limits.TheConstants.{DEFAULT_CHUNK};
 ghost use Rattle.papaya_law.specs.Content.{AreApart};
 ghost use Rattle.papaya_timeline.specs.Content.{content};
-ghost use Rattle.papaya_timeline.specs.New.{IsNew};
+ghost use Rattle.papaya_timeline.specs.New.{IsNew, IsNewLimited};
 ghost use Rattle.papaya_keys.specs.Sizes.{IsAllowed, IsSizeRefusal, IsTooMuch};
 ghost use Rattle.papaya_seq.specs.Entries.{IsPut};
 ghost use Rattle.papaya_seq.specs.Map.{HasNone, Holds, Keeps, KeepsSlots, Unchanged};
@@ -22,8 +22,9 @@ use std::marker::Model;
 /// A hash set for one caller: `papaya::HashSet` for where a `&mut` will do, as
 /// [`papaya_seq::seq::HashMap`] is for the map.
 ///
-/// Contracts see it as the map of its keys to unit values, so its clauses are the map's. Keys that
-/// were removed or replaced stay in the log, until the set is dropped.
+/// Contracts see it as the map of its keys to unit values, so its clauses are the map's. A key that
+/// was removed stays in the log, and so does what an insertion of an equal key logged, until
+/// [`HashSet::reclaim`], or until the set is dropped.
 #[derive(Drop)]
 pub struct HashSet<K: Hash + Eq, S: BuildHasher = BuildHasherDefault<FoldHasher>> {
     pub(crate) map: HashMap<K, (), S>,
@@ -45,14 +46,15 @@ impl<K: Hash + Eq + Drop, S: BuildHasher + Drop> HashSet<K, S> {
         capacity: usize,
         shards: usize,
         hasher: S,
+        limit: Option<u64>,
     ) -> Result<HashSet<K, S>, Refused>
         ensures ok { IfOk result (λ set. IsAllowed mode capacity shards
-            × IsNew {A = Unit {0}} mode capacity shards hasher (core_of set)) }
+            × IsNewLimited {A = Unit {0}} mode capacity shards hasher limit (core_of set)) }
         ensures empty { IfOk result (λ set. content K.eq set.store ≡ []) }
         ensures err { IfErr result (λ e. IsSizeRefusal mode capacity shards e) }
     {
         Ok(HashSet {
-            map: HashMap::with_parts(alloc, mode, capacity, shards, hasher)?,
+            map: HashMap::with_parts(alloc, mode, capacity, shards, hasher, limit)?,
         })
     }
 
@@ -192,8 +194,8 @@ impl<K: Hash + Eq, S: BuildHasher> HashSet<K, S> {
 }
 
 impl<K: Hash + Eq + Drop, S: BuildHasher> HashSet<K, S> {
-    /// Stores a key, and answers whether it was absent: `insert` of 0.2.5. As there, the new key
-    /// takes the place of an equal one.
+    /// Stores a key, and answers whether it was absent: `insert` of 0.2.5. As its text says, an equal
+    /// key that is stored stays.
     ///
     /// Refused as [`HashMap::insert`]. The set is as it was then, and the key is dropped, at once
     /// or with the set.

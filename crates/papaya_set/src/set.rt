@@ -1,5 +1,5 @@
 //! The set that threads share.
-ghost use Rattle.std.specs.Prelude.{◌≡◌, IfErr, IfOk};
+ghost use Rattle.std.specs.Prelude.{◌≡◌, IfErr, IfOk, None};
 ghost use Rattle.papaya_words.specs.declared.limits.TheConstants.{DEFAULT_CHUNK, DEFAULT_SHARDS};
 ghost use Rattle.papaya_keys.specs.Sizes.{IsAllowed, IsSizeRefusal};
 ghost use Rattle.papaya_map.specs.Fixed.{IsFor};
@@ -14,8 +14,8 @@ use std::sync::Wait;
 /// A set that threads share: `HashSet` of 0.2.5.
 ///
 /// Contracts see it as the map of its keys to unit values, and of that what is fixed when it is
-/// made, so its clauses are the map's. Keys that were removed or replaced stay in the log, until the
-/// set is dropped.
+/// made, so its clauses are the map's. A key that was removed stays in the log, and so does what an
+/// insertion of an equal key logged, until [`HashSet::reclaim`], or until the set is dropped.
 #[derive(Drop)]
 pub struct HashSet<K: Hash + Eq, S: BuildHasher = BuildHasherDefault<FoldHasher>> {
     pub(crate) map: HashMap<K, (), S>,
@@ -57,15 +57,16 @@ impl<K: Hash + Eq + Drop, S: BuildHasher + Drop> HashSet<K, S> {
         capacity: usize,
         shards: usize,
         hasher: S,
+        limit: Option<u64>,
     ) -> Result<HashSet<K, S>, Refused>
         ensures ok { IfOk result (λ set. IsAllowed mode capacity shards) }
-        ensures made { IfOk result (IsFor mode capacity shards) }
+        ensures made { IfOk result (IsFor mode capacity shards limit) }
         ensures hasher { IfOk result (λ set. set.begun.hasher ≡ hasher) }
         ensures collector { IfOk result (λ set. set.collector ≡ 0) }
         ensures err { IfErr result (λ e. IsSizeRefusal mode capacity shards e) }
     {
         Ok(HashSet {
-            map: HashMap::with_parts(rt, alloc, mode, capacity, shards, hasher)?,
+            map: HashMap::with_parts(rt, alloc, mode, capacity, shards, hasher, limit)?,
         })
     }
 
@@ -81,7 +82,7 @@ impl<K: Hash + Eq + Drop, S: BuildHasher + Drop> HashSet<K, S> {
         ensures ok { IfOk result (λ set. IsAllowed (ResizeMode.Incremental DEFAULT_CHUNK) capacity
             DEFAULT_SHARDS) }
         ensures made { IfOk result (IsFor (ResizeMode.Incremental DEFAULT_CHUNK) capacity
-            DEFAULT_SHARDS) }
+            DEFAULT_SHARDS None) }
         ensures hasher { IfOk result (λ set. set.begun.hasher ≡ hasher) }
         ensures err { IfErr result (λ e. IsSizeRefusal (ResizeMode.Incremental DEFAULT_CHUNK)
             capacity
@@ -95,7 +96,7 @@ impl<K: Hash + Eq + Drop, S: BuildHasher + Drop> HashSet<K, S> {
     /// A set with this hasher: `with_hasher` of 0.2.5. The first change makes its first table.
     pub fn with_hasher<R: Wait>(rt: &R, alloc: Global, hasher: S) -> Result<HashSet<K, S>, Refused>
         ensures made { IfOk result (IsFor (ResizeMode.Incremental DEFAULT_CHUNK) 0
-            DEFAULT_SHARDS) }
+            DEFAULT_SHARDS None) }
         ensures hasher { IfOk result (λ set. set.begun.hasher ≡ hasher) }
         ensures err { IfErr result (λ e. e ≡ Refused.Memory) }
     {
@@ -113,7 +114,7 @@ impl<K: Hash + Eq + Drop> HashSet<K, BuildHasherDefault<FoldHasher>> {
         alloc: Global,
     ) -> Result<HashSet<K, BuildHasherDefault<FoldHasher>>, Refused>
         ensures made { IfOk result (IsFor (ResizeMode.Incremental DEFAULT_CHUNK) 0
-            DEFAULT_SHARDS) }
+            DEFAULT_SHARDS None) }
         ensures err { IfErr result (λ e. e ≡ Refused.Memory) }
     {
         Ok(HashSet {
@@ -130,7 +131,7 @@ impl<K: Hash + Eq + Drop> HashSet<K, BuildHasherDefault<FoldHasher>> {
         ensures ok { IfOk result (λ set. IsAllowed (ResizeMode.Incremental DEFAULT_CHUNK) capacity
             DEFAULT_SHARDS) }
         ensures made { IfOk result (IsFor (ResizeMode.Incremental DEFAULT_CHUNK) capacity
-            DEFAULT_SHARDS) }
+            DEFAULT_SHARDS None) }
         ensures err { IfErr result (λ e. IsSizeRefusal (ResizeMode.Incremental DEFAULT_CHUNK)
             capacity
             DEFAULT_SHARDS e) }
@@ -146,7 +147,7 @@ impl<K: Hash + Eq + Drop> HashSet<K, BuildHasherDefault<FoldHasher>> {
         alloc: Global,
     ) -> Result<HashSet<K, BuildHasherDefault<FoldHasher>>, Refused>
         ensures made { IfOk result (IsFor (ResizeMode.Incremental DEFAULT_CHUNK) 0
-            DEFAULT_SHARDS) }
+            DEFAULT_SHARDS None) }
         ensures err { IfErr result (λ e. e ≡ Refused.Memory) }
     {
         HashSet::new(rt, alloc)

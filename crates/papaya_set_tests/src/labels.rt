@@ -65,5 +65,5 @@ pub const MODES: [ResizeMode; 3] = [
 
 /// A set that resizes so, with a table of 8 slots.
 pub fn made<R: Wait>(rt: &R, alloc: Global, mode: ResizeMode) -> Result<Keys, Refused> {
-    HashSet::with_parts(rt, alloc, mode, 6, 4, BuildHasherDefault::new())
+    HashSet::with_parts(rt, alloc, mode, 6, 4, BuildHasherDefault::new(), None)
 }

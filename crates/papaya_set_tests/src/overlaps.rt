@@ -14,9 +14,9 @@ use std::thread::{Threads, join, map_indices};
 /// What a thread does with a set. It says whether all was as it should be.
 #[derive(Clone, Copy)]
 enum Job {
-    /// Retains the keys of this label, by a closure that waits at the gate.
-    Retain(char),
-    /// Stores a key labelled y in the place of 7, which is labelled x, once a closure is shown it.
+    /// Retains by a closure that waits at the gate, and agrees from so many calls on.
+    Retain(u64),
+    /// Stores 7 once more, with another label, once a closure is shown it.
     Replace,
     /// Keeps the reference to the key 7 that a lookup answered, or looks it up anew.
     Hold,
@@ -25,7 +25,7 @@ enum Job {
     WearOut,
     /// Looks for the keys below 6, 20 times.
     Has,
-    /// Stores keys labelled y in their place, 20 times.
+    /// Stores each of them once more, 20 times.
     Rewrite,
     /// Inserts the absent keys of a range.
     Insert(u64, u64),
@@ -45,12 +45,15 @@ fn label(set: &Keys) -> Option<char> {
     }
 }
 
-/// Retains by a closure that waits at the gate: was it open in time?
-fn retains<R: Wait>(rt: &R, set: &Keys, stays: char, gate: &Gate) -> Result<bool, Refused> {
+/// Retains by a closure that waits at the gate, and agrees from so many calls on: was it open in
+/// time?
+fn retains<R: Wait>(rt: &R, set: &Keys, from: u64, gate: &Gate) -> Result<bool, Refused> {
     let pinned = set.pin();
-    let retained = pinned.retain(rt, |key| {
+    let mut calls = 0u64;
+    let retained = pinned.retain(rt, |_| {
         gate.wait();
-        key.label == stays
+        calls = calls.wrapping_add(1);
+        calls >= from
     });
     let was_passed = gate.was_passed();
     // So that the other threads end, whatever happened.
@@ -206,7 +209,7 @@ fn works<R: Wait>(rt: &R, set: &Keys, job: Job) -> Result<bool, Refused> {
 /// Does a job.
 fn does<R: Wait>(rt: &R, set: &Keys, job: Job, gate: &Gate) -> Result<bool, Refused> {
     match job {
-        Job::Retain(stays) => retains(rt, set, stays, gate),
+        Job::Retain(from) => retains(rt, set, from, gate),
         Job::Replace => replaces(rt, set, gate),
         Job::Hold => Ok(holds(set, gate)),
         Job::LookAnew => Ok(gate.stays(&mut Anew(set))),
@@ -242,7 +245,7 @@ fn apart<R: Wait>(rt: &R, set: &Keys, first: Job, second: Job) -> (bool, bool) {
 
 /// What eight threads do of which the first one is stuck.
 const BESIDE: [Job; 8] = [
-    Job::Retain('y'),
+    Job::Retain(2),
     Job::Has,
     Job::Rewrite,
     Job::Insert(100, 150),
@@ -271,20 +274,20 @@ fn with_seven<R: Wait>(rt: &R, alloc: Global, mode: ResizeMode) -> Result<Keys, 
     Ok(set)
 }
 
-/// A closure is shown a key that is replaced before it answers, and then the one that took its
-/// place. What is left is what it answers of that.
-fn overlaps<R: Threads + Wait + Sync + Abort>(rt: &R, set: &Keys, stays: char, left: Option<char>) {
-    let did = both(rt, set, Job::Retain(stays), Job::Replace);
+/// A closure is shown a key whose pair is replaced before it answers, and then the key once more,
+/// which stays as it was stored. What is left is what the closure answers of that.
+fn overlaps<R: Threads + Wait + Sync + Abort>(rt: &R, set: &Keys, from: u64, left: Option<char>) {
+    let did = both(rt, set, Job::Retain(from), Job::Replace);
     is(rt, (did, label(set)), ((true, true), left));
 }
 
 #[test]
-fn a_retain_shows_what_replaced_its_key(rt: HostRuntime) -> Result<(), Fail> {
+fn a_retain_shows_a_key_that_was_replaced_once_more(rt: HostRuntime) -> Result<(), Fail> {
     for mode in MODES {
         let set = with_seven(&rt, rt.alloc(), mode)?;
-        overlaps(&rt, &set, 'y', Some('y'));
+        overlaps(&rt, &set, 2, Some('x'));
         let set = with_seven(&rt, rt.alloc(), mode)?;
-        overlaps(&rt, &set, 'z', None);
+        overlaps(&rt, &set, 3, None);
     }
     Ok(())
 }
@@ -294,7 +297,7 @@ fn a_retain_shows_what_replaced_its_key(rt: HostRuntime) -> Result<(), Fail> {
 fn one_call_after_the_other_is_found_out(rt: HostRuntime) -> Result<(), Fail> {
     for mode in MODES {
         let set = with_seven(&rt, rt.alloc(), mode)?;
-        let did = apart(&rt, &set, Job::Retain('z'), Job::Replace);
+        let did = apart(&rt, &set, Job::Retain(3), Job::Replace);
         is(&rt, did, (false, false));
     }
     Ok(())
@@ -316,7 +319,7 @@ fn a_reference_stays_as_it_is(rt: HostRuntime) -> Result<(), Fail> {
 
 /// While a closure of a retain does not come back, seven threads look keys up, store, replace and
 /// remove them, make the table grow, and walk. They wait for nobody. The keys below 6 stay, since
-/// the closure is shown then what took their place.
+/// the one that it would not keep was replaced meanwhile, and is shown to it once more.
 #[test]
 fn a_retain_is_stuck(rt: HostRuntime) -> Result<(), Fail> {
     for mode in MODES {

@@ -18,11 +18,11 @@ fn label_of(key: Option<&Labelled>) -> Option<char> {
     }
 }
 
-/// An equal key takes the place of the one that was stored.
+/// The key that is stored stays where an equal one comes.
 fn stores<R: Wait + Abort>(rt: &R, set: &Pinned<'_>) {
     is(rt, set.insert(rt, key(7, 'x')), Ok(true));
     is(rt, set.insert(rt, key(7, 'y')), Ok(false));
-    is(rt, label_of(set.get(&any(7))), Some('y'));
+    is(rt, label_of(set.get(&any(7))), Some('x'));
     is(
         rt,
         (set.contains(&any(7)), set.contains(&any(8))),
@@ -78,6 +78,14 @@ fn len(made: Result<Keys, Refused>) -> Result<usize, Refused> {
     }
 }
 
+/// The label of key 7 in a set that was made.
+fn label_in(made: Result<Keys, Refused>) -> Option<char> {
+    match made {
+        Ok(set) => label_of(set.pin().get(&any(7))),
+        Err(_) => None,
+    }
+}
+
 /// A set that its constructor makes empty.
 fn made<R: Wait>(rt: &R, alloc: Global, by: u64) -> Result<Keys, Refused> {
     let mode = ResizeMode::Blocking;
@@ -86,7 +94,7 @@ fn made<R: Wait>(rt: &R, alloc: Global, by: u64) -> Result<Keys, Refused> {
         1 => HashSet::with_capacity(rt, alloc, 3),
         2 => HashSet::with_hasher(rt, alloc, BuildHasherDefault::new()),
         3 => HashSet::with_capacity_and_hasher(rt, alloc, 3, BuildHasherDefault::new()),
-        4 => HashSet::with_parts(rt, alloc, mode, 3, 2, BuildHasherDefault::new()),
+        4 => HashSet::with_parts(rt, alloc, mode, 3, 2, BuildHasherDefault::new(), None),
         _ => HashSet::builder()
             .capacity(3)
             .resize_mode(mode)
@@ -105,6 +113,44 @@ fn sets_are_made(rt: HostRuntime) {
     let keys = [any(1), any(2), any(1)];
     is(&rt, len(HashSet::from_iter(&rt, alloc, keys)), Ok(2));
     is(&rt, len(HashSet::from_array(&rt, alloc, keys)), Ok(2));
+}
+
+/// Of equal keys the earlier one stays.
+#[test]
+fn a_set_is_made_of_the_first_of_equal_keys(rt: HostRuntime) {
+    let alloc = rt.alloc();
+    let keys = [key(7, 'x'), key(7, 'y')];
+    is(
+        &rt,
+        label_in(HashSet::from_iter(&rt, alloc, keys)),
+        Some('x'),
+    );
+    is(
+        &rt,
+        label_in(HashSet::from_array(&rt, alloc, keys)),
+        Some('x'),
+    );
+}
+
+/// A set that logs two keys at most, of which one was stored twice.
+fn spends<R: Wait + Abort>(rt: &R, set: &Pinned<'_>) {
+    is(rt, set.insert(rt, any(1)), Ok(true));
+    is(rt, set.insert(rt, any(1)), Ok(false));
+    is(rt, set.insert(rt, any(2)), Err(Refused::Limit));
+    is(rt, set.insert(rt, any(1)), Err(Refused::Limit));
+    is(rt, set.remove(rt, &any(1)), Ok(true));
+    is(rt, set.insert(rt, any(1)), Err(Refused::Limit));
+}
+
+#[test]
+fn a_set_meets_its_limit(rt: HostRuntime) -> Result<(), Fail> {
+    let alloc = rt.alloc();
+    let mut set: Keys = HashSet::builder().pair_limit(2).build(&rt, alloc)?;
+    spends(&rt, &set.pin());
+    is(&rt, set.reclaim(&rt), Ok(()));
+    is(&rt, set.pin().insert(&rt, any(2)), Ok(true));
+    is(&rt, set.len(), 1);
+    Ok(())
 }
 
 /// A builder shows its capacity, its collector's number and its mode.

@@ -1,1 +1,1 @@
--- no lemma: what is said of the store's words stands in papaya_timeline
+pub mod Logs

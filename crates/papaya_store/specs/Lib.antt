@@ -1,4 +1,5 @@
 pub mod New
+pub mod Pairs
 pub mod Performs
 pub mod Store
 pub mod Tables

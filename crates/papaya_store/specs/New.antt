@@ -10,11 +10,15 @@ use Rattle.papaya_store.specs.Store.{StoreState}
 -- the first table: it is the root, and as long as was asked for, or of the least length
 abbrev pub IsOpened : ℕ → Tables → Type 0
 IsOpened asked words = (limit : ℕ) × IsLimit (max asked LEAST_TABLE_LEN) limit
-    × (words ≡ record { root = 1; tables = new_table 1 (max asked LEAST_TABLE_LEN) limit 0 ∷ [] })
+    × (words ≡ record {
+      root = 1;
+      tables = new_table 1 (max asked LEAST_TABLE_LEN) limit 0 ∷ [];
+      made = 0;
+    })
 
 -- a capacity of 0 makes no table
 abbrev pub HasCapacity : (capacity initial : ℕ) → Tables → Type 0
-HasCapacity zero initial words = words ≡ record { root = 0; tables = [] }
+HasCapacity zero initial words = words ≡ record { root = 0; tables = []; made = 0 }
 HasCapacity (suc n) initial words = IsOpened initial words
 
 -- no pairs, a count of 0 in as many shards as were asked for, rounded up, and a table for the
@@ -23,7 +27,6 @@ pub record IsNewStore {K V S : Type 0} (capacity shards : ℕ) (hasher : S) (ent
     (s : StoreState K V S) : Type 0 where
   pub initial : IsEntriesFor capacity entries
   pub words : HasCapacity capacity entries s.words
-  pub keys : s.keys ≡ []
   pub pairs : s.pairs ≡ []
   pub count : IsNextPowerOfTwo shards s.count.shards
   pub sum : s.count.sum ≡ pos 0

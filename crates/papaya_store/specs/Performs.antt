@@ -5,7 +5,7 @@ use Rattle.papaya_words.specs.Table.{TableWords, new_table}
 use Rattle.papaya_words.specs.declared.limits.TheConstants.{MAX_TABLES, MAX_LOG_LEN}
 use Rattle.papaya_words.specs.declared.probe.Refused.TheVariants.{Memory, Capacity}
 use Rattle.papaya_ask.specs.declared.ask.Ask.{Ask}
-use Rattle.papaya_ask.specs.declared.ask.Ask.TheVariants.{Load, Exchange, LoadHint, WriteHint, SameKey, ShowNone, ShowPair, SizeOf, MakeKey, MakePair, MakeTable, AddToShard, Done as Ask_done}
+use Rattle.papaya_ask.specs.declared.ask.Ask.TheVariants.{Load, Exchange, LoadHint, WriteHint, SameKey, ShowNone, ShowPair, SizeOf, MakeKey, MakeValue, MakePair, MakePairOf, MakeTable, AddToShard, Done as Ask_done}
 use Rattle.papaya_ask.specs.declared.ask.Answer.{Answer}
 use Rattle.papaya_ask.specs.declared.ask.Answer.TheVariants.{Word as Word_read, Exchanged, Found as Found_instead, Yes, Op, Size, Made as Made_number, Ok as Ok_done, Refused as Was_refused}
 use Rattle.papaya_call.specs.Answers.{Says, op_kind}
@@ -13,19 +13,19 @@ use Rattle.papaya_call.specs.declared.answers.Operation.{Operation}
 use Rattle.papaya_call.specs.declared.answers.Operation.TheVariants as ops
 use Rattle.papaya_ask.specs.declared.call.Task.{Task}
 use Rattle.papaya_ask.specs.declared.call.Task.TheVariants as tasks
-use Rattle.papaya_store.specs.declared.pairs.KeyOf.{KeyOf}
-use Rattle.papaya_store.specs.declared.pairs.KeyOf.TheVariants.{Own, Logged}
+use Rattle.papaya_store.specs.declared.pairs.Part.{Part}
+use Rattle.papaya_store.specs.declared.pairs.Part.TheVariants.{Own, Logged}
 use Rattle.papaya_store.specs.declared.pairs.Running.{Running}
+use Rattle.papaya_store.specs.Pairs.{brought_by, key_from, key_in, pair_with, value_at}
 use Rattle.papaya_store.specs.Tables.{Tables, hint_at, note, table_of, word_at, put}
 use Rattle.papaya_store.specs.Store.{StoreState, Stored, pair_of}
 
--- the key of a call under way
-abbrev pub key_at : {K : Type 0} → List K → KeyOf K → Option K
-key_at keys (Own k) = Some k
-key_at keys (Logged n) = slice_get keys n
-
+-- the key of a call under way, and its value, if it has one
 abbrev pub own_key : {K V S A : Type 0} → StoreState K V S → Running K V A → Option K
-own_key s r = key_at s.keys r.key
+own_key s r = key_in s.pairs r.key
+
+abbrev pub own_value : {K V S A : Type 0} → StoreState K V S → Running K V A → Option V
+own_value s r = value_at s.pairs r.value
 
 -- does the call's key compare as equal to the pair's, where both are there
 abbrev pub same_stored : {K V : Type 0} → (K → K → Bool) → K → Option (Stored K V) → Bool
@@ -46,13 +46,15 @@ abbrev pub Refuses : (most count : ℕ) → Answer → Type 0
 Refuses most count answer = (answer ≡ Was_refused Memory)
     ⊎ ((answer ≡ Was_refused Capacity) × (most ≤ count))
 
--- nothing is left to make: the key is in the log, or there is no value or no key in the log for a
--- pair; no machine asks for it then
-abbrev pub HasKey : {K V A : Type 0} → Answer → Running K V A → Type 0
-HasKey answer r = (answer ≡ Ok_done) × (n : ℕ) × (r.key ≡ Logged n)
-
+-- nothing is made where there is no value, or no pair of the number whose key is wanted; no machine
+-- asks for it then
 abbrev pub HasNoPair : {K V A : Type 0} → Answer → Running K V A → Type 0
-HasNoPair answer r = (answer ≡ Ok_done) × (((k : _) × (r.key ≡ Own k)) ⊎ (r.value ≡ None))
+HasNoPair answer r = (answer ≡ Ok_done) × (r.value ≡ None)
+
+abbrev pub HasNoPairOf : {K V S A : Type 0} → ℕ → Answer → StoreState K V S → Running K V A
+    → Type 0
+HasNoPairOf n answer s r = (answer ≡ Ok_done)
+    × ((r.value ≡ None) ⊎ (slice_get s.pairs n ≡ None))
 
 module _ {K V S : Type 0} where
   -- an exchange writes the new word where the old one stands, and else nothing
@@ -75,8 +77,8 @@ module _ {K V S : Type 0} where
       })
 
 -- the value of an insertion that a closure answered
-abbrev pub value_answered : {V : Type 0} → Operation V ℕ → Option V → Option V
-value_answered (ops.Insert v) before = Some v
+abbrev pub value_answered : {V : Type 0} → Operation V ℕ → Option (Part V) → Option (Part V)
+value_answered (ops.Insert v) before = Some (Own v)
 value_answered ops.Remove before = before
 value_answered (ops.Abort t) before = before
 
@@ -85,23 +87,36 @@ module _ {K V S A : Type 0} where
   abbrev pub Stays : StoreState K V S → Running K V A → StoreState K V S → Running K V A → Type 0
   Stays s r s' r' = (s' ≡ s) × (r' ≡ r)
 
-  -- the key goes to the end of the key log
-  abbrev pub LogsKey : Answer → StoreState K V S → Running K V A → StoreState K V S → Running K V A
+  -- Nothing is made for a key or a value by itself: it goes into the log with the first pair that
+  -- has it, and has no number before.
+  abbrev pub IsPutOff : Answer → StoreState K V S → Running K V A → StoreState K V S → Running K V A
       → Type 0
-  LogsKey answer s r s' r' =
-      (k : K) × (r.key ≡ Own k) × (answer ≡ Made_number (length s.keys))
-      × (length s.keys < MAX_LOG_LEN)
-      × (s' ≡ record s { keys = s.keys ++ k ∷ [] })
-      × (r' ≡ record r { key = Logged (length s.keys) })
+  IsPutOff answer s r s' r' = (answer ≡ Made_number 0) × Stays s r s' r'
 
-  -- the pair goes to the end of the pair log
-  abbrev pub LogsPair : Answer → StoreState K V S → Running K V A → StoreState K V S → Running K V A
-      → Type 0
-  LogsPair answer s r s' r' =
-      (n : ℕ) × (v : V) × (r.key ≡ Logged n) × (r.value ≡ Some v)
+  -- a pair of this key and the call's value goes to the end of the log, and the call knows both by
+  -- the numbers of the pairs that brought them
+  abbrev pub LogsPair : (key later : Part K) → Answer → StoreState K V S → Running K V A
+      → StoreState K V S → Running K V A → Type 0
+  LogsPair key later answer s r s' r' =
+      (value : Part V) × (r.value ≡ Some value)
       × (answer ≡ Made_number (length s.pairs)) × (length s.pairs < MAX_LOG_LEN)
-      × (s' ≡ record s { pairs = s.pairs ++ record { key = n; value = v } ∷ [] })
-      × (r' ≡ record r { value = None })
+      × (s' ≡ record s { pairs = s.pairs ++ pair_with key value ∷ [] })
+      × (r' ≡ record r {
+        key = later;
+        value = Some (Logged (brought_by (length s.pairs) value));
+      })
+
+  -- it is the call's own key
+  abbrev pub LogsOwn : Answer → StoreState K V S → Running K V A → StoreState K V S → Running K V A
+      → Type 0
+  LogsOwn answer s r s' r' =
+      LogsPair r.key (Logged (brought_by (length s.pairs) r.key)) answer s r s' r'
+
+  -- or that of the pair of this number: the pair that brought that one is named
+  abbrev pub LogsOf : ℕ → Answer → StoreState K V S → Running K V A → StoreState K V S
+      → Running K V A → Type 0
+  LogsOf n answer s r s' r' = (first : ℕ) × (key_from n (slice_get s.pairs n) ≡ Some first)
+      × LogsPair (Logged first) r.key answer s r s' r'
 
   -- nothing is answered where there is no closure, or no such pair; no machine asks then
   abbrev pub ShowsNothing : Answer → StoreState K V S → Running K V A → StoreState K V S
@@ -172,13 +187,17 @@ module _ {K V S A : Type 0} where
   Performs eq says refuse (SizeOf n) s r answer s' r' =
       (answer ≡ size_of (table_of s.words.tables n)) × Stays s r s' r'
   Performs eq says refuse MakeKey s r answer s' r' =
-      MakesOr refuse answer s r s' r'
-      ((Refuses MAX_LOG_LEN (length s.keys) answer × Stays s r s' r')
-      ⊎ (HasKey answer r × Stays s r s' r') ⊎ LogsKey answer s r s' r')
+      MakesOr refuse answer s r s' r' (IsPutOff answer s r s' r')
+  Performs eq says refuse MakeValue s r answer s' r' =
+      MakesOr refuse answer s r s' r' (IsPutOff answer s r s' r')
   Performs eq says refuse MakePair s r answer s' r' =
       MakesOr refuse answer s r s' r'
       ((Refuses MAX_LOG_LEN (length s.pairs) answer × Stays s r s' r')
-      ⊎ (HasNoPair answer r × Stays s r s' r') ⊎ LogsPair answer s r s' r')
+      ⊎ (HasNoPair answer r × Stays s r s' r') ⊎ LogsOwn answer s r s' r')
+  Performs eq says refuse (MakePairOf n) s r answer s' r' =
+      MakesOr refuse answer s r s' r'
+      ((Refuses MAX_LOG_LEN (length s.pairs) answer × Stays s r s' r')
+      ⊎ (HasNoPairOf n answer s r × Stays s r s' r') ⊎ LogsOf n answer s r s' r')
   Performs eq says refuse (MakeTable slots limit chunks) s r answer s' r' =
       MakesOr refuse answer s r s' r'
       (((Refuses MAX_TABLES (length s.words.tables) answer × (s' ≡ s))
@@ -190,6 +209,8 @@ module _ {K V S A : Type 0} where
 -- an ask for something to be made
 abbrev pub IsMake : Ask → Type 0
 IsMake MakeKey = Unit {0}
+IsMake MakeValue = Unit {0}
 IsMake MakePair = Unit {0}
+IsMake (MakePairOf n) = Unit {0}
 IsMake (MakeTable slots limit chunks) = Unit {0}
 IsMake _ = ⊥

@@ -2,13 +2,13 @@
 use Rattle.std.specs.Prelude.{◌≡◌, ℕ, List, Option, Some, None, slice_get}
 use Rattle.papaya_words.specs.Counter.{Count}
 use Rattle.papaya_store.specs.declared.pairs.Pair.{Pair}
+use Rattle.papaya_store.specs.Pairs.{key_in, key_part, value_in, value_part}
 use Rattle.papaya_store.specs.Tables.{Tables}
 
--- the words, the logs of keys and pairs, the count, and the hasher
+-- the words, the log of pairs, the count, and the hasher
 pub record StoreState (K V S : Type 0) : Type 0 where
   pub words : Tables
-  pub keys : List K
-  pub pairs : List (Pair V)
+  pub pairs : List (Pair K V)
   pub count : Count
   pub hasher : S
 
@@ -18,17 +18,20 @@ pub record Stored (K V : Type 0) : Type 0 where
   pub key : K
   pub value : V
 
-abbrev pub stored_at : {K V : Type 0} → ℕ → V → Option K → Option (Stored K V)
-stored_at n v None = None
-stored_at n v (Some k) = Some (record { number = n; key = k; value = v })
+abbrev pub stored_at : {K V : Type 0} → ℕ → Option K → Option V → Option (Stored K V)
+stored_at n (Some k) (Some v) = Some (record { number = n; key = k; value = v })
+stored_at n _ _ = None
 
-abbrev pub stored_in : {K V : Type 0} → List K → ℕ → Option (Pair V) → Option (Stored K V)
-stored_in keys n None = None
-stored_in keys n (Some p) = stored_at n p.value (slice_get keys p.key)
+-- A number means a key and a value: those that its pair brought, or those that the pairs brought
+-- which it names.
+abbrev pub stored_in : {K V : Type 0} → List (Pair K V) → ℕ → Option (Pair K V)
+    → Option (Stored K V)
+stored_in log n None = None
+stored_in log n (Some p) = stored_at n (key_in log (key_part p)) (value_in log (value_part p))
 
 -- the pair of a number
 abbrev pub pair_of : {K V S : Type 0} → StoreState K V S → ℕ → Option (Stored K V)
-pair_of s n = stored_in s.keys n (slice_get s.pairs n)
+pair_of s n = stored_in s.pairs n (slice_get s.pairs n)
 
 -- each pair of the one log stands in the other, under its number
 abbrev pub KeepsPairs : {K V S : Type 0} → StoreState K V S → StoreState K V S → Type 0

@@ -2,12 +2,14 @@
 use Rattle.std.specs.Prelude.{ℕ, ◌-◌, ◌==◌, if◌then◌else◌, List, Option, Some, None, slice_get, slice_index, slice_set, nat_lt, length}
 use Rattle.papaya_words.specs.Table.{TableWords, noted}
 use Rattle.papaya_ask.specs.declared.ask.At.{At}
-use Rattle.papaya_ask.specs.declared.ask.At.TheVariants.{Root, Next, Aborted, Done, Slot}
+use Rattle.papaya_ask.specs.declared.ask.At.TheVariants.{Root, Next, Aborted, Done, Slot, Made}
 
--- the number of the root table, or 0, and the tables, of which the first has number 1
+-- the number of the root table, or 0, the tables, of which the first has number 1, and how many
+-- numbers were taken for pairs
 pub record Tables : Type 0 where
   pub root : ℕ
   pub tables : List TableWords
+  pub made : ℕ
 
 abbrev pub table_of : List TableWords → ℕ → Option TableWords
 table_of tables n = if n == 0 then None else slice_get tables (n - 1)
@@ -24,6 +26,7 @@ word_at w (Next n) = word_in (λ t. t.next) (table_of w.tables n)
 word_at w (Aborted n) = word_in (λ t. t.aborted) (table_of w.tables n)
 word_at w (Done n chunk) = word_in (λ t. slice_index t.done chunk) (table_of w.tables n)
 word_at w (Slot n i) = word_in (λ t. slice_index t.slots i) (table_of w.tables n)
+word_at w Made = w.made
 
 -- a table after one of its words was written
 abbrev pub written : At → TableWords → ℕ → TableWords
@@ -34,6 +37,7 @@ written (Done n chunk) t word = if nat_lt chunk (length t.done)
     then record t { done = slice_set t.done chunk word } else t
 written (Slot n i) t word = if nat_lt i (length t.slots)
     then record t { slots = slice_set t.slots i word } else t
+written Made t word = t
 
 -- the tables after a word of the one at place k was written
 abbrev pub put_in : At → Option TableWords → List TableWords → ℕ → ℕ → List TableWords
@@ -51,6 +55,7 @@ put w (Next n) word = put_at (Next n) n w word
 put w (Aborted n) word = put_at (Aborted n) n w word
 put w (Done n chunk) word = put_at (Done n chunk) n w word
 put w (Slot n i) word = put_at (Slot n i) n w word
+put w Made word = record w { made = word }
 
 -- the hint of a slot of a table; 0 where there is no such slot
 abbrev pub slot_hint : TableWords → ℕ → ℕ

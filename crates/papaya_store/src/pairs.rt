@@ -1,26 +1,99 @@
 //! Pairs as they are logged, and calls under way.
+ghost use Rattle.std.specs.Prelude.{◌≡◌, ℕ, List, ◌++◌, length, Some};
+ghost use Rattle.papaya_ask.specs.declared.ask.Answer.{Answer};
+ghost use Rattle.papaya_store.specs.Pairs.{brought_by, key_part, pair_with};
+ghost use Rattle.papaya_store.specs.Performs.{LogsOf, LogsOwn, own_key, own_value};
+ghost use Rattle.papaya_store.specs.Store.{StoreState, Stored, pair_of};
+
 use papaya_chain::machine::Machine;
 
-/// A pair: the number of its key in the key log, and its value.
+/// A pair as it is logged. What an earlier pair brought is not logged again: the pair names that
+/// one, which has it of its own.
+///
+/// It is one enum of the four kinds, not two parts, since it takes one tag so.
 #[derive(Drop)]
-pub struct Pair<V> {
-    pub key: usize,
-    pub value: V,
+pub enum Pair<K, V> {
+    /// It brought its key and its value.
+    Own(K, V),
+    /// It brought its value. The pair of this number brought its key.
+    Keyed(usize, V),
+    /// It brought its key. The pair of this number brought its value.
+    Lent(K, usize),
+    /// The pair of the first number brought its key, and that of the second its value.
+    Both(usize, usize),
 }
 
-/// The key of a call: as it was handed in, or its number in the key log.
+/// The key or the value of a call: as it was handed in or answered, or, once it is logged, the
+/// number of the pair that brought it.
 #[derive(Drop)]
-pub enum KeyOf<K> {
-    Own(K),
+pub enum Part<T> {
+    Own(T),
     Logged(usize),
 }
 
-/// A call under way: its machine, and what it was handed and has not logged yet.
+/// A call under way: its machine, and the key and the value that it makes pairs of.
 #[derive(Drop)]
 pub struct Running<K, V, A> {
     pub machine: Machine,
-    pub key: KeyOf<K>,
-    pub value: Option<V>,
+    pub key: Part<K>,
+    pub value: Option<Part<V>>,
     /// The answers that its closure has yet to give.
     pub answers: Option<A>,
 }
+
+impl<T> Part<T> {
+    /// What pair `n` is to be logged with, and what the call has of it from then on.
+    #[inline(always)]
+    pub(crate) fn lend(self, n: usize) -> (Part<T>, Part<T>)
+        ensures { result ≡ (self, Part.Logged (brought_by n self)) }
+    {
+        match self {
+            Part::Own(part) => (Part::Own(part), Part::Logged(n)),
+            Part::Logged(first) => (Part::Logged(first), Part::Logged(first)),
+        }
+    }
+}
+
+impl<K, V> Pair<K, V> {
+    /// A pair of this key and this value.
+    #[inline(always)]
+    pub(crate) fn of(key: Part<K>, value: Part<V>) -> Pair<K, V>
+        ensures { result ≡ pair_with key value }
+    {
+        match (key, value) {
+            (Part::Own(key), Part::Own(value)) => Pair::Own(key, value),
+            (Part::Logged(first), Part::Own(value)) => Pair::Keyed(first, value),
+            (Part::Own(key), Part::Logged(first)) => Pair::Lent(key, first),
+            (Part::Logged(first), Part::Logged(second)) => Pair::Both(first, second),
+        }
+    }
+
+    /// The number of the pair that brought the key, where this is pair `n`.
+    #[inline(always)]
+    pub(crate) fn key_from(&self, n: usize) -> usize
+        ensures { result ≡ brought_by n (key_part self.now) }
+    {
+        match self {
+            Pair::Own(..) | Pair::Lent(..) => n,
+            Pair::Keyed(first, _) | Pair::Both(first, _) => *first,
+        }
+    }
+}
+
+/// What the numbers of pairs mean. A pair that is logged for a call has the call's key, or that of
+/// the pair that was named, and the call's value; the call has both from then on too. And a number
+/// means the same in each longer log. The function does nothing: its contract is the law.
+pub fn numbers_mean<K, V, S, A>()
+    ensures stays { (s : StoreState K V S) (more : List (Pair K V)) (n : ℕ) (p : Stored K V)
+        → pair_of s n ≡ Some p → pair_of (record s { pairs = s.pairs ++ more }) n ≡ Some p }
+    ensures own { (s s' : StoreState K V S) (r r' : Running K V A) (a : Answer) (k : K) (v : V)
+        → own_key s r ≡ Some k → own_value s r ≡ Some v → LogsOwn a s r s' r'
+        → (pair_of s' (length s.pairs)
+        ≡ Some (record { number = length s.pairs; key = k; value = v }))
+        × (own_key s' r' ≡ Some k) × (own_value s' r' ≡ Some v) }
+    ensures of { (s s' : StoreState K V S) (r r' : Running K V A) (a : Answer) (k : K) (n : ℕ)
+        (p : Stored K V) (v : V) → own_key s r ≡ Some k → pair_of s n ≡ Some p
+        → own_value s r ≡ Some v → LogsOf n a s r s' r' → (pair_of s' (length s.pairs)
+        ≡ Some (record { number = length s.pairs; key = p.key; value = v }))
+        × (own_key s' r' ≡ Some k) × (own_value s' r' ≡ Some v) }
+{}

@@ -1,5 +1,5 @@
-//! What the machines of all callers ask about: the words of the tables, the logs of keys and pairs,
-//! and the count.
+//! What the machines of all callers ask about: the words of the tables, the log of pairs, how many
+//! numbers were taken for them, and the count.
 ghost use Rattle.std.specs.Prelude.{◌≡◌, ℤ, ◌+◌, ◌-◌, ◌<◌, ◌^◌, ◌⊎◌, [], ◌∷◌, ◌++◌, ◌+ℤ◌, length};
 ghost use Rattle.std.specs.Prelude.{vec_len, vec_capacity, Some, None, FitsSigned, MatchOption};
 ghost use Rattle.std.specs.Prelude.{OnOk, IfOk, IfErr, ◌*◌, ◌≤◌, slice_get};
@@ -15,14 +15,15 @@ ghost use Rattle.papaya_keys.specs.Sizes.{IsAllowed};
 ghost use Rattle.papaya_keys.specs.Sizes.{IsTooMuch};
 ghost use Rattle.papaya_store.specs.Tables.{table_of, word_at, put, put_in, written};
 ghost use Rattle.papaya_store.specs.Tables.{hint_at, hint_in, hinted, note};
-ghost use Rattle.papaya_store.specs.Store.{pair_of};
+ghost use Rattle.papaya_store.specs.Pairs.{brought_by, key_brought, key_in, pair_with, value_brought};
+ghost use Rattle.papaya_store.specs.Store.{pair_of, stored_in};
 ghost use Rattle.papaya_keys.specs.Hashes.{hash_of};
 ghost use Rattle.papaya_store.specs.Performs.{Exchanges, size_of, Performs, IsMake, Judges};
 ghost use Rattle.papaya_store.specs.Performs.{DecidesPair, DecidesNone, ShowsPair, value_answered};
-ghost use Rattle.papaya_store.specs.Performs.{Stays, Refuses, LogsKey, LogsPair, MakesTable};
-ghost use Rattle.papaya_store.specs.Performs.{HasKey, HasNoPair, key_at, same};
+ghost use Rattle.papaya_store.specs.Performs.{Stays, Refuses, LogsOf, LogsOwn, MakesTable};
+ghost use Rattle.papaya_store.specs.Performs.{HasNoPair, HasNoPairOf, IsPutOff, same};
 
-use crate::pairs::{KeyOf, Pair, Running};
+use crate::pairs::{Pair, Part, Running};
 use papaya_ask::ask::{Answer, Ask, At, OpKind};
 use papaya_ask::call::Task;
 use papaya_call::answers::{Answers, Operation};
@@ -52,7 +53,7 @@ fn write_in(table: &mut Table, at: At, word: u64)
     ensures { table.new ≡ written at table.old word }
 {
     match at {
-        At::Root => {}
+        At::Root | At::Made => {}
         At::Next(_) => table.set_next(word),
         At::Aborted(_) => table.set_aborted(word),
         At::Done(_, chunk) => {
@@ -97,14 +98,51 @@ fn push_within<T: Drop>(items: &mut Vec<T>, item: T)
     let _ = items.push(item);
 }
 
+/// The number of the next item of a log, for which there is room then.
+#[inline(always)]
+fn next_in<T: Drop>(items: &mut Vec<T>) -> Result<usize, Refused>
+    ensures same { items.new.items ≡ items.old.items }
+    ensures ok { IfOk result (λ n. (n ≡ length items.old.items) × (n < MAX_LOG_LEN)) }
+    ensures room { OnOk result (vec_len items.new < vec_capacity items.new) }
+    ensures err { IfErr result (λ e. Refuses MAX_LOG_LEN (length items.old.items)
+        (Answer.Refused e)) }
+{
+    let n = items.len();
+    if n >= MAX_LOG_LEN {
+        return Err(Refused::Capacity);
+    }
+    match items.reserve(1) {
+        Ok(()) => Ok(n),
+        Err(_) => Err(Refused::Memory),
+    }
+}
+
+/// Logs a pair of this key and this value, for which there is room, at its number: what the call
+/// has of the value from then on.
+#[inline(always)]
+fn log_pair<K: Drop, V: Drop>(
+    pairs: &mut Vec<Pair<K, V>>,
+    n: usize,
+    key: Part<K>,
+    value: Part<V>,
+) -> Part<V>
+    requires { vec_len pairs.old < vec_capacity pairs.old }
+    ensures logs { pairs.new.items ≡ pairs.old.items ++ pair_with key value ∷ [] }
+    ensures left { result ≡ Part.Logged (brought_by n value) }
+{
+    let (value, left) = value.lend(n);
+    push_within(pairs, Pair::of(key, value));
+    left
+}
+
 /// Keeps the value of an insertion that a closure answered, until a pair is made of it.
-fn keep_value<V: Drop>(operation: Operation<V, u64>, value: &mut Option<V>) -> Answer
+fn keep_value<V: Drop>(operation: Operation<V, u64>, value: &mut Option<Part<V>>) -> Answer
     ensures answer { result ≡ Answer.Op (op_kind operation) }
     ensures value { value.new ≡ value_answered operation value.old }
 {
     match operation {
         Operation::Insert(answered) => {
-            *value = Some(answered);
+            *value = Some(Part::Own(answered));
             Answer::Op(OpKind::Insert)
         }
         Operation::Remove => Answer::Op(OpKind::Remove),
@@ -117,8 +155,8 @@ fn keep_value<V: Drop>(operation: Operation<V, u64>, value: &mut Option<V>) -> A
 pub struct Store<K: Hash + Eq, V, S: BuildHasher> {
     root: u64,
     tables: Vec<Table>,
-    keys: Vec<K>,
-    pairs: Vec<Pair<V>>,
+    pairs: Vec<Pair<K, V>>,
+    made: u64,
     counter: Counter,
     hasher: S,
 }
@@ -129,8 +167,7 @@ impl<K: Hash + Eq, V, S: BuildHasher> Model for Store<K, V, S> {
     ghost Value = { StoreState K V S };
 
     ghost view = { λ s. record {
-      words = record { root = s.root; tables = s.tables.items };
-      keys = s.keys.items;
+      words = record { root = s.root; tables = s.tables.items; made = s.made };
       pairs = s.pairs.items;
       count = s.counter;
       hasher = s.hasher;
@@ -141,8 +178,7 @@ impl<K: Hash + Eq, V, S: BuildHasher> Store<K, V, S> {
     /// No words and no pairs.
     fn new(alloc: Global, counter: Counter, hasher: S) -> Store<K, V, S>
         ensures { result ≡ record {
-          words = record { root = 0; tables = [] };
-          keys = [];
+          words = record { root = 0; tables = []; made = 0 };
           pairs = [];
           count = counter;
           hasher = hasher;
@@ -151,8 +187,8 @@ impl<K: Hash + Eq, V, S: BuildHasher> Store<K, V, S> {
         Store {
             root: 0,
             tables: Vec::new(alloc),
-            keys: Vec::new(alloc),
             pairs: Vec::new(alloc),
+            made: 0,
             counter,
             hasher,
         }
@@ -180,9 +216,54 @@ impl<K: Hash + Eq, V, S: BuildHasher> Store<K, V, S> {
               value = p.1.now;
             })) }
     {
-        let pair = self.pairs.get(n as usize)?;
-        let key = self.keys.get(pair.key)?;
-        Some((key, &pair.value))
+        match self.pairs.get(n as usize)? {
+            Pair::Own(key, value) => Some((key, value)),
+            pair => self.named(n as usize, pair),
+        }
+    }
+
+    /// The key and the value of pair `n`, which does not have both of its own.
+    #[inline(never)]
+    fn named<'a>(&'a self, n: usize, pair: &'a Pair<K, V>) -> Option<(&'a K, &'a V)>
+        ensures { MatchOption result (stored_in self.now.pairs n (Some pair.now) ≡ None)
+            (λ p. stored_in self.now.pairs n (Some pair.now) ≡ Some (record {
+              number = n;
+              key = p.0.now;
+              value = p.1.now;
+            })) }
+    {
+        match pair {
+            Pair::Own(key, value) => Some((key, value)),
+            Pair::Keyed(first, value) => Some((self.key_brought(*first)?, value)),
+            Pair::Lent(key, first) => Some((key, self.value_brought(*first)?)),
+            Pair::Both(first, second) => {
+                let key = self.key_brought(*first)?;
+                Some((key, self.value_brought(*second)?))
+            }
+        }
+    }
+
+    /// The key that pair `n` brought, where it brought one.
+    #[inline(always)]
+    fn key_brought(&self, n: usize) -> Option<&K>
+        ensures { MatchOption result (key_brought (slice_get self.now.pairs n) ≡ None)
+            (λ key. key_brought (slice_get self.now.pairs n) ≡ Some key.now) }
+    {
+        match self.pairs.get(n)? {
+            Pair::Own(key, _) | Pair::Lent(key, _) => Some(key),
+            Pair::Keyed(..) | Pair::Both(..) => None,
+        }
+    }
+
+    /// The value that pair `n` brought, where it brought one.
+    fn value_brought(&self, n: usize) -> Option<&V>
+        ensures { MatchOption result (value_brought (slice_get self.now.pairs n) ≡ None)
+            (λ value. value_brought (slice_get self.now.pairs n) ≡ Some value.now) }
+    {
+        match self.pairs.get(n)? {
+            Pair::Own(_, value) | Pair::Keyed(_, value) => Some(value),
+            Pair::Lent(..) | Pair::Both(..) => None,
+        }
     }
 
     /// A table by its number.
@@ -260,6 +341,7 @@ impl<K: Hash + Eq, V, S: BuildHasher> Store<K, V, S> {
                 Some(table) if i < table.len() => table.slot(i),
                 _ => 0,
             },
+            At::Made => self.made,
         }
     }
 
@@ -279,6 +361,10 @@ impl<K: Hash + Eq, V, S: BuildHasher> Store<K, V, S> {
         let n = match at {
             At::Root => {
                 self.root = word;
+                return;
+            }
+            At::Made => {
+                self.made = word;
                 return;
             }
             At::Next(n) | At::Aborted(n) | At::Done(n, _) | At::Slot(n, _) => n,
@@ -326,16 +412,16 @@ impl<K: Hash + Eq, V, S: BuildHasher> Store<K, V, S> {
 
     /// Has pair `n` a key that equals the call's?
     #[inline(always)]
-    fn same_key(&self, n: u64, key: &KeyOf<K>) -> bool
-        ensures { result ≡ same K.eq (key_at self.now.keys key.now) (pair_of self.now n) }
+    fn same_key(&self, n: u64, key: &Part<K>) -> bool
+        ensures { result ≡ same K.eq (key_in self.now.pairs key.now) (pair_of self.now n) }
     {
         let found = match self.pair(n) {
             Some((found, _)) => found,
             None => return false,
         };
         match key {
-            KeyOf::Own(key) => *key == *found,
-            KeyOf::Logged(at) => match self.keys.get(*at) {
+            Part::Own(key) => *key == *found,
+            Part::Logged(first) => match self.key_brought(*first) {
                 Some(key) => *key == *found,
                 None => false,
             },
@@ -379,7 +465,7 @@ impl<K: Hash + Eq + Drop, V: Drop, S: BuildHasher + Drop> Store<K, V, S> {
 
     /// Makes the first table where there is a capacity, for this length, and opens it.
     fn open(&mut self, alloc: Global, capacity: usize, initial: usize) -> Result<(), Refused>
-        requires { self.old.words ≡ record { root = 0; tables = [] } }
+        requires { self.old.words ≡ record { root = 0; tables = []; made = 0 } }
         ensures ok { OnOk result (HasCapacity capacity initial self.new.words
             × (self.new ≡ record self.old { words = self.new.words })) }
         ensures err { IfErr result (λ e. e ≡ Refused.Memory) }
@@ -400,70 +486,63 @@ impl<K: Hash + Eq + Drop, V: Drop, S: BuildHasher + Drop> Store<K, V, S> {
 impl<K: Hash + Eq + Drop, V: Drop, S: BuildHasher> Store<K, V, S> {
     /// Lets all tables go, and all that is logged. The count stays as it is.
     pub fn clear(&mut self, alloc: Global)
-        ensures words { self.new.words ≡ record { root = 0; tables = [] } }
-        ensures keys { self.new.keys ≡ [] }
+        ensures words { self.new.words ≡ record { root = 0; tables = []; made = 0 } }
         ensures pairs { self.new.pairs ≡ [] }
         ensures hasher { self.new.hasher ≡ self.old.hasher }
         ensures count { self.new.count ≡ self.old.count }
     {
         self.root = 0;
         self.tables = Vec::new(alloc);
-        self.keys = Vec::new(alloc);
         self.pairs = Vec::new(alloc);
+        self.made = 0;
     }
 
-    /// Logs the key of a call, once.
-    #[inline(always)]
-    fn make_key<A>(&mut self, running: &mut Running<K, V, A>) -> Answer
-        ensures machine { running.new.machine ≡ running.old.machine }
-        ensures makes { (Refuses MAX_LOG_LEN (length self.old.keys) result
-            × Stays self.old running.old self.new running.new)
-            ⊎ (HasKey result running.old × Stays self.old running.old self.new running.new)
-            ⊎ LogsKey result self.old running.old self.new running.new }
-    {
-        if let KeyOf::Logged(_) = running.key {
-            return Answer::Ok;
-        }
-        let n = self.keys.len();
-        if n >= MAX_LOG_LEN {
-            return Answer::Refused(Refused::Capacity);
-        }
-        if self.keys.reserve(1).is_err() {
-            return Answer::Refused(Refused::Memory);
-        }
-        if let KeyOf::Own(key) = mem::replace(&mut running.key, KeyOf::Logged(n)) {
-            push_within(&mut self.keys, key);
-        }
-        Answer::Made(n as u64)
-    }
-
-    /// Logs a pair of the call's key, which is logged, and its value.
+    /// Logs a pair of the call's key and its value, of which each goes into the log once.
     #[inline(always)]
     fn make_pair<A>(&mut self, running: &mut Running<K, V, A>) -> Answer
         ensures machine { running.new.machine ≡ running.old.machine }
         ensures makes { (Refuses MAX_LOG_LEN (length self.old.pairs) result
             × Stays self.old running.old self.new running.new)
             ⊎ (HasNoPair result running.old × Stays self.old running.old self.new running.new)
-            ⊎ LogsPair result self.old running.old self.new running.new }
+            ⊎ LogsOwn result self.old running.old self.new running.new }
     {
-        let key = match running.key {
-            KeyOf::Own(_) => return Answer::Ok,
-            KeyOf::Logged(key) => key,
+        let n = match next_in(&mut self.pairs) {
+            Ok(n) => n,
+            Err(refused) => return Answer::Refused(refused),
         };
-        let n = self.pairs.len();
-        if n >= MAX_LOG_LEN {
-            return Answer::Refused(Refused::Capacity);
-        }
-        if self.pairs.reserve(1).is_err() {
-            return Answer::Refused(Refused::Memory);
-        }
-        match running.value.take() {
-            None => Answer::Ok,
-            Some(value) => {
-                push_within(&mut self.pairs, Pair { key, value });
-                Answer::Made(n as u64)
-            }
-        }
+        let Some(value) = running.value.take() else {
+            return Answer::Ok;
+        };
+        let (key, left) = mem::replace(&mut running.key, Part::Logged(n)).lend(n);
+        running.key = left;
+        running.value = Some(log_pair(&mut self.pairs, n, key, value));
+        Answer::Made(n as u64)
+    }
+
+    /// Logs a pair of the key of pair `of` and the call's value. It names the pair that brought
+    /// that key, so that a lookup goes one step for it, however often it was replaced.
+    #[inline(always)]
+    fn make_pair_of<A>(&mut self, of: u64, running: &mut Running<K, V, A>) -> Answer
+        ensures machine { running.new.machine ≡ running.old.machine }
+        ensures makes { (Refuses MAX_LOG_LEN (length self.old.pairs) result
+            × Stays self.old running.old self.new running.new)
+            ⊎ (HasNoPairOf of result self.old running.old
+            × Stays self.old running.old self.new running.new)
+            ⊎ LogsOf of result self.old running.old self.new running.new }
+    {
+        let n = match next_in(&mut self.pairs) {
+            Ok(n) => n,
+            Err(refused) => return Answer::Refused(refused),
+        };
+        let Some(pair) = self.pairs.get(of as usize) else {
+            return Answer::Ok;
+        };
+        let first = pair.key_from(of as usize);
+        let Some(value) = running.value.take() else {
+            return Answer::Ok;
+        };
+        running.value = Some(log_pair(&mut self.pairs, n, Part::Logged(first), value));
+        Answer::Made(n as u64)
     }
 
     /// Makes a table of empty slots, to which a table of so many chunks is copied.
@@ -577,8 +656,10 @@ impl<K: Hash + Eq + Drop, V: Drop, S: BuildHasher> Store<K, V, S> {
             return Answer::Refused(Refused::Memory);
         }
         match ask {
-            Ask::MakeKey => self.make_key(running),
+            // What a call has goes into the log with its first pair.
+            Ask::MakeKey | Ask::MakeValue => Answer::Made(0),
             Ask::MakePair => self.make_pair(running),
+            Ask::MakePairOf(n) => self.make_pair_of(n, running),
             Ask::MakeTable { len, limit, chunks } => self.make_table(alloc, len, limit, chunks),
             _ => unreachable!(),
         }
@@ -612,9 +693,11 @@ impl<K: Hash + Eq + Drop, V: Drop, S: BuildHasher> Store<K, V, S> {
             Ask::ShowNone => self.decide_none(running),
             Ask::ShowPair(n) => self.show(n, running),
             Ask::SizeOf(n) => self.size_of(n),
-            Ask::MakeKey | Ask::MakePair | Ask::MakeTable { .. } => {
-                self.make(alloc, running, ask, refuse)
-            }
+            Ask::MakeKey
+            | Ask::MakeValue
+            | Ask::MakePair
+            | Ask::MakePairOf(_)
+            | Ask::MakeTable { .. } => self.make(alloc, running, ask, refuse),
             Ask::AddToShard(by) => {
                 self.add_to_shard(caller, by);
                 Answer::Ok

@@ -4,7 +4,7 @@ use Rattle.std.proofs.lemmas.Bool.{cond-true}
 use Rattle.papaya_law.specs.Allows.{Allows, AllAllowed}
 use Rattle.papaya_law.specs.Class.{IsBase, IsOn}
 use Rattle.papaya_law.specs.Code.{kind}
-use Rattle.papaya_law.specs.Exchange.{Word, Live, Marked, Copied, Buried, Closed, Setting, State, Exchange, Open, Claim, Replace, Bury, Link, Mark, Close, Place, Finish, Advance, Promote, Abort, after, run}
+use Rattle.papaya_law.specs.Exchange.{Word, Live, Marked, Copied, Buried, Closed, Setting, State, Exchange, Open, Claim, Replace, Bury, Link, Mark, Close, Place, Finish, Advance, Promote, Abort, Take, after, run}
 use Rattle.papaya_law.specs.Invariant.{IsKeeping, named}
 use Rattle.papaya_law.specs.Later.{Becomes}
 use Rattle.papaya_law.specs.Meaning.{IsLawful}
@@ -59,6 +59,7 @@ change_out key p (Finish t x q) out = absurd out
 change_out key p (Advance n c) out = absurd out
 change_out key p (Promote t n) out = absurd out
 change_out key p (Abort n) out = absurd out
+change_out key p (Take n) out = absurd out
 
 module _ {P : Type 0} (e : Exchange P) (fs : List (Exchange P)) (p : P) where
   -- a pair is taken out by the first of the exchanges, or by a later one
@@ -76,6 +77,7 @@ module _ {K P : Type 0} (g : Setting K P) (law : IsLawful g) where
   one s t x p (Advance n c) may live = inl live
   one s t x p (Promote u n) may live = inl live
   one s t x p (Abort n) may live = inl live
+  one s t x p (Take n) may live = inl live
   one s t x p (Claim u y q) may live = ⊎_elim (λ h. inl (h.0 ∙ live)) (λ h. absurd (let a = h.0 in let b = h.1 in let m = may.empty in cc (a, b, m, live))) (slot_cases s u y (Live q) t x)
   one s t x p (Close u y) may live = ⊎_elim (λ h. inl (h.0 ∙ live)) (λ h. absurd (let a = h.0 in let b = h.1 in let m = may.empty in cc (a, b, m, live))) (slot_cases s u y Closed t x)
   one s t x p (Place u y q) may live = ⊎_elim (λ h. inl (h.0 ∙ live)) (λ h. absurd (let a = h.0 in let b = h.1 in let m = may.empty in cc (a, b, m, live))) (slot_cases s u y (Live q) t x)

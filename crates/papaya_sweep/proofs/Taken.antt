@@ -8,7 +8,7 @@ use Rattle.papaya_words.specs.Word.{buried_word, kind_of, pair_of}
 use Rattle.papaya_words.specs.declared.word.Kind.{Kind}
 use Rattle.papaya_words.specs.declared.word.Kind.TheVariants as kinds
 use Rattle.papaya_ask.specs.declared.ask.At.{At}
-use Rattle.papaya_ask.specs.declared.ask.At.TheVariants.{Root, Next, Aborted, Done, Slot}
+use Rattle.papaya_ask.specs.declared.ask.At.TheVariants.{Root, Next, Aborted, Done, Slot, Made as Made_word}
 use Rattle.papaya_ask.specs.declared.ask.StepKind.TheVariants as steps_of_kind
 use Rattle.papaya_call.specs.Remove.{grave_word}
 use Rattle.papaya_law.specs.Allows.{AllAllowed}
@@ -76,6 +76,7 @@ slot_written g c s t x w = record { here = ap (code g c) (put_there s t x w t x 
     others (Next u) different = refl
     others (Aborted u) different = refl
     others (Done u chunk) different = refl
+    others Made_word different = refl
     others (Slot u y) different = ap (code g c) (put_elsewhere s t x w u y (λ e. different (ap (λ a. Slot a y) (sym e.0) ∙ ap (Slot t) (sym e.1))))
 
 -- a buried pair's word is the code of its Buried word

@@ -1,6 +1,5 @@
 -- A call as it begins: on one key, to resize the map, or to visit a table.
-use Rattle.std.proofs.Common.{◌≡◌, ℕ, None, Some, true, false, refl, sym, ◌∙◌, ap}
-use Rattle.papaya_words.specs.declared.probe.ResizeMode.{ResizeMode}
+use Rattle.std.proofs.Common.{rules, ◌≡◌, ℕ, List, Option, None, Some, true, false, refl, sym, ◌∙◌, ap}
 use Rattle.papaya_ask.specs.declared.call.Call.{Call}
 use Rattle.papaya_ask.specs.declared.call.Call.TheVariants.{Get, Insert, TryInsert, RemoveIf, Compute, Reserve, CopyAll, Clear, Retain, Walk}
 use Rattle.papaya_ask.specs.declared.call.Task.{Task}
@@ -12,7 +11,7 @@ use Rattle.papaya_chain.specs.Resizer as resizer
 use Rattle.papaya_store.specs.declared.pairs.Running.{Running}
 use Rattle.papaya_timeline.specs.declared.seat.Work.{Work}
 use Rattle.papaya_timeline.specs.declared.seat.Work.TheVariants as works
-use Rattle.papaya_timeline.specs.Begins.{answers_of_call, begun, begun_work, task_of_call, value_of_call, visitor_begun}
+use Rattle.papaya_timeline.specs.Begins.{answers_of_call, begun, begun_work, handed, task_of_call, value_of_call, visitor_begun}
 use Rattle.papaya_timeline.specs.Callers.{call_in, resizer_in, visitor_in}
 use Rattle.papaya_timeline.specs.Kept.{HasAnswers}
 use Rattle.papaya_timeline.specs.Maps.{key_of}
@@ -20,6 +19,14 @@ use Rattle.papaya_chain.specs.declared.visitor.Visit.{Visit}
 use Rattle.papaya_chain.specs.declared.visitor.Visit.TheVariants as visits
 use Rattle.papaya_store.specs.declared.visits.Visiting.{Visiting}
 use Rattle.papaya_timeline.proofs.CallersLemmas.{same_item}
+use Rattle.papaya_store.specs.declared.mode.Mode.{Mode}
+use Rattle.papaya_words.specs.declared.probe.ResizeMode.{ResizeMode}
+use Rattle.papaya_call.specs.Machine as calls
+use Rattle.papaya_rests.specs.Says.{Said, StandsOn}
+use Rattle.papaya_store.specs.declared.pairs.Pair.{Pair}
+use Rattle.papaya_store.specs.declared.pairs.Part.{Part}
+use Rattle.papaya_store.specs.declared.pairs.Part.TheVariants.{Own}
+use Rattle.papaya_store.specs.Pairs.{value_in}
 
 -- the task of a call on a key; one on no key looks for nothing
 abbrev pub the_task : {K V A : Type 0} → Call K V A → Task
@@ -47,7 +54,7 @@ task_is_own Clear task e = let f : None ≡ Some task = e in absurd cc
 task_is_own (Retain a) task e = let f : None ≡ Some task = e in absurd cc
 task_is_own Walk task e = let f : None ≡ Some task = e in absurd cc
 
-module _ {K V A : Type 0} (hash : K → ℕ) (mode : ResizeMode) (initial number : ℕ) where
+module _ {K V A : Type 0} (hash : K → ℕ) (mode : Mode) (initial number : ℕ) where
   -- a call on a key
   pub record IsBegun (call : Call K V A) (r : Running K V A) : Type 0 where
     pub key : K
@@ -60,14 +67,14 @@ module _ {K V A : Type 0} (hash : K → ℕ) (mode : ResizeMode) (initial number
   pub record IsResizeBegun (call : Call K V A) (z : Resizer) : Type 0 where
     pub resize : Resize
     pub no_key : key_of call ≡ None
-    pub is : z ≡ resizer.begun resize mode initial number
+    pub is : z ≡ resizer.begun resize mode.resize initial number
 
   -- a call that visits a table
   pub record IsVisitBegun (call : Call K V A) (v : Visiting A) : Type 0 where
     pub visit : Visit
     pub no_key : key_of call ≡ None
     pub has : HasAnswers visit (answers_of_call call)
-    pub is : v ≡ visitor_begun mode initial number visit (answers_of_call call)
+    pub is : v ≡ visitor_begun mode.resize initial number visit (answers_of_call call)
 
   -- what was put into a seat is what it is
   same_call : (q r : Running K V A) (w : Work K V A) → w ≡ works.Call q → w ≡ works.Call r → r ≡ q
@@ -103,11 +110,11 @@ module _ {K V A : Type 0} (hash : K → ℕ) (mode : ResizeMode) (initial number
   call_begun (TryInsert k v) r e = record { key = k; task = tasks.Insert false; key_is = refl; task_is = refl; is = same_call (begun hash mode initial number (tasks.Insert false) k (Some v) None) r _ refl e }
   call_begun (RemoveIf k a) r e = record { key = k; task = tasks.RemoveIf; key_is = refl; task_is = refl; is = same_call (begun hash mode initial number tasks.RemoveIf k None (Some a)) r _ refl e }
   call_begun (Compute k a) r e = record { key = k; task = tasks.Compute; key_is = refl; task_is = refl; is = same_call (begun hash mode initial number tasks.Compute k None (Some a)) r _ refl e }
-  call_begun (Reserve more) r e = absurd (no_call (resizer.begun (resizes.Reserve more) mode initial number) r _ refl e)
-  call_begun CopyAll r e = absurd (no_call (resizer.begun resizes.CopyAll mode initial number) r _ refl e)
-  call_begun Clear r e = absurd (call_not_visit (visitor_begun mode initial number visits.Clear None) r _ refl e)
-  call_begun (Retain a) r e = absurd (call_not_visit (visitor_begun mode initial number visits.Retain (Some a)) r _ refl e)
-  call_begun Walk r e = absurd (call_not_visit (visitor_begun mode initial number visits.Walk None) r _ refl e)
+  call_begun (Reserve more) r e = absurd (no_call (resizer.begun (resizes.Reserve more) mode.resize initial number) r _ refl e)
+  call_begun CopyAll r e = absurd (no_call (resizer.begun resizes.CopyAll mode.resize initial number) r _ refl e)
+  call_begun Clear r e = absurd (call_not_visit (visitor_begun mode.resize initial number visits.Clear None) r _ refl e)
+  call_begun (Retain a) r e = absurd (call_not_visit (visitor_begun mode.resize initial number visits.Retain (Some a)) r _ refl e)
+  call_begun Walk r e = absurd (call_not_visit (visitor_begun mode.resize initial number visits.Walk None) r _ refl e)
 
   pub resizer_begun_is : (call : Call K V A) (z : Resizer) → begun_work hash mode initial number call ≡ works.Resize z → IsResizeBegun call z
   resizer_begun_is (Get k) z e = absurd (no_resizer (begun hash mode initial number tasks.Get k None None) z _ refl e)
@@ -115,11 +122,11 @@ module _ {K V A : Type 0} (hash : K → ℕ) (mode : ResizeMode) (initial number
   resizer_begun_is (TryInsert k v) z e = absurd (no_resizer (begun hash mode initial number (tasks.Insert false) k (Some v) None) z _ refl e)
   resizer_begun_is (RemoveIf k a) z e = absurd (no_resizer (begun hash mode initial number tasks.RemoveIf k None (Some a)) z _ refl e)
   resizer_begun_is (Compute k a) z e = absurd (no_resizer (begun hash mode initial number tasks.Compute k None (Some a)) z _ refl e)
-  resizer_begun_is (Reserve more) z e = record { resize = resizes.Reserve more; no_key = refl; is = same_resizer (resizer.begun (resizes.Reserve more) mode initial number) z _ refl e }
-  resizer_begun_is CopyAll z e = record { resize = resizes.CopyAll; no_key = refl; is = same_resizer (resizer.begun resizes.CopyAll mode initial number) z _ refl e }
-  resizer_begun_is Clear z e = absurd (resizer_not_visit (visitor_begun mode initial number visits.Clear None) z _ refl e)
-  resizer_begun_is (Retain a) z e = absurd (resizer_not_visit (visitor_begun mode initial number visits.Retain (Some a)) z _ refl e)
-  resizer_begun_is Walk z e = absurd (resizer_not_visit (visitor_begun mode initial number visits.Walk None) z _ refl e)
+  resizer_begun_is (Reserve more) z e = record { resize = resizes.Reserve more; no_key = refl; is = same_resizer (resizer.begun (resizes.Reserve more) mode.resize initial number) z _ refl e }
+  resizer_begun_is CopyAll z e = record { resize = resizes.CopyAll; no_key = refl; is = same_resizer (resizer.begun resizes.CopyAll mode.resize initial number) z _ refl e }
+  resizer_begun_is Clear z e = absurd (resizer_not_visit (visitor_begun mode.resize initial number visits.Clear None) z _ refl e)
+  resizer_begun_is (Retain a) z e = absurd (resizer_not_visit (visitor_begun mode.resize initial number visits.Retain (Some a)) z _ refl e)
+  resizer_begun_is Walk z e = absurd (resizer_not_visit (visitor_begun mode.resize initial number visits.Walk None) z _ refl e)
 
   pub visitor_begun_is : (call : Call K V A) (v : Visiting A) → begun_work hash mode initial number call ≡ works.Visit v → IsVisitBegun call v
   visitor_begun_is (Get k) v e = absurd (visit_not_call (begun hash mode initial number tasks.Get k None None) v _ refl e)
@@ -127,8 +134,17 @@ module _ {K V A : Type 0} (hash : K → ℕ) (mode : ResizeMode) (initial number
   visitor_begun_is (TryInsert k w) v e = absurd (visit_not_call (begun hash mode initial number (tasks.Insert false) k (Some w) None) v _ refl e)
   visitor_begun_is (RemoveIf k a) v e = absurd (visit_not_call (begun hash mode initial number tasks.RemoveIf k None (Some a)) v _ refl e)
   visitor_begun_is (Compute k a) v e = absurd (visit_not_call (begun hash mode initial number tasks.Compute k None (Some a)) v _ refl e)
-  visitor_begun_is (Reserve more) v e = absurd (visit_not_resizer (resizer.begun (resizes.Reserve more) mode initial number) v _ refl e)
-  visitor_begun_is CopyAll v e = absurd (visit_not_resizer (resizer.begun resizes.CopyAll mode initial number) v _ refl e)
-  visitor_begun_is Clear v e = record { visit = visits.Clear; no_key = refl; has = tt; is = same_visitor (visitor_begun mode initial number visits.Clear None) v _ refl e }
-  visitor_begun_is (Retain a) v e = record { visit = visits.Retain; no_key = refl; has = (a, refl); is = same_visitor (visitor_begun mode initial number visits.Retain (Some a)) v _ refl e }
-  visitor_begun_is Walk v e = record { visit = visits.Walk; no_key = refl; has = tt; is = same_visitor (visitor_begun mode initial number visits.Walk None) v _ refl e }
+  visitor_begun_is (Reserve more) v e = absurd (visit_not_resizer (resizer.begun (resizes.Reserve more) mode.resize initial number) v _ refl e)
+  visitor_begun_is CopyAll v e = absurd (visit_not_resizer (resizer.begun resizes.CopyAll mode.resize initial number) v _ refl e)
+  visitor_begun_is Clear v e = record { visit = visits.Clear; no_key = refl; has = tt; is = same_visitor (visitor_begun mode.resize initial number visits.Clear None) v _ refl e }
+  visitor_begun_is (Retain a) v e = record { visit = visits.Retain; no_key = refl; has = (a, refl); is = same_visitor (visitor_begun mode.resize initial number visits.Retain (Some a)) v _ refl e }
+  visitor_begun_is Walk v e = record { visit = visits.Walk; no_key = refl; has = tt; is = same_visitor (visitor_begun mode.resize initial number visits.Walk None) v _ refl e }
+
+-- a call that begins stands on nothing that its closure said
+pub begun_stands : (task : Task) (hash : ℕ) (mode : ResizeMode) (initial : ℕ) (limit : Option ℕ) (said : Said) → StandsOn (calls.started task hash mode initial limit) said → ⊥
+begun_stands task hash mode initial limit said stands = search rules
+
+-- what it was handed is at hand
+pub handed_there : {K V : Type 0} (log : List (Pair K V)) (o : Option V) (part : Part V) → handed o ≡ Some part → (v : V) × (value_in log part ≡ Some v)
+handed_there log None part e = let f : None ≡ Some part = e in absurd cc
+handed_there {K} {V} log (Some v) part e = let f : Own v ≡ part = same_item (Own v) part e in (v, ap (value_in log) (sym f))

@@ -1,7 +1,7 @@
 -- An exchange of the law leaves fewer changes of its word, unless a pair takes the place of another.
 use Rattle.std.proofs.Common.{◌≡◌, ⊎_elim, ℕ, ◌^◌, ◌==◌, ◌&&◌, ◌<◌, ◌≤◌, Bool, true, cond, Option, Some, refl, sym, ◌∙◌, ap, subst, arith, eq-eqb}
 use Rattle.papaya_ask.specs.declared.ask.At.{At}
-use Rattle.papaya_ask.specs.declared.ask.At.TheVariants.{Root, Next, Aborted, Done, Slot}
+use Rattle.papaya_ask.specs.declared.ask.At.TheVariants.{Root, Next, Aborted, Done, Slot, Made}
 use Rattle.papaya_ask.specs.declared.ask.StepKind.{StepKind}
 use Rattle.papaya_ask.specs.declared.ask.StepKind.TheVariants as kinds
 use Rattle.papaya_law.specs.Allows.{Allows}
@@ -17,9 +17,10 @@ use Rattle.papaya_timeline.specs.Ends.{changes_of, changes_of_word, links_of}
 use Rattle.papaya_timeline.proofs.BudgetTables.{IsChunkOf, changes_at}
 use Rattle.papaya_timeline.proofs.CallersLemmas.{differs}
 
--- the changes are fewer, or for a pair that takes the place of another as many
+-- the changes are fewer, or for a pair that takes the place of another, or a number that is taken, as many
 abbrev pub IsFewer : Option StepKind → (later before : ℕ) → Type 0
 IsFewer (Some kinds.Replace) later before = later ≡ before
+IsFewer (Some kinds.Take) later before = later ≡ before
 IsFewer _ later before = later < before
 
 -- the word of a table that was given up, or not
@@ -42,28 +43,30 @@ module _ {K P : Type 0} (g : Setting K P) (c : Coding K P) (s : State P) (tables
   slot_fewer t x new v w was is less = let before = slot_before t x v was in let later = slot_after t x new w is in omega (arith, before, later, less)
 
   -- what a call asks for; a table that it opens was made
-  pub call_fewer : (kind : Option StepKind) (at : At) (new : ℕ) (hands : Hands P) (e : Exchange P) → IsAsked c kind at new s hands e → Allows g s e → new ≡ word_of g c (after s e) at → (at ≡ Root → new ≤ tables) → IsFewer kind (changes_at tables at new) (changes_at tables at (word_of g c s at))
-  call_fewer (Some kinds.Open) Root new hands e is may written made =
+  pub call_fewer : (kind : Option StepKind) (at : At) (new : ℕ) (hands : Hands P) (k : K) (e : Exchange P) → IsAsked g c k kind at new s hands e → Allows g s e → new ≡ word_of g c (after s e) at → (at ≡ Root → new ≤ tables) → IsFewer kind (changes_at tables at new) (changes_at tables at (word_of g c s at))
+  call_fewer (Some kinds.Open) Root new hands k e is may written made =
       let opens = subst (Allows g s) is may in
       let none = opens.0 in
       let some = opens.1 in
       let low = made refl in
       omega (arith, none, some, low)
-  call_fewer (Some kinds.Claim) (Slot t x) new hands e (q, own, is) may written made =
+  call_fewer (Some kinds.Take) Made new hands k e is may written made = refl
+  call_fewer (Some kinds.Claim) (Slot t x) new hands k e (q, own, key, is) may written made =
       slot_fewer t x new Empty (Live q) (subst (Allows g s) is may).empty (subst (λ y. new ≡ word_of g c (after s y) (Slot t x)) is written) (omega arith)
-  call_fewer (Some kinds.Replace) (Slot t x) new hands e (p, q, live, own, is) may written made =
+  call_fewer (Some kinds.Replace) (Slot t x) new hands k e (p, q, live, own, key, is) may written made =
       slot_after t x new (Live q) (subst (λ y. new ≡ word_of g c (after s y) (Slot t x)) is written) ∙ sym (slot_before t x (Live p) live)
-  call_fewer (Some kinds.Bury) (Slot t x) new hands e (p, live, is) may written made =
+  call_fewer (Some kinds.Bury) (Slot t x) new hands k e (p, live, is) may written made =
       slot_fewer t x new (Live p) (Buried p) live (subst (λ y. new ≡ word_of g c (after s y) (Slot t x)) is written) (omega arith)
-  call_fewer _ _ new hands e is may written made = absurd is
+  call_fewer _ _ new hands k e is may written made = absurd is
 
   -- a call asks for no word of a chunk
-  pub call_chunk : (kind : Option StepKind) (at : At) (new : ℕ) (hands : Hands P) (e : Exchange P) → IsAsked c kind at new s hands e → IsChunkOf at
-  call_chunk (Some kinds.Open) Root new hands e is = tt
-  call_chunk (Some kinds.Claim) (Slot t x) new hands e is = tt
-  call_chunk (Some kinds.Replace) (Slot t x) new hands e is = tt
-  call_chunk (Some kinds.Bury) (Slot t x) new hands e is = tt
-  call_chunk _ _ new hands e is = absurd is
+  pub call_chunk : (kind : Option StepKind) (at : At) (new : ℕ) (hands : Hands P) (k : K) (e : Exchange P) → IsAsked g c k kind at new s hands e → IsChunkOf at
+  call_chunk (Some kinds.Open) Root new hands k e is = tt
+  call_chunk (Some kinds.Take) Made new hands k e is = tt
+  call_chunk (Some kinds.Claim) (Slot t x) new hands k e is = tt
+  call_chunk (Some kinds.Replace) (Slot t x) new hands k e is = tt
+  call_chunk (Some kinds.Bury) (Slot t x) new hands k e is = tt
+  call_chunk _ _ new hands k e is = absurd is
 
   module _ (sound : IsSound g s) (sizes : (t : ℕ) → g.size t ≤ 2 ^ 32) (cut : (x : ℕ) → g.chunk_of x ≤ x) (low : (t : ℕ) → IsOn s.first s.next t → t ≤ tables) where
     -- a table to which the root goes is a later one

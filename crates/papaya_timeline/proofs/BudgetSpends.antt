@@ -3,13 +3,12 @@ use Rattle.std.proofs.Common.{◌≡◌, ◌⊎◌, inl, inr, ℕ, ◌+◌, ◌-
 use Rattle.std.proofs.Math.Nat.{div-le_self}
 use Rattle.papaya_words.specs.Chunks.{chunk_len}
 use Rattle.papaya_words.specs.Table.{TableWords, new_table}
-use Rattle.papaya_words.specs.declared.limits.TheConstants.{MAX_TABLES, MAX_LOG_LEN}
-use Rattle.papaya_words.specs.declared.probe.ResizeMode.{ResizeMode}
+use Rattle.papaya_words.specs.declared.limits.TheConstants.{MAX_TABLES}
 use Rattle.papaya_call.specs.Answers.{Says}
 use Rattle.papaya_ask.specs.declared.ask.At.{At}
 use Rattle.papaya_ask.specs.declared.ask.At.TheVariants.{Root}
 use Rattle.papaya_ask.specs.declared.ask.Ask.{Ask as Call_ask}
-use Rattle.papaya_ask.specs.declared.ask.Ask.TheVariants.{Load, Exchange as Ask_exchange, SameKey, ShowNone, ShowPair, SizeOf, MakeKey, MakePair, MakeTable, AddToShard, Done as Ask_done, LoadHint, WriteHint}
+use Rattle.papaya_ask.specs.declared.ask.Ask.TheVariants.{Load, Exchange as Ask_exchange, SameKey, ShowNone, ShowPair, SizeOf, MakeKey, MakeValue, MakePair, MakePairOf, MakeTable, AddToShard, Done as Ask_done, LoadHint, WriteHint}
 use Rattle.papaya_ask.specs.declared.ask.Answer.{Answer as Call_answer}
 use Rattle.papaya_ask.specs.declared.ask.Answer.TheVariants.{Made as Made_number, Refused as Was_refused}
 use Rattle.papaya_ask.specs.declared.ask.StepKind.{StepKind}
@@ -37,7 +36,7 @@ use Rattle.papaya_alone.specs.Prompt.{IsBounded}
 use Rattle.papaya_store.specs.declared.pairs.Running.{Running}
 use Rattle.papaya_store.specs.Asks.{PerformsAsk}
 use Rattle.papaya_store.specs.Copies.{PerformsCopy}
-use Rattle.papaya_store.specs.Performs.{Exchanges, HasKey, HasNoPair, LogsKey, LogsPair, MakesTable, Performs, Refuses, Stays}
+use Rattle.papaya_store.specs.Performs.{Exchanges, MakesTable, Performs, Refuses}
 use Rattle.papaya_store.specs.Store.{StoreState, Stored}
 use Rattle.papaya_store.specs.Tables.{Tables, note, put, table_of, word_at}
 use Rattle.papaya_timeline.specs.declared.seat.Seat.{Seat}
@@ -53,7 +52,8 @@ use Rattle.papaya_timeline.proofs.KeptSettings.{IsLawfulKeys, tables_hashed}
 use Rattle.papaya_timeline.proofs.KeptTables.{IsPlaced, placed-many, table_low}
 use Rattle.papaya_timeline.proofs.KeptWritten.{asked_call, asked_copy, placed_call, placed_copy}
 use Rattle.papaya_timeline.proofs.ShowLemmas.{none_shown, pair_shown}
-use Rattle.papaya_timeline.proofs.StoreLemmas.{matched}
+use Rattle.papaya_timeline.proofs.StoreLemmas.{LogsOrNot, matched, of_logs, own_logs, part_logs}
+use Rattle.papaya_store.specs.declared.mode.Mode.{Mode}
 
 module _ (w : Tables) (at : At) (new : ℕ) (placed : IsPlaced w.tables at) (chunk_is : IsChunkOf at) where
   -- a write spends no table
@@ -74,13 +74,14 @@ module _ (w : Tables) (at : At) (new : ℕ) (placed : IsPlaced w.tables at) (chu
   -- by its kind
   write_spends_kind : (kind : Option StepKind) → IsFewer kind (changes_at (length w.tables) at new) (changes_at (length w.tables) at (word_at w at)) → SpendsExchange kind (budget_in w) (budget_in (put w at new))
   write_spends_kind (Some kinds.Replace) h = write_leaves h
+  write_spends_kind (Some kinds.Take) h = write_leaves h
   write_spends_kind kind h = write_spends h
 
 -- a table that is made is spent
 made_spends : (w : Tables) (n slots limit chunks : ℕ) → length w.tables < MAX_TABLES → (budget_in (record w { tables = w.tables ++ new_table n slots limit chunks ∷ [] })).tables < (budget_in w).tables
 made_spends w n slots limit chunks few = let more : length (w.tables ++ new_table n slots limit chunks ∷ []) ≡ length w.tables + 1 = length-append w.tables (new_table n slots limit chunks ∷ []) in omega (arith, more, few)
 
-module _ {K V S A : Type 0} (eq : K → K → Bool) (hash : K → ℕ) (law : IsLawfulKeys eq hash) (mode : ResizeMode) (store : StoreState K V S) (callers : List (Seat K V A)) (core : IsCore store callers mode)
+module _ {K V S A : Type 0} (eq : K → K → Bool) (hash : K → ℕ) (law : IsLawfulKeys eq hash) (mode : Mode) (store : StoreState K V S) (callers : List (Seat K V A)) (core : IsCore store callers mode)
     (es : List (Exchange (Stored K V))) (tales : ℕ → Tale K V) (kept : IsKept eq hash mode store callers es tales) where
   -- the setting, the coding and the state
   abbrev g : Setting K (Stored K V)
@@ -116,7 +117,7 @@ module _ {K V S A : Type 0} (eq : K → K → Bool) (hash : K → ℕ) (law : Is
 
   -- a slot's chunk has no greater number than the slot
   cut_low : (x : ℕ) → g.chunk_of x ≤ x
-  cut_low x = div-le_self x (chunk_len mode)
+  cut_low x = div-le_self x (chunk_len mode.resize)
 
   -- the words are within bounds
   pub kept_bounded : IsBounded g now
@@ -198,15 +199,15 @@ module _ {K V S A : Type 0} (eq : K → K → Bool) (hash : K → ℕ) (law : Is
         let stood : word_at store.words at ≡ old = eqb-true (word_at store.words at) old hit in
         let stands : word_of g c now at ≡ old = kept.coded at ∙ stood in
         let x = asked_call g c store r es tale (Some call.key) hashed call.key call.split may call.rests kept.coded kept.made call.opens call.links call.own (λ t. refl) (λ t. refl) at old new e stands in
-        let placed = placed_call g c store r es tale (Some call.key) hashed call.key call.split may call.rests kept.coded kept.made call.opens call.links call.own (λ t. refl) (λ t. refl) at old new e (changes now tale.hands.call new c (kind_of_ask r.machine) at x.0 x.1).place in
+        let placed = placed_call g c store r es tale (Some call.key) hashed call.key call.split may call.rests kept.coded kept.made call.opens call.links call.own (λ t. refl) (λ t. refl) at old new e (changes now tale.hands.call new g c call.key (kind_of_ask r.machine) at x.0 x.1).place in
         let opened : at ≡ Root → new ≤ length store.words.tables = λ root.
-        let none : now.root ≡ 0 = root_empty g c now tale.hands.call new (kind_of_ask r.machine) x.0 (subst (λ y. IsAsked c (kind_of_ask r.machine) y new now tale.hands.call x.0) root x.1) x.2 in
+        let none : now.root ≡ 0 = root_empty g c call.key now tale.hands.call new (kind_of_ask r.machine) x.0 (subst (λ y. IsAsked g c call.key (kind_of_ask r.machine) y new now tale.hands.call x.0) root x.1) x.2 in
         let zero : old ≡ 0 = sym stands ∙ ap (word_of g c now) root ∙ none in
         made_low new (call.opens new (e ∙ ap (λ y. asks.Call (Ask_exchange y old new)) root ∙ ap (λ y. asks.Call (Ask_exchange Root y new)) zero))
         in
-        write_spends_kind store.words at new placed (call_chunk g c now (length store.words.tables) (kind_of_ask r.machine) at new tale.hands.call x.0 x.1) (kind_of_ask r.machine)
+        write_spends_kind store.words at new placed (call_chunk g c now (length store.words.tables) (kind_of_ask r.machine) at new tale.hands.call call.key x.0 x.1) (kind_of_ask r.machine)
         (subst (λ y. IsFewer (kind_of_ask r.machine) (changes_at (length store.words.tables) at new) (changes_at (length store.words.tables) at y)) (kept.coded at)
-        (call_fewer g c now (length store.words.tables) (kind_of_ask r.machine) at new tale.hands.call x.0 x.1 x.2 (sym x.3.here) opened))
+        (call_fewer g c now (length store.words.tables) (kind_of_ask r.machine) at new tale.hands.call call.key x.0 x.1 x.2 (sym x.3.here) opened))
 
     -- and one of its copy
     copy_exchanges : (at : At) (old new : ℕ) → ask_of r.machine ≡ asks.Copy (copies.Exchange at old new) → (word_at store.words at == old) ≡ true → ((budget_in (put store.words at new)).tables ≡ (budget_of store).tables) × ((budget_in (put store.words at new)).exchanges < (budget_of store).exchanges)
@@ -225,6 +226,11 @@ module _ {K V S A : Type 0} (eq : K → K → Bool) (hash : K → ℕ) (law : Is
           (subst (λ (y : StoreState K V S). SpendsExchange (kind_of_ask r.machine) (budget_of store) (budget_of y)) (sym done.1) (call_exchanges at old new e hit)))
           (λ miss lost. subst (λ y. SpendsCall (kind_of_ask r.machine) (Ask_exchange at old new) y (budget_of store) (budget_of store')) (sym lost.0) (same_words store' lost.1))
 
+      -- a key, a value or a pair takes none
+      logged_spends : (told : Call_answer) → LogsOrNot store r told store' later → budget_of store' ≡ budget_of store
+      logged_spends told (inl (unlogged, stays)) = same_words store' stays.0
+      logged_spends told (inr (key, left, (value, has, is, few, grown, moved))) = ap (λ (y : StoreState K V S). budget_of y) grown
+
       -- what a call asks
       spends_call : (ask : Call_ask) → ask_of r.machine ≡ asks.Call ask → (told : Call_answer) → Performs eq says refuse ask store r told store' later → SpendsCall (kind_of_ask r.machine) ask told (budget_of store) (budget_of store')
       spends_call (Load at) e told (is, stays) = same_words store' stays.0
@@ -235,18 +241,10 @@ module _ {K V S A : Type 0} (eq : K → K → Bool) (hash : K → ℕ) (law : Is
       spends_call (LoadHint t x) e told (is, stays) = same_words store' stays.0
       spends_call (WriteHint t x hint) e told (is, same, as_was) = noted_words store' t x hint same
       spends_call (SizeOf n) e told (is, stays) = same_words store' stays.0
-      spends_call MakeKey e told h = matched (budget_of store' ≡ budget_of store) refuse _ _ h (λ _ none. same_words store' none.1.0) (λ _ makes. key_spends makes)
-        where
-          key_spends : (Refuses MAX_LOG_LEN (length store.keys) told × Stays store r store' later) ⊎ (HasKey told r × Stays store r store' later) ⊎ LogsKey told store r store' later → budget_of store' ≡ budget_of store
-          key_spends (inl (refuses, stays)) = same_words store' stays.0
-          key_spends (inr (inl (has, stays))) = same_words store' stays.0
-          key_spends (inr (inr (k, own, is, few, grown, moved))) = ap (λ (y : StoreState K V S). budget_of y) grown
-      spends_call MakePair e told h = matched (budget_of store' ≡ budget_of store) refuse _ _ h (λ _ none. same_words store' none.1.0) (λ _ makes. pair_spends makes)
-        where
-          pair_spends : (Refuses MAX_LOG_LEN (length store.pairs) told × Stays store r store' later) ⊎ (HasNoPair told r × Stays store r store' later) ⊎ LogsPair told store r store' later → budget_of store' ≡ budget_of store
-          pair_spends (inl (refuses, stays)) = same_words store' stays.0
-          pair_spends (inr (inl (has, stays))) = same_words store' stays.0
-          pair_spends (inr (inr (n, v, key, value, is, few, grown, moved))) = ap (λ (y : StoreState K V S). budget_of y) grown
+      spends_call MakeKey e told h = logged_spends told (part_logs store r told store' later refuse h)
+      spends_call MakeValue e told h = logged_spends told (part_logs store r told store' later refuse h)
+      spends_call MakePair e told h = logged_spends told (own_logs store r told store' later refuse h)
+      spends_call (MakePairOf n) e told h = logged_spends told (of_logs store r told store' later refuse n h)
       spends_call (MakeTable slots limit chunks) e told h =
           matched (SpendsCall (kind_of_ask r.machine) (MakeTable slots limit chunks) told (budget_of store) (budget_of store')) refuse _ _ h
           (λ _ none. subst (λ y. SpendsCall (kind_of_ask r.machine) (MakeTable slots limit chunks) y (budget_of store) (budget_of store')) (sym none.0) (same_words store' none.1.0))

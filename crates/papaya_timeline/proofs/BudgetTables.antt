@@ -11,7 +11,7 @@ use Rattle.papaya_words.specs.Word.{kind_of}
 use Rattle.papaya_words.specs.declared.word.Kind.{Kind}
 use Rattle.papaya_words.specs.declared.word.Kind.TheVariants.{Empty, Live, Marked, Copied, Buried, Closed}
 use Rattle.papaya_ask.specs.declared.ask.At.{At}
-use Rattle.papaya_ask.specs.declared.ask.At.TheVariants.{Root, Next, Aborted, Done, Slot}
+use Rattle.papaya_ask.specs.declared.ask.At.TheVariants.{Root, Next, Aborted, Done, Slot, Made}
 use Rattle.papaya_store.specs.Tables.{hinted, note, Tables, table_of, word_in, word_at, written, put, put_at}
 use Rattle.papaya_timeline.specs.Ends.{budget_in, changes_of, changes_of_word, copies_in, copies_of, ends_of, exchanges_in, exchanges_of, links_of}
 use Rattle.papaya_timeline.proofs.CallersLemmas.{differs}
@@ -25,6 +25,8 @@ changes_at tables (Next t) word = links_of word
 changes_at tables (Aborted t) word = ends_of word
 changes_at tables (Done t chunk) word = copies_of word
 changes_at tables (Slot t x) word = changes_of_word word
+-- numbers for pairs have a limit of their own
+changes_at tables Made word = 0
 
 -- what an item of a list adds to its sum, where another takes its place
 pub sum-set : {X : Type 0} (f : X → ℕ) (xs : List X) (i : ℕ) (x y : X) → slice_get xs i ≡ Some x → sum_by f (slice_set xs i y) + f x ≡ sum_by f xs + f y
@@ -94,6 +96,7 @@ module _ (w : Tables) (at : At) (n word : ℕ) (t : TableWords) (there : table_o
 -- the words after a write may change as often, but for the word that was written
 pub placed-changes : (w : Tables) (at : At) (new : ℕ) → IsPlaced w.tables at → IsChunkOf at → exchanges_in (put w at new) + changes_at (length w.tables) at (word_at w at) ≡ exchanges_in w + changes_at (length w.tables) at new
 placed-changes w Root new placed chunk_is = omega arith
+placed-changes w Made new placed chunk_is = refl
 placed-changes w (Next n) new (t, there) chunk_is =
     subst (λ y. exchanges_in (put w (Next n) new) + links_of y ≡ exchanges_in w + links_of new) (sym (ap (word_in (λ v. v.next)) there))
     (put-changes w (Next n) n new t there (links_of t.next) (links_of new) (omega arith))

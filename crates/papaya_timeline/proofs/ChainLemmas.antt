@@ -3,18 +3,16 @@ use Rattle.std.proofs.Common.{◌≡◌, inl, inr, ℕ, Option, None, Some, sym,
 use Rattle.papaya_ask.specs.declared.ask.At.{At}
 use Rattle.papaya_ask.specs.declared.ask.Ask.{Ask as Call_ask}
 use Rattle.papaya_ask.specs.declared.ask.At.TheVariants.{Next}
-use Rattle.papaya_ask.specs.declared.ask.Ask.TheVariants.{Load, Exchange as Ask_exchange, MakePair, Done as Ask_done}
+use Rattle.papaya_ask.specs.declared.ask.Ask.TheVariants.{Load, Exchange as Ask_exchange, Done as Ask_done}
 use Rattle.papaya_ask.specs.declared.ask.Answer.{Answer as Call_answer}
-use Rattle.papaya_ask.specs.declared.ask.Answer.TheVariants.{Word as Word_read, Op, Made as Made_number}
+use Rattle.papaya_ask.specs.declared.ask.Answer.TheVariants.{Word as Word_read, Op}
 use Rattle.papaya_ask.specs.declared.ask.StepKind.{StepKind}
 use Rattle.papaya_ask.specs.declared.ask.OpKind.TheVariants as op_kinds
 use Rattle.papaya_ask.specs.declared.call.Reply.{Reply}
 use Rattle.papaya_ask.specs.declared.call.Reply.TheVariants.{Aborted, Refused as Reply_refused}
 use Rattle.papaya_ask.specs.declared.search.Search.TheVariants.{Sizing}
 use Rattle.papaya_call.specs.declared.machine.Machine.{Machine as Call_machine}
-use Rattle.papaya_call.specs.declared.machine.State.TheVariants.{AtRoot, Making, Searching, Ended}
-use Rattle.papaya_call.specs.declared.write.Made.{Made}
-use Rattle.papaya_call.specs.declared.write.Made.TheVariants.{Nothing, Key, Pair}
+use Rattle.papaya_call.specs.declared.machine.State.TheVariants.{AtRoot, Searching, Ended}
 use Rattle.papaya_call.specs.Machine.{IsChanger, MayInsert}
 use Rattle.papaya_call.specs.Machine as calls
 use Rattle.papaya_chain.specs.declared.ask.Ask.TheVariants as asks
@@ -22,7 +20,7 @@ use Rattle.papaya_chain.specs.declared.ask.Answer.{Answer}
 use Rattle.papaya_chain.specs.declared.ask.Answer.TheVariants as answers
 use Rattle.papaya_chain.specs.declared.machine.Machine.{Machine}
 use Rattle.papaya_chain.specs.declared.machine.Phase.TheVariants.{Calling}
-use Rattle.papaya_chain.specs.Machine.{IsStanding, after, after_in, ask_of, asks_in, kind_in, kind_of_ask}
+use Rattle.papaya_chain.specs.Machine.{IsStanding, after, ask_of, asks_in, kind_in, kind_of_ask}
 use Rattle.papaya_rests.specs.Rests.{change_in}
 use Rattle.papaya_rests.specs.Says.{IsSaidChange, show}
 use Rattle.papaya_rests.proofs.SaysChanges.{machine_aborted, machine_changed}
@@ -42,10 +40,6 @@ own_asks m ask e = let is = call_asks m ask e in (is.0, is.1, ap (kind_in m.call
 -- and one that is not set aside asks so
 pub asks_own : (m : Machine) → m.phase ≡ Calling → ask_of m ≡ asks.Call (calls.ask_of m.call)
 asks_own m calling = ap (λ p. asks_in m.call p) calling
-
--- a pair that was made is told to the call
-pub made_own : (m : Machine) (n : ℕ) → ask_of m ≡ asks.Call MakePair → (after m (answers.Call (Made_number n))).call ≡ calls.after m.call (Made_number n)
-made_own m n e = ap (λ p. (after_in m (answers.Call (Made_number n)) p).call) (own_asks m MakePair e).0
 
 -- an exchange of the call comes before any change
 pub chain_once : (m : Machine) (at : At) (old new : ℕ) → ask_of m ≡ asks.Call (Ask_exchange at old new) → change_in m.call.state ≡ None
@@ -91,12 +85,7 @@ chain_changed m answer goes stands at from to e old new change =
 
 -- a call that was told of the root doesn't abort
 anew_goes_on : (m : Machine) (root with : ℕ) → calls.asks m.call.made m.call.hash (calls.at_root m.call.task m.call.remembered.fill root) ≡ Ask_done (Aborted with) → ⊥
-anew_goes_on m root with = anew (λ stage. calls.asks m.call.made m.call.hash stage ≡ Ask_done (Aborted with) → ⊥) (λ e. absurd (cc e)) (λ e. by_made m.call.made e) (λ e. absurd (cc e)) (λ t e. absurd (cc e)) m.call.task m.call.remembered.fill root
-  where
-    by_made : (made : Made) → calls.asks made m.call.hash Making ≡ Ask_done (Aborted with) → ⊥
-    by_made Nothing e = absurd (cc e)
-    by_made Key e = absurd (cc e)
-    by_made (Pair n) e = absurd (cc e)
+anew_goes_on m root with = anew (λ stage. calls.asks m.call.made m.call.hash stage ≡ Ask_done (Aborted with) → ⊥) (λ e. absurd (cc e)) (λ e. absurd (cc e)) (λ e. absurd (cc e)) (λ t e. absurd (cc e)) m.call.task m.call.remembered.fill root
 
 -- a call aborts where its closure did
 pub chain_aborted : (m : Machine) (answer : Answer) → Goes m answer → (with : ℕ) → ((reply : Reply) → ask_of m ≡ asks.Call (Ask_done reply) → ⊥) → ask_of (after m answer) ≡ asks.Call (Ask_done (Aborted with)) → (shown : Option ℕ) × (ask_of m ≡ asks.Call (show shown)) × (answer ≡ answers.Call (Op (op_kinds.Abort with)))

@@ -6,7 +6,7 @@ use Rattle.papaya_words.specs.declared.limits.TheConstants.{MAX_TABLES}
 use Rattle.papaya_words.specs.declared.probe.Refused.{Refused}
 use Rattle.papaya_words.specs.declared.probe.Refused.TheVariants.{Memory}
 use Rattle.papaya_ask.specs.declared.ask.At.{At}
-use Rattle.papaya_ask.specs.declared.ask.At.TheVariants.{Root, Next, Aborted, Done, Slot}
+use Rattle.papaya_ask.specs.declared.ask.At.TheVariants.{Root, Next, Aborted, Done, Slot, Made}
 use Rattle.papaya_ask.specs.declared.ask.StepKind.{StepKind}
 use Rattle.papaya_ask.specs.declared.ask.Answer.{Answer as Call_answer}
 use Rattle.papaya_ask.specs.declared.ask.Answer.TheVariants.{Word as Word_read, Exchanged, Found as Found_instead, Yes, Size, Made as Made_number, Refused as Was_refused}
@@ -52,13 +52,12 @@ module _ {Q K V S : Type 0} (g : Setting Q (Stored K V)) (c : Coding Q (Stored K
   abbrev now : State (Stored K V)
   now = run es start
 
-  -- What an answer leaves, of which this was told: no key, no pair and no table is gone, the words are those that the exchanges leave, and no slot names a pair that none named.
+  -- What an answer leaves, of which this was told: no pair and no table is gone, the words are those that the exchanges leave, and no slot names a pair that none named.
   pub record IsLeft (Tells : List (Exchange (Stored K V)) → Hands (Stored K V) → Type 0) (a : Answer) (store' : StoreState K V S) : Type 0 where
     pub made : List (Exchange (Stored K V))
     pub hands' : Hands (Stored K V)
     pub told : Tells made hands'
     pub hasher_is : store'.hasher ≡ store.hasher
-    pub keys_are : store'.keys ≡ store.keys
     pub pairs_are : store'.pairs ≡ store.pairs
     pub sum_is : store'.count.sum ≡ store.count.sum
     pub tables_few : length store.words.tables ≤ MAX_TABLES → length store'.words.tables ≤ MAX_TABLES
@@ -75,7 +74,7 @@ module _ {Q K V S : Type 0} (g : Setting Q (Stored K V)) (c : Coding Q (Stored K
 
   -- no pair is gone from the log
   pub left_logged : {Tells : List (Exchange (Stored K V)) → Hands (Stored K V) → Type 0} {a : Answer} {store' : StoreState K V S} → IsLeft Tells a store' → (n : ℕ) (p : Stored K V) → pair_of store n ≡ Some p → pair_of store' n ≡ Some p
-  left_logged {Tells} {a} {store'} left n p h = ap (λ l. stored_in l n (slice_get store'.pairs n)) left.keys_are ∙ ap (λ l. stored_in store.keys n (slice_get l n)) left.pairs_are ∙ h
+  left_logged {Tells} {a} {store'} left n p h = ap (λ l. stored_in l n (slice_get l n)) left.pairs_are ∙ h
 
   module _ (coded : (at : At) → word_of g c now at ≡ word_at store.words at) (there : (t : ℕ) → 0 < t → Comes now t → IsMade store t) where
     -- the words after no exchange
@@ -92,7 +91,6 @@ module _ {Q K V S : Type 0} (g : Setting Q (Stored K V)) (c : Coding Q (Stored K
       hands' = hands';
       told = told;
       hasher_is = refl;
-      keys_are = refl;
       pairs_are = refl;
       sum_is = refl;
       tables_few = λ h. h;
@@ -122,7 +120,6 @@ module _ {Q K V S : Type 0} (g : Setting Q (Stored K V)) (c : Coding Q (Stored K
           hands' = hands';
           told = told;
           hasher_is = refl;
-          keys_are = refl;
           pairs_are = refl;
           sum_is = refl;
           tables_few = λ h. let many = placed-many store.words at new placed in omega (arith, many, h);
@@ -150,7 +147,6 @@ module _ {Q K V S : Type 0} (g : Setting Q (Stored K V)) (c : Coding Q (Stored K
       hands' = hands;
       told = told;
       hasher_is = refl;
-      keys_are = refl;
       pairs_are = refl;
       sum_is = refl;
       tables_few = λ h. subst (λ l. l ≤ MAX_TABLES) (sym (noted-many store.words t x n)) h;
@@ -178,7 +174,6 @@ module _ {Q K V S : Type 0} (g : Setting Q (Stored K V)) (c : Coding Q (Stored K
           hands' = hands;
           told = told;
           hasher_is = refl;
-          keys_are = refl;
           pairs_are = refl;
           sum_is = refl;
           tables_few = λ h. let more : length (store.words.tables ++ new_table n slots limit chunks ∷ []) ≡ length store.words.tables + 1 = length-append store.words.tables (new_table n slots limit chunks ∷ []) in omega (arith, more, few);
@@ -203,6 +198,7 @@ module _ {Q K V S : Type 0} (g : Setting Q (Stored K V)) (c : Coding Q (Stored K
     told_stood Root p h = inl h
     told_stood (Next t) p h = inl h
     told_stood (Aborted t) p h = inl h
+    told_stood Made p h = inl h
     told_stood (Done t chunk) p h = inl h
     told_stood (Slot t x) p h = named_last t x p (named (now.slot t x)) refl h
 
@@ -229,6 +225,7 @@ module _ {Q K V S : Type 0} (g : Setting Q (Stored K V)) (c : Coding Q (Stored K
       placed Root h = tt
       placed (Next t) on = on_there t on
       placed (Aborted t) on = on_there t on
+      placed Made h = absurd h
       placed (Done t chunk) h = let words = on_there t h.0 in (words.0, words.1, subst (λ n. chunk < n) (suits.chunks t ∙ ap chunks_in words.1) h.1)
       placed (Slot t x) h = let words = on_there t h.0 in (words.0, words.1, subst (λ n. x < n) (suits.sizes t ∙ ap slots_in words.1) h.1)
 

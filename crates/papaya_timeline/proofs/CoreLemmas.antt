@@ -41,6 +41,8 @@ use Rattle.papaya_timeline.proofs.CallersLemmas.{resizing-elsewhere, resizing-he
 use Rattle.papaya_chain.specs.Visitor as visitors
 use Rattle.papaya_store.specs.declared.visits.Visiting.{Visiting}
 use Rattle.papaya_timeline.proofs.StoreLemmas.{AllSized, numbered, unnumbered, performed_ask, performed_copy, append-sized}
+use Rattle.papaya_store.specs.declared.mode.Mode.{Mode}
+use Rattle.papaya_call.specs.Made.{IsLimit}
 
 -- two numbers are the same or they differ
 pub cases_same : (a b : ℕ) → (a ≡ b) ⊎ (a ≢ b)
@@ -56,12 +58,12 @@ reply_asked (asks.Call (Ask_done r)) reply e = let same : r ≡ reply = cc in ap
 reply_asked ask reply e = let f : None ≡ Some reply = e in absurd cc
 
 -- a call that begins stands, and has not replied
-pub begun-core : {K V A : Type 0} (hash : K → ℕ) (mode : ResizeMode) (initial number : ℕ) (call : Call K V A) → IsChunked mode → IsPowerOfTwo initial
+pub begun-core : {K V A : Type 0} (hash : K → ℕ) (mode : Mode) (initial number : ℕ) (call : Call K V A) → IsChunked mode.resize → IsLimit mode.limit → IsPowerOfTwo initial
     → ((r : Running K V A) → begun_work hash mode initial number call ≡ works.Call r → IsStanding r.machine × IsGoing r.machine) × ((z : Resizer) → begun_work hash mode initial number call ≡ works.Resize z → IsStandingResizer z × (reply_of z ≡ None))
-begun-core {K} {V} {A} hash mode initial number call chunked power = (
+begun-core {K} {V} {A} hash mode initial number call chunked limits power = (
   λ r e. let is = call_begun hash mode initial number call r e in
       subst (λ (y : Running K V A). IsStanding y.machine × IsGoing y.machine) (sym is.is)
-      (started_stands is.task (hash is.key) mode initial number chunked power, still_going (started is.task (hash is.key) mode initial number) refl),
+      (started_stands is.task (hash is.key) mode.resize initial number mode.limit limits chunked power, still_going (started is.task (hash is.key) mode.resize initial number mode.limit) refl),
   λ z e. let is = resizer_begun_is hash mode initial number call z e in
       subst (λ (y : Resizer). IsStandingResizer y × (reply_of y ≡ None)) (sym is.is)
       (record { chunked = chunked; initial = power; state = standing_begun is.resize }, unreplied is.resize),
@@ -78,11 +80,11 @@ begun-core {K} {V} {A} hash mode initial number call chunked power = (
     unreplied (resizes.Reserve more) = refl
 
 -- and so does one that visits a table
-pub begun-visitor : {K V A : Type 0} (hash : K → ℕ) (mode : ResizeMode) (initial number : ℕ) (call : Call K V A) → IsChunked mode → IsPowerOfTwo initial → (v : Visiting A) → begun_work hash mode initial number call ≡ works.Visit v → visitors.IsStandingVisitor v.visitor × (visitors.reply_of v.visitor ≡ None)
+pub begun-visitor : {K V A : Type 0} (hash : K → ℕ) (mode : Mode) (initial number : ℕ) (call : Call K V A) → IsChunked mode.resize → IsPowerOfTwo initial → (v : Visiting A) → begun_work hash mode initial number call ≡ works.Visit v → visitors.IsStandingVisitor v.visitor × (visitors.reply_of v.visitor ≡ None)
 begun-visitor {A = A} hash mode initial number call chunked power v e =
     let is = visitor_begun_is hash mode initial number call v e in
     subst (λ (y : Visiting A). visitors.IsStandingVisitor y.visitor × (visitors.reply_of y.visitor ≡ None)) (sym is.is)
-    (record { chunked = chunked; initial = power; state = standing_in mode }, unreplied mode)
+    (record { chunked = chunked; initial = power; state = standing_in mode.resize }, unreplied mode.resize)
   where
     standing_in : (mode : ResizeMode) → visitors.IsStandingIn (visitors.begun_in mode)
     standing_in (Incremental chunk) = tt
@@ -94,9 +96,10 @@ begun-visitor {A = A} hash mode initial number call chunked power v e =
 
 module _ {K V S A : Type 0} where
   -- work was put into a seat, or taken out of it
-  pub with_work-core : (store : StoreState K V S) (callers : List (Seat K V A)) (mode : ResizeMode) (caller : ℕ) (work : Option (Work K V A)) → IsCore store callers mode → ((r : Running K V A) → work ≡ Some (works.Call r) → IsStanding r.machine × IsGoing r.machine) → ((z : Resizer) → work ≡ Some (works.Resize z) → IsStandingResizer z × (reply_of z ≡ None)) → ((v : Visiting A) → work ≡ Some (works.Visit v) → visitors.IsStandingVisitor v.visitor × (visitors.reply_of v.visitor ≡ None)) → IsCore store (with_work callers caller work) mode
+  pub with_work-core : (store : StoreState K V S) (callers : List (Seat K V A)) (mode : Mode) (caller : ℕ) (work : Option (Work K V A)) → IsCore store callers mode → ((r : Running K V A) → work ≡ Some (works.Call r) → IsStanding r.machine × IsGoing r.machine) → ((z : Resizer) → work ≡ Some (works.Resize z) → IsStandingResizer z × (reply_of z ≡ None)) → ((v : Visiting A) → work ≡ Some (works.Visit v) → visitors.IsStandingVisitor v.visitor × (visitors.reply_of v.visitor ≡ None)) → IsCore store (with_work callers caller work) mode
   with_work-core store callers mode caller work core stands resizes visits = record {
     chunked = core.chunked;
+    limit = core.limit;
     sizes = core.sizes;
     standing = λ other r e. elim (cases_same other caller) [
       | inl same ↦ (stands r (running-here callers caller work r (subst (λ (d : ℕ). running (with_work callers caller work) d ≡ Some r) same e))).0
@@ -117,13 +120,14 @@ module _ {K V S A : Type 0} where
   }
 
   -- a caller's work was taken out of its seat
-  pub without-core : (store : StoreState K V S) (callers : List (Seat K V A)) (mode : ResizeMode) (caller : ℕ) → IsCore store callers mode → IsCore store (with_work callers caller None) mode
+  pub without-core : (store : StoreState K V S) (callers : List (Seat K V A)) (mode : Mode) (caller : ℕ) → IsCore store callers mode → IsCore store (with_work callers caller None) mode
   without-core store callers mode caller core = with_work-core store callers mode caller None core (λ r e. absurd cc) (λ z e. absurd cc) (λ v e. absurd cc)
 
   -- a caller got a seat
-  pub with_seat-core : (store : StoreState K V S) (callers : List (Seat K V A)) (mode : ResizeMode) (caller : ℕ) → IsCore store callers mode → IsCore store (with_seat callers caller) mode
+  pub with_seat-core : (store : StoreState K V S) (callers : List (Seat K V A)) (mode : Mode) (caller : ℕ) → IsCore store callers mode → IsCore store (with_seat callers caller) mode
   with_seat-core store callers mode caller core = record {
     chunked = core.chunked;
+    limit = core.limit;
     sizes = core.sizes;
     standing = λ other r e. core.standing other r (sym (running-with_seat callers caller other) ∙ e);
     going = λ other r e. core.going other r (sym (running-with_seat callers caller other) ∙ e);
@@ -132,9 +136,10 @@ module _ {K V S A : Type 0} where
   }
 
   -- an ask of a caller was answered
-  pub performed-core : (eq : K → K → Bool) (says : Says K V A) (hash : S → K → ℕ) (refuse : Bool) (store : StoreState K V S) (callers : List (Seat K V A)) (mode : ResizeMode) (r : Running K V A) (a : Answer) (store' : StoreState K V S) (later : Running K V A) → IsCore store callers mode → IsFitAsk (ask_of r.machine) → PerformsAsk eq says hash refuse (ask_of r.machine) store r a store' later → IsCore store' callers mode
+  pub performed-core : (eq : K → K → Bool) (says : Says K V A) (hash : S → K → ℕ) (refuse : Bool) (store : StoreState K V S) (callers : List (Seat K V A)) (mode : Mode) (r : Running K V A) (a : Answer) (store' : StoreState K V S) (later : Running K V A) → IsCore store callers mode → IsFitAsk (ask_of r.machine) → PerformsAsk eq says hash refuse (ask_of r.machine) store r a store' later → IsCore store' callers mode
   performed-core eq says hash refuse store callers mode r a store' later core fit performs = record {
     chunked = core.chunked;
+    limit = core.limit;
     sizes = numbered store'.words.tables (performed_ask eq hash says refuse (ask_of r.machine) store r a store' later (unnumbered store.words.tables core.sizes) fit performs).sized;
     standing = core.standing;
     going = core.going;
@@ -143,9 +148,10 @@ module _ {K V S A : Type 0} where
   }
 
   -- so it is with one of a copy
-  pub copied-core : (eq : K → K → Bool) (hash : S → K → ℕ) (refuse : Bool) (ask : CopyAsk) (store : StoreState K V S) (callers : List (Seat K V A)) (mode : ResizeMode) (a : Answer) (store' : StoreState K V S) → IsCore store callers mode → IsFitCopyAsk ask → PerformsCopy eq hash refuse ask store a store' → IsCore store' callers mode
+  pub copied-core : (eq : K → K → Bool) (hash : S → K → ℕ) (refuse : Bool) (ask : CopyAsk) (store : StoreState K V S) (callers : List (Seat K V A)) (mode : Mode) (a : Answer) (store' : StoreState K V S) → IsCore store callers mode → IsFitCopyAsk ask → PerformsCopy eq hash refuse ask store a store' → IsCore store' callers mode
   copied-core eq hash refuse ask store callers mode a store' core fit performs = record {
     chunked = core.chunked;
+    limit = core.limit;
     sizes = numbered store'.words.tables (performed_copy eq hash refuse ask store a store' (unnumbered store.words.tables core.sizes) fit performs).sized;
     standing = core.standing;
     going = core.going;
@@ -153,18 +159,19 @@ module _ {K V S A : Type 0} where
     visitors = core.visitors;
   }
 
-no-tables : (words : Tables) → words ≡ record { root = 0; tables = [] } → AllSized words.tables
+no-tables : (words : Tables) → words ≡ record { root = 0; tables = []; made = 0 } → AllSized words.tables
 no-tables words e i t there = let f : None ≡ Some t = sym (ap (λ (w : Tables). slice_get w.tables i) e) ∙ there in cc
 
 -- a core as it is made
 pub new-sized : (capacity initial : ℕ) (words : Tables) → IsPowerOfTwo initial → initial ≤ 2 ^ 32 → HasCapacity capacity initial words → AllSized words.tables
 new-sized zero initial words power most e = no-tables words e
 new-sized (suc n) initial words power most (limit, is, e) =
-    subst (λ (w : Tables). AllSized w.tables) (sym e) (append-sized [] 1 (max initial 8) limit 0 (table_size initial limit power most is) (no-tables (record { root = 0; tables = [] }) refl))
+    subst (λ (w : Tables). AllSized w.tables) (sym e) (append-sized [] 1 (max initial 8) limit 0 (table_size initial limit power most is) (no-tables (record { root = 0; tables = []; made = 0 }) refl))
 
-pub new-core : {K V S A : Type 0} (store : StoreState K V S) (callers : List (Seat K V A)) (mode : ResizeMode) (capacity initial : ℕ) → IsChunked mode → IsPowerOfTwo initial → initial ≤ 2 ^ 32 → HasCapacity capacity initial store.words → callers ≡ [] → IsCore store callers mode
-new-core store callers mode capacity initial chunked power most words none = record {
+pub new-core : {K V S A : Type 0} (store : StoreState K V S) (callers : List (Seat K V A)) (mode : Mode) (capacity initial : ℕ) → IsChunked mode.resize → IsLimit mode.limit → IsPowerOfTwo initial → initial ≤ 2 ^ 32 → HasCapacity capacity initial store.words → callers ≡ [] → IsCore store callers mode
+new-core store callers mode capacity initial chunked limits power most words none = record {
   chunked = chunked;
+  limit = limits;
   sizes = numbered store.words.tables (new-sized capacity initial store.words power most words);
   standing = λ caller r e. let f : None ≡ Some r = sym (ap (λ (y : List (Seat _ _ _)). running y caller) none) ∙ e in cc;
   going = λ caller r e. let f : None ≡ Some r = sym (ap (λ (y : List (Seat _ _ _)). running y caller) none) ∙ e in absurd cc;

@@ -7,7 +7,6 @@ use Rattle.std.specs.List.{AllByRecursion, IsDistinct, list_any}
 use Rattle.papaya_words.specs.Table.{TableWords}
 use Rattle.papaya_words.specs.Word.{kind_of, pair_of as number_of}
 use Rattle.papaya_words.specs.declared.limits.TheConstants.{MAX_LOG_LEN}
-use Rattle.papaya_words.specs.declared.probe.ResizeMode.{ResizeMode}
 use Rattle.papaya_words.specs.declared.word.Kind.{Kind}
 use Rattle.papaya_words.specs.declared.word.Kind.TheVariants as kinds
 use Rattle.papaya_law.specs.ChainContent.{missing_in, unless_found}
@@ -22,8 +21,9 @@ use Rattle.papaya_timeline.specs.Content.{content, listed, pairs_from, pairs_of_
 use Rattle.papaya_timeline.specs.Kept.{IsKept, IsLogged, Tale, setting_of, coding_of, low}
 use Rattle.papaya_store.specs.Store.{StoreState, Stored, pair_of}
 use Rattle.papaya_store.specs.Tables.{table_of}
-use Rattle.papaya_timeline.proofs.KeptLogs.{pair_below, pair_number}
+use Rattle.papaya_store.proofs.Logs.{pair_below, pair_number}
 use Rattle.papaya_timeline.proofs.KeptMap.{kept_content}
+use Rattle.papaya_store.specs.declared.mode.Mode.{Mode}
 
 module _ {K V S : Type 0} (store : StoreState K V S) where
   -- each pair of the list is in the log, under its number
@@ -126,7 +126,7 @@ module _ {K V S : Type 0} (store : StoreState K V S) where
           let same = length-map ps (λ (p : Stored K V). p.number) in
           omega (arith, few, same)
 
-module _ {K V S : Type 0} (eq : K → K → Bool) (hash : K → ℕ) (mode : ResizeMode) (store : StoreState K V S)
+module _ {K V S : Type 0} (eq : K → K → Bool) (hash : K → ℕ) (mode : Mode) (store : StoreState K V S)
     (hashed : IsHashed (setting_of {V = V} eq (low hash) mode store.words.tables) (coding_of (low hash))) where
   -- the setting and the coding
   abbrev g : Setting K (Stored K V)

@@ -40,6 +40,7 @@ use Rattle.papaya_timeline.proofs.CountedContent.{content_apart, content_few}
 use Rattle.papaya_timeline.proofs.CountedSeats.{owed-begun, owed-goes_on, owed-with_call}
 use Rattle.papaya_timeline.proofs.CountedStep.{IsGrowth, sum_performed, told_grows}
 use Rattle.papaya_timeline.proofs.KeptLemmas.{IsLawfulKeys, IsStep, hashed_setting, kept_step, map_kept}
+use Rattle.papaya_store.specs.declared.mode.Mode.{Mode}
 
 -- the number of pairs is one of 64 bits
 pub length_fits : (n : ℕ) → n ≤ 2 ^ 48 → int_wrap w64 (pos n) ≡ pos n
@@ -86,7 +87,7 @@ visit_owes (Incremental chunk) = refl
 visit_owes Blocking = refl
 
 -- nor does any other
-begun_owes : {K V A : Type 0} (hash : K → ℕ) (mode : ResizeMode) (initial number : ℕ) (call : Call K V A) → owed_work (Some (begun_work hash mode initial number call)) ≡ pos 0
+begun_owes : {K V A : Type 0} (hash : K → ℕ) (mode : Mode) (initial number : ℕ) (call : Call K V A) → owed_work (Some (begun_work hash mode initial number call)) ≡ pos 0
 begun_owes hash mode initial number (Get k) = refl
 begun_owes hash mode initial number (Insert k v) = refl
 begun_owes hash mode initial number (TryInsert k v) = refl
@@ -94,9 +95,9 @@ begun_owes hash mode initial number (RemoveIf k a) = refl
 begun_owes hash mode initial number (Compute k a) = refl
 begun_owes hash mode initial number (Reserve more) = refl
 begun_owes hash mode initial number CopyAll = refl
-begun_owes hash mode initial number Clear = visit_owes mode
-begun_owes hash mode initial number (Retain a) = visit_owes mode
-begun_owes hash mode initial number Walk = visit_owes mode
+begun_owes hash mode initial number Clear = visit_owes mode.resize
+begun_owes hash mode initial number (Retain a) = visit_owes mode.resize
+begun_owes hash mode initial number Walk = visit_owes mode.resize
 
 -- a begin leaves the sum and the pairs, and its call owes nothing
 pub counted_begin : {K V S A : Type 0} (eq : K → K → Bool) (hash : K → ℕ) (s : CoreState K V S A) (caller : ℕ) (call : Call K V A) (s' : CoreState K V S A) → Begins hash s caller call s' → work_of s caller ≡ None → IsCounted eq s.store s.callers → IsCounted eq s'.store s'.callers

@@ -1,7 +1,7 @@
 -- What the calls under way owe, after one of them went on, ended or began.
 use Rattle.std.proofs.Common.{◌≡◌, ℕ, pos, ◌+ℤ◌, ◌==◌, Bool, true, false, cond, List, [], ◌∷◌, Option, Some, None, refl, sym, ◌∙◌, ap, arith, eq-eqb}
 use Rattle.std.proofs.lemmas.Int.{ints}
-use Rattle.papaya_ask.specs.declared.ask.Ask.TheVariants.{Load, Exchange, SameKey, ShowNone, ShowPair, SizeOf, MakeKey, MakePair, MakeTable, AddToShard, Done, LoadHint, WriteHint}
+use Rattle.papaya_ask.specs.declared.ask.Ask.TheVariants.{Load, Exchange, SameKey, ShowNone, ShowPair, SizeOf, MakeKey, MakeValue, MakePair, MakePairOf, MakeTable, AddToShard, Done, LoadHint, WriteHint}
 use Rattle.papaya_chain.specs.declared.ask.Ask.{Ask}
 use Rattle.papaya_chain.specs.declared.ask.Ask.TheVariants.{Call, Copy}
 use Rattle.papaya_chain.specs.Machine.{ask_of}
@@ -28,7 +28,9 @@ module _ {K V A : Type 0} where
   owed-goes_on (Call (WriteHint t x hint)) r e = e
   owed-goes_on (Call (SizeOf n)) r e = e
   owed-goes_on (Call MakeKey) r e = e
+  owed-goes_on (Call MakeValue) r e = e
   owed-goes_on (Call MakePair) r e = e
+  owed-goes_on (Call (MakePairOf pair)) r e = e
   owed-goes_on (Call (MakeTable slots limit chunks)) r e = e
   owed-goes_on (Call (AddToShard by)) r e = e
   owed-goes_on (Copy ask) r e = e

@@ -5,9 +5,9 @@ use Rattle.std.proofs.lemmas.Int.{ints, int_wrap_fits, SFits-int_wrap}
 use Rattle.std.specs.Int.{w64, int_wrap}
 use Rattle.papaya_call.specs.Answers.{Says}
 use Rattle.papaya_ask.specs.declared.ask.At.{At}
-use Rattle.papaya_ask.specs.declared.ask.At.TheVariants.{Root, Next, Aborted, Done, Slot}
+use Rattle.papaya_ask.specs.declared.ask.At.TheVariants.{Root, Next, Aborted, Done, Slot, Made}
 use Rattle.papaya_ask.specs.declared.ask.Ask.{Ask as Call_ask}
-use Rattle.papaya_ask.specs.declared.ask.Ask.TheVariants.{Load, Exchange as Ask_exchange, SameKey, ShowNone, ShowPair, SizeOf, MakeKey, MakePair, MakeTable, AddToShard, Done as Ask_done, LoadHint, WriteHint}
+use Rattle.papaya_ask.specs.declared.ask.Ask.TheVariants.{Load, Exchange as Ask_exchange, SameKey, ShowNone, ShowPair, SizeOf, MakeKey, MakeValue, MakePair, MakePairOf, MakeTable, AddToShard, Done as Ask_done, LoadHint, WriteHint}
 use Rattle.papaya_ask.specs.declared.ask.Answer.{Answer as Call_answer}
 use Rattle.papaya_ask.specs.declared.ask.StepKind.{StepKind}
 use Rattle.papaya_ask.specs.declared.ask.StepKind.TheVariants as kinds
@@ -27,11 +27,11 @@ use Rattle.papaya_rests.specs.Told.{Hands, IsAsked, IsTold, word_of}
 use Rattle.papaya_store.specs.declared.pairs.Running.{Running}
 use Rattle.papaya_store.specs.Asks.{PerformsAsk}
 use Rattle.papaya_store.specs.Copies.{PerformsCopy}
-use Rattle.papaya_store.specs.Performs.{Performs, Stays, LogsKey, LogsPair, MakesTable}
+use Rattle.papaya_store.specs.Performs.{Performs, MakesTable}
 use Rattle.papaya_store.specs.Store.{StoreState}
 use Rattle.papaya_store.specs.Tables.{word_at}
 use Rattle.papaya_timeline.proofs.ShowLemmas.{none_shown, pair_shown}
-use Rattle.papaya_timeline.proofs.StoreLemmas.{matched}
+use Rattle.papaya_timeline.proofs.StoreLemmas.{LogsOrNot, matched, of_logs, own_logs, part_logs}
 
 module _ {K V S : Type 0} where
   -- the sum after a step is that of before, with what the machine owed
@@ -50,16 +50,10 @@ module _ {K V S : Type 0} where
   table_made slots limit chunks s a s' Not (inr (is, few, grown)) = same_count s s' (ap (λ (y : StoreState K V S). y.count.sum) grown)
 
 module _ {K V S A : Type 0} where
-  -- nor does a key or a pair that was made
-  key_made : (s : StoreState K V S) (r : Running K V A) (a : Call_answer) (s' : StoreState K V S) (r' : Running K V A) (Not Has : Type 0) → (Not × Stays s r s' r') ⊎ (Has × Stays s r s' r') ⊎ LogsKey a s r s' r' → Adds (pos 0) s s'
-  key_made s r a s' r' Not Has (inl h) = quiet s s' h.1.0
-  key_made s r a s' r' Not Has (inr (inl h)) = quiet s s' h.1.0
-  key_made s r a s' r' Not Has (inr (inr (k, was, is, few, grown, moved))) = same_count s s' (ap (λ (y : StoreState K V S). y.count.sum) grown)
-
-  pair_made : (s : StoreState K V S) (r : Running K V A) (a : Call_answer) (s' : StoreState K V S) (r' : Running K V A) (Not Has : Type 0) → (Not × Stays s r s' r') ⊎ (Has × Stays s r s' r') ⊎ LogsPair a s r s' r' → Adds (pos 0) s s'
-  pair_made s r a s' r' Not Has (inl h) = quiet s s' h.1.0
-  pair_made s r a s' r' Not Has (inr (inl h)) = quiet s s' h.1.0
-  pair_made s r a s' r' Not Has (inr (inr (n, v, was, value, is, few, grown, moved))) = same_count s s' (ap (λ (y : StoreState K V S). y.count.sum) grown)
+  -- nor does a key, a value or a pair that was made
+  made_nothing : (s : StoreState K V S) (r : Running K V A) (a : Call_answer) (s' : StoreState K V S) (r' : Running K V A) → LogsOrNot s r a s' r' → Adds (pos 0) s s'
+  made_nothing s r a s' r' (inl (unlogged, stays)) = quiet s s' stays.0
+  made_nothing s r a s' r' (inr (key, left, (value, has, is, few, grown, moved))) = same_count s s' (ap (λ (y : StoreState K V S). y.count.sum) grown)
 
 module _ {K V S A : Type 0} (eq : K → K → Bool) (says : Says K V A) where
   -- each ask of the call itself
@@ -75,8 +69,10 @@ module _ {K V S A : Type 0} (eq : K → K → Bool) (says : Says K V A) where
   sum_called refuse (LoadHint t x) s r a s' r' h = quiet s s' h.1.0
   sum_called refuse (WriteHint t x hint) s r a s' r' h = same_count s s' (ap (λ (y : StoreState K V S). y.count.sum) h.1)
   sum_called refuse (SizeOf n) s r a s' r' h = quiet s s' h.1.0
-  sum_called refuse MakeKey s r a s' r' h = matched (Adds (pos 0) s s') refuse _ _ h (λ _ none. quiet s s' none.1.0) (λ _ makes. key_made s r a s' r' _ _ makes)
-  sum_called refuse MakePair s r a s' r' h = matched (Adds (pos 0) s s') refuse _ _ h (λ _ none. quiet s s' none.1.0) (λ _ makes. pair_made s r a s' r' _ _ makes)
+  sum_called refuse MakeKey s r a s' r' h = made_nothing s r a s' r' (part_logs s r a s' r' refuse h)
+  sum_called refuse MakeValue s r a s' r' h = made_nothing s r a s' r' (part_logs s r a s' r' refuse h)
+  sum_called refuse MakePair s r a s' r' h = made_nothing s r a s' r' (own_logs s r a s' r' refuse h)
+  sum_called refuse (MakePairOf n) s r a s' r' h = made_nothing s r a s' r' (of_logs s r a s' r' refuse n h)
   sum_called refuse (MakeTable slots limit chunks) s r a s' r' h = matched (Adds (pos 0) s s') refuse _ _ h (λ _ none. quiet s s' none.1.0) (λ _ makes. table_made slots limit chunks s a s' _ makes.0)
   sum_called refuse (AddToShard by) s r a s' r' h =
       let sum : ℤ = s.count.sum +ℤ by in
@@ -108,12 +104,13 @@ module _ {K V S A : Type 0} (eq : K → K → Bool) (says : Says K V A) where
 abbrev pub Grows : {P : Type 0} → ℤ → Exchange P → Type 0
 Grows by e = (before now : ℕ) → IsCountAfter e before now → pos now ≡ pos before +ℤ by
 
-module _ {K P : Type 0} (c : Coding K P) (s : State P) (hands : Hands P) (new : ℕ) where
+module _ {K P : Type 0} (g : Setting K P) (c : Coding K P) (k : K) (s : State P) (hands : Hands P) (new : ℕ) where
   -- by the kind of the exchange
-  asked_grows : (kind : Option StepKind) (at : At) (e : Exchange P) → IsAsked c kind at new s hands e → Grows (grows_of kind) e
+  asked_grows : (kind : Option StepKind) (at : At) (e : Exchange P) → IsAsked g c k kind at new s hands e → Grows (grows_of kind) e
   asked_grows (Some kinds.Open) Root e is = subst (Grows (pos 0)) (sym is) (λ before now count. omega (arith, ints, count))
-  asked_grows (Some kinds.Claim) (Slot t x) e (q, own, is) = subst (Grows (pos 1)) (sym is) (λ before now count. omega (arith, ints, count))
-  asked_grows (Some kinds.Replace) (Slot t x) e (p, q, live, own, is) = subst (Grows (pos 0)) (sym is) (λ before now count. omega (arith, ints, count))
+  asked_grows (Some kinds.Claim) (Slot t x) e (q, own, key, is) = subst (Grows (pos 1)) (sym is) (λ before now count. omega (arith, ints, count))
+  asked_grows (Some kinds.Replace) (Slot t x) e (p, q, live, own, key, is) = subst (Grows (pos 0)) (sym is) (λ before now count. omega (arith, ints, count))
+  asked_grows (Some kinds.Take) Made e is = subst (Grows (pos 0)) (sym is) (λ before now count. omega (arith, ints, count))
   asked_grows (Some kinds.Bury) (Slot t x) e (q, live, is) = subst (Grows (negsuc 0)) (sym is) (λ before now count. omega (arith, ints, count))
   asked_grows _ _ e h = absurd h
 
@@ -138,7 +135,7 @@ module _ {K P : Type 0} (g : Setting K P) (c : Coding K P) (k : K) (s : State P)
   call_grows : (hands : Hands P) (ask : Call_ask) (a : Call_answer) (es : List (Exchange P)) (hands' : Hands P) → IsTold g c k s kind hands ask a es hands' → IsGrowth (grows_by kind ask a) es
   call_grows hands (Ask_exchange at old new) a es hands' h =
       matched (IsGrowth (grows_by kind (Ask_exchange at old new) a) es) (word_of g c s at == old) _ _ h
-      (λ _ done. inr (let asked = done.1 in (asked.0, asked.2, subst (λ y. Grows (grows_by kind (Ask_exchange at old new) y) asked.0) (sym done.0) (asked_grows c s hands new kind at asked.0 asked.1))))
+      (λ _ done. inr (let asked = done.1 in (asked.0, asked.2, subst (λ y. Grows (grows_by kind (Ask_exchange at old new) y) asked.0) (sym done.0) (asked_grows g c k s hands new kind at asked.0 asked.1))))
       (λ _ lost. inl (lost.1, ap (grows_by kind (Ask_exchange at old new)) lost.0))
   call_grows hands (Load at) a es hands' h = inl (h.1, refl)
   call_grows hands (SameKey n) a es hands' h = inl (h.1.0, refl)
@@ -148,8 +145,11 @@ module _ {K P : Type 0} (g : Setting K P) (c : Coding K P) (k : K) (s : State P)
   call_grows hands (WriteHint t x hint) a es hands' h = inl (h.1.0, refl)
   call_grows hands (SizeOf t) a es hands' h = inl (h.1.0, refl)
   call_grows hands MakeKey a es hands' h = inl (h.1.0, refl)
+  call_grows hands MakeValue a es hands' h = inl (h.1.0, refl)
   call_grows hands MakePair a es hands' (inl h) = inl (h.1.0, refl)
-  call_grows hands MakePair a es hands' (inr (q, key, is, none, made)) = inl (none, refl)
+  call_grows hands MakePair a es hands' (inr (q, key, (is, none, made))) = inl (none, refl)
+  call_grows hands (MakePairOf n) a es hands' (inl h) = inl (h.1.0, refl)
+  call_grows hands (MakePairOf n) a es hands' (inr (q, key, (is, none, made))) = inl (none, refl)
   call_grows hands (MakeTable slots limit chunks) a es hands' h = inl (h.1.0, refl)
   call_grows hands (AddToShard by) a es hands' h = inl (h.1.0, refl)
   call_grows hands (Ask_done reply) a es hands' h = inl (h.1.0, refl)

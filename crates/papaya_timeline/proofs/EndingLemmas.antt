@@ -1,11 +1,10 @@
 -- What ends a call of which the closure has the last word: an abort, and a removal where it was shown that there is none.
-use Rattle.std.proofs.Common.{◌≡◌, ◌⊎◌, inl, inr, ⊎_elim, ℕ, ◌==◌, Bool, Option, None, Some, List, ◌∷◌, length, sym, ◌∙◌, ap}
+use Rattle.std.proofs.Common.{◌≡◌, inl, inr, ⊎_elim, ℕ, ◌==◌, Bool, Option, None, Some, List, ◌∷◌, sym, ◌∙◌, ap}
 use Rattle.papaya_words.specs.Table.{TableWords}
-use Rattle.papaya_words.specs.declared.limits.TheConstants.{MAX_LOG_LEN}
-use Rattle.papaya_words.specs.declared.probe.Refused.TheVariants.{Capacity, RemoveNothing}
+use Rattle.papaya_words.specs.declared.probe.Refused.TheVariants.{Capacity, Limit, RemoveNothing}
 use Rattle.papaya_call.specs.Answers.{Says}
 use Rattle.papaya_ask.specs.declared.ask.Ask.{Ask as Call_ask}
-use Rattle.papaya_ask.specs.declared.ask.Ask.TheVariants.{Load, Exchange as Ask_exchange, SameKey, ShowNone, ShowPair, SizeOf, MakeKey, MakePair, MakeTable, AddToShard, Done as Ask_done, LoadHint, WriteHint}
+use Rattle.papaya_ask.specs.declared.ask.Ask.TheVariants.{Load, Exchange as Ask_exchange, SameKey, ShowNone, ShowPair, SizeOf, MakeKey, MakeValue, MakePair, MakePairOf, MakeTable, AddToShard, Done as Ask_done, LoadHint, WriteHint}
 use Rattle.papaya_ask.specs.declared.ask.Answer.{Answer as Call_answer}
 use Rattle.papaya_ask.specs.declared.ask.Answer.TheVariants.{Op, Refused as Was_refused}
 use Rattle.papaya_ask.specs.declared.ask.OpKind.{OpKind}
@@ -25,6 +24,7 @@ use Rattle.papaya_chain.specs.declared.ask.Answer.TheVariants as answers
 use Rattle.papaya_chain.specs.declared.machine.Machine.{Machine}
 use Rattle.papaya_chain.specs.Machine.{ask_of, kind_of_ask, after}
 use Rattle.papaya_chain_rests.specs.Goes.{Goes, IsCause, IsToMake, WasNotMade, WouldBeTooLong}
+use Rattle.papaya_rests.specs.Rests.{IsAtLimit}
 use Rattle.papaya_rests.specs.Says.{show}
 use Rattle.papaya_store.specs.declared.pairs.Running.{Running}
 use Rattle.papaya_timeline.specs.declared.trace.Event.{Event}
@@ -32,14 +32,14 @@ use Rattle.papaya_timeline.specs.Advances.{event_of}
 use Rattle.papaya_timeline.specs.Maps.{Map, at_key, key_of}
 use Rattle.papaya_store.specs.Asks.{PerformsAsk}
 use Rattle.papaya_store.specs.Copies.{PerformsCopy, hash_in}
-use Rattle.papaya_store.specs.Performs.{Performs, HasKey, HasNoPair, LogsKey, LogsPair, Refuses, ShowsPair, Stays, size_of}
+use Rattle.papaya_store.specs.Performs.{Performs, Refuses, ShowsPair, size_of}
 use Rattle.papaya_timeline.specs.Runs.{History}
 use Rattle.papaya_store.specs.Store.{StoreState, Stored, pair_of}
 use Rattle.papaya_store.specs.Tables.{table_of, word_at}
 use Rattle.papaya_timeline.specs.Timeline.{begins, last_shown, number_in, shown_by, AtSomeMoment}
 use Rattle.papaya_timeline.proofs.ChainLemmas.{chain_aborted}
 use Rattle.papaya_timeline.proofs.StepEvents.{event_begins, event_shown}
-use Rattle.papaya_timeline.proofs.StoreLemmas.{matched}
+use Rattle.papaya_timeline.proofs.StoreLemmas.{LogsOrNot, matched, of_logs, own_logs, part_logs}
 use Rattle.papaya_timeline.proofs.TiedLemmas.{IsEnding, WasShownLast}
 use Rattle.papaya_timeline.proofs.TimelineLemmas.{entry, last_shown-own, not_begin-own}
 
@@ -53,6 +53,14 @@ size_unrefused None e = cc
 size_unrefused (Some t) e = cc
 
 module _ {K V S A : Type 0} (eq : K → K → Bool) (says : Says K V A) (refuse : Bool) (s : StoreState K V S) (r : Running K V A) (a : Call_answer) (s' : StoreState K V S) (r' : Running K V A) where
+  -- what is logged, or is not, refuses none
+  made_unrefused : LogsOrNot s r a s' r' → a ≡ Was_refused RemoveNothing → ⊥
+  made_unrefused (inl (inl e, stays)) is = cc
+  made_unrefused (inl (inr (inl e), stays)) is = cc
+  made_unrefused (inl (inr (inr (inl e)), stays)) is = cc
+  made_unrefused (inl (inr (inr (inr e)), stays)) is = cc
+  made_unrefused (inr (key, left, (value, has, e, few, same, moved))) is = cc
+
   -- no answer to a call refuses the removal of nothing
   call_unrefused : (ask : Call_ask) → Performs eq says refuse ask s r a s' r' → a ≡ Was_refused RemoveNothing → ⊥
   call_unrefused (Load at) (e, stays) is = cc
@@ -75,24 +83,10 @@ module _ {K V S A : Type 0} (eq : K → K → Bool) (says : Says K V A) (refuse 
   call_unrefused (LoadHint t x) (e, stays) is = cc
   call_unrefused (WriteHint t x hint) (e, same, as_was) is = cc
   call_unrefused (SizeOf n) (e, stays) is = size_unrefused (table_of s.words.tables n) (sym e ∙ is)
-  call_unrefused MakeKey h is =
-      matched ⊥ refuse _ _ h
-      (λ _ none. let e = none.0 in cc)
-      (λ _ makes. by_cases makes)
-    where
-      by_cases : (Refuses MAX_LOG_LEN (length s.keys) a × Stays s r s' r') ⊎ (HasKey a r × Stays s r s' r') ⊎ LogsKey a s r s' r' → ⊥
-      by_cases (inl (refuses, stays)) = growth_unrefused _ _ a refuses is
-      by_cases (inr (inl (has, stays))) = let e = has.0 in cc
-      by_cases (inr (inr (k, own, e, few, same, later))) = cc
-  call_unrefused MakePair h is =
-      matched ⊥ refuse _ _ h
-      (λ _ none. let e = none.0 in cc)
-      (λ _ makes. by_cases makes)
-    where
-      by_cases : (Refuses MAX_LOG_LEN (length s.pairs) a × Stays s r s' r') ⊎ (HasNoPair a r × Stays s r s' r') ⊎ LogsPair a s r s' r' → ⊥
-      by_cases (inl (refuses, stays)) = growth_unrefused _ _ a refuses is
-      by_cases (inr (inl (has, stays))) = let e = has.0 in cc
-      by_cases (inr (inr (i, v, key, value, e, few, same, later))) = cc
+  call_unrefused MakeKey h is = made_unrefused (part_logs s r a s' r' refuse h) is
+  call_unrefused MakeValue h is = made_unrefused (part_logs s r a s' r' refuse h) is
+  call_unrefused MakePair h is = made_unrefused (own_logs s r a s' r' refuse h) is
+  call_unrefused (MakePairOf n) h is = made_unrefused (of_logs s r a s' r' refuse n h) is
   call_unrefused (MakeTable slots limit chunks) h is =
       matched ⊥ refuse _ _ h
       (λ _ none. let e = none.0 in cc)
@@ -141,7 +135,10 @@ pub removes_nothing : (m : Machine) (a : Answer) → (a ≡ answers.Call (Was_re
 removes_nothing m a never (inl by) =
     ⊎_elim
     (λ (refuses : IsToMake (calls.ask_of m.call) × (by.own.told ≡ Was_refused RemoveNothing)). absurd (never (by.own.is ∙ ap answers.Call refuses.1)))
+    (λ others. ⊎_elim
+    (λ (full : (RemoveNothing ≡ Limit) × IsAtLimit m.call by.own.told). let f : RemoveNothing ≡ Limit = full.0 in absurd cc)
     (λ (shown : (RemoveNothing ≡ RemoveNothing) × (ask_of m ≡ asks.Call ShowNone) × (by.own.told ≡ Op op_kinds.Remove)). (shown.1, by.own.is ∙ ap answers.Call shown.2))
+    others)
     by.why
 removes_nothing m a never (inr by) =
     ⊎_elim

@@ -4,7 +4,7 @@ use Rattle.papaya_ask.specs.declared.ask.At.{At}
 use Rattle.papaya_call.specs.Answers.{op_kind}
 use Rattle.papaya_call.specs.declared.answers.Operation.{Operation}
 use Rattle.papaya_ask.specs.declared.ask.Ask.{Ask}
-use Rattle.papaya_ask.specs.declared.ask.Ask.TheVariants.{Load, Exchange as Ask_exchange, SameKey, ShowNone, ShowPair, SizeOf, MakeKey, MakePair, MakeTable, AddToShard, Done as Ask_done, LoadHint, WriteHint}
+use Rattle.papaya_ask.specs.declared.ask.Ask.TheVariants.{Load, Exchange as Ask_exchange, SameKey, ShowNone, ShowPair, SizeOf, MakeKey, MakeValue, MakePair, MakePairOf, MakeTable, AddToShard, Done as Ask_done, LoadHint, WriteHint}
 use Rattle.papaya_ask.specs.declared.ask.Answer.{Answer}
 use Rattle.papaya_ask.specs.declared.ask.Answer.TheVariants.{Word as Word_read, Exchanged, Found as Found_instead, Yes, Op, Size, Made as Made_number, Ok as Ok_done, Refused as Was_refused}
 use Rattle.papaya_ask.specs.declared.ask.OpKind.{OpKind}
@@ -24,7 +24,7 @@ use Rattle.papaya_timeline.proofs.StoreLemmas.{matched}
 use Rattle.papaya_timeline.proofs.TimelineLemmas.{entry, answered-own, answered-now, asked-own, asked-now}
 
 -- an exchange of this ask was made
-pub record IsExchanged {K P : Type 0} (g : Setting K P) (c : Coding K P) (s : State P) (kind : Option StepKind) (hands : Hands P) (ask : Ask) (answer : Answer) (es : List (Exchange P)) : Type 0 where
+pub record IsExchanged {K P : Type 0} (g : Setting K P) (c : Coding K P) (k : K) (s : State P) (kind : Option StepKind) (hands : Hands P) (ask : Ask) (answer : Answer) (es : List (Exchange P)) : Type 0 where
   pub at : At
   pub old : ℕ
   pub new : ℕ
@@ -32,7 +32,7 @@ pub record IsExchanged {K P : Type 0} (g : Setting K P) (c : Coding K P) (s : St
   pub ask_is : ask ≡ Ask_exchange at old new
   pub answer_is : answer ≡ Exchanged
   pub stood : word_of g c s at ≡ old
-  pub asked : IsAsked c kind at new s hands by
+  pub asked : IsAsked g c k kind at new s hands by
   pub made : es ≡ by ∷ []
 
 -- or nothing was exchanged
@@ -49,7 +49,7 @@ IsShown kind ask answer es = (shown : Option ℕ) × (op : OpKind) × (ask ≡ s
 
 module _ {K P : Type 0} (g : Setting K P) (c : Coding K P) (k : K) (s : State P) (kind : Option StepKind) (hands : Hands P) where
   abbrev Cases : Ask → Answer → List (Exchange P) → Type 0
-  Cases ask answer es = IsQuiet kind ask answer es ⊎ IsExchanged g c s kind hands ask answer es ⊎ IsShowing kind ask answer es ⊎ IsShown kind ask answer es
+  Cases ask answer es = IsQuiet kind ask answer es ⊎ IsExchanged g c k s kind hands ask answer es ⊎ IsShowing kind ask answer es ⊎ IsShown kind ask answer es
 
   -- what is told is one of them
   pub told_cases : (ask : Ask) (answer : Answer) (es : List (Exchange P)) (hands' : Hands P) → IsTold g c k s kind hands ask answer es hands' → Cases ask answer es
@@ -79,7 +79,9 @@ module _ {K P : Type 0} (g : Setting K P) (c : Coding K P) (k : K) (s : State P)
   told_cases (WriteHint t x hint) answer es hands' h = inl (h.1.0, refl)
   told_cases (SizeOf t) answer es hands' h = inl (h.1.0, refl)
   told_cases MakeKey answer es hands' h = inl (h.1.0, refl)
-  told_cases MakePair answer es hands' h = ⊎_elim (λ quiet. inl (quiet.1.0, refl)) (λ made. inl (made.3, refl)) h
+  told_cases MakeValue answer es hands' h = inl (h.1.0, refl)
+  told_cases MakePair answer es hands' h = ⊎_elim (λ quiet. inl (quiet.1.0, refl)) (λ made. inl (made.2.1, refl)) h
+  told_cases (MakePairOf pair) answer es hands' h = ⊎_elim (λ quiet. inl (quiet.1.0, refl)) (λ made. inl (made.2.1, refl)) h
   told_cases (MakeTable slots limit chunks) answer es hands' h = inl (h.1.0, refl)
   told_cases (AddToShard by) answer es hands' h = inl (h.1.0, refl)
   told_cases (Ask_done reply) answer es hands' h = inl (h.1.0, refl)
@@ -108,6 +110,7 @@ exchanged_cases P other changed moved kind old new answer = by_answer answer
     by_kind (Some kinds.Advance) = moved kinds.Advance
     by_kind (Some kinds.Promote) = moved kinds.Promote
     by_kind (Some kinds.Abort) = moved kinds.Abort
+    by_kind (Some kinds.Take) = moved kinds.Take
 
     by_answer : (answer : Answer) → P (answered_event kind old new answer)
     by_answer Exchanged = by_kind kind
@@ -144,7 +147,9 @@ event_cases P other changed moved asked shown kind (LoadHint t x) answer = other
 event_cases P other changed moved asked shown kind (WriteHint t x hint) answer = other
 event_cases P other changed moved asked shown kind (SizeOf n) answer = other
 event_cases P other changed moved asked shown kind MakeKey answer = other
+event_cases P other changed moved asked shown kind MakeValue answer = other
 event_cases P other changed moved asked shown kind MakePair answer = other
+event_cases P other changed moved asked shown kind (MakePairOf pair) answer = other
 event_cases P other changed moved asked shown kind (MakeTable slots limit chunks) answer = other
 event_cases P other changed moved asked shown kind (AddToShard by) answer = other
 event_cases P other changed moved asked shown kind (Ask_done reply) answer = other
@@ -190,7 +195,9 @@ event_none before kind (LoadHint t x) answer e = inl e
 event_none before kind (WriteHint t x hint) answer e = inl e
 event_none before kind (SizeOf n) answer e = inl e
 event_none before kind MakeKey answer e = inl e
+event_none before kind MakeValue answer e = inl e
 event_none before kind MakePair answer e = inl e
+event_none before kind (MakePairOf pair) answer e = inl e
 event_none before kind (MakeTable slots limit chunks) answer e = inl e
 event_none before kind (AddToShard by) answer e = inl e
 event_none before kind (Ask_done reply) answer e = inl e
@@ -221,6 +228,7 @@ event_change before kind (Ask_exchange at old new) answer once = by_answer answe
     by_kind (Some kinds.Advance) = none
     by_kind (Some kinds.Promote) = none
     by_kind (Some kinds.Abort) = none
+    by_kind (Some kinds.Take) = none
 
     by_answer : (answer : Answer) → change_by (answered_event kind old new answer) before ≡ change_after kind (Ask_exchange at old new) answer before
     by_answer Exchanged = by_kind kind
@@ -239,7 +247,9 @@ event_change before kind (LoadHint t x) answer once = refl
 event_change before kind (WriteHint t x hint) answer once = refl
 event_change before kind (SizeOf n) answer once = refl
 event_change before kind MakeKey answer once = refl
+event_change before kind MakeValue answer once = refl
 event_change before kind MakePair answer once = refl
+event_change before kind (MakePairOf pair) answer once = refl
 event_change before kind (MakeTable slots limit chunks) answer once = refl
 event_change before kind (AddToShard by) answer once = refl
 event_change before kind (Ask_done reply) answer once = refl
@@ -255,7 +265,9 @@ unchanged_before before kind (LoadHint t x) answer once e = e
 unchanged_before before kind (WriteHint t x hint) answer once e = e
 unchanged_before before kind (SizeOf n) answer once e = e
 unchanged_before before kind MakeKey answer once e = e
+unchanged_before before kind MakeValue answer once e = e
 unchanged_before before kind MakePair answer once e = e
+unchanged_before before kind (MakePairOf pair) answer once e = e
 unchanged_before before kind (MakeTable slots limit chunks) answer once e = e
 unchanged_before before kind (AddToShard by) answer once e = e
 unchanged_before before kind (Ask_done reply) answer once e = e

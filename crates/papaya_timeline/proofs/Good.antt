@@ -20,7 +20,7 @@ use Rattle.papaya_timeline.specs.Given.{AreGiven, HasLeft}
 use Rattle.papaya_timeline.specs.Headline.{AreLogged, AreNew}
 use Rattle.papaya_timeline.specs.Kept.{IsKept, Tale, VisitTale, numbers_of, setting_of, visit_tale}
 use Rattle.papaya_timeline.specs.Maps.{Map, at_key, key_of}
-use Rattle.papaya_store.specs.Performs.{own_key}
+use Rattle.papaya_store.specs.Performs.{own_key, own_value}
 use Rattle.papaya_store.specs.Store.{KeepsPairs, StoreState, Stored, pair_of}
 use Rattle.papaya_timeline.specs.Runs.{History}
 use Rattle.papaya_timeline.specs.Timeline.{Answered, open_call, change_of, given_by, last_asked, was_shown_none, AreSince, AtBegin, AtSomeMoment, OfEach, OfSome, WasAnswered, WasAsked, WereThere, IsUnused, Timeline}
@@ -60,17 +60,17 @@ abbrev pub answer_about : {K V : Type 0} → List (Stored K V × Bool) → ℕ �
 answer_about [] n = None
 answer_about (one ∷ older) n = cond (one.0.number == n) (Some one.1) (answer_about older n)
 
--- What a machine stands on was said by its closure in the call. A value that it answered is at hand until a pair is made of it, and then is the pair's.
+-- What a machine stands on was said by its closure in the call. A value that it answered is the call's until a pair is made of it, and then is the pair's.
 abbrev pub WasSaid : {K V S A : Type 0} → StoreState K V S → Running K V A → ℕ → History → Answered V → Said → Type 0
 WasSaid store r caller h said (Agrees n agrees) = WasAsked caller n agrees h
-WasSaid {V = V} store r caller h said (Inserts shown) = (v : V) × (r.value ≡ Some v) × WasAnswered caller shown (ops.Insert v) h said
+WasSaid {V = V} store r caller h said (Inserts shown) = (v : V) × (own_value store r ≡ Some v) × WasAnswered caller shown (ops.Insert v) h said
 WasSaid {K = K} {V = V} store r caller h said (Makes shown n) = (q : Stored K V) × (pair_of store n ≡ Some q) × WasAnswered caller shown (ops.Insert q.value) h said
 WasSaid store r caller h said (Removes n) = WasAnswered caller (Some n) ops.Remove h said
 
 module _ {K V : Type 0} (eq : K → K → Bool) where
   -- the map m after these exchanges, whatever tables there are
   abbrev pub replayed : Map K V → List (Exchange (Stored K V)) → Map K V
-  replayed m es = map_of (setting_of eq (λ k. 0) Blocking []) m es
+  replayed m es = map_of (setting_of eq (λ k. 0) (record { resize = Blocking; limit = None }) []) m es
 
   -- the map that these exchanges leave, from the empty one
   abbrev pub replay : List (Exchange (Stored K V)) → Map K V
@@ -78,7 +78,7 @@ module _ {K V : Type 0} (eq : K → K → Bool) where
 
   -- the setting in which it is replayed
   abbrev pub replaying : Setting K (Stored K V)
-  replaying = setting_of eq (λ k. 0) Blocking []
+  replaying = setting_of eq (λ k. 0) (record { resize = Blocking; limit = None }) []
 
   -- each pair of the map has a key of its class
   abbrev pub IsKeyed : Map K V → Type 0
@@ -117,13 +117,13 @@ module _ {K V : Type 0} (eq : K → K → Bool) where
       pub key : own_key store r ≡ Some own
       pub key_is : key_of call ≡ Some own
       pub task : r.machine.call.task ≡ the_task call
-      -- the value that is at hand, and that of a pair that was made, is the call's
-      pub value : (v : V) → r.value ≡ Some v → IsValueOf call v
+      -- the value that it has, and that of a pair that was made, is the call's
+      pub value : (v : V) → own_value store r ≡ Some v → IsValueOf call v
       pub made : (q : Stored K V) → IsOneOf tale.hands.call.made q → IsValueOf call q.value
       pub change : change_of caller h ≡ change_in r.machine.call.state
       -- what its machine stands on was said by its closure in the call
       pub said : (said : Said) → StandsOn r.machine.call said → WasSaid store r caller h answers said
-      pub shows : ShowsPairs r.machine.call.state
+      pub shows : ShowsPairs r.machine.call
       -- a closure that was shown that there is none will not be shown it again
       pub once : was_shown_none caller h ≡ true → HasShownNone r.machine.call.remembered.fill r.machine.call.state
       -- what its key had after some of the exchanges since the call began, it had at a moment of the call

@@ -1,22 +1,19 @@
 -- Begins and steps keep a good history.
-use Rattle.std.proofs.Common.{rules, arith, ◌≡◌, ◌≢◌, ◌⊎◌, inl, inr, ⊎_elim, ℕ, ◌<◌, Bool, true, false, cond, Option, None, Some, List, [], ◌∷◌, ◌++◌, length, slice_get, refl, sym, ◌∙◌, ap, subst, eq-eqb, append_assoc}
+use Rattle.std.proofs.Common.{arith, ◌≡◌, ◌≢◌, ◌⊎◌, inl, inr, ⊎_elim, ℕ, ◌<◌, Bool, true, false, cond, Option, None, Some, List, [], ◌∷◌, ◌++◌, length, slice_get, refl, sym, ◌∙◌, ap, subst, eq-eqb, append_assoc}
 use Rattle.std.proofs.lemmas.Bool.{cases_Bool}
-use Rattle.papaya_words.specs.declared.probe.ResizeMode.{ResizeMode}
 use Rattle.papaya_words.specs.declared.probe.Refused.TheVariants.{RemoveNothing}
-use Rattle.papaya_ask.specs.declared.ask.Ask.TheVariants.{ShowNone, MakePair, Done as Ask_done}
+use Rattle.papaya_ask.specs.declared.ask.Ask.TheVariants.{ShowNone, Done as Ask_done}
 use Rattle.papaya_ask.specs.declared.ask.Answer.TheVariants.{Op, Made as Made_number}
 use Rattle.papaya_ask.specs.declared.ask.OpKind.{OpKind}
 use Rattle.papaya_ask.specs.declared.ask.StepKind.{StepKind}
 use Rattle.papaya_ask.specs.declared.call.Call.{Call}
 use Rattle.papaya_ask.specs.declared.call.Call.TheVariants.{Get, Insert, TryInsert, RemoveIf, Compute, Reserve, CopyAll, Clear, Retain, Walk}
 use Rattle.papaya_ask.specs.declared.call.Reply.{Reply}
-use Rattle.papaya_ask.specs.declared.call.Task.{Task}
 use Rattle.papaya_ask.specs.declared.call.Task.TheVariants as tasks
 use Rattle.papaya_call.specs.Answers.{Says}
 use Rattle.papaya_law.specs.Exchange.{Exchange, Replace, run, start as first_state}
 use Rattle.papaya_law.specs.Invariant.{named}
 use Rattle.papaya_call.specs.Machine.{HasClosure}
-use Rattle.papaya_call.specs.Machine as calls
 use Rattle.papaya_chain.specs.declared.ask.Ask.TheVariants as asks
 use Rattle.papaya_chain.specs.declared.ask.Answer.TheVariants as told_to
 use Rattle.papaya_chain.specs.Machine.{ask_of, follows_of, kind_of_ask, after}
@@ -30,7 +27,7 @@ use Rattle.papaya_chain_rests.proofs.Goes.{machine_goes}
 use Rattle.papaya_chain_rests.proofs.Once.{chain_offered, chain_once as shows_once}
 use Rattle.papaya_chain_rests.proofs.Replies.{chain_said, chain_shows, chain_task}
 use Rattle.papaya_rests.specs.Rests.{change_in, change_of_reply}
-use Rattle.papaya_rests.specs.Says.{HasShownNone, IsSaidChange, Said, StandsOn, show}
+use Rattle.papaya_rests.specs.Says.{HasShownNone, IsSaidChange, show}
 use Rattle.papaya_rests.specs.Told.{IsOneOf}
 use Rattle.papaya_law.specs.Code.{IsHashed}
 use Rattle.papaya_store.specs.declared.pairs.Running.{Running}
@@ -40,8 +37,9 @@ use Rattle.papaya_timeline.specs.declared.trace.Turn.TheVariants.{Begin}
 use Rattle.papaya_timeline.specs.declared.trace.Event.{Event}
 use Rattle.papaya_timeline.specs.declared.trace.Event.TheVariants.{Begun, Changed, Moved, Asked, Shown, Gave, Other, Replied}
 use Rattle.papaya_timeline.specs.Advances.{Advances, goes_on}
-use Rattle.papaya_timeline.specs.Begins.{Begins, answers_of_call, begun, begun_work, value_of_call, visitor_begun}
-use Rattle.papaya_timeline.proofs.Begun.{IsBegun, call_begun, task_is_own, the_task}
+use Rattle.papaya_timeline.specs.Begins.{Begins, answers_of_call, begun, begun_work, handed, value_of_call, visitor_begun}
+use Rattle.papaya_store.specs.Pairs.{value_at}
+use Rattle.papaya_timeline.proofs.Begun.{IsBegun, begun_stands, call_begun, task_is_own, the_task}
 use Rattle.papaya_timeline.specs.declared.seat.Work.{Work}
 use Rattle.papaya_timeline.specs.declared.seat.Work.TheVariants as works
 use Rattle.papaya_timeline.specs.Callers.{as_work, resizer_in, resizing, running, visiting, visitor_in, with_call, with_seat, with_work}
@@ -52,7 +50,6 @@ use Rattle.papaya_timeline.specs.Given.{AreGiven, GivesIn, HasLeft, begun_answer
 use Rattle.papaya_timeline.specs.Headline.{AreLogged, AreNew, ComesNew, HasTimeline}
 use Rattle.papaya_timeline.specs.Kept.{IsKept, Tale, setting_of, coding_of, low, told_tales, begun_tales, visit_tale}
 use Rattle.papaya_timeline.specs.Maps.{Map, Does, at_key, key_of}
-use Rattle.papaya_store.specs.Asks.{PerformsAsk}
 use Rattle.papaya_timeline.specs.Runs.{History, with_step}
 use Rattle.papaya_store.specs.Store.{KeepsPairs, StoreState, Stored, pair_of}
 use Rattle.papaya_timeline.specs.Timeline.{Answered, Timeline, IsLegal, MayChange, FitsOpen, FitsShown, IsAgreed, IsUnused, change_of, change_by, none_by, number_in, open_call, open_after, begun_by, begins, is_begin, was_shown_none, AtSomeMoment}
@@ -65,26 +62,25 @@ use Rattle.papaya_timeline.proofs.EntersOnce.{timeline_steady}
 use Rattle.papaya_timeline.proofs.Good.{IsGood, IsKeyed, IsResize, IsTied, IsValueOf, IsVisitOf, IsVisitTied, replay, replayed}
 use Rattle.papaya_timeline.proofs.GoodVisits.{replay_keyed, visit_begins, visit_entry, visit_other}
 use Rattle.papaya_timeline.proofs.KeptLemmas.{IsLawfulKeys, IsStep, kept_step, kept_begin, map_kept, hashed_setting}
-use Rattle.papaya_timeline.proofs.KeptLogs.{pair_below}
+use Rattle.papaya_store.proofs.Logs.{pair_below}
 use Rattle.papaya_timeline.proofs.AdvanceLemmas.{advance_legal, changed as advance_changed, moved as advance_moved, order as advance_order}
 use Rattle.papaya_timeline.proofs.LegalLemmas.{IsMoved, MayPut, MayReplace, MayTell, Moves, fits_asked, insertion_does, own_change, removal_does, replaces_own}
 use Rattle.papaya_timeline.proofs.MachineLemmas.{machine_offers, machine_shows, machine_shows_none}
 use Rattle.papaya_timeline.proofs.ReplayLemmas.{map_replayed, held_in_slot}
 use Rattle.papaya_timeline.proofs.SaidLemmas.{change_agreed, said_after}
 use Rattle.papaya_timeline.proofs.StepEvents.{copy_kind, one_exchange, event_begins, event_none, event_open, event_change, unchanged_before}
-use Rattle.papaya_timeline.proofs.StepTells.{Tells, answering as answered_by, event_tells, made_number, told_made}
+use Rattle.papaya_timeline.proofs.StepTells.{Tells, answering as answered_by, event_tells}
 use Rattle.papaya_timeline.proofs.TellLemmas.{IsAnswering}
 use Rattle.papaya_timeline.proofs.TiedLemmas.{IsEnding, HasMoreLogs, grown, tied_other, tied_entry, tied_fits, at_showing, at_showing_none, moments_more}
 use Rattle.papaya_timeline.proofs.TimelineLemmas.{entry, open_call-own, open_call-other, change_of-other, change_of-own, not_begin-own, logged_more, logged_unused, was_shown_none-own}
+use Rattle.papaya_store.specs.declared.mode.Mode.{Mode}
+use Rattle.papaya_store.specs.Performs.{own_value}
+use Rattle.papaya_timeline.proofs.MadePairs.{MakesOver}
 
 -- a call that goes on is the one after its step
 goes : {A : Type 0} (reply : Option Reply) (r' r : A) → goes_on reply r' ≡ Some r → (reply ≡ None) × (r' ≡ r)
 goes None r' r e = (refl, same_item r' r e)
 goes (Some reply) r' r e = let f : None ≡ Some r = e in cc
-
--- a call that begins stands on nothing that its closure said
-begun_stands : (task : Task) (hash : ℕ) (mode : ResizeMode) (initial : ℕ) (said : Said) → StandsOn (calls.started task hash mode initial) said → ⊥
-begun_stands task hash mode initial said stands = search rules
 
 -- no pair has a number past a log that has its pairs and more
 past_log : {K V S : Type 0} (first s : StoreState K V S) → KeepsPairs first s → (o : Option (Stored K V)) → pair_of first (length s.pairs) ≡ o → o ≡ None
@@ -106,7 +102,7 @@ computed Clear is v = absurd cc
 computed (Retain a) is v = absurd cc
 computed Walk is v = absurd cc
 
-module _ {K V A : Type 0} (hash : K → ℕ) (mode : ResizeMode) (initial number : ℕ) where
+module _ {K V A : Type 0} (hash : K → ℕ) (mode : Mode) (initial number : ℕ) where
   -- a resizer begins for a call that resizes the map
   resize_begun : (call : Call K V A) (z : Resizer) → begun_work hash mode initial number call ≡ works.Resize z → IsResize call
   resize_begun (Reserve more) z e = tt
@@ -121,9 +117,9 @@ module _ {K V A : Type 0} (hash : K → ℕ) (mode : ResizeMode) (initial number
   resize_begun Walk z e = let f : None ≡ Some z = ap (λ (w : Work K V A). resizer_in (Some w)) e in absurd cc
 
   -- and a visitor for one that visits a table, with the answers of its closure
-  visit_is : (call : Call K V A) (visit : Visit) (answers : Option A) (v : Visiting A) → IsVisitOf call visit → works.Visit (visitor_begun mode initial number visit answers) ≡ begun_work hash mode initial number call → answers ≡ answers_of_call call → begun_work hash mode initial number call ≡ works.Visit v → IsVisitOf call v.visitor.visit × (v.answers ≡ answers_of_call call)
+  visit_is : (call : Call K V A) (visit : Visit) (answers : Option A) (v : Visiting A) → IsVisitOf call visit → works.Visit (visitor_begun mode.resize initial number visit answers) ≡ begun_work hash mode initial number call → answers ≡ answers_of_call call → begun_work hash mode initial number call ≡ works.Visit v → IsVisitOf call v.visitor.visit × (v.answers ≡ answers_of_call call)
   visit_is call visit answers v of begins are e =
-      let same : visitor_begun mode initial number visit answers ≡ v = same_item (visitor_begun mode initial number visit answers) v (ap (λ (w : Work K V A). visitor_in (Some w)) (begins ∙ e)) in
+      let same : visitor_begun mode.resize initial number visit answers ≡ v = same_item (visitor_begun mode.resize initial number visit answers) v (ap (λ (w : Work K V A). visitor_in (Some w)) (begins ∙ e)) in
       (subst (λ (u : Visiting A). IsVisitOf call u.visitor.visit) same of, ap (λ (u : Visiting A). u.answers) (sym same) ∙ are)
 
   visit_begun : (call : Call K V A) (v : Visiting A) → begun_work hash mode initial number call ≡ works.Visit v → IsVisitOf call v.visitor.visit × (v.answers ≡ answers_of_call call)
@@ -291,7 +287,7 @@ module _ {K V S A : Type 0} (eq : K → K → Bool) (hash : K → ℕ) (law : Is
         let none_before = unchanged_before (change_in x.before.machine.call.state) (kind_of_ask x.before.machine) (ask_of x.before.machine) x.answer (chain_once x.before.machine) (sym changed ∙ none) in
         ⊎_elim
         (λ was. good.unused c x.before x.was q was none_before)
-        (λ (new : (q.number ≡ length s.store.pairs) × (x.before.value ≡ Some q.value) × (pair_of s'.store q.number ≡ Some q)). subst (λ n. IsUnused n (replay eq good.es ∷ good.maps)) (sym new.0) (logged_unused s.store (replay eq good.es ∷ good.maps) good.logged))
+        (λ (new : (q.number ≡ length s.store.pairs) × (own_value s.store x.before ≡ Some q.value) × (pair_of s'.store q.number ≡ Some q)). subst (λ n. IsUnused n (replay eq good.es ∷ good.maps)) (sym new.0) (logged_unused s.store (replay eq good.es ∷ good.maps) good.logged))
         (step.new q made)
 
     -- each caller's call, before it and after it
@@ -325,16 +321,8 @@ module _ {K V S A : Type 0} (eq : K → K → Bool) (hash : K → ℕ) (law : Is
     no_begin = not_begin-own c c turn event (ap begins x.event_is ∙ event_begins (kind_of_ask x.before.machine) (ask_of x.before.machine) x.answer)
 
     -- a pair that is made in the step is logged, and is of the value at hand
-    made_now : (n : ℕ) → ask_of x.before.machine ≡ asks.Call MakePair → x.answer ≡ told_to.Call (Made_number n) → (q : Stored K V) × (pair_of s'.store n ≡ Some q) × (x.before.value ≡ Some q.value)
-    made_now n asking is =
-        let (q, number, hands) = told_made (setting_of eq (low hash) s.mode s.store.words.tables) (coding_of (low hash)) step.call.key (run good.es first_state) (kind_of_ask x.before.machine) (follows_of x.before.machine) (good.tales c).hands (ask_of x.before.machine) x.answer step.made step.hands n asking is step.told in
-        ⊎_elim
-        (λ old.
-        let below : q.number < length s.store.pairs = pair_below s.store q.number q (step.call.made q old) in
-        let all : n ≡ length s.store.pairs = made_number eq says hashes refuse s.store x.before x.answer s'.store x.later n (subst (λ y. PerformsAsk eq says hashes refuse y s.store x.before x.answer s'.store x.later) asking x.performs) is in
-        absurd (omega (arith, below, all, number)))
-        (λ (new : (q.number ≡ length s.store.pairs) × (x.before.value ≡ Some q.value) × (pair_of s'.store q.number ≡ Some q)). (q, subst (λ i. pair_of s'.store i ≡ Some q) number new.2, new.1))
-        (step.new q (subst (λ (y : List (Stored K V)). IsOneOf y q) (sym hands) (inl refl)))
+    made_now : (n : ℕ) → MakesOver (ask_of x.before.machine) → x.answer ≡ told_to.Call (Made_number n) → (q : Stored K V) × (pair_of s'.store n ≡ Some q) × (own_value s.store x.before ≡ Some q.value)
+    made_now n makes is = let m = step.made_now n makes is in (m.pair, m.there, m.before)
 
     -- the step's own call stands to the history, replied or not
     tied_own : (call : Call K V A) → open_call schedule c h ≡ Some call → IsTied eq s'.store r' call c (tales c) later_history later_maps later_answers
@@ -346,14 +334,14 @@ module _ {K V S A : Type 0} (eq : K → K → Bool) (hash : K → ℕ) (law : Is
           key = step.own.own;
           key_is = sym (own_is call e) ∙ ap (λ k. Some k) (sym step.own_key);
           task = (chain_task m x.answer order).0 ∙ tied.task;
-          value = λ v had. ⊎_elim (λ was. tied.value v was) (λ computes. computed call (sym tied.task ∙ computes) v) (grows.value_stays v had);
+          value = λ v had. ⊎_elim (λ was. tied.value v was) (λ computes. computed call (sym tied.task ∙ computes) v) (grows.value_stays step.call.valued v had);
           made = λ q made. ⊎_elim
               (λ was. tied.made q was)
-              (λ (new : (q.number ≡ length s.store.pairs) × (x.before.value ≡ Some q.value) × (pair_of s'.store q.number ≡ Some q)). tied.value q.value new.1)
+              (λ (new : (q.number ≡ length s.store.pairs) × (own_value s.store x.before ≡ Some q.value) × (pair_of s'.store q.number ≡ Some q)). tied.value q.value new.1)
               (step.new q (subst (λ (y : Hands (Stored K V)). IsOneOf y.call.made q) own_hands made));
           change = change_of-own c turn event h ∙ ap (change_by event) tied.change ∙ ap (λ y. change_by y (change_in m.call.state)) x.event_is
               ∙ event_change (change_in m.call.state) (kind_of_ask m) (ask_of m) x.answer (copy_kind m) (chain_once m) ∙ sym changed;
-          said = said_after eq says hashes refuse s.store x.before x.answer s'.store x.later x.performs grows.pairs_stay made_now turn c event x.event_is h good.answers answering (chain_said m x.answer order (good.core.standing c x.before x.was).call tied.shows) tied.said;
+          said = said_after eq says hashes refuse s.store x.before x.answer s'.store x.later x.performs grows.pairs_stay made_now step.call.again tied.shows turn c event x.event_is h good.answers answering (chain_said m x.answer order (good.core.standing c x.before x.was).call tied.shows) tied.said;
           shows = chain_shows m x.answer order tied.shows;
           once = λ shown. ⊎_elim
               (λ was. (shows_once m x.answer order (tied.once was)).1)
@@ -368,7 +356,7 @@ module _ {K V S A : Type 0} (eq : K → K → Bool) (hash : K → ℕ) (law : Is
     tied_others : (d : ℕ) (r : Running K V A) (call : Call K V A) → d ≢ c → running s'.callers d ≡ Some r → open_call schedule d h ≡ Some call → IsTied eq s'.store r call d (tales d) later_history later_maps later_answers
     tied_others d r call differ now e =
         let before = run_other d r differ now in
-        tied_other eq s.store s'.store r call c d turn event good.tales step.made step.hands h good.es (replay eq good.es ∷ good.maps) answering.answered good.answers grows.keys_stay grows.pairs_stay one (λ z. differ (sym z)) (good.kept.calls d r before).split (good.tied d r call before e)
+        tied_other eq s.store s'.store r call c d turn event good.tales step.made step.hands h good.es (replay eq good.es ∷ good.maps) answering.answered good.answers (record { keys = grows.keys_stay; values = grows.values_stay }) (good.kept.calls d r before).valued grows.pairs_stay one (λ z. differ (sym z)) (good.kept.calls d r before).split (good.tied d r call before e)
 
     -- a closure that ended the call did so in the step
     ending : (call : Call K V A) → open_call schedule c h ≡ Some call → (rep : Reply) → reply ≡ Some rep → ask_of (after x.before.machine x.answer) ≡ asks.Call (Ask_done rep) → IsEnding r'.machine.call.task call rep c later_history later_maps
@@ -463,7 +451,7 @@ module _ {K V S A : Type 0} (eq : K → K → Bool) (hash : K → ℕ) (law : Is
           let opened_before = sym opened ∙ ap (λ y. open_call schedule y later_history) (sym same) ∙ e in
           ⊎_elim
           (λ was. good.made_new c x.before call x.was opened_before q was)
-          (λ (new : (q.number ≡ length s.store.pairs) × (x.before.value ≡ Some q.value) × (pair_of s'.store q.number ≡ Some q)). subst (λ n. pair_of first n ≡ None) (sym new.0) past_new)
+          (λ (new : (q.number ≡ length s.store.pairs) × (own_value s.store x.before ≡ Some q.value) × (pair_of s'.store q.number ≡ Some q)). subst (λ n. pair_of first n ≡ None) (sym new.0) past_new)
           (step.new q (subst (λ (y : Hands (Stored K V)). IsOneOf y.call.made q) own_hands (subst (λ y. IsOneOf (tales y).hands.call.made q) same made)))
       | inr differ ↦ made_others d r call differ now (open_other d call differ e) q made
     ]
@@ -705,23 +693,31 @@ module _ {K V S A : Type 0} (eq : K → K → Bool) (hash : K → ℕ) (law : Is
             value = begun_value call;
             made = λ q made. absurd made;
             change = change_of-own c turn Begun h;
-            said = λ said stands. absurd (begun_stands is.task (hash is.key) s.mode s.initial said stands);
+            said = λ said stands. absurd (begun_stands is.task (hash is.key) s.mode.resize s.initial s.mode.limit said stands);
             shows = tt;
             once = λ shown. let f : false ≡ true = sym (was_shown_none-own c turn Begun h) ∙ shown in absurd cc;
             moments = λ so_far rest none. inl (ap (λ l. at_key (replayed eq (replay eq good.es) l) (key_of call)) (sym (nothing_before so_far rest none)));
           }
             where
-              begun_value : (call : Call K V A) (v : V) → value_of_call call ≡ Some v → IsValueOf call v
-              begun_value (Get k) v had = let f : None ≡ Some v = had in absurd cc
-              begun_value (Insert k w) v had = same_item w v had
-              begun_value (TryInsert k w) v had = same_item w v had
-              begun_value (RemoveIf k a) v had = let f : None ≡ Some v = had in absurd cc
-              begun_value (Compute k a) v had = tt
-              begun_value (Reserve more) v had = let f : None ≡ Some v = had in absurd cc
-              begun_value CopyAll v had = let f : None ≡ Some v = had in absurd cc
-              begun_value Clear v had = let f : None ≡ Some v = had in absurd cc
-              begun_value (Retain a) v had = let f : None ≡ Some v = had in absurd cc
-              begun_value Walk v had = let f : None ≡ Some v = had in absurd cc
+              -- the value at hand is the one that was handed in
+              handed_value : (o : Option V) (v : V) → value_at s'.store.pairs (handed o) ≡ Some v → o ≡ Some v
+              handed_value None v had = had
+              handed_value (Some w) v had = had
+
+              value_is : (call : Call K V A) (v : V) → value_of_call call ≡ Some v → IsValueOf call v
+              value_is (Get k) v had = let f : None ≡ Some v = had in absurd cc
+              value_is (Insert k w) v had = same_item w v had
+              value_is (TryInsert k w) v had = same_item w v had
+              value_is (RemoveIf k a) v had = let f : None ≡ Some v = had in absurd cc
+              value_is (Compute k a) v had = tt
+              value_is (Reserve more) v had = let f : None ≡ Some v = had in absurd cc
+              value_is CopyAll v had = let f : None ≡ Some v = had in absurd cc
+              value_is Clear v had = let f : None ≡ Some v = had in absurd cc
+              value_is (Retain a) v had = let f : None ≡ Some v = had in absurd cc
+              value_is Walk v had = let f : None ≡ Some v = had in absurd cc
+
+              begun_value : (call : Call K V A) (v : V) → value_at s'.store.pairs (handed (value_of_call call)) ≡ Some v → IsValueOf call v
+              begun_value call v had = value_is call v (handed_value (value_of_call call) v had)
 
   -- a run begins with no entry and the core's map
   pub good_start : (says : Says K V A) (schedule : List (Turn K V A)) (s : CoreState K V S A) (es : List (Exchange (Stored K V))) (tales : ℕ → Tale K V) → IsCore s.store s.callers s.mode → IsKept eq hash s.mode s.store s.callers es tales → IsGood eq says hash schedule s.store (map_of eq s) s []

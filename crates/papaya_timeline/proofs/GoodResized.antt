@@ -57,7 +57,7 @@ use Rattle.papaya_timeline.proofs.LegalLemmas.{copy_same}
 use Rattle.papaya_timeline.proofs.ReplayLemmas.{held_in_slot, map_replayed, replay-append}
 use Rattle.papaya_timeline.proofs.StepEvents.{IsCopied, copy_told, stage_moves}
 use Rattle.papaya_timeline.proofs.StoreLemmas.{matched}
-use Rattle.papaya_timeline.proofs.TiedLemmas.{tied_entry, tied_other}
+use Rattle.papaya_timeline.proofs.TiedLemmas.{KeepsParts, same_parts, tied_entry, tied_other}
 use Rattle.papaya_store.specs.declared.visits.Visiting.{Visiting}
 use Rattle.papaya_timeline.proofs.TimelineLemmas.{change_of-other, change_of-own, entry, logged_more, open_call-other, open_call-own}
 
@@ -168,8 +168,8 @@ module _ {K V S A : Type 0} (eq : K → K → Bool) (hash : K → ℕ) (law : Is
     pairs_stay : KeepsPairs s.store s'.store
     pairs_stay n p there = left_logged (setting_of eq (low hash) s.mode s.store.words.tables) (coding_of (low hash)) s.store good.es (good.tales c).hands (resized.left eq hash law refuse s c s' event reply x as_hashed good.es good.tales good.core good.kept) n p there
 
-    keys_stay : (n : ℕ) (k : K) → slice_get s.store.keys n ≡ Some k → slice_get s'.store.keys n ≡ Some k
-    keys_stay n k there = ap (λ (l : List K). slice_get l n) (resized.left eq hash law refuse s c s' event reply x as_hashed good.es good.tales good.core good.kept).keys_are ∙ there
+    parts_stay : KeepsParts s.store s'.store
+    parts_stay = same_parts s.store s'.store (resized.left eq hash law refuse s c s' event reply x as_hashed good.es good.tales good.core good.kept).pairs_are
 
     -- a call on one key is another caller's
     runs_other : (d : ℕ) (r : Running K V A) → running s'.callers d ≡ Some r → (d ≢ c) × (running s.callers d ≡ Some r)
@@ -235,7 +235,7 @@ module _ {K V S A : Type 0} (eq : K → K → Bool) (hash : K → ℕ) (law : Is
     tied : (d : ℕ) (r : Running K V A) (call : Call K V A) → running s'.callers d ≡ Some r → open_call schedule d later_history ≡ Some call → IsTied eq s'.store r call d (tales d) later_history later_maps (None ∷ good.answers)
     tied d r call now e =
         let (differ, before) = runs_other d r now in
-        tied_other eq s.store s'.store r call c d turn event good.tales made hands h good.es (replay eq good.es ∷ good.maps) None good.answers keys_stay pairs_stay one.0 (λ z. differ (sym z)) (good.kept.calls d r before).split (good.tied d r call before (open_other d call differ e))
+        tied_other eq s.store s'.store r call c d turn event good.tales made hands h good.es (replay eq good.es ∷ good.maps) None good.answers parts_stay (good.kept.calls d r before).valued pairs_stay one.0 (λ z. differ (sym z)) (good.kept.calls d r before).split (good.tied d r call before (open_other d call differ e))
 
     -- the resizer's call has no key, and changed nothing
     own_resized : (call : Call K V A) → open_call schedule c h ≡ Some call → IsResize call × (change_of c later_history ≡ None)

@@ -2,11 +2,10 @@
 use Rattle.std.proofs.Common.{◌≡◌, inl, inr, ⊎_elim, ℕ, suc, Bool, true, false, cond, Option, None, Some, is_some, IsSome, List, [], ◌∷◌, ◌++◌, refl, sym, ◌∙◌, ap, subst, eq-eqb}
 use Rattle.std.proofs.lemmas.Bool.{cases_Bool}
 use Rattle.papaya_words.specs.Table.{TableWords}
-use Rattle.papaya_words.specs.declared.probe.ResizeMode.{ResizeMode}
 use Rattle.papaya_ask.specs.declared.call.Call.{Call}
 use Rattle.papaya_ask.specs.declared.call.Call.TheVariants.{Get, Insert, TryInsert, RemoveIf, Compute, Reserve, CopyAll, Clear, Retain, Walk}
 use Rattle.papaya_call.specs.Answers.{Says}
-use Rattle.papaya_law.specs.Exchange.{Setting, State as Words, Exchange, Open, Claim, Replace, Bury, Link, Mark, Close, Place, Finish, Advance, Promote, Abort}
+use Rattle.papaya_law.specs.Exchange.{Setting, State as Words, Exchange, Open, Claim, Replace, Bury, Link, Mark, Close, Place, Finish, Advance, Promote, Abort, Take}
 use Rattle.papaya_law.specs.Meaning.{IsAtMoment, IsLawful, map_left, map_of}
 use Rattle.papaya_rests.specs.Told.{IsOneOf}
 use Rattle.papaya_store.specs.Store.{StoreState, Stored, pair_of}
@@ -28,6 +27,7 @@ use Rattle.papaya_chain_rests.specs.VisitTold.{IsLastAnswer, count_of}
 use Rattle.papaya_chain_rests.specs.Visits.{HadPair, HasVisited}
 use Rattle.papaya_chain_rests.specs.Visits as visit_law
 use Rattle.papaya_store.specs.declared.visits.Visiting.{Visiting}
+use Rattle.papaya_store.specs.declared.mode.Mode.{Mode}
 
 -- a pair of which an answer is known was shown
 pub answered_shown : {P : Type 0} (l : List (P × Bool)) (p : P) (stays : Bool) → IsLastAnswer l p stays → WasShown l p
@@ -100,7 +100,7 @@ module _ {K V S : Type 0} (store : StoreState K V S) where
     not_had (m ∷ since) keyed logged (inl is) = not_pair m keyed.0 logged.0 (m k) refl is
     not_had (m ∷ since) keyed logged (inr x) = not_had since keyed.1 logged.1 x
 
-module _ {K V : Type 0} (eq : K → K → Bool) (hash : K → ℕ) (mode : ResizeMode) (tables : List TableWords) where
+module _ {K V : Type 0} (eq : K → K → Bool) (hash : K → ℕ) (mode : Mode) (tables : List TableWords) where
   abbrev g : Setting K (Stored K V)
   g = setting_of eq hash mode tables
 
@@ -128,6 +128,7 @@ module _ {K V : Type 0} (eq : K → K → Bool) (hash : K → ℕ) (mode : Resiz
   takes_same (Advance n c) k = refl
   takes_same (Promote t n) k = refl
   takes_same (Abort n) k = refl
+  takes_same (Take n) k = refl
 
   out_same : (fs : List (Exchange (Stored K V))) (k : K) → IsTakenOut g fs k → IsTakenOut (replaying eq) fs k
   out_same fs k out = record { so_far = out.so_far; by = out.by; rest = out.rest; is = out.is; out = sym (takes_same out.by k) ∙ out.out }

@@ -1,5 +1,5 @@
 -- What a visitor's ask leaves, and what its call may give, show, take out and reply.
-use Rattle.std.proofs.Common.{rules, ◌≡◌, ◌⊎◌, ◌==◌, inl, inr, ⊎_elim, ℕ, Bool, false, Option, None, Some, List, [], refl, sym, ◌∙◌, ap}
+use Rattle.std.proofs.Common.{rules, ◌≡◌, ◌⊎◌, inl, inr, ℕ, Bool, false, Option, None, Some, List, [], refl, sym, ◌∙◌, ap}
 use Rattle.papaya_words.specs.declared.probe.Refused.{Refused as Refusal}
 use Rattle.papaya_words.specs.declared.probe.Refused.TheVariants.{RemoveNothing, Memory}
 use Rattle.papaya_ask.specs.declared.ask.Answer.TheVariants.{Ok, Refused as Was_refused}
@@ -7,18 +7,14 @@ use Rattle.papaya_ask.specs.declared.call.Call.{Call}
 use Rattle.papaya_ask.specs.declared.call.Call.TheVariants.{Get, Insert, TryInsert, RemoveIf, Compute, Reserve, CopyAll, Clear, Retain, Walk}
 use Rattle.papaya_ask.specs.declared.call.Reply.{Reply}
 use Rattle.papaya_ask.specs.declared.call.Reply.TheVariants.{Done, Refused}
-use Rattle.papaya_ask.specs.declared.copy_ask.CopyAsk.{CopyAsk}
-use Rattle.papaya_ask.specs.declared.copy_ask.CopyAsk.TheVariants as copies
 use Rattle.papaya_call.specs.Answers.{Says}
 use Rattle.papaya_chain.specs.declared.ask.Answer.{Answer}
 use Rattle.papaya_chain.specs.declared.ask.Answer.TheVariants as answers
 use Rattle.papaya_law.specs.Code.{Coding}
 use Rattle.papaya_law.specs.Exchange.{Exchange, Setting, State as Words}
 use Rattle.papaya_rests.specs.Rests.{Change}
-use Rattle.papaya_store.specs.Copies.{PerformsCopy}
 use Rattle.papaya_store.specs.declared.pairs.Running.{Running}
 use Rattle.papaya_store.specs.Store.{StoreState, Stored}
-use Rattle.papaya_store.specs.Tables.{word_at}
 use Rattle.papaya_timeline.specs.Kept.{Tale}
 use Rattle.papaya_timeline.specs.Maps.{Map}
 use Rattle.papaya_timeline.specs.Runs.{History}
@@ -28,7 +24,7 @@ use Rattle.papaya_timeline.proofs.CallersLemmas.{same_item}
 use Rattle.papaya_timeline.proofs.EndingLemmas.{copy_unrefused}
 use Rattle.papaya_timeline.proofs.Good.{IsTied, IsVisitOf}
 use Rattle.papaya_timeline.proofs.StepVisits.{IsWithout}
-use Rattle.papaya_timeline.proofs.StoreLemmas.{matched}
+use Rattle.papaya_timeline.proofs.StoreLemmas.{copy_pairs}
 use Rattle.papaya_chain.specs.declared.visit_ask.VisitAsk.{VisitAsk}
 use Rattle.papaya_chain.specs.declared.visit_ask.VisitAsk.TheVariants.{Copy, Show, Give, AddToShard}
 use Rattle.papaya_chain.specs.declared.visitor.State.{State}
@@ -41,30 +37,13 @@ use Rattle.papaya_chain_rests.specs.Visits.{RestsState}
 use Rattle.papaya_store.specs.declared.visits.Visiting.{Visiting}
 use Rattle.papaya_store.specs.Visits.{PerformsVisit}
 
-module _ {K V S : Type 0} (eq : K → K → Bool) (hash : S → K → ℕ) (refuse : Bool) where
-  -- a copy leaves the keys of the log
-  pub copy_keys : (ask : CopyAsk) (s : StoreState K V S) (a : Answer) (s' : StoreState K V S) → PerformsCopy eq hash refuse ask s a s' → s'.keys ≡ s.keys
-  copy_keys (copies.Load at) s a s' (e, same) = ap (λ (y : StoreState K V S). y.keys) same
-  copy_keys (copies.Exchange at old new) s a s' (told, e, ex) =
-      matched (s'.keys ≡ s.keys) (word_at s.words at == old) _ _ ex (λ _ done. ap (λ (y : StoreState K V S). y.keys) done.1) (λ _ lost. ap (λ (y : StoreState K V S). y.keys) lost.1)
-  copy_keys (copies.LoadHint t x) s a s' (e, same) = ap (λ (y : StoreState K V S). y.keys) same
-  copy_keys (copies.WriteHint t x hint) s a s' (e, same) = ap (λ (y : StoreState K V S). y.keys) same
-  copy_keys (copies.SizeOf t) s a s' (e, same) = ap (λ (y : StoreState K V S). y.keys) same
-  copy_keys (copies.HashOf n) s a s' (e, hashes, same) = ap (λ (y : StoreState K V S). y.keys) same
-  copy_keys (copies.SamePair m n) s a s' (e, same) = ap (λ (y : StoreState K V S). y.keys) same
-  copy_keys copies.Count s a s' (e, same) = ap (λ (y : StoreState K V S). y.keys) same
-  copy_keys (copies.MakeTable slots limit chunks) s a s' (told, e, makes) =
-      matched (s'.keys ≡ s.keys) refuse _ _ makes
-      (λ _ none. ap (λ (y : StoreState K V S). y.keys) none.1)
-      (λ _ made. ⊎_elim (λ refused. ap (λ (y : StoreState K V S). y.keys) refused.1) (λ table. ap (λ (y : StoreState K V S). y.keys) table.2) made)
-
 module _ {K V S A : Type 0} (eq : K → K → Bool) (hash : S → K → ℕ) (refuse : Bool) where
-  -- so does what a visitor asks
-  pub visit_keys : (says : Says K V A) (ask : VisitAsk) (s : StoreState K V S) (v : Visiting A) (a : Answer) (s' : StoreState K V S) (v' : Visiting A) → PerformsVisit eq says hash refuse ask s v a s' v' → s'.keys ≡ s.keys
-  visit_keys says (Copy ask) s v a s' v' (performs, same) = copy_keys eq hash refuse ask s a s' performs
-  visit_keys says (Show n) s v a s' v' (told, same) = ap (λ (y : StoreState K V S). y.keys) same
-  visit_keys says (Give n) s v a s' v' (told, same) = ap (λ (y : StoreState K V S). y.keys) same
-  visit_keys says (AddToShard by) s v a s' v' (is, counted, same) = ap (λ (y : StoreState K V S). y.keys) counted.1
+  -- what a visitor asks leaves the log
+  pub visit_pairs : (says : Says K V A) (ask : VisitAsk) (s : StoreState K V S) (v : Visiting A) (a : Answer) (s' : StoreState K V S) (v' : Visiting A) → PerformsVisit eq says hash refuse ask s v a s' v' → s'.pairs ≡ s.pairs
+  visit_pairs says (Copy ask) s v a s' v' (performs, same) = copy_pairs eq hash refuse ask s a s' performs
+  visit_pairs says (Show n) s v a s' v' (told, same) = ap (λ (y : StoreState K V S). y.pairs) same
+  visit_pairs says (Give n) s v a s' v' (told, same) = ap (λ (y : StoreState K V S). y.pairs) same
+  visit_pairs says (AddToShard by) s v a s' v' (is, counted, same) = ap (λ (y : StoreState K V S). y.pairs) counted.1
 
   -- it is never refused as a removal of nothing is
   pub visit_unrefused : (says : Says K V A) (ask : VisitAsk) (s : StoreState K V S) (v : Visiting A) (a : Answer) (s' : StoreState K V S) (v' : Visiting A) → PerformsVisit eq says hash refuse ask s v a s' v' → a ≡ answers.Call (Was_refused RemoveNothing) → ⊥

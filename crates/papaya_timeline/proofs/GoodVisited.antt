@@ -47,12 +47,12 @@ use Rattle.papaya_timeline.proofs.Good.{IsGood, IsKeyed, IsTied, IsVisitOf, IsVi
 use Rattle.papaya_timeline.proofs.GoodResized.{IsQuiet, quiet_cases}
 use Rattle.papaya_timeline.proofs.GoodVisits.{given_by-own, last_asked-own, replay_keyed, visit_entry, visit_other, visit_tied}
 use Rattle.papaya_timeline.proofs.GoodVisitEnds as ends
-use Rattle.papaya_timeline.proofs.GoodVisitFits.{none_given, retain_shows, tied_visit, unheard_is, visit_keys, visit_refused, visit_replies, visit_takes, visit_unrefused, walk_gives}
+use Rattle.papaya_timeline.proofs.GoodVisitFits.{none_given, retain_shows, tied_visit, unheard_is, visit_pairs, visit_refused, visit_replies, visit_takes, visit_unrefused, walk_gives}
 use Rattle.papaya_timeline.proofs.KeptLemmas.{IsLawfulKeys, hashed_setting}
 use Rattle.papaya_timeline.proofs.KeptVisited as kept_visit
 use Rattle.papaya_timeline.proofs.ReplayLemmas.{held_in_slot, next_legal, replay-append}
 use Rattle.papaya_timeline.proofs.StepVisits.{IsBurial, IsGift, IsShowing, IsVisitAnswering, IsVisitStep, IsWithout, visit_answering, visit_step}
-use Rattle.papaya_timeline.proofs.TiedLemmas.{tied_entry, tied_other}
+use Rattle.papaya_timeline.proofs.TiedLemmas.{KeepsParts, same_parts, tied_entry, tied_other}
 use Rattle.papaya_timeline.proofs.TimelineLemmas.{change_of-other, change_of-own, entry, logged_more, not_begin-own, open_call-other, open_call-own}
 use Rattle.papaya_timeline.proofs.VisitOver.{visit_over}
 use Rattle.papaya_chain.specs.declared.visit_ask.VisitAsk.TheVariants.{Show, Give}
@@ -104,8 +104,8 @@ module _ {K V S A : Type 0} (eq : K → K → Bool) (hash : K → ℕ) (law : Is
     given_pair : (n : ℕ) → x.ask ≡ Give n → HadPair g coding (run tale.begun first_state) (map_left g tale.begun) tale.since tale.hands n
     given_pair n is = state_named g coding hashed (run tale.begun first_state) (map_left g tale.begun) keeps_first tale.since may_since x.before.visitor.visit tale.hands x.before.visitor.state before_visiting.rests.state (Give n) (x.asked ∙ ap (λ y. Some y) is)
 
-    keys_stay : (n : ℕ) (k : K) → slice_get s.store.keys n ≡ Some k → slice_get s'.store.keys n ≡ Some k
-    keys_stay n k there = ap (λ (l : List K). slice_get l n) (visit_keys eq hashes refuse says x.ask s.store x.before x.answer s'.store x.later x.performs) ∙ there
+    parts_stay : KeepsParts s.store s'.store
+    parts_stay = same_parts s.store s'.store (visit_pairs eq hashes refuse says x.ask s.store x.before x.answer s'.store x.later x.performs)
 
     abbrev work : Option (Work K V A)
     work = goes_on reply (works.Visit own)
@@ -431,7 +431,7 @@ module _ {K V S A : Type 0} (eq : K → K → Bool) (hash : K → ℕ) (law : Is
       tied d r call now e =
           let (differ, before) = runs_other d r now in
           tied_visit eq s'.store r call d (told_tales good.tales c made (good.tales c).hands d) (tales d).visit later_history later_maps (None ∷ good.answers)
-          (tied_other eq s.store s'.store r call c d turn event good.tales made (good.tales c).hands h good.es (replay eq good.es ∷ good.maps) None good.answers keys_stay heard.keeps one (λ z. differ (sym z)) (good.kept.calls d r before).split (good.tied d r call before (open_other d call event differ e)))
+          (tied_other eq s.store s'.store r call c d turn event good.tales made (good.tales c).hands h good.es (replay eq good.es ∷ good.maps) None good.answers parts_stay (good.kept.calls d r before).valued heard.keeps one (λ z. differ (sym z)) (good.kept.calls d r before).split (good.tied d r call before (open_other d call event differ e)))
 
       -- the visitor goes on
       abbrev goes_on_good : IsGood eq says hash schedule first start s' later_history

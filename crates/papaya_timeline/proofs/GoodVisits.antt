@@ -2,13 +2,12 @@
 use Rattle.std.proofs.Common.{◌≡◌, ◌≢◌, ◌⊎◌, inl, inr, ⊎_elim, ℕ, Bool, true, false, cond, Option, None, Some, List, [], ◌∷◌, ◌++◌, slice_get, refl, sym, ◌∙◌, ap, subst, eq-eqb, append-nil, append_assoc}
 use Rattle.std.proofs.lemmas.Bool.{cases_Bool}
 use Rattle.papaya_words.specs.Table.{TableWords}
-use Rattle.papaya_words.specs.declared.probe.ResizeMode.{ResizeMode}
 use Rattle.papaya_ask.specs.declared.call.Call.{Call}
 use Rattle.papaya_call.specs.Answers.{Says}
 use Rattle.papaya_call.specs.declared.answers.Operation.{Operation}
 use Rattle.papaya_law.specs.Allows.{AllAllowed}
 use Rattle.papaya_law.specs.Meaning.{IsLawful}
-use Rattle.papaya_law.specs.Exchange.{Exchange, State, after, start, Open, Claim, Replace, Bury, Link, Mark, Close, Place, Finish, Advance, Promote, Abort}
+use Rattle.papaya_law.specs.Exchange.{Exchange, State, after, start, Open, Claim, Replace, Bury, Link, Mark, Close, Place, Finish, Advance, Promote, Abort, Take}
 use Rattle.papaya_store.specs.Store.{KeepsPairs, StoreState, Stored}
 use Rattle.papaya_timeline.specs.declared.trace.Entry.{Entry}
 use Rattle.papaya_timeline.specs.declared.trace.Event.{Event}
@@ -28,6 +27,7 @@ use Rattle.papaya_chain.specs.declared.visitor.Visit.TheVariants as visits
 use Rattle.papaya_chain_rests.specs.VisitTaken.{IsTakenOut, takes_out}
 use Rattle.papaya_chain_rests.specs.VisitTold.{Hands, no_hands}
 use Rattle.papaya_store.specs.declared.visits.Visiting.{Visiting}
+use Rattle.papaya_store.specs.declared.mode.Mode.{Mode}
 
 -- what a caller's call has given, and what it was answered, after another's entry and after its own
 pub given_by-other : (c d turn : ℕ) (event : Event) (before : History) → c ≢ d → given_by d (entry turn c event ∷ before) ≡ given_by d before
@@ -94,6 +94,7 @@ module _ {K V : Type 0} (eq : K → K → Bool) where
   taken (Advance n c) k q m out has = let f : false ≡ true = out in absurd cc
   taken (Promote t n) k q m out has = let f : false ≡ true = out in absurd cc
   taken (Abort n) k q m out has = let f : false ≡ true = out in absurd cc
+  taken (Take n) k q m out has = let f : false ≡ true = out in absurd cc
 
   -- what was taken out of the map, was taken out before the last exchange or by it
   taken_cases : (since made : List (Exchange (Stored K V))) (k : K) → (made ≡ []) ⊎ ((x : Exchange (Stored K V)) × (made ≡ x ∷ [])) → IsTakenOut (replaying eq) (since ++ made) k → IsTakenOut (replaying eq) since k ⊎ ((x : Exchange (Stored K V)) × (made ≡ x ∷ []) × (takes_out (replaying eq) x k ≡ true))
@@ -117,7 +118,7 @@ module _ {K V : Type 0} (eq : K → K → Bool) where
   ]
 
   -- so each pair of the map has a key of its class
-  module _ (hash : K → ℕ) (mode : ResizeMode) (tables : List TableWords) (law : IsLawful (setting_of {V = V} eq hash mode tables)) where
+  module _ (hash : K → ℕ) (mode : Mode) (tables : List TableWords) (law : IsLawful (setting_of {V = V} eq hash mode tables)) where
     claim_keyed : (q : Stored K V) (k : K) (p : Stored K V) → Some q ≡ Some p → eq k q.key ≡ true → eq k p.key ≡ true
     claim_keyed q k p is here = let same : q ≡ p = cc in ap (λ (r : Stored K V). eq k r.key) (sym same) ∙ here
 
@@ -136,6 +137,7 @@ module _ {K V : Type 0} (eq : K → K → Bool) where
     replayed_keyed (Advance n c ∷ es) s m keyed may = replayed_keyed es (after s (Advance n c)) m keyed may.1
     replayed_keyed (Promote t n ∷ es) s m keyed may = replayed_keyed es (after s (Promote t n)) m keyed may.1
     replayed_keyed (Abort n ∷ es) s m keyed may = replayed_keyed es (after s (Abort n)) m keyed may.1
+    replayed_keyed (Take n ∷ es) s m keyed may = replayed_keyed es (after s (Take n)) m keyed may.1
 
     pub replay_keyed : (es : List (Exchange (Stored K V))) → AllAllowed (setting_of eq hash mode tables) start es → IsKeyed eq (replay eq es)
     replay_keyed es may = replayed_keyed es start (λ k. None) (λ k p e. absurd cc) may

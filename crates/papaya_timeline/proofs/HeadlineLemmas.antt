@@ -94,7 +94,7 @@ module _ {K V S A : Type 0} where
   pub begin-core : (hash : K → ℕ) (s : CoreState K V S A) (caller : ℕ) (call : Call K V A) (s' : CoreState K V S A) → Begins hash s caller call s' → IsCore s.store s.callers s.mode → IsCore s'.store s'.callers s'.mode
   begin-core hash s caller call s' x core =
       let w : Work K V A = begun_work hash s.mode s.initial x.number call in
-      let begins = begun-core hash s.mode s.initial x.number call core.chunked x.power in
+      let begins = begun-core hash s.mode s.initial x.number call core.chunked core.limit x.power in
       subst (λ y. IsCore s'.store s'.callers y) (sym x.mode)
       (subst (λ (y : List (Seat K V A)). IsCore s'.store y s.mode) (sym x.callers)
       (subst (λ (y : StoreState K V S). IsCore y (with_work (with_seat s.callers caller) caller (Some w)) s.mode) (sym x.store)

@@ -1,7 +1,7 @@
 -- A step gives what is under way no other intent than what a closure answers in it.
-use Rattle.std.proofs.Common.{◌≡◌, ◌⊎◌, inl, inr, ⊎_elim, ℕ, Bool, true, Option, None, Some, List, length, refl, sym, ◌∙◌, ap, subst, arith}
+use Rattle.std.proofs.Common.{◌≡◌, ◌⊎◌, inl, inr, ⊎_elim, ℕ, Bool, true, Option, None, Some, List, refl, sym, ◌∙◌, ap, subst}
 use Rattle.std.specs.Cmp.{IsEquivalence}
-use Rattle.papaya_ask.specs.declared.ask.Ask.TheVariants.{MakePair, ShowNone}
+use Rattle.papaya_ask.specs.declared.ask.Ask.TheVariants.{ShowNone}
 use Rattle.papaya_ask.specs.declared.ask.Answer.TheVariants.{Made as Made_number}
 use Rattle.papaya_ask.specs.declared.call.Reply.{Reply}
 use Rattle.papaya_ask.specs.declared.call.Task.TheVariants.{Compute}
@@ -10,19 +10,18 @@ use Rattle.papaya_call.specs.declared.answers.Operation.{Operation}
 use Rattle.papaya_call.specs.declared.answers.Operation.TheVariants as ops
 use Rattle.papaya_chain.specs.declared.ask.Ask.TheVariants as asks
 use Rattle.papaya_chain.specs.declared.ask.Answer.TheVariants as told_to
-use Rattle.papaya_chain.specs.Machine.{after, ask_of, follows_of, kind_of_ask}
+use Rattle.papaya_chain.specs.Machine.{after, ask_of, kind_of_ask}
 use Rattle.papaya_chain.specs.Resizer as resizer
 use Rattle.papaya_chain.specs.Visitor as visitor
 use Rattle.papaya_chain.specs.declared.machine.Machine.{Machine}
 use Rattle.papaya_chain_rests.specs.Goes.{IsInOrder}
 use Rattle.papaya_chain_rests.proofs.Goes.{machine_goes}
 use Rattle.papaya_chain_rests.proofs.Replies.{chain_said, chain_task}
-use Rattle.papaya_law.specs.Exchange.{Exchange, run, start as first_state}
-use Rattle.papaya_rests.specs.Rests.{RestsMade}
+use Rattle.papaya_law.specs.Exchange.{Exchange}
+use Rattle.papaya_rests.specs.Rests.{RestsFill, RestsOf}
 use Rattle.papaya_rests.specs.Told.{IsOneOf}
 use Rattle.papaya_store.specs.declared.pairs.Running.{Running}
 use Rattle.papaya_store.specs.declared.visits.Visiting.{Visiting}
-use Rattle.papaya_store.specs.Asks.{PerformsAsk}
 use Rattle.papaya_store.specs.Store.{KeepsPairs, StoreState, Stored, pair_of}
 use Rattle.papaya_timeline.specs.declared.seat.Seat.{Seat}
 use Rattle.papaya_timeline.specs.declared.seat.Work.{Work}
@@ -46,11 +45,14 @@ use Rattle.papaya_timeline.proofs.KeptCore.{keys_lawful}
 use Rattle.papaya_timeline.proofs.KeptLemmas.{IsLawfulKeys, IsStep, kept_step}
 use Rattle.papaya_timeline.proofs.LawfulVisits.{visit_keeps}
 use Rattle.papaya_keys.specs.Hashes.{hash_of}
-use Rattle.papaya_timeline.proofs.KeptLogs.{pair_below}
 use Rattle.papaya_timeline.proofs.MachineLemmas.{machine_offers}
-use Rattle.papaya_timeline.proofs.StepTells.{answering as answered_by, made_number, told_made}
+use Rattle.papaya_timeline.proofs.StepTells.{answering as answered_by}
 use Rattle.papaya_timeline.proofs.TellLemmas.{IsAnswering}
-use Rattle.papaya_timeline.proofs.TiedLemmas.{HasMoreLogs, grown}
+use Rattle.papaya_timeline.proofs.TiedLemmas.{HasMoreLogs, KeepsParts, grown, same_parts}
+use Rattle.papaya_store.specs.Performs.{own_value}
+use Rattle.papaya_timeline.proofs.MadePairs.{MakesOver}
+use Rattle.papaya_timeline.proofs.GoodVisitFits.{visit_pairs}
+use Rattle.papaya_timeline.proofs.StoreLemmas.{copy_pairs}
 
 module _ {K V S A : Type 0} (eq : K → K → Bool) (hash : K → ℕ) (s : CoreState K V S A) (es : List (Exchange (Stored K V))) (tales : ℕ → Tale K V) (kept : IsKept eq hash s.mode s.store s.callers es tales) where
   -- the pairs of a call are logged
@@ -58,35 +60,41 @@ module _ {K V S A : Type 0} (eq : K → K → Bool) (hash : K → ℕ) (s : Core
   call_logged d r runs =
       let call = kept.calls d r runs in
       let hands = (tales d).hands.call in
+      let g = setting_of eq (low hash) s.mode s.store.words.tables in
+      let c = coding_of (low hash) in
       let logged : (n : ℕ) → ((q : Stored K V) × IsOneOf hands.made q × (q.number ≡ n)) → (q : Stored K V) × (pair_of s.store n ≡ Some q) =
       λ n own. (own.0, subst (λ i. pair_of s.store i ≡ Some own.0) own.2 (call.made own.0 own.1)) in
       record {
-        made = λ n is. logged n (subst (RestsMade (setting_of eq (low hash) s.mode s.store.words.tables) (coding_of (low hash)) (tales d).begun (tales d).since call.key hands) is call.rests.call.made.made_is);
-        stood = λ shown n stands. logged n (stands_own (setting_of eq (low hash) s.mode s.store.words.tables) (coding_of (low hash)) (tales d).begun (tales d).since call.key r.machine.call hands call.rests.call shown n stands);
+        made = λ n is. elim is [
+          | inl own ↦ (let (q, one, number, key) = subst (RestsFill g c (tales d).begun (tales d).since call.key hands) own call.rests.call.made.own_is in logged n (q, one, number))
+          | inr (of, is_of, same) ↦ (let (q, one, number, key) = subst (RestsOf g c (tales d).begun (tales d).since call.key hands) is_of call.rests.call.made.of_is in logged n (q, one, number ∙ same))
+        ];
+        valued = call.valued;
+        stood = λ shown n stands. logged n (stands_own g c (tales d).begun (tales d).since call.key r.machine.call hands call.rests.call shown n stands);
       }
 
   -- a longer log gives what is under way no intent
-  work_still : (store' : StoreState K V S) → KeepsPairs s.store store' → (d : ℕ) (work : Work K V A) → working s.callers d ≡ Some work → (shown : Option ℕ) (op : Operation V ℕ) → Intends store' work shown op → Intends s.store work shown op
-  work_still store' stay d (works.Call r) was shown op h = still_intends s.store store' stay r (call_logged d r (ap call_in was)) shown op h
-  work_still store' stay d (works.Resize z) was shown op h = absurd h
-  work_still store' stay d (works.Visit v) was (Some n) op h = by_operation op h
+  work_still : (store' : StoreState K V S) → KeepsPairs s.store store' → KeepsParts s.store store' → (d : ℕ) (work : Work K V A) → working s.callers d ≡ Some work → (shown : Option ℕ) (op : Operation V ℕ) → Intends store' work shown op → Intends s.store work shown op
+  work_still store' stay parts d (works.Call r) was shown op h = still_intends s.store store' stay parts.values r (call_logged d r (ap call_in was)) shown op h
+  work_still store' stay parts d (works.Resize z) was shown op h = absurd h
+  work_still store' stay parts d (works.Visit v) was (Some n) op h = by_operation op h
     where
       by_operation : (op : Operation V ℕ) → Intends store' (works.Visit v) (Some n) op → Intends s.store (works.Visit v) (Some n) op
       by_operation ops.Remove h = h
       by_operation (ops.Insert w) h = absurd h
       by_operation (ops.Abort t) h = absurd h
-  work_still store' stay d (works.Visit v) was None op h = absurd h
+  work_still store' stay parts d (works.Visit v) was None op h = absurd h
 
   -- so it is enough to look at the caller that makes the step
-  keeps : {says : Says K V A} (caller : ℕ) (s' : CoreState K V S A) (event : Event) (work : Work K V A) (rest : Option (Work K V A)) → working s.callers caller ≡ Some work → s'.callers ≡ with_work s.callers caller rest → KeepsPairs s.store s'.store
+  keeps : {says : Says K V A} (caller : ℕ) (s' : CoreState K V S A) (event : Event) (work : Work K V A) (rest : Option (Work K V A)) → working s.callers caller ≡ Some work → s'.callers ≡ with_work s.callers caller rest → KeepsPairs s.store s'.store → KeepsParts s.store s'.store
       → ((later : Work K V A) → rest ≡ Some later → (shown : Option ℕ) (op : Operation V ℕ) → Intends s'.store later shown op → Intends s.store work shown op ⊎ AnswersNow says s'.store event work shown op) → KeepsIntents says s caller s' event
-  keeps caller s' event work rest was callers stay own d later now = elim (cases_same d caller) [
+  keeps caller s' event work rest was callers stay parts own d later now = elim (cases_same d caller) [
     | inl same ↦
         let put : rest ≡ Some later = working-same s.callers caller rest later (ap (λ (y : List (Seat K V A)). working y caller) (sym callers) ∙ ap (working s'.callers) (sym same) ∙ now) in
         (work, ap (working s.callers) same ∙ was, λ shown op h. ⊎_elim (λ before. inl before) (λ answers. inr (same, answers)) (own later put shown op h))
     | inr differ ↦
         let before : working s.callers d ≡ Some later = sym (working-other s.callers caller d rest differ) ∙ ap (λ (y : List (Seat K V A)). working y d) (sym callers) ∙ now in
-        (later, before, λ shown op h. inl (work_still s'.store stay d later before shown op h))
+        (later, before, λ shown op h. inl (work_still s'.store stay parts d later before shown op h))
   ]
 
 module _ {K V S A : Type 0} (eq : K → K → Bool) (hash : K → ℕ) (law : IsLawfulKeys eq hash) where
@@ -94,8 +102,8 @@ module _ {K V S A : Type 0} (eq : K → K → Bool) (hash : K → ℕ) (law : Is
   pub advance_intents : {says : Says K V A} {hashes : S → K → ℕ} (refuse : Bool) (s s' : CoreState K V S A) (c : ℕ) (event : Event) (reply : Option Reply) (x : Advances eq says hashes refuse s c s' event reply) (core : IsCore s.store s.callers s.mode) (core' : IsCore s'.store s'.callers s'.mode)
       (es : List (Exchange (Stored K V))) (tales : ℕ → Tale K V) (kept : IsKept eq hash s.mode s.store s.callers es tales) (step : IsStep eq hash law refuse s c s' event reply x es tales) → KeepsIntents says s c s' event
   advance_intents {says = says} {hashes = hashes} refuse s s' c event reply x core core' es tales kept step =
-      keeps eq hash s es tales kept c s' event (works.Call x.before) (as_work (goes_on reply r')) (call-under_way (working s.callers c) x.before x.was) x.callers grows.pairs_stay
-      (λ later put shown op h. call_intends eq says hashes refuse s.store x.before x.answer s'.store x.later x.performs grows.pairs_stay grows.value_stays made_now (call_logged eq hash s es tales kept c x.before x.was) (machine_goes m x.answer order) (chain_task m x.answer order).0
+      keeps eq hash s es tales kept c s' event (works.Call x.before) (as_work (goes_on reply r')) (call-under_way (working s.callers c) x.before x.was) x.callers grows.pairs_stay (record { keys = grows.keys_stay; values = grows.values_stay })
+      (λ later put shown op h. call_intends eq says hashes refuse s.store x.before x.answer s'.store x.later x.performs grows.pairs_stay step.call.valued (grows.value_stays step.call.valued) made_now step.call.again step.call.shows (call_logged eq hash s es tales kept c x.before x.was) (machine_goes m x.answer order) (chain_task m x.answer order).0
       (chain_said m x.answer order (core.standing c x.before x.was).call step.call.shows) event x.event_is answering shown op
       (subst (λ w. Intends s'.store w shown op) (goes reply later put) h))
     where
@@ -123,16 +131,8 @@ module _ {K V S A : Type 0} (eq : K → K → Bool) (hash : K → ℕ) (law : Is
       answering = subst (λ y. IsAnswering says s'.store x.before x.later y) (sym x.event_is) (answered_by eq says hashes refuse (kind_of_ask x.before.machine) s.store x.before x.answer s'.store x.later (ask_of x.before.machine) x.performs)
 
       -- a pair that is made in the step is of the value at hand
-      made_now : (n : ℕ) → ask_of x.before.machine ≡ asks.Call MakePair → x.answer ≡ told_to.Call (Made_number n) → (q : Stored K V) × (pair_of s'.store n ≡ Some q) × (x.before.value ≡ Some q.value)
-      made_now n asking is =
-          let (q, number, hands) = told_made (setting_of eq (low hash) s.mode s.store.words.tables) (coding_of (low hash)) step.call.key (run es first_state) (kind_of_ask x.before.machine) (follows_of x.before.machine) (tales c).hands (ask_of x.before.machine) x.answer step.made step.hands n asking is step.told in
-          ⊎_elim
-          (λ old.
-          let below = pair_below s.store q.number q (step.call.made q old) in
-          let all = made_number eq says hashes refuse s.store x.before x.answer s'.store x.later n (subst (λ y. PerformsAsk eq says hashes refuse y s.store x.before x.answer s'.store x.later) asking x.performs) is in
-          absurd (omega (arith, below, all, number)))
-          (λ (new : (q.number ≡ length s.store.pairs) × (x.before.value ≡ Some q.value) × (pair_of s'.store q.number ≡ Some q)). (q, subst (λ i. pair_of s'.store i ≡ Some q) number new.2, new.1))
-          (step.new q (subst (λ (y : List (Stored K V)). IsOneOf y q) (sym hands) (inl refl)))
+      made_now : (n : ℕ) → MakesOver (ask_of x.before.machine) → x.answer ≡ told_to.Call (Made_number n) → (q : Stored K V) × (pair_of s'.store n ≡ Some q) × (own_value s.store x.before ≡ Some q.value)
+      made_now n makes is = let made = step.made_now n makes is in (made.pair, made.there, made.before)
 
 -- The same of a core whose invariant holds, with keys that are hashed as its hasher does.
 module _ {K V S A H : Type 0} (eq : K → K → Bool) (input : K → List (List ℕ)) (build : S → H) (write : H → List ℕ → H) (finish : H → ℕ) (classes : IsEquivalence eq) (respects : (x y : K) → eq x y ≡ true → input x ≡ input y) (says : Says K V A) (refuse : Bool) (s : CoreState K V S A) (lawful : IsLawfulCore eq (hash_of input build write finish s.store.hasher) s.store s.callers s.mode) (caller : ℕ) (s' : CoreState K V S A) (event : Event) (reply : Option Reply) where
@@ -153,6 +153,7 @@ module _ {K V S A H : Type 0} (eq : K → K → Bool) (input : K → List (List 
       let (es, (tales, kept)) = lawful.law in
       keeps eq (hashes s.store.hasher) s es tales kept caller s' event (works.Resize x.before) (goes_on reply (works.Resize (resizer.after x.before x.answer))) (resizer-under_way (working s.callers caller) x.before x.was) x.callers
       (lawful_resizes eq input build write finish classes respects refuse s s' caller event reply lawful x).1
+      (same_parts s.store s'.store (copy_pairs eq hashes refuse x.ask s.store x.answer s'.store x.performs))
       (λ later put shown op h. absurd (subst (λ w. Intends s'.store w shown op) (goes reply later put) h))
     where
       goes : (reply : Option Reply) (later : Work K V A) → goes_on reply (works.Resize (resizer.after x.before x.answer)) ≡ Some later → later ≡ works.Resize (resizer.after x.before x.answer)
@@ -165,6 +166,7 @@ module _ {K V S A H : Type 0} (eq : K → K → Bool) (input : K → List (List 
       let (es, (tales, kept)) = lawful.law in
       keeps eq (hashes s.store.hasher) s es tales kept caller s' event (works.Visit x.before) (goes_on reply (works.Visit own)) (visitor-under_way (working s.callers caller) x.before x.was) x.callers
       (visit_keeps eq input build write finish classes respects says refuse s lawful caller s' event reply x)
+      (same_parts s.store s'.store (visit_pairs eq hashes refuse says x.ask s.store x.before x.answer s'.store x.later x.performs))
       (λ later put shown op h. visit_intends eq says hashes refuse s.store x.before x.ask x.asked x.answer s'.store x.later x.performs event x.event_is shown op (subst (λ w. Intends s'.store w shown op) (goes reply later put) h))
     where
       own : Visiting A

@@ -3,11 +3,13 @@ use Rattle.std.proofs.Common.{◌≡◌, ℕ, ◌<◌, ◌≤◌, List, [], ◌�
 use Rattle.papaya_words.specs.Counter.{Count}
 use Rattle.papaya_words.specs.declared.limits.TheConstants.{MAX_LOG_LEN, MAX_TABLES}
 use Rattle.papaya_ask.specs.declared.ask.At.{At}
-use Rattle.papaya_ask.specs.declared.ask.At.TheVariants.{Root, Next, Aborted, Done, Slot}
+use Rattle.papaya_ask.specs.declared.ask.At.TheVariants.{Root, Next, Aborted, Done, Slot, Made}
 use Rattle.papaya_ask.specs.declared.ask.Ask.{Ask as Call_ask}
-use Rattle.papaya_ask.specs.declared.ask.Ask.TheVariants.{MakeTable}
+use Rattle.papaya_ask.specs.declared.ask.Ask.TheVariants.{MakeTable, ShowNone, ShowPair}
+use Rattle.papaya_ask.specs.declared.ask.OpKind.TheVariants as op_kinds
+use Rattle.papaya_ask.specs.declared.call.Task.TheVariants as tasks
 use Rattle.papaya_ask.specs.declared.ask.Answer.{Answer as Call_answer}
-use Rattle.papaya_ask.specs.declared.ask.Answer.TheVariants.{Exchanged, Made as Made_number}
+use Rattle.papaya_ask.specs.declared.ask.Answer.TheVariants.{Exchanged, Made as Made_number, Op}
 use Rattle.papaya_ask.specs.declared.copy_ask.CopyAsk.TheVariants.{MakeTable as Make_next}
 use Rattle.papaya_law.specs.Code.{Coding, IsHashed}
 use Rattle.papaya_law.specs.Exchange.{Setting, State, Exchange, after as state_after, run, start}
@@ -27,10 +29,12 @@ use Rattle.papaya_chain_rests.specs.Rests.{Rests}
 use Rattle.papaya_chain_rests.specs.Told.{Hands, IsTold}
 use Rattle.papaya_chain_rests.proofs.Order.{in_order}
 use Rattle.papaya_chain_rests.proofs.Replies.{chain_changes}
-use Rattle.papaya_store.specs.declared.pairs.KeyOf.{KeyOf}
+use Rattle.papaya_store.specs.declared.pairs.Part.{Part}
+use Rattle.papaya_store.specs.declared.pairs.Part.TheVariants.{Own}
 use Rattle.papaya_store.specs.declared.pairs.Running.{Running}
 use Rattle.papaya_timeline.specs.Kept.{IsMade, Tale}
-use Rattle.papaya_store.specs.Performs.{key_at, own_key}
+use Rattle.papaya_store.specs.Pairs.{key_in, value_at, value_in}
+use Rattle.papaya_store.specs.Performs.{own_key, own_value}
 use Rattle.papaya_store.specs.Store.{StoreState, Stored, pair_of}
 use Rattle.papaya_store.specs.Tables.{put, word_at}
 use Rattle.papaya_timeline.proofs.KeptTables.{HasMoreTables, IsPlaced, cases_place, grown-same, placed-grown, placed-many, placed-here, placed-other}
@@ -50,13 +54,37 @@ module _ {Q K V S A : Type 0} (g : Setting Q (Stored K V)) (c : Coding Q (Stored
   abbrev pub Tells : Q → Ask → Answer → List (Exchange (Stored K V)) → Hands (Stored K V) → Type 0
   Tells key ask a made hands = IsTold g c key words_now (kind_of_ask r.machine) (follows_of r.machine) tale.hands ask a made hands
 
+  -- The value that a call has is the one that it had.
+  pub record KeepsValue (store' : StoreState K V S) (later : Running K V A) : Type 0 where
+    pub same : (v : V) → own_value store r ≡ Some v → own_value store' later ≡ Some v
+    pub had : (part : Part V) → later.value ≡ Some part → (before : Part V) × (r.value ≡ Some before)
+
+  -- Or its closure answered another: it was shown that its key is absent, or it is that of a compute.
+  pub record AnswersValue (ask : Ask) (a : Answer) (later : Running K V A) : Type 0 where
+    pub value : V
+    pub is : later.value ≡ Some (Own value)
+    pub told : a ≡ answers.Call (Op op_kinds.Insert)
+    pub shown : (ask ≡ asks.Call ShowNone) ⊎ ((n : ℕ) × (ask ≡ asks.Call (ShowPair n)) × (r.machine.call.task ≡ tasks.Compute))
+
+  abbrev pub HasValue : Ask → Answer → StoreState K V S → Running K V A → Type 0
+  HasValue ask a store' later = KeepsValue store' later ⊎ AnswersValue ask a later
+
+  -- it is as it was
+  pub same_value : (store' : StoreState K V S) → ((at : Part V) (v : V) → value_in store.pairs at ≡ Some v → value_in store'.pairs at ≡ Some v) → KeepsValue store' r
+  same_value store' values = record { same = λ v h. by_part r.value v h; had = λ part is. (part, is) }
+    where
+      by_part : (value : Option (Part V)) (v : V) → value_at store.pairs value ≡ Some v → value_at store'.pairs value ≡ Some v
+      by_part None v h = let f : None ≡ Some v = h in absurd cc
+      by_part (Some at) v h = values at v h
+
   -- What an answered ask leaves.
   pub record IsAnswered (key : Q) (ask : Ask) (a : Answer) (store' : StoreState K V S) (later : Running K V A) : Type 0 where
     pub made : List (Exchange (Stored K V))
     pub hands : Hands (Stored K V)
     pub told : Tells key ask a made hands
-    -- the logs and the tables grow
-    pub keys : (at : KeyOf K) (k : K) → key_at store.keys at ≡ Some k → key_at store'.keys at ≡ Some k
+    -- the log and the tables grow
+    pub keys : (at : Part K) (k : K) → key_in store.pairs at ≡ Some k → key_in store'.pairs at ≡ Some k
+    pub values : (at : Part V) (v : V) → value_in store.pairs at ≡ Some v → value_in store'.pairs at ≡ Some v
     pub own_is : own_key store' later ≡ own
     pub logged : (n : ℕ) (p : Stored K V) → pair_of store n ≡ Some p → pair_of store' n ≡ Some p
     pub longer : length store.pairs ≤ length store'.pairs
@@ -73,13 +101,16 @@ module _ {Q K V S A : Type 0} (g : Setting Q (Stored K V)) (c : Coding Q (Stored
     -- the pairs that the machine was told of
     pub last : (p : Stored K V) → hands.call.last ≡ Some p → (tale.hands.call.last ≡ Some p) ⊎ Stands words_now p
     pub carried : (p : Stored K V) → hands.kept ≡ Some p → (tale.hands.kept ≡ Some p) ⊎ (tale.hands.call.last ≡ Some p)
-    pub new : (q : Stored K V) → IsOneOf hands.call.made q → IsOneOf tale.hands.call.made q ⊎ ((q.number ≡ length store.pairs) × (r.value ≡ Some q.value) × (pair_of store' q.number ≡ Some q))
+    pub new : (q : Stored K V) → IsOneOf hands.call.made q → IsOneOf tale.hands.call.made q ⊎ ((q.number ≡ length store.pairs) × (own_value store r ≡ Some q.value) × (pair_of store' q.number ≡ Some q))
+    -- the value of the call
+    pub value : HasValue ask a store' later
     -- a table that was made is there
     pub opens : (t : ℕ) → a ≡ answers.Call (Made_number t) → ((slots : ℕ) × (limit : ℕ) × (chunks : ℕ) × (ask ≡ asks.Call (MakeTable slots limit chunks))) ⊎ ((slots : ℕ) × (limit : ℕ) × (chunks : ℕ) × (ask ≡ asks.Copy (Make_next slots limit chunks))) → IsMade store' t
 
   -- What an answer without an exchange leaves of the logs: they may grow.
   pub record HasLogs (key : Q) (store' : StoreState K V S) (later : Running K V A) : Type 0 where
-    pub keys : (at : KeyOf K) (k : K) → key_at store.keys at ≡ Some k → key_at store'.keys at ≡ Some k
+    pub keys : (at : Part K) (k : K) → key_in store.pairs at ≡ Some k → key_in store'.pairs at ≡ Some k
+    pub values : (at : Part V) (v : V) → value_in store.pairs at ≡ Some v → value_in store'.pairs at ≡ Some v
     pub own_is : own_key store' later ≡ own
     pub logged : (n : ℕ) (p : Stored K V) → pair_of store n ≡ Some p → pair_of store' n ≡ Some p
     pub longer : length store.pairs ≤ length store'.pairs
@@ -93,7 +124,7 @@ module _ {Q K V S A : Type 0} (g : Setting Q (Stored K V)) (c : Coding Q (Stored
   pub record HasHands (store' : StoreState K V S) (hands : Hands (Stored K V)) : Type 0 where
     pub last : (p : Stored K V) → hands.call.last ≡ Some p → (tale.hands.call.last ≡ Some p) ⊎ Stands words_now p
     pub carried : (p : Stored K V) → hands.kept ≡ Some p → (tale.hands.kept ≡ Some p) ⊎ (tale.hands.call.last ≡ Some p)
-    pub new : (q : Stored K V) → IsOneOf hands.call.made q → IsOneOf tale.hands.call.made q ⊎ ((q.number ≡ length store.pairs) × (r.value ≡ Some q.value) × (pair_of store' q.number ≡ Some q))
+    pub new : (q : Stored K V) → IsOneOf hands.call.made q → IsOneOf tale.hands.call.made q ⊎ ((q.number ≡ length store.pairs) × (own_value store r ≡ Some q.value) × (pair_of store' q.number ≡ Some q))
 
   -- the pairs of before
   pub same_hands : (store' : StoreState K V S) → HasHands store' tale.hands
@@ -118,14 +149,15 @@ module _ {Q K V S A : Type 0} (g : Setting Q (Stored K V)) (c : Coding Q (Stored
     pub unexchanged : (ask : Ask) → ask_of r.machine ≡ ask → (a : Answer) (store' : StoreState K V S) (later : Running K V A) (hands : Hands (Stored K V))
         → Tells key ask a [] hands
         → change_by (kind_of_ask r.machine) ask a (change_in r.machine.call.state) ≡ change_in r.machine.call.state
-        → HasLogs key store' later → HasHands store' hands
+        → HasLogs key store' later → HasHands store' hands → HasValue ask a store' later
         → ((t : ℕ) → a ≡ answers.Call (Made_number t) → ((slots : ℕ) × (limit : ℕ) × (chunks : ℕ) × (ask ≡ asks.Call (MakeTable slots limit chunks))) ⊎ ((slots : ℕ) × (limit : ℕ) × (chunks : ℕ) × (ask ≡ asks.Copy (Make_next slots limit chunks))) → IsMade store' t)
         → IsAnswered key ask a store' later
-    unexchanged ask e a store' later hands told still logs pairs opens = record {
+    unexchanged ask e a store' later hands told still logs pairs value opens = record {
       made = [];
       hands = hands;
       told = told;
       keys = logs.keys;
+      values = logs.values;
       own_is = logs.own_is;
       logged = logs.logged;
       longer = logs.longer;
@@ -140,12 +172,13 @@ module _ {Q K V S A : Type 0} (g : Setting Q (Stored K V)) (c : Coding Q (Stored
       last = pairs.last;
       carried = pairs.carried;
       new = pairs.new;
+      value = value;
       opens = opens;
     }
 
     -- the logs as they were, but for the count
     pub same_logs : own_key store r ≡ own → (count : Count) → HasLogs key (record store { count = count }) r
-    same_logs owns count = record { keys = λ at k h. h; own_is = owns; logged = λ n p h. h; longer = omega arith; few = λ h. h; tables_few = λ h. h; grown = grown-same store.words.tables; words = λ at. refl; hints = λ n i. inl refl }
+    same_logs owns count = record { keys = λ at k h. h; values = λ at v h. h; own_is = owns; logged = λ n p h. h; longer = omega arith; few = λ h. h; tables_few = λ h. h; grown = grown-same store.words.tables; words = λ at. refl; hints = λ n i. inl refl }
 
     -- an answer that leaves words, logs and call, but for the count
     pub quiet : own_key store r ≡ own → (ask : Ask) → ask_of r.machine ≡ ask → (a : Answer) (store' : StoreState K V S) (later : Running K V A) (hands : Hands (Stored K V)) (count : Count) → store' ≡ record store { count = count } → later ≡ r
@@ -160,6 +193,7 @@ module _ {Q K V S A : Type 0} (g : Setting Q (Stored K V)) (c : Coding Q (Stored
         subst (λ y. IsAnswered key ask a y later) (sym same_store) (subst (IsAnswered key ask a (record store { count = count })) (sym same_call)
         (unexchanged ask e a (record store { count = count }) r hands told still (same_logs owns count)
         (record { last = last; carried = carried; new = λ q h. inl (subst (λ l. IsOneOf l q) made h) })
+        (inl (same_value (record store { count = count }) (λ at v h. h)))
         (λ t is which. absurd (never t is which))))
 
     -- an exchange that was made
@@ -180,6 +214,7 @@ module _ {Q K V S A : Type 0} (g : Setting Q (Stored K V)) (c : Coding Q (Stored
           hands = hands;
           told = told;
           keys = λ k j h. h;
+          values = λ at v h. h;
           own_is = owns;
           logged = λ n p h. h;
           longer = omega arith;
@@ -194,6 +229,7 @@ module _ {Q K V S A : Type 0} (g : Setting Q (Stored K V)) (c : Coding Q (Stored
           last = last;
           carried = λ p h. inl (sym kept ∙ h);
           new = λ q h. inl (subst (λ l. IsOneOf l q) made h);
+          value = inl (same_value (record store { words = put store.words at new }) (λ at v h. h));
           opens = λ t is which. absurd cc;
         }
       where
@@ -216,6 +252,7 @@ module _ {Q K V S A : Type 0} (g : Setting Q (Stored K V)) (c : Coding Q (Stored
   pub told_last : (at : At) (p : Stored K V) → (told_of words_now at tale.hands.call).last ≡ Some p → (tale.hands.call.last ≡ Some p) ⊎ Stands words_now p
   told_last Root p h = inl h
   told_last (Next t) p h = inl h
+  told_last Made p h = inl h
   told_last (Aborted t) p h = inl h
   told_last (Done t chunk) p h = inl h
   told_last (Slot t x) p h = named_last tale.hands.call.last t x p (named (words_now.slot t x)) refl h
@@ -224,6 +261,7 @@ module _ {Q K V S A : Type 0} (g : Setting Q (Stored K V)) (c : Coding Q (Stored
   pub copy_last : (at : At) (p : Stored K V) → copy_told_last words_now at tale.hands.call.last ≡ Some p → (tale.hands.call.last ≡ Some p) ⊎ Stands words_now p
   copy_last Root p h = inl h
   copy_last (Next t) p h = inl h
+  copy_last Made p h = inl h
   copy_last (Aborted t) p h = inl h
   copy_last (Done t chunk) p h = inl h
   copy_last (Slot t x) p h = named_last tale.hands.call.last t x p (named (words_now.slot t x)) refl h
@@ -232,6 +270,7 @@ module _ {Q K V S A : Type 0} (g : Setting Q (Stored K V)) (c : Coding Q (Stored
   pub told_made : (at : At) → (told_of words_now at tale.hands.call).made ≡ tale.hands.call.made
   told_made Root = refl
   told_made (Next t) = refl
+  told_made Made = refl
   told_made (Aborted t) = refl
   told_made (Done t chunk) = refl
   told_made (Slot t x) = refl

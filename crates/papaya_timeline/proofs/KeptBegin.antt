@@ -5,7 +5,7 @@ use Rattle.papaya_words.specs.declared.limits.TheConstants.{MAX_LOG_LEN}
 use Rattle.papaya_words.specs.declared.probe.ResizeMode.{ResizeMode}
 use Rattle.papaya_words.specs.declared.probe.ResizeMode.TheVariants.{Incremental, Blocking}
 use Rattle.papaya_ask.specs.declared.ask.At.{At}
-use Rattle.papaya_ask.specs.declared.ask.At.TheVariants.{Root, Next, Aborted, Done, Slot}
+use Rattle.papaya_ask.specs.declared.ask.At.TheVariants.{Root, Next, Aborted, Done, Slot, Made}
 use Rattle.papaya_ask.specs.declared.call.Call.{Call}
 use Rattle.papaya_law.specs.Exchange.{Exchange, Open, run, start}
 use Rattle.papaya_rests.specs.Rests.{IsModeOf}
@@ -24,10 +24,10 @@ use Rattle.papaya_copy.specs.declared.link.Link.{Link}
 use Rattle.papaya_copy.specs.declared.link.Link.TheVariants.{Linking}
 use Rattle.papaya_timeline.specs.declared.seat.Work.{Work}
 use Rattle.papaya_timeline.specs.declared.seat.Work.TheVariants as works
-use Rattle.papaya_timeline.specs.Begins.{begun_work}
+use Rattle.papaya_timeline.specs.Begins.{begun_work, value_of_call}
 use Rattle.papaya_timeline.specs.Callers.{resizing, running, visiting, with_seat, with_work}
 use Rattle.papaya_timeline.specs.Maps.{key_of}
-use Rattle.papaya_timeline.proofs.Begun.{IsBegun, IsResizeBegun, IsVisitBegun, call_begun, resizer_begun_is, visitor_begun_is}
+use Rattle.papaya_timeline.proofs.Begun.{IsBegun, IsResizeBegun, IsVisitBegun, begun_stands, call_begun, handed_there, resizer_begun_is, visitor_begun_is}
 use Rattle.papaya_timeline.proofs.ResizerLaws.{resizer_begins}
 use Rattle.papaya_timeline.specs.Core.{CoreState}
 use Rattle.papaya_timeline.specs.Kept.{HasAnswers, IsKept, IsCall, IsResizing, IsVisiting, Tale, is_blocking, setting_of, coding_of, low, begun_tales, visit_tale}
@@ -43,6 +43,9 @@ use Rattle.papaya_timeline.proofs.VisitBegins.{visit_begins}
 use Rattle.papaya_chain_rests.specs.VisitTold as visits
 use Rattle.papaya_store.specs.declared.visits.Visiting.{Visiting}
 use Rattle.papaya_timeline.proofs.KeptHints.{made-hints}
+use Rattle.papaya_store.specs.declared.mode.Mode.{Mode}
+use Rattle.papaya_rests.specs.Says.{Makes}
+use Rattle.papaya_rests.proofs.RestsLearnPairs.{wanted_rests}
 
 -- a core's machines resize as its setting does
 mode_of : (mode : ResizeMode) → IsModeOf mode (is_blocking mode)
@@ -50,15 +53,16 @@ mode_of (Incremental chunk) = refl
 mode_of Blocking = refl
 
 -- words without a table
-no_words : (at : At) → 0 ≡ word_at (record { root = 0; tables = [] }) at
+no_words : (at : At) → 0 ≡ word_at (record { root = 0; tables = []; made = 0 }) at
 no_words Root = refl
+no_words Made = refl
 no_words (Next n) = elim (n == 0) as (λ b. 0 ≡ word_in (λ t. t.next) (cond b None (slice_get {X = TableWords} [] (n - 1)))) [ true ↦ refl | false ↦ refl ]
 no_words (Aborted n) = elim (n == 0) as (λ b. 0 ≡ word_in (λ t. t.aborted) (cond b None (slice_get {X = TableWords} [] (n - 1)))) [ true ↦ refl | false ↦ refl ]
 no_words (Done n c) = elim (n == 0) as (λ b. 0 ≡ word_in (λ t. slice_index t.done c) (cond b None (slice_get {X = TableWords} [] (n - 1)))) [ true ↦ refl | false ↦ refl ]
 no_words (Slot n i) = elim (n == 0) as (λ b. 0 ≡ word_in (λ t. slice_index t.slots i) (cond b None (slice_get {X = TableWords} [] (n - 1)))) [ true ↦ refl | false ↦ refl ]
 
 -- nor a hint
-no_hints : (n i : ℕ) → hint_at (record { root = 0; tables = [] }) n i ≡ 0
+no_hints : (n i : ℕ) → hint_at (record { root = 0; tables = []; made = 0 }) n i ≡ 0
 no_hints n i = elim (n == 0) as (λ b. word_in (λ t. slot_hint t i) (cond b None (slice_get {X = TableWords} [] (n - 1))) ≡ 0) [ true ↦ refl | false ↦ refl ]
 
 module _ {K V S A : Type 0} (eq : K → K → Bool) (hash : K → ℕ) where
@@ -87,8 +91,8 @@ module _ {K V S A : Type 0} (eq : K → K → Bool) (hash : K → ℕ) where
       answers = begun_answers call x.task x.task_is;
       split = append-nil es;
       rests = record {
-        cut = mode_cut s.mode;
-        call = record { hash = sym (mod-eq_of_lt (fits x.key x.key_is)); mode = mode_of s.mode; made = record { keys = λ q l. absurd l; made_is = tt; fill_is = tt; choice_is = tt }; stage = tt };
+        cut = mode_cut s.mode.resize;
+        call = record { hash = sym (mod-eq_of_lt (fits x.key x.key_is)); mode = mode_of s.mode.resize; made = record { keys = λ q l. absurd l; limit = refl; number_is = wanted_rests (setting_of eq (low hash) s.mode s.store.words.tables) (coding_of (low hash)) es [] x.key s.mode.limit; own_is = tt; of_is = tt; fill_is = tt; choice_is = tt }; stage = tt };
         phase = tt;
       };
       last = λ p l. absurd cc;
@@ -98,12 +102,14 @@ module _ {K V S A : Type 0} (eq : K → K → Bool) (hash : K → ℕ) where
       links = λ behind t chunks l. absurd cc;
       unwritten = λ p l. absurd l;
       shows = tt;
+      valued = λ part is. handed_there s.store.pairs (value_of_call call) part is;
+      again = λ i n stands. absurd (begun_stands x.task (hash x.key) s.mode.resize s.initial s.mode.limit (Makes (Some i) n) stands);
     })
 
     -- a call that resizes the map rests on nothing
     new_resizer : (z : Resizer) → IsResizeBegun hash s.mode s.initial number call z → IsResizing eq hash s.mode s.store z es new_tale
     new_resizer z x = subst (λ (y : Resizer). IsResizing eq hash s.mode s.store y es new_tale) (sym x.is) (record {
-      rests = resizer_begins (setting_of eq (low hash) s.mode s.store.words.tables) (coding_of (low hash)) (run es start) no_hands x.resize s.mode s.initial number (mode_of s.mode) (mode_cut s.mode);
+      rests = resizer_begins (setting_of eq (low hash) s.mode s.store.words.tables) (coding_of (low hash)) (run es start) no_hands x.resize s.mode.resize s.initial number (mode_of s.mode.resize) (mode_cut s.mode.resize);
       last = λ p l. absurd cc;
       carried = λ p l. absurd cc;
       opens = λ t l. absurd (unopened x.resize t l);
@@ -182,16 +188,16 @@ module _ {K V S A : Type 0} (eq : K → K → Bool) (hash : K → ℕ) where
     begin_kept = record { allowed = kept.allowed; coded = kept.coded; hints = kept.hints; made = kept.made; logged = kept.logged; few = kept.few; tables_few = kept.tables_few; calls = calls; resizers = resizers; visitors = visitors; apart = apart }
 
 module _ {K V S : Type 0} (A : Type 0) (eq : K → K → Bool) (hash : K → ℕ) where
-  module _ (mode : ResizeMode) (store : StoreState K V S) (pairs : store.pairs ≡ []) (tales : ℕ → Tale K V) where
+  module _ (mode : Mode) (store : StoreState K V S) (pairs : store.pairs ≡ []) (tales : ℕ → Tale K V) where
     -- a core with these words, in which nobody called yet
     abbrev IsFresh : Tables → List (Exchange (Stored K V)) → Type 0
     IsFresh words es = IsKept {A = A} eq hash mode (record store { words = words }) [] es tales
 
     few : length store.pairs ≤ MAX_LOG_LEN
-    few = subst (λ (l : List (Pair V)). length l ≤ MAX_LOG_LEN) (sym pairs) (omega arith)
+    few = subst (λ (l : List (Pair K V)). length l ≤ MAX_LOG_LEN) (sym pairs) (omega arith)
 
     -- without a table nothing was exchanged
-    empty_kept : IsFresh (record { root = 0; tables = [] }) []
+    empty_kept : IsFresh (record { root = 0; tables = []; made = 0 }) []
     empty_kept = record {
       allowed = tt;
       coded = coded;
@@ -206,19 +212,20 @@ module _ {K V S : Type 0} (A : Type 0) (eq : K → K → Bool) (hash : K → ℕ
       apart = λ d e q q' l. absurd cc;
     }
       where
-        coded : (at : At) → word_of (setting_of {V = V} eq (low hash) mode []) (coding_of (low hash)) start at ≡ word_at (record { root = 0; tables = [] }) at
+        coded : (at : At) → word_of (setting_of {V = V} eq (low hash) mode []) (coding_of (low hash)) start at ≡ word_at (record { root = 0; tables = []; made = 0 }) at
         coded Root = refl
+        coded Made = refl
         coded (Next n) = no_words (Next n)
         coded (Aborted n) = no_words (Aborted n)
         coded (Done n c) = no_words (Done n c)
         coded (Slot n i) = no_words (Slot n i)
 
     -- with its first table that one was opened
-    opened_kept : (len limit : ℕ) → IsFresh (record { root = 1; tables = new_table 1 len limit 0 ∷ [] }) (Open 1 ∷ [])
+    opened_kept : (len limit : ℕ) → IsFresh (record { root = 1; tables = new_table 1 len limit 0 ∷ []; made = 0 }) (Open 1 ∷ [])
     opened_kept len limit = record {
       allowed = ((refl, omega arith), tt);
       coded = coded;
-      hints = λ n i. made-hints (record { root = 0; tables = [] }) 1 len limit 0 n i ∙ no_hints n i;
+      hints = λ n i. made-hints (record { root = 0; tables = []; made = 0 }) 1 len limit 0 n i ∙ no_hints n i;
       made = λ t some comes. elim comes [
         | inl first ↦ (new_table 1 len limit 0, subst (λ y. table_of (new_table 1 len limit 0 ∷ []) y ≡ Some (new_table 1 len limit 0)) first refl)
         | inr (u, next) ↦ absurd (let f : 0 ≡ t = next in omega arith)
@@ -233,15 +240,17 @@ module _ {K V S : Type 0} (A : Type 0) (eq : K → K → Bool) (hash : K → ℕ
     }
       where
         -- but for the root each word is 0
-        none : (at : At) → (at ≡ Root → ⊥) → 0 ≡ word_at (record { root = 1; tables = new_table 1 len limit 0 ∷ [] }) at
+        none : (at : At) → (at ≡ Root → ⊥) → 0 ≡ word_at (record { root = 1; tables = new_table 1 len limit 0 ∷ []; made = 0 }) at
         none Root other = absurd (other refl)
-        none (Next n) other = no_words (Next n) ∙ sym (word-made (record { root = 0; tables = [] }) 1 len limit 0 (Next n))
-        none (Aborted n) other = no_words (Aborted n) ∙ sym (word-made (record { root = 0; tables = [] }) 1 len limit 0 (Aborted n))
-        none (Done n c) other = no_words (Done n c) ∙ sym (word-made (record { root = 0; tables = [] }) 1 len limit 0 (Done n c))
-        none (Slot n i) other = no_words (Slot n i) ∙ sym (word-made (record { root = 0; tables = [] }) 1 len limit 0 (Slot n i))
+        none Made other = refl
+        none (Next n) other = no_words (Next n) ∙ sym (word-made (record { root = 0; tables = []; made = 0 }) 1 len limit 0 (Next n))
+        none (Aborted n) other = no_words (Aborted n) ∙ sym (word-made (record { root = 0; tables = []; made = 0 }) 1 len limit 0 (Aborted n))
+        none (Done n c) other = no_words (Done n c) ∙ sym (word-made (record { root = 0; tables = []; made = 0 }) 1 len limit 0 (Done n c))
+        none (Slot n i) other = no_words (Slot n i) ∙ sym (word-made (record { root = 0; tables = []; made = 0 }) 1 len limit 0 (Slot n i))
 
-        coded : (at : At) → word_of (setting_of {V = V} eq (low hash) mode (new_table 1 len limit 0 ∷ [])) (coding_of (low hash)) (run (Open 1 ∷ []) start) at ≡ word_at (record { root = 1; tables = new_table 1 len limit 0 ∷ [] }) at
+        coded : (at : At) → word_of (setting_of {V = V} eq (low hash) mode (new_table 1 len limit 0 ∷ [])) (coding_of (low hash)) (run (Open 1 ∷ []) start) at ≡ word_at (record { root = 1; tables = new_table 1 len limit 0 ∷ []; made = 0 }) at
         coded Root = refl
+        coded Made = refl
         coded (Next n) = none (Next n) (λ f. absurd cc)
         coded (Aborted n) = none (Aborted n) (λ f. absurd cc)
         coded (Done n c) = none (Done n c) (λ f. absurd cc)

@@ -1,8 +1,8 @@
 -- A call with a closure has its answers as long as it is under way.
-use Rattle.std.proofs.Common.{◌≡◌, ℕ, Bool, true, false, Option, None, Some, ◌⊎◌, inl, inr, refl, sym, ◌∙◌, ap, subst}
+use Rattle.std.proofs.Common.{◌≡◌, ℕ, Bool, true, false, Option, None, Some, inl, inr, refl, sym, ◌∙◌, ap, subst}
 use Rattle.papaya_call.specs.Answers.{Says}
 use Rattle.papaya_ask.specs.declared.ask.Ask.{Ask as Call_ask}
-use Rattle.papaya_ask.specs.declared.ask.Ask.TheVariants.{Load, Exchange, SameKey, ShowNone, ShowPair, SizeOf, MakeKey, MakePair, MakeTable, AddToShard, Done as Ask_done, LoadHint, WriteHint}
+use Rattle.papaya_ask.specs.declared.ask.Ask.TheVariants.{Load, Exchange, SameKey, ShowNone, ShowPair, SizeOf, MakeKey, MakeValue, MakePair, MakePairOf, MakeTable, AddToShard, Done as Ask_done, LoadHint, WriteHint}
 use Rattle.papaya_ask.specs.declared.ask.Answer.{Answer as Call_answer}
 use Rattle.papaya_ask.specs.declared.call.Call.{Call}
 use Rattle.papaya_ask.specs.declared.call.Call.TheVariants.{Get, Insert, TryInsert, RemoveIf, Compute, Reserve, CopyAll, Clear, Retain, Walk}
@@ -16,10 +16,10 @@ use Rattle.papaya_chain.specs.declared.ask.Answer.{Answer}
 use Rattle.papaya_store.specs.declared.pairs.Running.{Running}
 use Rattle.papaya_timeline.specs.Begins.{answers_of_call, task_of_call}
 use Rattle.papaya_store.specs.Asks.{PerformsAsk}
-use Rattle.papaya_store.specs.Performs.{Performs, Stays, LogsKey, LogsPair}
+use Rattle.papaya_store.specs.Performs.{Performs}
 use Rattle.papaya_store.specs.Store.{StoreState}
 use Rattle.papaya_timeline.proofs.ShowLemmas.{IsShowing, none_shown, pair_shown}
-use Rattle.papaya_timeline.proofs.StoreLemmas.{matched}
+use Rattle.papaya_timeline.proofs.StoreLemmas.{LogsOrNot, matched, of_logs, own_logs, part_logs}
 
 -- the closure's answers are there
 abbrev pub HasAnswers : {A : Type 0} → Option A → Type 0
@@ -45,19 +45,13 @@ module _ {K V A : Type 0} where
 
 module _ {K V S A : Type 0} where
   -- a closure that was shown something has answers left
-  shown_answers : (s : StoreState K V S) (r : Running K V A) (a : Call_answer) (s' : StoreState K V S) (r' : Running K V A) → IsShowing s r a s' r' → HasAnswers r.answers → HasAnswers r'.answers
-  shown_answers s r a s' r' shown has = elim shown.call [ inl same ↦ same_call r r' has same | inr (v, x, later) ↦ (x, ap (λ (y : Running K V A). y.answers) later) ]
+  shown_answers : {Computes : Type 0} (s : StoreState K V S) (r : Running K V A) (a : Call_answer) (s' : StoreState K V S) (r' : Running K V A) → IsShowing Computes s r a s' r' → HasAnswers r.answers → HasAnswers r'.answers
+  shown_answers s r a s' r' shown has = elim shown.call [ inl same ↦ same_call r r' has same | inr (v, x, later, of) ↦ (x, ap (λ (y : Running K V A). y.answers) later) ]
 
-  -- a call whose key or pair was logged keeps them
-  key_logged : (s : StoreState K V S) (r : Running K V A) (a : Call_answer) (s' : StoreState K V S) (r' : Running K V A) (Not Has : Type 0) → HasAnswers r.answers → (Not × Stays s r s' r') ⊎ (Has × Stays s r s' r') ⊎ LogsKey a s r s' r' → HasAnswers r'.answers
-  key_logged s r a s' r' Not Has has (inl h) = same_call r r' has h.1.1
-  key_logged s r a s' r' Not Has has (inr (inl h)) = same_call r r' has h.1.1
-  key_logged s r a s' r' Not Has has (inr (inr (k, was, is, few, grown, moved))) = (has.0, ap (λ (y : Running K V A). y.answers) moved ∙ has.1)
-
-  pair_logged : (s : StoreState K V S) (r : Running K V A) (a : Call_answer) (s' : StoreState K V S) (r' : Running K V A) (Not Has : Type 0) → HasAnswers r.answers → (Not × Stays s r s' r') ⊎ (Has × Stays s r s' r') ⊎ LogsPair a s r s' r' → HasAnswers r'.answers
-  pair_logged s r a s' r' Not Has has (inl h) = same_call r r' has h.1.1
-  pair_logged s r a s' r' Not Has has (inr (inl h)) = same_call r r' has h.1.1
-  pair_logged s r a s' r' Not Has has (inr (inr (n, v, was, value, is, few, grown, moved))) = (has.0, ap (λ (y : Running K V A). y.answers) moved ∙ has.1)
+  -- a call for which a pair was logged keeps them
+  logged_keeps : (s : StoreState K V S) (r : Running K V A) (a : Call_answer) (s' : StoreState K V S) (r' : Running K V A) → HasAnswers r.answers → LogsOrNot s r a s' r' → HasAnswers r'.answers
+  logged_keeps s r a s' r' has (inl (unlogged, stays)) = same_call r r' has stays.1
+  logged_keeps s r a s' r' has (inr (key, left, (value, was, is, few, grown, moved))) = (has.0, ap (λ (y : Running K V A). y.answers) moved ∙ has.1)
 
 module _ {K V S A : Type 0} (eq : K → K → Bool) (says : Says K V A) where
   -- whatever was asked
@@ -70,8 +64,10 @@ module _ {K V S A : Type 0} (eq : K → K → Bool) (says : Says K V A) where
   answers_performed refuse (LoadHint t x) s r a s' r' h has = same_call r r' has h.1.1
   answers_performed refuse (WriteHint t x hint) s r a s' r' h has = same_call r r' has h.2
   answers_performed refuse (SizeOf n) s r a s' r' h has = same_call r r' has h.1.1
-  answers_performed refuse MakeKey s r a s' r' h has = matched (HasAnswers r'.answers) refuse _ _ h (λ _ none. same_call r r' has none.1.1) (λ _ makes. key_logged s r a s' r' _ _ has makes)
-  answers_performed refuse MakePair s r a s' r' h has = matched (HasAnswers r'.answers) refuse _ _ h (λ _ none. same_call r r' has none.1.1) (λ _ makes. pair_logged s r a s' r' _ _ has makes)
+  answers_performed refuse MakeKey s r a s' r' h has = logged_keeps s r a s' r' has (part_logs s r a s' r' refuse h)
+  answers_performed refuse MakeValue s r a s' r' h has = logged_keeps s r a s' r' has (part_logs s r a s' r' refuse h)
+  answers_performed refuse MakePair s r a s' r' h has = logged_keeps s r a s' r' has (own_logs s r a s' r' refuse h)
+  answers_performed refuse (MakePairOf n) s r a s' r' h has = logged_keeps s r a s' r' has (of_logs s r a s' r' refuse n h)
   answers_performed refuse (MakeTable slots limit chunks) s r a s' r' h has = matched (HasAnswers r'.answers) refuse _ _ h (λ _ none. same_call r r' has none.1.1) (λ _ makes. same_call r r' has makes.1)
   answers_performed refuse (AddToShard by) s r a s' r' h has = same_call r r' has h.2
   answers_performed refuse (Ask_done reply) s r a s' r' h has = same_call r r' has h.1.1

@@ -23,13 +23,13 @@ use Rattle.papaya_store.specs.Performs.{own_key}
 use Rattle.papaya_store.specs.Store.{StoreState, Stored, pair_of}
 use Rattle.papaya_store.specs.Tables.{hint_at, word_at}
 use Rattle.papaya_timeline.proofs.FollowedTables.{machine_follows}
-use Rattle.papaya_timeline.proofs.KeptAnswer.{IsAnswered, changed}
+use Rattle.papaya_timeline.proofs.KeptAnswer.{IsAnswered, changed, same_value}
 use Rattle.papaya_timeline.proofs.KeptTables.{table_low}
 use Rattle.papaya_timeline.proofs.KeptWritten.{asked_copy, on_there}
 use Rattle.papaya_chain_rests.proofs.LinkMade.{machine_links}
 use Rattle.papaya_timeline.proofs.CopyAnswers.{IsAsker, copied_left, left_logged}
 use Rattle.papaya_store.specs.declared.pairs.Pair.{Pair}
-use Rattle.papaya_store.specs.Performs.{key_at}
+use Rattle.papaya_store.specs.Pairs.{key_in, value_in}
 use Rattle.papaya_words.specs.declared.limits.TheConstants.{MAX_LOG_LEN}
 use Rattle.papaya_rests.specs.Copier.{AreThere}
 use Rattle.papaya_rests.specs.Told.{IsOneOf}
@@ -75,11 +75,12 @@ module _ {Q K V S A : Type 0} (eq : K → K → Bool) (hashes : S → K → ℕ)
         made = left.made;
         hands = left.hands';
         told = left.told;
-        keys = λ at k h. ap (λ l. key_at l at) left.keys_are ∙ h;
-        own_is = ap (λ l. key_at l r.key) left.keys_are ∙ owns;
+        keys = λ at k h. ap (λ l. key_in l at) left.pairs_are ∙ h;
+        values = λ at v h. ap (λ l. value_in l at) left.pairs_are ∙ h;
+        own_is = ap (λ l. key_in l r.key) left.pairs_are ∙ owns;
         logged = λ n p h. left_logged g c store es tale.hands left n p h;
-        longer = let same = ap (λ (l : List (Pair V)). length l) left.pairs_are in omega (arith, same);
-        few = λ h. subst (λ (l : List (Pair V)). length l ≤ MAX_LOG_LEN) (sym left.pairs_are) h;
+        longer = let same = ap (λ (l : List (Pair K V)). length l) left.pairs_are in omega (arith, same);
+        few = λ h. subst (λ (l : List (Pair K V)). length l ≤ MAX_LOG_LEN) (sym left.pairs_are) h;
         tables_few = left.tables_few;
         grown = left.grown;
         coded = left.coded;
@@ -90,5 +91,6 @@ module _ {Q K V S A : Type 0} (eq : K → K → Bool) (hashes : S → K → ℕ)
         last = left.last;
         carried = left.carried;
         new = λ q h. inl (subst (λ l. IsOneOf l q) left.same_made h);
+        value = inl (same_value g c store r es tale own store' (λ at v h. ap (λ l. value_in l at) left.pairs_are ∙ h));
         opens = λ t is which. left.opens t is;
       })

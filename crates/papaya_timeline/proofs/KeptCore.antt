@@ -1,10 +1,9 @@
 -- A core keeps to the law when it is made, and by each begin and each step.
 use Rattle.std.proofs.Common.{◌≡◌, ℕ, ◌==◌, Bool, true, List, [], ◌++◌, Option, Some, inl, inr, refl, sym, ap, subst, fold}
 use Rattle.std.specs.Cmp.{IsEquivalence}
-use Rattle.papaya_words.specs.declared.probe.ResizeMode.{ResizeMode}
 use Rattle.papaya_call.specs.Answers.{Says}
 use Rattle.papaya_ask.specs.declared.ask.Ask as call_asks
-use Rattle.papaya_ask.specs.declared.ask.Ask.TheVariants.{Load, Exchange as Ask_exchange, SameKey, ShowNone, ShowPair, SizeOf, MakeKey, MakePair, MakeTable, AddToShard, Done as Ask_done, LoadHint, WriteHint}
+use Rattle.papaya_ask.specs.declared.ask.Ask.TheVariants.{Load, Exchange as Ask_exchange, SameKey, ShowNone, ShowPair, SizeOf, MakeKey, MakeValue, MakePair, MakePairOf, MakeTable, AddToShard, Done as Ask_done, LoadHint, WriteHint}
 use Rattle.papaya_ask.specs.declared.ask.Answer as call_answers
 use Rattle.papaya_ask.specs.declared.ask.Answer.TheVariants.{Exchanged, Found as Found_instead}
 use Rattle.papaya_ask.specs.declared.call.Call.{Call}
@@ -26,10 +25,7 @@ use Rattle.papaya_timeline.specs.Begins.{Begins}
 use Rattle.papaya_timeline.specs.Callers.{running, with_call}
 use Rattle.papaya_timeline.specs.Core.{CoreState, IsCore}
 use Rattle.papaya_timeline.specs.Kept.{IsKept, IsLawfulCore, Tale, coding_of, low, setting_of}
-use Rattle.papaya_ask.specs.declared.copy_ask.CopyAsk.{CopyAsk}
-use Rattle.papaya_ask.specs.declared.copy_ask.CopyAsk.TheVariants as copies
 use Rattle.papaya_store.specs.Asks.{PerformsAsk}
-use Rattle.papaya_store.specs.Copies.{PerformsCopy}
 use Rattle.papaya_store.specs.New.{HasCapacity}
 use Rattle.papaya_store.specs.Performs.{Performs, Stays}
 use Rattle.papaya_store.specs.Store.{StoreState}
@@ -42,12 +38,17 @@ use Rattle.papaya_timeline.proofs.CoreLemmas.{reply_asked}
 use Rattle.papaya_timeline.proofs.KeptLemmas.{IsLawfulKeys, kept_begin, kept_new, kept_step}
 use Rattle.papaya_timeline.proofs.KeptStep as kept_steps
 use Rattle.papaya_timeline.proofs.ShowLemmas.{none_shown, pair_shown}
-use Rattle.papaya_timeline.proofs.StoreLemmas.{matched}
+use Rattle.papaya_timeline.proofs.StoreLemmas.{LogsOrNot, copy_hasher, matched, of_logs, own_logs, part_logs}
+use Rattle.papaya_store.specs.declared.mode.Mode.{Mode}
 
 module _ {K V S A : Type 0} (eq : K → K → Bool) (says : Says K V A) where
   -- a step keeps the hasher
   stays-hasher : (s : StoreState K V S) (r : Running K V A) (s' : StoreState K V S) (r' : Running K V A) → Stays s r s' r' → s'.hasher ≡ s.hasher
   stays-hasher s r s' r' stays = ap (λ (y : StoreState K V S). y.hasher) stays.0
+
+  made-hasher : (s : StoreState K V S) (r : Running K V A) (a : call_answers.Answer) (s' : StoreState K V S) (r' : Running K V A) → LogsOrNot s r a s' r' → s'.hasher ≡ s.hasher
+  made-hasher s r a s' r' (inl (unlogged, stays)) = stays-hasher s r s' r' stays
+  made-hasher s r a s' r' (inr (key, left, (value, has, is, few, same, moved))) = ap (λ (y : StoreState K V S). y.hasher) same
 
   -- an answered ask keeps it
   call-hasher : (refuse : Bool) (ask : call_asks.Ask) (s : StoreState K V S) (r : Running K V A) (a : call_answers.Answer) (s' : StoreState K V S) (r' : Running K V A) → Performs eq says refuse ask s r a s' r' → s'.hasher ≡ s.hasher
@@ -61,41 +62,21 @@ module _ {K V S A : Type 0} (eq : K → K → Bool) (says : Says K V A) where
   call-hasher refuse (LoadHint t x) s r a s' r' (e, stays) = stays-hasher s r s' r' stays
   call-hasher refuse (WriteHint t x hint) s r a s' r' (e, same, moved) = ap (λ (y : StoreState K V S). y.hasher) same
   call-hasher refuse (SizeOf n) s r a s' r' (e, stays) = stays-hasher s r s' r' stays
-  call-hasher refuse MakeKey s r a s' r' h =
-      matched (s'.hasher ≡ s.hasher) refuse _ _ h (λ _ none. stays-hasher s r s' r' none.1)
-      (λ _ makes. elim makes [ inl refused ↦ stays-hasher s r s' r' refused.1 | inr others ↦ elim others [ inl has ↦ stays-hasher s r s' r' has.1 | inr (k, own, is, few, same, moved) ↦ ap (λ (y : StoreState K V S). y.hasher) same ] ])
-  call-hasher refuse MakePair s r a s' r' h =
-      matched (s'.hasher ≡ s.hasher) refuse _ _ h (λ _ none. stays-hasher s r s' r' none.1)
-      (λ _ makes. elim makes [ inl refused ↦ stays-hasher s r s' r' refused.1 | inr others ↦ elim others [ inl has ↦ stays-hasher s r s' r' has.1 | inr (n, v, key, value, is, few, same, moved) ↦ ap (λ (y : StoreState K V S). y.hasher) same ] ])
+  call-hasher refuse MakeKey s r a s' r' h = made-hasher s r a s' r' (part_logs s r a s' r' refuse h)
+  call-hasher refuse MakeValue s r a s' r' h = made-hasher s r a s' r' (part_logs s r a s' r' refuse h)
+  call-hasher refuse MakePair s r a s' r' h = made-hasher s r a s' r' (own_logs s r a s' r' refuse h)
+  call-hasher refuse (MakePairOf n) s r a s' r' h = made-hasher s r a s' r' (of_logs s r a s' r' refuse n h)
   call-hasher refuse (MakeTable slots limit chunks) s r a s' r' h =
       matched (s'.hasher ≡ s.hasher) refuse _ _ h (λ _ none. stays-hasher s r s' r' none.1)
       (λ _ makes. elim makes.0 [ inl refused ↦ ap (λ (y : StoreState K V S). y.hasher) refused.1 | inr (is, few, same) ↦ ap (λ (y : StoreState K V S). y.hasher) same ])
   call-hasher refuse (AddToShard by) s r a s' r' (e, (number, same), moved) = ap (λ (y : StoreState K V S). y.hasher) same
   call-hasher refuse (Ask_done reply) s r a s' r' (e, stays) = stays-hasher s r s' r' stays
 
-module _ {K V S : Type 0} (eq : K → K → Bool) (hash : S → K → ℕ) where
-  -- and so does one of a copier
-  copy-hasher : (refuse : Bool) (ask : CopyAsk) (s : StoreState K V S) (a : Answer) (s' : StoreState K V S) → PerformsCopy eq hash refuse ask s a s' → s'.hasher ≡ s.hasher
-  copy-hasher refuse (copies.Load at) s a s' (is, same) = ap (λ (y : StoreState K V S). y.hasher) same
-  copy-hasher refuse (copies.Exchange at old new) s a s' (told, is, h) =
-      matched (s'.hasher ≡ s.hasher) (word_at s.words at == old) _ _ h
-      (λ _ done. ap (λ (y : StoreState K V S). y.hasher) done.1) (λ _ lost. ap (λ (y : StoreState K V S). y.hasher) lost.1)
-  copy-hasher refuse (copies.LoadHint t x) s a s' (is, same) = ap (λ (y : StoreState K V S). y.hasher) same
-  copy-hasher refuse (copies.WriteHint t x hint) s a s' (is, same) = ap (λ (y : StoreState K V S). y.hasher) same
-  copy-hasher refuse (copies.SizeOf n) s a s' (is, same) = ap (λ (y : StoreState K V S). y.hasher) same
-  copy-hasher refuse (copies.HashOf n) s a s' (is, hashed, same) = ap (λ (y : StoreState K V S). y.hasher) same
-  copy-hasher refuse (copies.SamePair m n) s a s' (is, same) = ap (λ (y : StoreState K V S). y.hasher) same
-  copy-hasher refuse copies.Count s a s' (is, same) = ap (λ (y : StoreState K V S). y.hasher) same
-  copy-hasher refuse (copies.MakeTable slots limit chunks) s a s' (told, is, h) =
-      matched (s'.hasher ≡ s.hasher) refuse _ _ h
-      (λ _ none. ap (λ (y : StoreState K V S). y.hasher) none.1)
-      (λ _ makes. elim makes [ inl refused ↦ ap (λ (y : StoreState K V S). y.hasher) refused.1 | inr (is, few, same) ↦ ap (λ (y : StoreState K V S). y.hasher) same ])
-
 module _ {K V S A : Type 0} (eq : K → K → Bool) (says : Says K V A) (hash : S → K → ℕ) where
   -- whoever asked
   pub performs-hasher : (refuse : Bool) (ask : Ask) (s : StoreState K V S) (r : Running K V A) (a : Answer) (s' : StoreState K V S) (r' : Running K V A) → PerformsAsk eq says hash refuse ask s r a s' r' → s'.hasher ≡ s.hasher
   performs-hasher refuse (asks.Call ask) s r a s' r' (told, is, h) = call-hasher eq says refuse ask s r told s' r' h
-  performs-hasher refuse (asks.Copy ask) s r a s' r' (h, same) = copy-hasher eq hash refuse ask s a s' h
+  performs-hasher refuse (asks.Copy ask) s r a s' r' (h, same) = copy_hasher eq hash refuse ask s a s' h
 
 -- equal keys make the same writes, so they hash alike
 pub keys_lawful : {K S H : Type 0} (eq : K → K → Bool) (input : K → List (List ℕ)) (build : S → H) (write : H → List ℕ → H) (finish : H → ℕ) → IsEquivalence eq → ((x y : K) → eq x y ≡ true → input x ≡ input y) → (hasher : S) → IsLawfulKeys eq (hash_of input build write finish hasher)
@@ -107,7 +88,7 @@ module _ {K V S A H : Type 0} (eq : K → K → Bool) (input : K → List (List 
   Lawful s = IsLawfulCore eq (hash_of input build write finish s.store.hasher) s.store s.callers s.mode
 
   -- a new one
-  pub new_lawful : (mode : ResizeMode) (capacity initial : ℕ) (store : StoreState K V S) (callers : List (Seat K V A)) → IsCore store callers mode → HasCapacity capacity initial store.words → store.pairs ≡ [] → callers ≡ [] → IsLawfulCore eq (hash_of input build write finish store.hasher) store callers mode
+  pub new_lawful : (mode : Mode) (capacity initial : ℕ) (store : StoreState K V S) (callers : List (Seat K V A)) → IsCore store callers mode → HasCapacity capacity initial store.words → store.pairs ≡ [] → callers ≡ [] → IsLawfulCore eq (hash_of input build write finish store.hasher) store callers mode
   new_lawful mode capacity initial store callers core words pairs none =
       let tales : ℕ → Tale K V = λ d. record { begun = []; since = []; hands = no_hands; visit = visits.no_hands } in
       let kept = kept_new eq (hash_of input build write finish store.hasher) (keys_lawful eq input build write finish classes respects store.hasher) mode capacity initial store callers words pairs none tales in

@@ -1,13 +1,13 @@
 -- What an exchange changes that a machine asked for, of the call itself or of its copy.
 use Rattle.std.proofs.Common.{◌≡◌, ℕ, ◌==◌, ◌&&◌, Bool, true, false, cond, Option, None, Some, ◌⊎◌, inl, inr, refl, sym, ◌∙◌, ap, subst}
 use Rattle.papaya_ask.specs.declared.ask.At.{At}
-use Rattle.papaya_ask.specs.declared.ask.At.TheVariants.{Root, Next, Aborted, Done, Slot}
+use Rattle.papaya_ask.specs.declared.ask.At.TheVariants.{Root, Next, Aborted, Done, Slot, Made}
 use Rattle.papaya_ask.specs.declared.ask.StepKind.{StepKind}
 use Rattle.papaya_ask.specs.declared.ask.StepKind.TheVariants as kinds
 use Rattle.papaya_law.specs.Allows.{Allows}
 use Rattle.papaya_law.specs.Code.{Coding}
 use Rattle.papaya_law.specs.Copying.{IsCopied}
-use Rattle.papaya_law.specs.Exchange.{Setting, Word, Closed, Live, Marked, Copied, Buried, State, Exchange, Open, Link, Close, Place, Finish, Advance, Promote, Abort, after}
+use Rattle.papaya_law.specs.Exchange.{Setting, Word, Closed, Live, Marked, Copied, Buried, State, Exchange, Open, Link, Close, Place, Finish, Advance, Promote, Abort, Take, after}
 use Rattle.papaya_law.specs.Grows.{Comes}
 use Rattle.papaya_law.specs.Invariant.{named}
 use Rattle.papaya_rests.specs.Copier.{IsCopyAsked, last_after}
@@ -21,9 +21,9 @@ both true b h = (refl, h)
 both false b h = absurd cc
 
 -- the root is exchanged where there is none yet
-pub root_empty : {K P : Type 0} (g : Setting K P) (c : Coding K P) (s : State P) (hands : Hands P) (new : ℕ) (kind : Option StepKind) (e : Exchange P) → IsAsked c kind Root new s hands e → Allows g s e → s.root ≡ 0
-root_empty g c s hands new (Some kinds.Open) e is allows = (subst (Allows g s) is allows).0
-root_empty g c s hands new _ e h allows = absurd h
+pub root_empty : {K P : Type 0} (g : Setting K P) (c : Coding K P) (k : K) (s : State P) (hands : Hands P) (new : ℕ) (kind : Option StepKind) (e : Exchange P) → IsAsked g c k kind Root new s hands e → Allows g s e → s.root ≡ 0
+root_empty g c k s hands new (Some kinds.Open) e is allows = (subst (Allows g s) is allows).0
+root_empty g c k s hands new _ e h allows = absurd h
 
 module _ {P : Type 0} (s : State P) where
   -- a slot after a word was put into one that names nothing, or a pair that stood somewhere
@@ -34,7 +34,7 @@ module _ {P : Type 0} (s : State P) where
 module _ {P : Type 0} (s : State P) (hands : Hands P) (new : ℕ) where
   -- The tables that have come are those of before, and the one that was opened; a pair that a slot names stood in one before, or is one that the call made. Where it changes no pair of the map, each slot names what one named.
   pub record IsChanged (kind : Option StepKind) (at : At) (e : Exchange P) : Type 0 where
-    pub place : (at ≡ Root) ⊎ ((t : ℕ) × (x : ℕ) × (at ≡ Slot t x))
+    pub place : (at ≡ Root) ⊎ (at ≡ Made) ⊎ ((t : ℕ) × (x : ℕ) × (at ≡ Slot t x))
     pub comes : (t : ℕ) → Comes (after s e) t → Comes s t ⊎ ((at ≡ Root) × (new ≡ t))
     pub slots : (t x : ℕ) (p : P) → named ((after s e).slot t x) ≡ Some p → Stands s p ⊎ IsOneOf hands.made p
     pub unchanged : (old word : ℕ) → change_of_kind kind old word ≡ None → (t x : ℕ) (p : P) → named ((after s e).slot t x) ≡ Some p → Stands s p
@@ -53,28 +53,33 @@ module _ {P : Type 0} (s : State P) (hands : Hands P) (new : ℕ) where
       comes t (inl first) = inr (refl, first)
       comes t (inr linked) = inl (inr linked)
 
+  -- a number was taken
+  numbered : IsChanged (Some kinds.Take) Made (Take s.made)
+  numbered = record { place = inr (inl refl); comes = λ t h. inl h; slots = λ t x p e. inl (t, x, e); unchanged = λ old word none t x p e. (t, x, e) }
+
   -- what an asked exchange changes
-  pub changes : {K : Type 0} (c : Coding K P) (kind : Option StepKind) (at : At) (e : Exchange P) → IsAsked c kind at new s hands e → IsChanged kind at e
-  changes c (Some kinds.Open) Root e is = subst (IsChanged (Some kinds.Open) Root) (sym is) opened
-  changes c (Some kinds.Claim) (Slot t x) e (q, own, is) = subst (IsChanged (Some kinds.Claim) (Slot t x)) (sym is) (record {
-    place = inr (t, x, refl);
+  pub changes : {K : Type 0} (g : Setting K P) (c : Coding K P) (k : K) (kind : Option StepKind) (at : At) (e : Exchange P) → IsAsked g c k kind at new s hands e → IsChanged kind at e
+  changes g c k (Some kinds.Take) Made e is = subst (IsChanged (Some kinds.Take) Made) (sym is) numbered
+  changes g c k (Some kinds.Open) Root e is = subst (IsChanged (Some kinds.Open) Root) (sym is) opened
+  changes g c k (Some kinds.Claim) (Slot t x) e (q, own, key, is) = subst (IsChanged (Some kinds.Claim) (Slot t x)) (sym is) (record {
+    place = inr (inr (t, x, refl));
     comes = λ u h. inl h;
     slots = λ u y p h. put_made q own.made u y p ((u == t) && (y == x)) h;
     unchanged = λ old word none. absurd cc;
   })
-  changes c (Some kinds.Replace) (Slot t x) e (p, q, live, own, is) = subst (IsChanged (Some kinds.Replace) (Slot t x)) (sym is) (record {
-    place = inr (t, x, refl);
+  changes g c k (Some kinds.Replace) (Slot t x) e (p, q, live, own, key, is) = subst (IsChanged (Some kinds.Replace) (Slot t x)) (sym is) (record {
+    place = inr (inr (t, x, refl));
     comes = λ u h. inl h;
     slots = λ u y p' h. put_made q own.made u y p' ((u == t) && (y == x)) h;
     unchanged = λ old word none. absurd cc;
   })
-  changes c (Some kinds.Bury) (Slot t x) e (q, live, is) = subst (IsChanged (Some kinds.Bury) (Slot t x)) (sym is) (record {
-    place = inr (t, x, refl);
+  changes g c k (Some kinds.Bury) (Slot t x) e (q, live, is) = subst (IsChanged (Some kinds.Bury) (Slot t x)) (sym is) (record {
+    place = inr (inr (t, x, refl));
     comes = λ u h. inl h;
     slots = λ u y p h. inl (put_stood s t x (Buried q) (λ p h. (t, x, ap named live ∙ h)) u y p ((u == t) && (y == x)) h);
     unchanged = λ old word none. absurd cc;
   })
-  changes c _ _ e h = absurd h
+  changes g c k _ _ e h = absurd h
 
 module _ {P : Type 0} (s : State P) (last : Option P) (new : ℕ) where
   -- What an exchange of a copier changes: the tables that have come are those of before, and the one that was linked; a pair that a slot names stood in one before; and the copier is told of a pair that stood in one.

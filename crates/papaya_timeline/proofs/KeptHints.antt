@@ -2,7 +2,7 @@
 use Rattle.std.proofs.Common.{◌≡◌, ℕ, zero, suc, ◌-◌, ◌==◌, Bool, true, false, cond, List, [], ◌∷◌, ◌++◌, length, slice_get, slice_set, slice_index, nat_lt, replicate, Option, Some, None, ◌⊎◌, inl, inr, refl, sym, ◌∙◌, ap, subst, length-set}
 use Rattle.papaya_words.specs.Table.{TableWords, new_table, noted}
 use Rattle.papaya_ask.specs.declared.ask.At.{At}
-use Rattle.papaya_ask.specs.declared.ask.At.TheVariants.{Root, Next, Aborted, Done, Slot}
+use Rattle.papaya_ask.specs.declared.ask.At.TheVariants.{Root, Next, Aborted, Done, Slot, Made}
 use Rattle.papaya_law.specs.Code.{Coding}
 use Rattle.papaya_law.specs.Exchange.{Setting, State}
 use Rattle.papaya_law.specs.Hints.{IsHint}
@@ -59,6 +59,7 @@ module _ (w : Tables) (n i hint : ℕ) where
   -- each word stays
   there-words : (t : TableWords) → table_of w.tables n ≡ Some t → (at : At) → word_at (record w { tables = slice_set w.tables (n - 1) (hinted t i hint) }) at ≡ word_at w at
   there-words t there Root = refl
+  there-words t there Made = refl
   there-words t there (Next u) = swapped-left w n t (hinted t i hint) there (λ v. v.next) (hinted-same t i hint (λ v. v.next) refl) u
   there-words t there (Aborted u) = swapped-left w n t (hinted t i hint) there (λ v. v.aborted) (hinted-same t i hint (λ v. v.aborted) refl) u
   there-words t there (Done u c) = swapped-left w n t (hinted t i hint) there (λ v. slice_index v.done c) (hinted-same t i hint (λ v. slice_index v.done c) refl) u
@@ -109,6 +110,7 @@ written-hint n i word t y = elim (nat_lt i (length t.slots)) as (λ b. slot_hint
 
 pub placed-hints : (w : Tables) (at : At) (new : ℕ) → IsPlaced w.tables at → (m y : ℕ) → hint_at (put w at new) m y ≡ hint_at w m y
 placed-hints w Root new placed m y = refl
+placed-hints w Made new placed m y = refl
 placed-hints w (Next n) new (t, there) m y = written-left w (Next n) n new t there (λ v. slot_hint v y) refl m
 placed-hints w (Aborted n) new (t, there) m y = written-left w (Aborted n) n new t there (λ v. slot_hint v y) refl m
 placed-hints w (Done n c) new (t, there, lt) m y = written-left w (Done n c) n new t there (λ v. slot_hint v y) (ap (λ (z : TableWords). slot_hint z y) (done-written w n c new t there lt)) m

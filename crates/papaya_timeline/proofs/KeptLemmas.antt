@@ -1,6 +1,5 @@
 -- A core's words keep to the law of exchanges: the statements that the timeline rests on.
 use Rattle.std.proofs.Common.{◌≡◌, ℕ, Bool, Option, None, Some, List, [], ◌++◌, length, ◌≤◌, ◌⊎◌, refl, sym, subst}
-use Rattle.papaya_words.specs.declared.probe.ResizeMode.{ResizeMode}
 use Rattle.papaya_call.specs.Answers.{Says}
 use Rattle.papaya_ask.specs.declared.call.Call.{Call}
 use Rattle.papaya_law.specs.Exchange.{Exchange, run, start}
@@ -25,6 +24,11 @@ use Rattle.papaya_timeline.proofs.KeptMap.{kept_map}
 use Rattle.papaya_timeline.proofs.KeptTables.{HasMoreTables}
 use Rattle.papaya_timeline.proofs.KeptStep as step
 use Rattle.papaya_store.specs.New.{HasCapacity}
+use Rattle.papaya_store.specs.declared.mode.Mode.{Mode}
+use Rattle.papaya_ask.specs.declared.ask.Answer.TheVariants.{Made as Made_number}
+use Rattle.papaya_chain.specs.declared.ask.Answer.TheVariants as answers
+use Rattle.papaya_store.specs.Performs.{own_value}
+use Rattle.papaya_timeline.proofs.MadePairs.{IsMadeNow, MakesOver}
 pub use Rattle.papaya_timeline.proofs.KeptSettings.{IsLawfulKeys}
 
 -- a call that goes on is the one that was put back
@@ -54,8 +58,9 @@ module _ {K V S A : Type 0} (eq : K → K → Bool) (hash : K → ℕ) (law : Is
     pub longer : length s.store.pairs ≤ length s'.store.pairs
     -- and so do the tables
     pub grown : HasMoreTables s.store.words.tables s'.store.words.tables
-    -- a pair that was made in this step has the number after all others, and the value that was at hand, and is logged
-    pub new : (q : Stored K V) → IsOneOf hands.call.made q → IsOneOf (tales caller).hands.call.made q ⊎ ((q.number ≡ length s.store.pairs) × (a.before.value ≡ Some q.value) × (pair_of s'.store q.number ≡ Some q))
+    -- a pair that was made in this step has the number after all others, and the value of the call, and is logged
+    pub made_now : (n : ℕ) → MakesOver (ask_of a.before.machine) → a.answer ≡ answers.Call (Made_number n) → IsMadeNow s.store a.before s'.store a.later n
+    pub new : (q : Stored K V) → IsOneOf hands.call.made q → IsOneOf (tales caller).hands.call.made q ⊎ ((q.number ≡ length s.store.pairs) × (own_value s.store a.before ≡ Some q.value) × (pair_of s'.store q.number ≡ Some q))
 
   -- a step keeps a core to the law
   pub kept_step : {says : Says K V A} {hashes : S → K → ℕ} (refuse : Bool) (s : CoreState K V S A) (caller : ℕ) (s' : CoreState K V S A) (event : Event) (reply : Option Reply) (a : Advances eq says hashes refuse s caller s' event reply) → hashes s.store.hasher ≡ hash → (es : List (Exchange (Stored K V))) (tales : ℕ → Tale K V) → IsCore s.store s.callers s.mode → IsKept eq hash s.mode s.store s.callers es tales → IsStep refuse s caller s' event reply a es tales
@@ -76,6 +81,7 @@ module _ {K V S A : Type 0} (eq : K → K → Bool) (hash : K → ℕ) (law : Is
         logged = λ p h. left.logged p.number p h;
         longer = left.longer;
         grown = left.grown;
+        made_now = step.made_now eq hash law says hashes refuse s caller s' a.before a.answer a.later a.was a.performs hasher a.mode es tales core kept;
         new = λ q h. left.new q h;
       }
 
@@ -88,7 +94,7 @@ module _ {K V S A : Type 0} (eq : K → K → Bool) (hash : K → ℕ) (law : Is
       (subst (λ (y : List (Seat K V A)). IsKept eq hash s.mode s.store y es tales') (sym begins.callers) (begin_kept eq hash s caller call begins.fits begins.number es tales kept)))
 
   -- a core as it is made has made no exchange, or has opened its first table
-  pub kept_new : (mode : ResizeMode) (capacity initial : ℕ) (store : StoreState K V S) (callers : List (Seat K V A)) → HasCapacity capacity initial store.words → store.pairs ≡ [] → callers ≡ [] → (tales : ℕ → Tale K V) → (es : List (Exchange (Stored K V))) × IsKept eq hash mode store callers es tales
+  pub kept_new : (mode : Mode) (capacity initial : ℕ) (store : StoreState K V S) (callers : List (Seat K V A)) → HasCapacity capacity initial store.words → store.pairs ≡ [] → callers ≡ [] → (tales : ℕ → Tale K V) → (es : List (Exchange (Stored K V))) × IsKept eq hash mode store callers es tales
   kept_new mode capacity initial store callers words pairs none tales =
       let new = new_kept A eq hash mode store pairs tales capacity initial words in
       (new.0, subst (λ (y : List (Seat K V A)). IsKept eq hash mode store y new.0 tales) (sym none) new.1)

@@ -1,12 +1,12 @@
--- A key, a pair or a table that was to be made.
-use Rattle.std.proofs.Common.{◌≡◌, ℕ, ◌+◌, ◌<◌, List, [], ◌∷◌, ◌++◌, length, slice_get, Option, Some, None, ◌⊎◌, inl, inr, refl, sym, ◌∙◌, ap, subst, arith, length-append}
+-- A key, a value, a pair or a table that was to be made.
+use Rattle.std.proofs.Common.{◌≡◌, ℕ, ◌+◌, ◌<◌, ◌≤◌, List, [], ◌∷◌, ◌++◌, length, Option, Some, ◌⊎◌, inl, inr, refl, sym, ◌∙◌, ap, subst, arith, length-append}
 use Rattle.papaya_words.specs.Table.{new_table}
 use Rattle.papaya_words.specs.declared.limits.TheConstants.{MAX_TABLES, MAX_LOG_LEN}
 use Rattle.papaya_words.specs.declared.probe.Refused.{Refused}
 use Rattle.papaya_words.specs.declared.probe.Refused.TheVariants.{Memory, Capacity}
 use Rattle.papaya_ask.specs.declared.ask.At.{At}
 use Rattle.papaya_ask.specs.declared.ask.Ask.{Ask as Call_ask}
-use Rattle.papaya_ask.specs.declared.ask.Ask.TheVariants.{MakeKey, MakePair, MakeTable}
+use Rattle.papaya_ask.specs.declared.ask.Ask.TheVariants.{MakePair, MakePairOf, MakeTable}
 use Rattle.papaya_ask.specs.declared.ask.Answer.{Answer as Call_answer}
 use Rattle.papaya_ask.specs.declared.ask.Answer.TheVariants.{Made as Made_number, Refused as Was_refused}
 use Rattle.papaya_ask.specs.declared.copy_ask.CopyAsk.TheVariants.{MakeTable as Make_next}
@@ -24,15 +24,18 @@ use Rattle.papaya_chain_rests.specs.Goes.{change_by}
 use Rattle.papaya_chain_rests.specs.Rests.{Rests}
 use Rattle.papaya_chain_rests.specs.Told.{Hands}
 use Rattle.papaya_store.specs.declared.pairs.Pair.{Pair}
-use Rattle.papaya_store.specs.declared.pairs.KeyOf.TheVariants.{Logged}
+use Rattle.papaya_store.specs.declared.pairs.Part.{Part}
+use Rattle.papaya_store.specs.declared.pairs.Part.TheVariants.{Logged}
 use Rattle.papaya_store.specs.declared.pairs.Running.{Running}
 use Rattle.papaya_timeline.specs.Kept.{IsMade, Tale}
-use Rattle.papaya_store.specs.Performs.{Refuses, Stays, HasKey, HasNoPair, LogsKey, LogsPair, MakesTable, key_at, own_key}
-use Rattle.papaya_store.specs.Store.{StoreState, Stored, pair_of, stored_at, stored_in}
-use Rattle.papaya_store.specs.Tables.{table_of, word_at}
-use Rattle.papaya_timeline.proofs.KeptAnswer.{IsAnswered, Tells, own_told, quiet, same_hands, unexchanged}
-use Rattle.papaya_timeline.proofs.KeptLogs.{key_at-more, pair-more_keys, pair-more_pairs}
-use Rattle.papaya_timeline.proofs.KeptTables.{grown-same, get-append_last, made-grown, made-there, word-made}
+use Rattle.papaya_store.specs.Pairs.{brought_by, key_in, pair_with, value_at, value_in}
+use Rattle.papaya_store.specs.Performs.{Refuses, Stays, HasNoPair, HasNoPairOf, IsPutOff, LogsOf, LogsOwn, LogsPair, MakesTable, own_key, own_value}
+use Rattle.papaya_store.specs.Store.{StoreState, Stored, pair_of}
+use Rattle.papaya_store.specs.Tables.{hint_at, table_of, word_at}
+use Rattle.papaya_timeline.proofs.KeptAnswer.{IsAnswered, Tells, own_told, quiet, same_hands, same_value, unexchanged}
+use Rattle.papaya_store.proofs.Logs.{key-more, key_from-same, of_logged, own_logged, pair-more, pair_logged, value-more}
+use Rattle.papaya_timeline.proofs.KeptTables.{HasMoreTables, grown-same, made-grown, made-there, word-made}
+use Rattle.papaya_timeline.proofs.CallersLemmas.{same_item}
 use Rattle.papaya_timeline.proofs.KeptHints.{made-hints}
 
 -- nothing was made: it was refused
@@ -74,61 +77,71 @@ module _ {Q K V S A : Type 0} (g : Setting Q (Stored K V)) (c : Coding Q (Stored
       nothing_made (asks.Call ask) e (answers.Call a) store' later same_store same_call (told_own ask a tale.hands.call told) still
       (λ t is which. let told_is : a ≡ Made_number t = cc in elim which [ inl (slots, limit, chunks, f) ↦ (let asked : ask ≡ MakeTable slots limit chunks = cc in never t told_is slots limit chunks asked) | inr (slots, limit, chunks, f) ↦ absurd cc ])
 
-  -- a key
-  pub key_made : ask_of r.machine ≡ asks.Call MakeKey → (a : Call_answer) (store' : StoreState K V S) (later : Running K V A) → (Refuses MAX_LOG_LEN (length store.keys) a × Stays store r store' later) ⊎ (HasKey a r × Stays store r store' later) ⊎ LogsKey a store r store' later → Leaves (asks.Call MakeKey) (answers.Call a) store' later
-  key_made e a store' later (inl (refuses, stays)) = let no = refusal _ _ a refuses in own_nothing MakeKey e a store' later stays.0 stays.1 (inl (inl no), (refl, refl)) refl (λ t is slots limit chunks f. absurd cc)
-  key_made e a store' later (inr (inl (has, stays))) = own_nothing MakeKey e a store' later stays.0 stays.1 (inl (inr has.0), (refl, refl)) refl (λ t is slots limit chunks f. absurd cc)
-  key_made e a store' later (inr (inr (k, was, is, few, grown, moved))) =
-      let longer : StoreState K V S = record store { keys = store.keys ++ k ∷ [] } in
-      let call : Running K V A = record r { key = Logged (length store.keys) } in
-      let mine : Some k ≡ own = sym (ap (key_at store.keys) was) ∙ owns in
-      subst (λ y. Leaves (asks.Call MakeKey) (answers.Call a) y later) (sym grown) (subst (Leaves (asks.Call MakeKey) (answers.Call a) longer) (sym moved)
-      (unexchanged g c store r es tale own hashed key rests coded there (asks.Call MakeKey) e (answers.Call a) longer call tale.hands (told_own MakeKey a tale.hands.call (inr (length store.keys, is), (refl, refl))) refl
-      (record {
-        keys = λ at j h. key_at-more store.keys (k ∷ []) at j h;
-        own_is = get-append_last store.keys k ∙ mine;
-        logged = λ n p h. pair-more_keys store (k ∷ []) n p h;
-        longer = omega arith;
-        few = λ h. h;
-        tables_few = λ h. h;
-        grown = grown-same store.words.tables;
-        words = λ at. refl;
-        hints = λ m i. inl refl;
-      })
-      (same_hands g c store r es tale own longer) (λ t is' which. elim which [ inl (slots, limit, chunks, f) ↦ absurd cc | inr (slots, limit, chunks, f) ↦ absurd cc ])))
+  -- a key or a value, which goes into the log with a pair
+  pub put_off : (ask : Call_ask) → ask_of r.machine ≡ asks.Call ask → (a : Call_answer) (store' : StoreState K V S) (later : Running K V A) → IsPutOff a store r store' later → IsCallTold g c key (run es start) (kind_of_ask r.machine) tale.hands.call ask a [] tale.hands.call
+      → change_after (kind_of_ask r.machine) ask a (change_in r.machine.call.state) ≡ change_in r.machine.call.state → ((slots limit chunks : ℕ) → ask ≡ MakeTable slots limit chunks → ⊥) → Leaves (asks.Call ask) (answers.Call a) store' later
+  put_off ask e a store' later (is, stays) told still never = own_nothing ask e a store' later stays.0 stays.1 told still (λ t made slots limit chunks f. never slots limit chunks f)
 
-  -- a pair
-  pub pair_made : (k : K) → own ≡ Some k → ((q : Stored K V) → q.key ≡ k → g.key q ≡ key) → ((q : Stored K V) → c.number q ≡ q.number) → ask_of r.machine ≡ asks.Call MakePair → (a : Call_answer) (store' : StoreState K V S) (later : Running K V A) → (Refuses MAX_LOG_LEN (length store.pairs) a × Stays store r store' later) ⊎ (HasNoPair a r × Stays store r store' later) ⊎ LogsPair a store r store' later → Leaves (asks.Call MakePair) (answers.Call a) store' later
-  pair_made k is_key keyed numbered e a store' later (inl (refuses, stays)) = let no = refusal _ _ a refuses in own_nothing MakePair e a store' later stays.0 stays.1 (inl (inl no, (refl, refl))) refl (λ t is slots limit chunks f. absurd cc)
-  pair_made k is_key keyed numbered e a store' later (inr (inl (has, stays))) = own_nothing MakePair e a store' later stays.0 stays.1 (inl (inr has.0, (refl, refl))) refl (λ t is slots limit chunks f. absurd cc)
-  pair_made k is_key keyed numbered e a store' later (inr (inr (n, v, was, value, is, few, grown, moved))) =
-      let pair : Pair V = record { key = n; value = v } in
-      let longer : StoreState K V S = record store { pairs = store.pairs ++ pair ∷ [] } in
-      let call : Running K V A = record r { value = None } in
-      let mine : slice_get store.keys n ≡ Some k = sym (ap (key_at store.keys) was) ∙ owns ∙ is_key in
+  -- a pair of this key
+  logged_pair : (ask : Call_ask) → ask_of r.machine ≡ asks.Call ask → (part left : Part K) (a : Call_answer) (store' : StoreState K V S) (later : Running K V A) → LogsPair part left a store r store' later → (k : K) → key_in store.pairs part ≡ Some k → own_key store' later ≡ own
+      → ((q : Stored K V) → q.key ≡ k → c.number q ≡ q.number → a ≡ Made_number q.number → IsCallTold g c key (run es start) (kind_of_ask r.machine) tale.hands.call ask a [] (record tale.hands.call { made = q ∷ tale.hands.call.made }))
+      → ((q : Stored K V) → c.number q ≡ q.number) → ((part : Part V) → r.value ≡ Some part → (v : V) × (value_in store.pairs part ≡ Some v))
+      → change_after (kind_of_ask r.machine) ask a (change_in r.machine.call.state) ≡ change_in r.machine.call.state → ((slots limit chunks : ℕ) → ask ≡ MakeTable slots limit chunks → ⊥) → Leaves (asks.Call ask) (answers.Call a) store' later
+  logged_pair ask e part left a store' later logs k key_is own_is tells numbered valued still never =
+      let (value, has, is, few, grown, moved) = logs in
+      let more : List (Pair K V) = pair_with part value ∷ [] in
+      let (v, is_value) = valued value has in
+      let value_is : own_value store r ≡ Some v = ap (value_at store.pairs) has ∙ is_value in
+      let l = pair_logged store r store' later part left a k v key_is value_is logs in
       let stored : Stored K V = record { number = length store.pairs; key = k; value = v } in
-      let there' : pair_of longer (length store.pairs) ≡ Some stored = ap (stored_in store.keys (length store.pairs)) (get-append_last store.pairs pair) ∙ ap (stored_at (length store.pairs) v) mine in
       let hands : Call_hands (Stored K V) = record tale.hands.call { made = stored ∷ tale.hands.call.made } in
-      let more : length (store.pairs ++ pair ∷ []) ≡ length store.pairs + 1 = length-append store.pairs (pair ∷ []) in
-      subst (λ y. Leaves (asks.Call MakePair) (answers.Call a) y later) (sym grown) (subst (Leaves (asks.Call MakePair) (answers.Call a) longer) (sym moved)
-      (unexchanged g c store r es tale own hashed key rests coded there (asks.Call MakePair) e (answers.Call a) longer call (record tale.hands { call = hands }) (told_own MakePair a hands (inr (stored, keyed stored refl, is ∙ ap Made_number (sym (numbered stored)), refl, refl))) refl
+      let long : length (store.pairs ++ more) ≡ length store.pairs + 1 = length-append store.pairs more in
+      let longer : length store'.pairs ≡ length store.pairs + 1 = ap (λ (y : StoreState K V S). length y.pairs) grown ∙ long in
+      unexchanged g c store r es tale own hashed key rests coded there (asks.Call ask) e (answers.Call a) store' later (record tale.hands { call = hands }) (told_own ask a hands (tells stored refl (numbered stored) is)) still
       (record {
-        keys = λ at j h. h;
-        own_is = owns;
-        logged = λ m p h. pair-more_pairs store (pair ∷ []) m p h;
-        longer = omega (arith, more);
-        few = λ h. omega (arith, more, few);
-        tables_few = λ h. h;
-        grown = grown-same store.words.tables;
-        words = λ at. refl;
-        hints = λ m i. inl refl;
+        keys = λ at j h. ap (λ (y : StoreState K V S). key_in y.pairs at) grown ∙ key-more store.pairs more at j h;
+        values = λ at w h. ap (λ (y : StoreState K V S). value_in y.pairs at) grown ∙ value-more store.pairs more at w h;
+        own_is = own_is;
+        logged = λ m p h. ap (λ (y : StoreState K V S). pair_of y m) grown ∙ pair-more store more m p h;
+        longer = omega (arith, longer);
+        few = λ h. omega (arith, longer, few);
+        tables_few = λ h. subst (λ (y : StoreState K V S). length y.words.tables ≤ MAX_TABLES) (sym grown) h;
+        grown = subst (λ (y : StoreState K V S). HasMoreTables store.words.tables y.words.tables) (sym grown) (grown-same store.words.tables);
+        words = λ at. ap (λ (y : StoreState K V S). word_at y.words at) grown;
+        hints = λ m i. inl (ap (λ (y : StoreState K V S). hint_at y.words m i) grown);
       })
       (record {
         last = λ p h. inl h;
         carried = λ p h. inl h;
-        new = λ q h. elim h [ inl f ↦ inr (ap (λ (y : Stored K V). y.number) f, value ∙ ap (λ (y : Stored K V). Some y.value) (sym f), subst (λ (y : Stored K V). pair_of longer y.number ≡ Some y) (sym f) there') | inr old ↦ inl old ];
+        new = λ q h. elim h [ inl f ↦ inr (ap (λ (y : Stored K V). y.number) f, value_is ∙ ap (λ (y : Stored K V). Some y.value) (sym f), subst (λ (y : Stored K V). pair_of store' y.number ≡ Some y) (sym f) l.pair) | inr old ↦ inl old ];
       })
-      (λ t is' which. elim which [ inl (slots, limit, chunks, f) ↦ absurd cc | inr (slots, limit, chunks, f) ↦ absurd cc ])))
+      (inl (record { same = λ w h. l.value ∙ sym value_is ∙ h; had = λ q h. (value, has) }))
+      (λ t made which. elim which [ inl (slots, limit, chunks, f) ↦ absurd (let asked : ask ≡ MakeTable slots limit chunks = cc in never slots limit chunks asked) | inr (slots, limit, chunks, f) ↦ absurd cc ])
+
+  -- of the call's own key
+  pub pair_made : (k : K) → own ≡ Some k → ((q : Stored K V) → q.key ≡ k → g.key q ≡ key) → ((q : Stored K V) → c.number q ≡ q.number) → ((part : Part V) → r.value ≡ Some part → (v : V) × (value_in store.pairs part ≡ Some v))
+      → ask_of r.machine ≡ asks.Call MakePair → (a : Call_answer) (store' : StoreState K V S) (later : Running K V A) → (Refuses MAX_LOG_LEN (length store.pairs) a × Stays store r store' later) ⊎ (HasNoPair a r × Stays store r store' later) ⊎ LogsOwn a store r store' later → Leaves (asks.Call MakePair) (answers.Call a) store' later
+  pair_made k is_key keyed numbered valued e a store' later (inl (refuses, stays)) = let no = refusal _ _ a refuses in own_nothing MakePair e a store' later stays.0 stays.1 (inl (inl no, (refl, refl))) refl (λ t is slots limit chunks f. absurd cc)
+  pair_made k is_key keyed numbered valued e a store' later (inr (inl (has, stays))) = own_nothing MakePair e a store' later stays.0 stays.1 (inl (inr has.0, (refl, refl))) refl (λ t is slots limit chunks f. absurd cc)
+  pair_made k is_key keyed numbered valued e a store' later (inr (inr logs)) =
+      let (value, has, is, few, grown, moved) = logs in
+      let (v, is_value) = valued value has in
+      let known = own_logged store r store' later a k v (owns ∙ is_key) (ap (value_at store.pairs) has ∙ is_value) logs in
+      logged_pair MakePair e r.key (Logged (brought_by (length store.pairs) r.key)) a store' later logs k (owns ∙ is_key) (known.1 ∙ sym is_key)
+      (λ q same number made. inr (q, keyed q same, (made ∙ ap Made_number (sym number), refl, refl))) numbered valued refl (λ slots limit chunks f. absurd cc)
+
+  -- of the key of the pair last loaded
+  pub pair_of_made : (k : K) → own ≡ Some k → (n : ℕ) (p : Stored K V) → tale.hands.call.last ≡ Some p → pair_of store n ≡ Some p → ((q : Stored K V) → q.key ≡ p.key → g.key q ≡ g.key p) → ((q : Stored K V) → c.number q ≡ q.number)
+      → ((part : Part V) → r.value ≡ Some part → (v : V) × (value_in store.pairs part ≡ Some v)) → ask_of r.machine ≡ asks.Call (MakePairOf n) → (a : Call_answer) (store' : StoreState K V S) (later : Running K V A)
+      → (Refuses MAX_LOG_LEN (length store.pairs) a × Stays store r store' later) ⊎ (HasNoPairOf n a store r × Stays store r store' later) ⊎ LogsOf n a store r store' later → Leaves (asks.Call (MakePairOf n)) (answers.Call a) store' later
+  pair_of_made k is_key n p last loaded keyed numbered valued e a store' later (inl (refuses, stays)) = let no = refusal _ _ a refuses in own_nothing (MakePairOf n) e a store' later stays.0 stays.1 (inl (inl no, (refl, refl))) refl (λ t is slots limit chunks f. absurd cc)
+  pair_of_made k is_key n p last loaded keyed numbered valued e a store' later (inr (inl (has, stays))) = own_nothing (MakePairOf n) e a store' later stays.0 stays.1 (inl (inr has.0, (refl, refl))) refl (λ t is slots limit chunks f. absurd cc)
+  pair_of_made k is_key n p last loaded keyed numbered valued e a store' later (inr (inr (first, from, logs))) =
+      let (value, has, is, few, grown, moved) = logs in
+      let (v, is_value) = valued value has in
+      let known = of_logged store r store' later a n p v loaded (ap (value_at store.pairs) has ∙ is_value) (first, from, logs) in
+      logged_pair (MakePairOf n) e (Logged first) r.key a store' later logs p.key (key_from-same store n p loaded first from) (known.1 k (owns ∙ is_key) ∙ sym is_key)
+      (λ q same number made. inr (q, (λ p' told number'. let f : p ≡ p' = same_item p p' (sym last ∙ told) in keyed q same ∙ ap g.key f), (made ∙ ap Made_number (sym number), refl, refl))) numbered valued refl (λ slots limit chunks f. absurd cc)
 
   -- a table, asked for by a call or by its copy
   pub table_made : (ask : Ask) → ask_of r.machine ≡ ask → (slots limit chunks : ℕ) (a : Call_answer) → Hears ask (answers.Call a) tale.hands → change_by (kind_of_ask r.machine) ask (answers.Call a) (change_in r.machine.call.state) ≡ change_in r.machine.call.state
@@ -143,6 +156,7 @@ module _ {Q K V S A : Type 0} (g : Setting Q (Stored K V)) (c : Coding Q (Stored
       (unexchanged g c store r es tale own hashed key rests coded there ask e (answers.Call a) wider r tale.hands told still
       (record {
         keys = λ at j h. h;
+        values = λ at w h. h;
         own_is = owns;
         logged = λ m p h. h;
         longer = omega arith;
@@ -152,7 +166,7 @@ module _ {Q K V S A : Type 0} (g : Setting Q (Stored K V)) (c : Coding Q (Stored
         words = word-made store.words n slots limit chunks;
         hints = λ m i. inl (made-hints store.words n slots limit chunks m i);
       })
-      (same_hands g c store r es tale own wider)
+      (same_hands g c store r es tale own wider) (inl (same_value g c store r es tale own wider (λ at w h. h)))
       (λ t is' which. let f : answers.Call (Made_number n) ≡ answers.Call (Made_number t) = sym (ap answers.Call is) ∙ is' in let g : n ≡ t = cc in (new_table n slots limit chunks, subst (λ y. table_of wider.words.tables y ≡ Some (new_table n slots limit chunks)) g (made-there store.words n slots limit chunks)))))
 
   -- where memory is refused nothing is made

@@ -3,7 +3,6 @@ use Rattle.std.proofs.Common.{◌≡◌, ⊎_elim, ℕ, zero, suc, ◌<◌, ◌�
 use Rattle.std.proofs.lemmas.Bool.{cases_lt}
 use Rattle.papaya_words.specs.Table.{TableWords}
 use Rattle.papaya_words.specs.Word.{kind_of, pair_of as number_of}
-use Rattle.papaya_words.specs.declared.probe.ResizeMode.{ResizeMode}
 use Rattle.papaya_ask.specs.declared.ask.At.TheVariants.{Root, Next, Slot}
 use Rattle.papaya_law.specs.Code.{Coding, code, kind}
 use Rattle.papaya_law.specs.ChainContent.{chain_content, joined}
@@ -25,13 +24,14 @@ use Rattle.papaya_timeline.specs.Kept.{IsKept, IsLogged, Tale, setting_of, codin
 use Rattle.papaya_store.specs.Store.{StoreState, Stored, pair_of}
 use Rattle.papaya_store.specs.Tables.{table_of, word_in}
 use Rattle.papaya_timeline.proofs.KeptTables.{table_low}
+use Rattle.papaya_store.specs.declared.mode.Mode.{Mode}
 
 -- the pairs of a table, from its first slot
 pairs_in-first : {P : Type 0} (slot : ℕ → Word P) (n : ℕ) → pairs_in slot (suc n) ≡ pairs_of_word (slot 0) ++ pairs_in (λ x. slot (suc x)) n
 pairs_in-first slot zero = sym (append-nil (pairs_of_word (slot 0)))
 pairs_in-first slot (suc n) = ap (λ l. l ++ pairs_of_word (slot (suc n))) (pairs_in-first slot n) ∙ append_assoc (pairs_of_word (slot 0)) (pairs_in (λ x. slot (suc x)) n) (pairs_of_word (slot (suc n)))
 
-module _ {K V S : Type 0} (eq : K → K → Bool) (hash : K → ℕ) (mode : ResizeMode) (store : StoreState K V S)
+module _ {K V S : Type 0} (eq : K → K → Bool) (hash : K → ℕ) (mode : Mode) (store : StoreState K V S)
     (hashed : IsHashed (setting_of {V = V} eq (low hash) mode store.words.tables) (coding_of (low hash))) where
   -- the setting and the coding
   abbrev g : Setting K (Stored K V)

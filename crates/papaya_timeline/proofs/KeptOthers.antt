@@ -20,9 +20,9 @@ use Rattle.papaya_chain_rests.specs.Rests.{Rests}
 use Rattle.papaya_chain_rests.specs.Resizers.{RestsResizer}
 use Rattle.papaya_chain_rests.specs.Told.{Hands}
 use Rattle.papaya_chain_rests.proofs.Stays.{all_carries as rests_carries, all_stays}
-use Rattle.papaya_store.specs.declared.pairs.KeyOf.{KeyOf}
+use Rattle.papaya_store.specs.declared.pairs.Part.{Part}
 use Rattle.papaya_store.specs.declared.pairs.Running.{Running}
-use Rattle.papaya_store.specs.Performs.{key_at}
+use Rattle.papaya_store.specs.Pairs.{key_in, value_at, value_in}
 use Rattle.papaya_store.specs.Store.{Stored, pair_of}
 use Rattle.papaya_store.specs.Tables.{hint_at, word_at}
 use Rattle.papaya_timeline.specs.declared.seat.Seat.{Seat}
@@ -67,10 +67,11 @@ module _ {K V S A : Type 0} (eq : K → K → Bool) (hash : K → ℕ) (law : Is
   abbrev pub tales' : ℕ → Tale K V
   tales' = told_tales tales caller made hands
 
-  -- What a step leaves: what was exchanged was allowed, logs and tables grow, and a pair that a slot names stood in one before, or is the stepping call's.
+  -- What a step leaves: what was exchanged was allowed, the log and the tables grow, and a pair that a slot names stood in one before, or is the stepping call's.
   pub record IsLeaving (Mine : Stored K V → Type 0) : Type 0 where
     pub allowed : AllAllowed g start es'
-    pub keys : (at : KeyOf K) (k : K) → key_at s.store.keys at ≡ Some k → key_at s'.store.keys at ≡ Some k
+    pub keys : (at : Part K) (k : K) → key_in s.store.pairs at ≡ Some k → key_in s'.store.pairs at ≡ Some k
+    pub values : (at : Part V) (v : V) → value_in s.store.pairs at ≡ Some v → value_in s'.store.pairs at ≡ Some v
     pub logged : (n : ℕ) (p : Stored K V) → pair_of s.store n ≡ Some p → pair_of s'.store n ≡ Some p
     pub few : length s.store.pairs ≤ MAX_LOG_LEN → length s'.store.pairs ≤ MAX_LOG_LEN
     pub tables_few : length s.store.words.tables ≤ MAX_TABLES → length s'.store.words.tables ≤ MAX_TABLES
@@ -129,6 +130,11 @@ module _ {K V S A : Type 0} (eq : K → K → Bool) (hash : K → ℕ) (law : Is
       | inr mine ↦ left.mine_apart d r runs differ q p mine is_made
     ]
 
+    -- its value
+    other_value : (value : Option (Part V)) (v : V) → value_at s.store.pairs value ≡ Some v → value_at s'.store.pairs value ≡ Some v
+    other_value None v h = let f : None ≡ Some v = h in absurd cc
+    other_value (Some part) v h = left.values part v h
+
     -- so it rests on what is told of it after the step
     other_call : (d : ℕ) (r : Running K V A) → running s.callers d ≡ Some r → d ≢ caller → (hands : Hands (Stored K V)) → (tales d).hands ≡ hands → IsCall eq hash s'.mode s'.store r es' (record { begun = (tales d).begun; since = (tales d).since ++ made; hands = hands; visit = (tales d).visit })
     other_call d r runs differ hands e =
@@ -149,6 +155,11 @@ module _ {K V S A : Type 0} (eq : K → K → Bool) (hash : K → ℕ) (law : Is
           links = λ behind t chunks linking. still_made t chunks (o.links behind t chunks linking);
           unwritten = λ p l. other_unwritten d r runs differ p (subst (λ (y : Hands (Stored K V)). IsOneOf y.call.made p) (sym e) l);
           shows = o.shows;
+          valued = λ part is. let there = o.valued part is in (there.0, left.values part there.0 there.1);
+          again = λ i n stands. elim (o.again i n stands) [
+            | inl waits ↦ inl waits
+            | inr (p, there, value) ↦ inr (p, left.logged n p there, other_value r.value p.value value)
+          ];
         }
 
     -- and so does another resizer

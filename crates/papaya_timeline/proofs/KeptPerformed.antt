@@ -3,12 +3,11 @@ use Rattle.std.proofs.Common.{◌≡◌, ℕ, ◌+◌, ◌==◌, ◌<◌, Bool, 
 use Rattle.papaya_words.specs.declared.limits.TheConstants.{MAX_TABLES}
 use Rattle.papaya_words.specs.declared.probe.Refused.{Refused}
 use Rattle.papaya_words.specs.declared.probe.Refused.TheVariants.{Memory}
-use Rattle.papaya_words.specs.declared.probe.ResizeMode.{ResizeMode}
 use Rattle.papaya_call.specs.Answers.{Says}
 use Rattle.papaya_ask.specs.declared.ask.At.{At}
 use Rattle.papaya_ask.specs.declared.ask.At.TheVariants.{Root}
 use Rattle.papaya_ask.specs.declared.ask.Ask.{Ask as Call_ask}
-use Rattle.papaya_ask.specs.declared.ask.Ask.TheVariants.{Load, Exchange as Ask_exchange, LoadHint, WriteHint, SameKey, ShowNone, ShowPair, SizeOf, MakeKey, MakePair, MakeTable, AddToShard, Done as Ask_done}
+use Rattle.papaya_ask.specs.declared.ask.Ask.TheVariants.{Load, Exchange as Ask_exchange, LoadHint, WriteHint, SameKey, ShowNone, ShowPair, SizeOf, MakeKey, MakeValue, MakePair, MakePairOf, MakeTable, AddToShard, Done as Ask_done}
 use Rattle.papaya_ask.specs.declared.ask.Answer.{Answer as Call_answer}
 use Rattle.papaya_ask.specs.declared.ask.Answer.TheVariants.{Word as Word_read, Exchanged, Found as Found_instead, Yes, Size, Made as Made_number, Ok as Ok_done, Refused as Was_refused}
 use Rattle.papaya_ask.specs.declared.copy_ask.CopyAsk.TheVariants.{MakeTable as Make_next}
@@ -34,22 +33,27 @@ use Rattle.papaya_store.specs.Store.{StoreState, Stored, pair_of}
 use Rattle.papaya_store.specs.Tables.{hint_at, note, word_at, put}
 use Rattle.papaya_timeline.proofs.ShowLemmas.{IsShowing, none_shown, pair_shown}
 use Rattle.papaya_timeline.proofs.StoreLemmas.{matched}
-use Rattle.papaya_timeline.proofs.KeptAnswer.{IsAnswered, Stands, own_told, quiet, same_hands, told_last, told_made, unexchanged}
-use Rattle.papaya_timeline.proofs.KeptMade.{key_made, none_made, pair_made, refusal, table_made}
+use Rattle.papaya_timeline.proofs.KeptAnswer.{IsAnswered, Stands, own_told, quiet, same_hands, same_value, told_last, told_made, unexchanged}
+use Rattle.papaya_timeline.proofs.KeptMade.{none_made, pair_made, pair_of_made, put_off, refusal, table_made}
 use Rattle.papaya_timeline.proofs.KeptTables.{grown-same}
 use Rattle.papaya_timeline.proofs.KeptWritten.{call_exchanged, on_there}
 use Rattle.papaya_timeline.proofs.KeptHints.{noted-grown, noted-keeps, noted-many, noted-words}
 use Rattle.papaya_law.specs.Hints.{IsHint}
 use Rattle.papaya_rests.proofs.RestsHints.{machine_may_hint}
+use Rattle.papaya_store.specs.declared.mode.Mode.{Mode}
+use Rattle.papaya_ask.specs.declared.call.Task.TheVariants as tasks
+use Rattle.papaya_store.specs.declared.pairs.Part.{Part}
+use Rattle.papaya_store.specs.Pairs.{value_at, value_in}
+use Rattle.papaya_rests.proofs.RestsCopied.{machine_copied}
 
 -- the setting and the coding of a store whose calls are by keys of the map
-abbrev pub law_setting : {K V S : Type 0} → (K → K → Bool) → (K → ℕ) → ResizeMode → StoreState K V S → Setting K (Stored K V)
+abbrev pub law_setting : {K V S : Type 0} → (K → K → Bool) → (K → ℕ) → Mode → StoreState K V S → Setting K (Stored K V)
 law_setting eq hash mode store = setting_of eq (low hash) mode store.words.tables
 
 abbrev pub law_coding : {K V : Type 0} → (K → ℕ) → Coding K (Stored K V)
 law_coding hash = coding_of (low hash)
 
-module _ {K V S A : Type 0} (eq : K → K → Bool) (says : Says K V A) (hash : K → ℕ) (mode : ResizeMode) (store : StoreState K V S) (r : Running K V A) (es : List (Exchange (Stored K V))) (tale : Tale K V)
+module _ {K V S A : Type 0} (eq : K → K → Bool) (says : Says K V A) (hash : K → ℕ) (mode : Mode) (store : StoreState K V S) (r : Running K V A) (es : List (Exchange (Stored K V))) (tale : Tale K V)
     (hashed : IsHashed (law_setting eq hash mode store) (law_coding hash)) (key : K)
     (split : tale.begun ++ tale.since ≡ es) (may : AllAllowed (law_setting eq hash mode store) start (tale.begun ++ tale.since))
     (rests : Rests (law_setting eq hash mode store) (law_coding hash) tale.begun tale.since key r.machine tale.hands)
@@ -57,6 +61,7 @@ module _ {K V S A : Type 0} (eq : K → K → Bool) (says : Says K V A) (hash : 
     (there : (t : ℕ) → 0 < t → Comes (run es start) t → IsMade store t)
     (hints : (t x : ℕ) → IsHint (law_setting eq hash mode store) (law_coding hash) (run es start) t x (hint_at store.words t x))
     (last : (p : Stored K V) → tale.hands.call.last ≡ Some p → pair_of store p.number ≡ Some p)
+    (valued : (part : Part V) → r.value ≡ Some part → (v : V) × (value_in store.pairs part ≡ Some v))
     (opens : (t : ℕ) → ask_of r.machine ≡ asks.Call (Ask_exchange Root 0 t) → IsMade store t)
     (links : (behind t chunks : ℕ) → link_in r.machine.phase ≡ Some (Linking behind t chunks) → IsMadeFor store t chunks)
     (own : own_key store r ≡ Some key) where
@@ -82,17 +87,22 @@ module _ {K V S A : Type 0} (eq : K → K → Bool) (says : Says K V A) (hash : 
       (own_told (law_setting eq hash mode store) (law_coding hash) store r es tale (Some key) hashed key rests coded there ask a [] hands told) still stood (λ p h. inl h) made never
 
   -- a showing
-  shown : (ask : Call_ask) → ask_of r.machine ≡ asks.Call ask → (a : Call_answer) (store' : StoreState K V S) (later : Running K V A) → IsShowing store r a store' later → Hears ask a tale.hands.call
+  shown : (Computes : Type 0) (ask : Call_ask) → (Computes → (asks.Call ask ≡ asks.Call ShowNone) ⊎ ((n : ℕ) × (asks.Call ask ≡ asks.Call (ShowPair n)) × (r.machine.call.task ≡ tasks.Compute))) → ask_of r.machine ≡ asks.Call ask → (a : Call_answer) (store' : StoreState K V S) (later : Running K V A) → IsShowing Computes store r a store' later → Hears ask a tale.hands.call
       → change_after (kind_of_ask r.machine) ask a (change_in r.machine.call.state) ≡ change_in r.machine.call.state → NoTable ask a → Leaves ask a store' later
-  shown ask e a store' later showing told still never = elim showing.call [
+  shown Computes ask computes e a store' later showing told still never = elim showing.call [
     | inl as_was ↦ answered_quietly ask e a store' later tale.hands.call showing.store as_was told still (λ p h. inl h) refl never
-    | inr (v, x, other) ↦
+    | inr (v, x, other, of) ↦
         let call : Running K V A = record r { value = v; answers = Some x } in
         subst (λ z. Leaves ask a z later) (sym showing.store) (subst (Leaves ask a store) (sym other)
         (unexchanged (law_setting eq hash mode store) (law_coding hash) store r es tale (Some key) hashed key rests coded there (asks.Call ask) e (answers.Call a) store call tale.hands
         (own_told (law_setting eq hash mode store) (law_coding hash) store r es tale (Some key) hashed key rests coded there ask a [] tale.hands.call told) still
-        (record { keys = λ at j h. h; own_is = own; logged = λ m q h. h; longer = omega arith; few = λ h. h; tables_few = λ h. h; grown = grown-same store.words.tables; words = λ at. refl; hints = λ m i. inl refl })
-        (same_hands (law_setting eq hash mode store) (law_coding hash) store r es tale (Some key) store) (λ t is which. absurd (never t is which))))
+        (record { keys = λ at j h. h; values = λ at w h. h; own_is = own; logged = λ m q h. h; longer = omega arith; few = λ h. h; tables_few = λ h. h; grown = grown-same store.words.tables; words = λ at. refl; hints = λ m i. inl refl })
+        (same_hands (law_setting eq hash mode store) (law_coding hash) store r es tale (Some key) store)
+        (elim of [
+          | inl kept ↦ inl (record { same = λ w h. ap (value_at store.pairs) kept ∙ h; had = λ part has. (part, sym kept ∙ has) })
+          | inr (w, is, said, shows) ↦ inr (record { value = w; is = is; told = ap answers.Call said; shown = computes shows })
+        ])
+        (λ t is which. absurd (never t is which))))
   ]
 
   -- an exchange, made or lost
@@ -111,7 +121,7 @@ module _ {K V S A : Type 0} (eq : K → K → Bool) (says : Says K V A) (hash : 
       let is : a ≡ Found_instead (word_of g c now at) = lost.0 ∙ ap Found_instead (sym (coded at)) in
       answered_quietly (Ask_exchange at old new) e a store' later hands lost.1 same_call
       (subst (λ b. MatchBool b
-      ((a ≡ Exchanged) × ((y : Exchange (Stored K V)) × IsAsked c (kind_of_ask r.machine) at new now tale.hands.call y × (nothing ≡ y ∷ [])) × (hands ≡ tale.hands.call))
+      ((a ≡ Exchanged) × ((y : Exchange (Stored K V)) × IsAsked g c key (kind_of_ask r.machine) at new now tale.hands.call y × (nothing ≡ y ∷ [])) × (hands ≡ tale.hands.call))
       ((a ≡ Found_instead (word_of g c now at)) × (nothing ≡ nothing) × (hands ≡ hands)))
       (sym (ap (λ y. y == old) (coded at) ∙ miss)) (is, refl, refl))
       (ap (λ y. change_after (kind_of_ask r.machine) (Ask_exchange at old new) y (change_in r.machine.call.state)) is)
@@ -150,6 +160,7 @@ module _ {K V S A : Type 0} (eq : K → K → Bool) (says : Says K V A) (hash : 
       (own_told g c store r es tale (Some key) hashed key rests coded there (WriteHint t x n) a [] tale.hands.call (is, (refl, refl))) refl
       (record {
         keys = λ at j h. h;
+        values = λ at w h. h;
         own_is = own;
         logged = λ m q h. h;
         longer = omega arith;
@@ -159,16 +170,16 @@ module _ {K V S A : Type 0} (eq : K → K → Bool) (says : Says K V A) (hash : 
         words = noted-words store.words t x n;
         hints = noted-keeps g c (run es start) store.words t x n may_hint;
       })
-      (same_hands g c store r es tale (Some key) written) (λ u made which. absurd (untabled (WriteHint t x n) a (λ slots limit chunks f. absurd cc) u made which))))
+      (same_hands g c store r es tale (Some key) written) (inl (same_value g c store r es tale (Some key) written (λ at w h. h))) (λ u made which. absurd (untabled (WriteHint t x n) a (λ slots limit chunks f. absurd cc) u made which))))
   answered_call refuse (SameKey n) e a store' later (is, stays) =
       answered_quietly (SameKey n) e a store' later tale.hands.call stays.0 stays.1
       ((λ p l number. is ∙ ap (λ o. Yes (same eq o (pair_of store n))) own ∙ ap (λ o. Yes (same eq (Some key) o)) (subst (λ m. pair_of store m ≡ Some p) number (last p l))), (refl, refl)) refl
       (λ p h. inl h) refl
       (untabled (SameKey n) a (λ slots limit chunks f. absurd cc))
   answered_call refuse ShowNone e a store' later h =
-      let showing = none_shown says store r a store' later h in shown ShowNone e a store' later showing (showing.says, (refl, refl)) refl (untabled ShowNone a (λ slots limit chunks f. absurd cc))
+      let showing = none_shown says store r a store' later h in shown (Unit {0}) ShowNone (λ _. inl refl) e a store' later showing (showing.says, (refl, refl)) refl (untabled ShowNone a (λ slots limit chunks f. absurd cc))
   answered_call refuse (ShowPair n) e a store' later h =
-      let showing = pair_shown says r.machine.call.task n store r a store' later h in shown (ShowPair n) e a store' later showing (showing.says, (refl, refl)) refl (untabled (ShowPair n) a (λ slots limit chunks f. absurd cc))
+      let showing = pair_shown says r.machine.call.task n store r a store' later h in shown (r.machine.call.task ≡ tasks.Compute) (ShowPair n) (λ computes. inr (n, refl, computes)) e a store' later showing (showing.says, (refl, refl)) refl (untabled (ShowPair n) a (λ slots limit chunks f. absurd cc))
   answered_call refuse (SizeOf n) e a store' later (is, stays) =
       let g = law_setting eq hash mode store in
       let c = law_coding hash in
@@ -182,11 +193,20 @@ module _ {K V S A : Type 0} (eq : K → K → Bool) (says : Says K V A) (hash : 
   answered_call refuse MakeKey e a store' later h =
       matched (Leaves MakeKey a store' later) refuse _ _ h
       (λ _ none. none_made (law_setting eq hash mode store) (law_coding hash) store r es tale (Some key) hashed key rests coded there own (asks.Call MakeKey) e a store' later (own_told (law_setting eq hash mode store) (law_coding hash) store r es tale (Some key) hashed key rests coded there MakeKey a [] tale.hands.call (inl (inl (Memory, none.0)), (refl, refl))) refl none.0 none.1.0 none.1.1)
-      (λ _ makes. key_made (law_setting eq hash mode store) (law_coding hash) store r es tale (Some key) hashed key rests coded there own e a store' later makes)
+      (λ _ makes. put_off (law_setting eq hash mode store) (law_coding hash) store r es tale (Some key) hashed key rests coded there own MakeKey e a store' later makes (inr (0, makes.0), (refl, refl)) refl (λ slots limit chunks f. absurd cc))
+  answered_call refuse MakeValue e a store' later h =
+      matched (Leaves MakeValue a store' later) refuse _ _ h
+      (λ _ none. none_made (law_setting eq hash mode store) (law_coding hash) store r es tale (Some key) hashed key rests coded there own (asks.Call MakeValue) e a store' later (own_told (law_setting eq hash mode store) (law_coding hash) store r es tale (Some key) hashed key rests coded there MakeValue a [] tale.hands.call (inl (inl (Memory, none.0)), (refl, refl))) refl none.0 none.1.0 none.1.1)
+      (λ _ makes. put_off (law_setting eq hash mode store) (law_coding hash) store r es tale (Some key) hashed key rests coded there own MakeValue e a store' later makes (inr (0, makes.0), (refl, refl)) refl (λ slots limit chunks f. absurd cc))
   answered_call refuse MakePair e a store' later h =
       matched (Leaves MakePair a store' later) refuse _ _ h
       (λ _ none. none_made (law_setting eq hash mode store) (law_coding hash) store r es tale (Some key) hashed key rests coded there own (asks.Call MakePair) e a store' later (own_told (law_setting eq hash mode store) (law_coding hash) store r es tale (Some key) hashed key rests coded there MakePair a [] tale.hands.call (inl (inl (Memory, none.0), (refl, refl)))) refl none.0 none.1.0 none.1.1)
-      (λ _ makes. pair_made (law_setting eq hash mode store) (law_coding hash) store r es tale (Some key) hashed key rests coded there own key refl (λ q same. same) (λ q. refl) e a store' later makes)
+      (λ _ makes. pair_made (law_setting eq hash mode store) (law_coding hash) store r es tale (Some key) hashed key rests coded there own key refl (λ q same. same) (λ q. refl) valued e a store' later makes)
+  answered_call refuse (MakePairOf n) e a store' later h =
+      let of = machine_copied (law_setting eq hash mode store) (law_coding hash) hashed tale.begun tale.since key tale.hands.call r.machine.call rests.call n (call_asks r.machine (MakePairOf n) e).1 in
+      matched (Leaves (MakePairOf n) a store' later) refuse _ _ h
+      (λ _ none. none_made (law_setting eq hash mode store) (law_coding hash) store r es tale (Some key) hashed key rests coded there own (asks.Call (MakePairOf n)) e a store' later (own_told (law_setting eq hash mode store) (law_coding hash) store r es tale (Some key) hashed key rests coded there (MakePairOf n) a [] tale.hands.call (inl (inl (Memory, none.0), (refl, refl)))) refl none.0 none.1.0 none.1.1)
+      (λ _ makes. pair_of_made (law_setting eq hash mode store) (law_coding hash) store r es tale (Some key) hashed key rests coded there own key refl n of.0 of.1 (subst (λ i. pair_of store i ≡ Some of.0) of.2 (last of.0 of.1)) (λ q same. same) (λ q. refl) valued e a store' later makes)
   answered_call refuse (MakeTable slots limit chunks) e a store' later h =
       matched (Leaves (MakeTable slots limit chunks) a store' later) refuse _ _ h
       (λ _ none. none_made (law_setting eq hash mode store) (law_coding hash) store r es tale (Some key) hashed key rests coded there own (asks.Call (MakeTable slots limit chunks)) e a store' later (own_told (law_setting eq hash mode store) (law_coding hash) store r es tale (Some key) hashed key rests coded there (MakeTable slots limit chunks) a [] tale.hands.call (inl (inl (Memory, none.0)), (refl, refl))) refl none.0 none.1.0 none.1.1)

@@ -28,7 +28,8 @@ use Rattle.papaya_law.proofs.Moments.{allowed_append, run-append}
 use Rattle.papaya_law.proofs.OneMap.{keeping}
 use Rattle.papaya_rests.specs.Told.{IsWritten, word_of}
 use Rattle.papaya_store.specs.Copies.{PerformsCopy}
-use Rattle.papaya_store.specs.Performs.{Exchanges, key_at}
+use Rattle.papaya_store.specs.Pairs.{key_in, value_in}
+use Rattle.papaya_store.specs.Performs.{Exchanges}
 use Rattle.papaya_store.specs.Store.{StoreState, Stored, pair_of}
 use Rattle.papaya_store.specs.Tables.{hint_at, put, word_at}
 use Rattle.papaya_store.specs.declared.pairs.Pair.{Pair}
@@ -66,7 +67,6 @@ left_weaker g c store es hands T T' a store' f left = record {
   hands' = left.hands';
   told = f left.made left.hands' left.told;
   hasher_is = left.hasher_is;
-  keys_are = left.keys_are;
   pairs_are = left.pairs_are;
   sum_is = left.sum_is;
   tables_few = left.tables_few;
@@ -259,9 +259,10 @@ module _ {K V S A : Type 0} (eq : K → K → Bool) (hash : K → ℕ) (law : Is
   pub leaving : others.IsLeaving eq hash law s caller s' x.mode es tales core kept left.made left.hands' (λ p. ⊥)
   leaving = record {
     allowed = allowed_append g_now es left.made start kept.allowed learnt.0;
-    keys = λ at k h. ap (λ l. key_at l at) left.keys_are ∙ h;
+    keys = λ at k h. ap (λ l. key_in l at) left.pairs_are ∙ h;
+    values = λ at v h. ap (λ l. value_in l at) left.pairs_are ∙ h;
     logged = λ n p h. left_logged g_now c_now s.store es (tales caller).hands left n p h;
-    few = λ h. subst (λ (l : List (Pair V)). length l ≤ MAX_LOG_LEN) (sym left.pairs_are) h;
+    few = λ h. subst (λ (l : List (Pair K V)). length l ≤ MAX_LOG_LEN) (sym left.pairs_are) h;
     tables_few = left.tables_few;
     grown = left.grown;
     coded = left.coded;

@@ -19,6 +19,7 @@ use Rattle.papaya_timeline.specs.Kept.{chunks_in, is_blocking, setting_of, codin
 use Rattle.papaya_store.specs.Store.{Stored}
 use Rattle.papaya_store.specs.Tables.{table_of}
 use Rattle.papaya_timeline.proofs.KeptTables.{HasMoreTables}
+use Rattle.papaya_store.specs.declared.mode.Mode.{Mode}
 
 -- equality is an equivalence, and equal keys hash alike
 pub record IsLawfulKeys {K : Type 0} (eq : K → K → Bool) (hash : K → ℕ) : Type 0 where
@@ -41,13 +42,13 @@ mode_cut mode x = refl
 
 module _ {K V : Type 0} (eq : K → K → Bool) (hash : K → ℕ) where
   -- keys are placed by their hashes
-  pub tables_hashed : IsLawfulKeys eq hash → (mode : ResizeMode) (tables : List TableWords) → ((n : ℕ) (t : TableWords) → table_of tables n ≡ Some t → IsSize (length t.slots) t.limit) → IsHashed (setting_of {V = V} eq (low hash) mode tables) (coding_of (low hash))
+  pub tables_hashed : IsLawfulKeys eq hash → (mode : Mode) (tables : List TableWords) → ((n : ℕ) (t : TableWords) → table_of tables n ≡ Some t → IsSize (length t.slots) t.limit) → IsHashed (setting_of {V = V} eq (low hash) mode tables) (coding_of (low hash))
   tables_hashed law mode tables sized =
       let classes = law.classes in
       let alike : (k l : K) → eq k l ≡ true → low hash k ≡ low hash l = λ k l e. ap (λ n. n % 2 ^ 64) (law.alike k l e) in
       record {
-        lawful = planned_lawful (hashed (is_blocking mode) (chunk_of (chunk_len mode)) (λ (p : Stored K V). p.key) eq (low hash))
-            (hashed_lawful (is_blocking mode) (chunk_of (chunk_len mode)) (λ (p : Stored K V). p.key) eq (low hash) classes.refl (λ k l e. classes.symm l k ∙ e) (λ k l m e f. classes.congr k l m e ∙ f) alike)
+        lawful = planned_lawful (hashed (is_blocking mode.resize) (chunk_of (chunk_len mode.resize)) mode.limit (λ (p : Stored K V). p.key) eq (low hash))
+            (hashed_lawful (is_blocking mode.resize) (chunk_of (chunk_len mode.resize)) mode.limit (λ (p : Stored K V). p.key) eq (low hash) classes.refl (λ k l e. classes.symm l k ∙ e) (λ k l m e f. classes.congr k l m e ∙ f) alike)
             (λ t. slots_in (table_of tables t)) (λ t. places_in (table_of tables t)) (λ t. chunks_in (table_of tables t))
             (λ t. some_slot (table_of tables t) (λ w e. sized t w e)) (λ t. some_place (table_of tables t));
         coding = record { respects = alike; hash_fits = λ k. mod-lt (hash k) (omega arith) };
@@ -55,9 +56,9 @@ module _ {K V : Type 0} (eq : K → K → Bool) (hash : K → ℕ) where
       }
 
   -- where tables grow, the setting says of the made ones what it said
-  pub grown_agrees : (mode mode' : ResizeMode) (tables tables' : List TableWords) → mode' ≡ mode → HasMoreTables tables tables' → (On : ℕ → Type 0) → ((t : ℕ) → On t → (words : TableWords) × (table_of tables t ≡ Some words)) → Agrees On (setting_of {V = V} eq (low hash) mode tables) (setting_of {V = V} eq (low hash) mode' tables')
+  pub grown_agrees : (mode mode' : Mode) (tables tables' : List TableWords) → mode' ≡ mode → HasMoreTables tables tables' → (On : ℕ → Type 0) → ((t : ℕ) → On t → (words : TableWords) × (table_of tables t ≡ Some words)) → Agrees On (setting_of {V = V} eq (low hash) mode tables) (setting_of {V = V} eq (low hash) mode' tables')
   grown_agrees mode mode' tables tables' same grown On made =
-      record { blocking = ap is_blocking same; key = λ p. refl; same = λ k l. refl; size = size; chunk_of = λ x. ap (λ m. chunk_of (chunk_len m) x) same; chunks = chunks; places = places; place = λ k t j on. ap (λ n. place (low hash k) n j) (size t on) }
+      record { blocking = ap (λ (m : Mode). is_blocking m.resize) same; most = ap (λ (m : Mode). m.limit) same; key = λ p. refl; same = λ k l. refl; size = size; chunk_of = λ x. ap (λ (m : Mode). chunk_of (chunk_len m.resize) x) same; chunks = chunks; places = places; place = λ k t j on. ap (λ n. place (low hash k) n j) (size t on) }
     where
       -- a made table is as long as it was
       size : (t : ℕ) → On t → slots_in (table_of tables' t) ≡ slots_in (table_of tables t)

@@ -22,7 +22,8 @@ use Rattle.papaya_chain_rests.specs.Told.{Hands, IsTold}
 use Rattle.papaya_law.specs.Code.{IsHashed}
 use Rattle.papaya_chain_rests.proofs.Learns.{all_learns}
 use Rattle.papaya_chain_rests.proofs.Order.{in_order}
-use Rattle.papaya_chain_rests.proofs.Replies.{chain_shows, chain_task}
+use Rattle.papaya_chain_rests.proofs.Goes.{machine_goes}
+use Rattle.papaya_chain_rests.proofs.Replies.{chain_said, chain_shows, chain_task}
 use Rattle.papaya_store.specs.declared.pairs.Running.{Running}
 use Rattle.papaya_timeline.specs.Callers.{as_work, running, with_call}
 use Rattle.papaya_timeline.specs.Core.{CoreState, IsCore}
@@ -34,12 +35,26 @@ use Rattle.papaya_timeline.proofs.KeptOthers as others
 use Rattle.papaya_timeline.proofs.KeptAnswer.{IsAnswered, Stands}
 use Rattle.papaya_timeline.proofs.KeptClosures.{answers_asked}
 use Rattle.papaya_timeline.proofs.KeptCopied.{answered_copy}
-use Rattle.papaya_timeline.proofs.KeptLogs.{pair_below}
+use Rattle.papaya_store.proofs.Logs.{pair_below}
 use Rattle.papaya_timeline.proofs.KeptPerformed.{answered_call}
 use Rattle.papaya_timeline.proofs.KeptSettings.{IsLawfulKeys, tables_hashed}
 use Rattle.papaya_chain_rests.proofs.LinkMade.{is_made, made_is, machine_made}
 use Rattle.papaya_timeline.proofs.LinkWords.{link_words}
 use Rattle.papaya_timeline.proofs.MadeTables.{chain_opens, copy_made}
+use Rattle.papaya_ask.specs.declared.ask.Ask.TheVariants.{MakePairOf}
+use Rattle.papaya_ask.specs.declared.ask.Answer.TheVariants.{Made as Made_number}
+use Rattle.papaya_chain.specs.declared.ask.Answer.TheVariants as answers
+use Rattle.papaya_chain.specs.Machine.{asks_in}
+use Rattle.papaya_rests.specs.Says.{IsAnswered as IsAnsweredStage, Makes, StandsOn}
+use Rattle.papaya_rests.proofs.RestsCopied.{machine_copied}
+use Rattle.papaya_chain_rests.proofs.Names.{call_asks}
+use Rattle.papaya_store.specs.declared.pairs.Part.{Part}
+use Rattle.papaya_store.specs.declared.pairs.Part.TheVariants.{Own}
+use Rattle.papaya_store.specs.Pairs.{value_at, value_in}
+use Rattle.papaya_store.specs.Performs.{own_value}
+use Rattle.papaya_timeline.proofs.CallersLemmas.{same_item}
+use Rattle.papaya_timeline.proofs.MadePairs.{IsMadeNow, MakesOver, pair_made_now}
+use Rattle.papaya_timeline.proofs.Waits.{chain_answered, chain_waits}
 
 module _ {K V S A : Type 0} (eq : K → K → Bool) (hash : K → ℕ) (law : IsLawfulKeys eq hash) (says : Says K V A) (hashes : S → K → ℕ) (refuse : Bool) (s : CoreState K V S A) (caller : ℕ) (s' : CoreState K V S A)
     (before : Running K V A) (a : Answer) (later : Running K V A) (was : running s.callers caller ≡ Some before) (performs : PerformsAsk eq says hashes refuse (ask_of before.machine) s.store before a s'.store later) (hasher : hashes s.store.hasher ≡ hash)
@@ -75,7 +90,7 @@ module _ {K V S A : Type 0} (eq : K → K → Bool) (hash : K → ℕ) (law : Is
       by_ask : (ask : Ask) → ask_of before.machine ≡ ask → PerformsAsk eq says hashes refuse ask s.store before a s'.store later → IsAnswered g c s.store before es (tales caller) (Some call.key) call.key ask a s'.store later
       by_ask (asks.Call ask) e (told, is, h) =
           subst (λ y. IsAnswered g c s.store before es (tales caller) (Some call.key) call.key (asks.Call ask) y s'.store later) (sym is)
-          (answered_call eq says hash s.mode s.store before es (tales caller) hashed call.key call.split (may (tales caller) call.split) call.rests kept.coded kept.made kept.hints call.last call.opens call.links call.own refuse ask e told s'.store later h)
+          (answered_call eq says hash s.mode s.store before es (tales caller) hashed call.key call.split (may (tales caller) call.split) call.rests kept.coded kept.made kept.hints call.last call.valued call.opens call.links call.own refuse ask e told s'.store later h)
       by_ask (asks.Copy ask) e (h, same) =
           answered_copy eq hashes g c s.store before es (tales caller) (Some call.key) hashed call.key call.split (may (tales caller) call.split) call.rests kept.coded kept.made kept.hints call.last call.carried call.opens call.links call.own (record { sizes = λ t. refl; places = λ t. refl; chunks = λ t. refl; numbers = λ p. refl; hashes_of = λ p. ap (λ (f : K → ℕ). f p.key % 2 ^ 64) (sym hasher); sames = λ p q. refl }) refuse ask e a s'.store later h same
 
@@ -101,6 +116,7 @@ module _ {K V S A : Type 0} (eq : K → K → Bool) (hash : K → ℕ) (law : Is
   leaving = record {
     allowed = all;
     keys = left.keys;
+    values = left.values;
     logged = left.logged;
     few = left.few;
     tables_few = left.tables_few;
@@ -155,7 +171,7 @@ module _ {K V S A : Type 0} (eq : K → K → Bool) (hash : K → ℕ) (law : Is
   own_carried p (inr told) = left.logged p.number p (call.last p told)
 
   -- each pair that it made is logged
-  own_made : (p : Stored K V) → (IsOneOf (tales caller).hands.call.made p ⊎ ((p.number ≡ length s.store.pairs) × (before.value ≡ Some p.value) × (pair_of s'.store p.number ≡ Some p))) → IsLogged s'.store p
+  own_made : (p : Stored K V) → (IsOneOf (tales caller).hands.call.made p ⊎ ((p.number ≡ length s.store.pairs) × (own_value s.store before ≡ Some p.value) × (pair_of s'.store p.number ≡ Some p))) → IsLogged s'.store p
   own_made p (inl old) = left.logged p.number p (call.made p old)
   own_made p (inr (number, value, there)) = there
 
@@ -184,6 +200,42 @@ module _ {K V S A : Type 0} (eq : K → K → Bool) (hash : K → ℕ) (law : Is
         | inr (number, value, there) ↦ (λ same. let lt : q.number < length s.store.pairs = below q (kept.logged v y q stood) in omega arith)
       ]
 
+  -- its value is at hand or logged
+  own_valued : (part : Part V) → later.value ≡ Some part → (v : V) × (value_in s'.store.pairs part ≡ Some v)
+  own_valued part is = elim left.value [
+    | inl keeps ↦
+        let (old, had) = keeps.had part is in
+        let (v, there) = call.valued old had in
+        (v, sym (ap (value_at s'.store.pairs) is) ∙ keeps.same v (ap (value_at s.store.pairs) had ∙ there))
+    | inr said ↦ (said.value, ap (value_in s'.store.pairs) (same_item part (Own said.value) (sym is ∙ said.is)))
+  ]
+
+  -- a pair of whose key one is to be made is logged
+  loaded : (i : ℕ) → ask_of before.machine ≡ asks.Call (MakePairOf i) → (p : Stored K V) × (pair_of s.store i ≡ Some p)
+  loaded i asking =
+      let of = machine_copied g c hashed (tales caller).begun (tales caller).since call.key (tales caller).hands.call before.machine.call call.rests.call i (call_asks before.machine (MakePairOf i) asking).1 in
+      (of.0, subst (λ j. pair_of s.store j ≡ Some of.0) of.2 (call.last of.0 of.1))
+
+  -- a pair that is made in the step has the value of the call
+  pub made_now : (n : ℕ) → MakesOver (ask_of before.machine) → a ≡ answers.Call (Made_number n) → IsMadeNow s.store before s'.store later n
+  made_now n makes told = pair_made_now eq says refuse s.store before s'.store later hashes (ask_of before.machine) a performs makes n told call.key call.own call.valued loaded
+
+  -- and a pair that is to take the place of another has it, but while a newer answer waits
+  own_again : (i n : ℕ) → StandsOn (after before.machine a).call (Makes (Some i) n) → IsAnsweredStage (after before.machine a).call.state ⊎ ((p : Stored K V) × (pair_of s'.store n ≡ Some p) × (own_value s'.store later ≡ Some p.value))
+  own_again i n stands = elim (chain_said before.machine a order (core.standing caller before was).call call.shows (Makes (Some i) n) stands) [
+    | inl stood ↦ elim (call.again i n stood) [
+      | inl waits ↦ elim (chain_waits before.machine a (machine_goes before.machine a order) waits i n stands) [
+        | inl still ↦ inl still
+        | inr (makes, told) ↦ (let m = made_now n makes told in inr (m.pair, m.there, m.after))
+      ]
+      | inr (p, there, value) ↦ elim left.value [
+        | inl keeps ↦ inr (p, left.logged n p there, keeps.same p.value value)
+        | inr said ↦ inl (chain_answered before.machine a (machine_goes before.machine a order) said.told said.shown)
+      ]
+    ]
+    | inr (own, (said, makes, told)) ↦ (let m = made_now n (subst MakesOver (sym (ap (λ p. asks_in before.machine.call p) own.phase)) makes) (own.is ∙ ap answers.Call told) in inr (m.pair, m.there, m.after))
+  ]
+
   -- so it rests on what is told of it after the step
   pub own_call : (hands : Hands (Stored K V)) → left.hands ≡ hands → IsCall eq hash s'.mode s'.store (record later { machine = after before.machine a }) es' (record { begun = (tales caller).begun; since = (tales caller).since ++ left.made; hands = hands; visit = (tales caller).visit })
   own_call hands e = record {
@@ -199,6 +251,8 @@ module _ {K V S A : Type 0} (eq : K → K → Bool) (hash : K → ℕ) (law : Is
     links = own_links;
     unwritten = λ p l. own_unwritten p (subst (λ (y : Hands (Stored K V)). IsOneOf y.call.made p) (sym e) l);
     shows = chain_shows before.machine a order call.shows;
+    valued = own_valued;
+    again = own_again;
   }
 
   -- with the key that it had

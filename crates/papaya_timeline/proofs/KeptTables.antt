@@ -3,7 +3,8 @@ use Rattle.std.proofs.Common.{◌≡◌, ◌≢◌, ℕ, zero, suc, ◌+◌, ◌
 use Rattle.std.proofs.lemmas.Option.{slice_get_within}
 use Rattle.papaya_words.specs.Table.{TableWords, new_table}
 use Rattle.papaya_ask.specs.declared.ask.At.{At}
-use Rattle.papaya_ask.specs.declared.ask.At.TheVariants.{Root, Next, Aborted, Done, Slot}
+use Rattle.papaya_ask.specs.declared.ask.At.TheVariants.{Root, Next, Aborted, Done, Slot, Made}
+use Rattle.papaya_store.proofs.Logs.{get-append, get-append_last}
 use Rattle.papaya_store.specs.Tables.{Tables, table_of, word_in, word_at, written, put, put_at, put_in}
 use Rattle.papaya_timeline.proofs.CallersLemmas.{differs, same_item}
 use Rattle.papaya_timeline.proofs.CoreLemmas.{cases_same}
@@ -21,17 +22,6 @@ get-set_other (a ∷ xs) zero zero y h = absurd (h refl)
 get-set_other (a ∷ xs) zero (suc i) y h = refl
 get-set_other (a ∷ xs) (suc k) zero y h = refl
 get-set_other (a ∷ xs) (suc k) (suc i) y h = get-set_other xs k i y (λ e. h (ap suc e))
-
--- an item of a list, after more was added
-pub get-append : {A : Type 0} (xs more : List A) (i : ℕ) (x : A) → slice_get xs i ≡ Some x → slice_get (xs ++ more) i ≡ Some x
-get-append [] more i x e = let f : None ≡ Some x = e in cc
-get-append (a ∷ xs) more zero x e = e
-get-append (a ∷ xs) more (suc i) x e = get-append xs more i x e
-
--- the item that was added
-pub get-append_last : {A : Type 0} (xs : List A) (y : A) → slice_get (xs ++ y ∷ []) (length xs) ≡ Some y
-get-append_last [] y = refl
-get-append_last (x ∷ xs) y = get-append_last xs y
 
 -- a word that was set, and the others
 pub index-set_same : (xs : List ℕ) (k y : ℕ) → k < length xs → slice_index (slice_set xs k y) k ≡ y
@@ -84,6 +74,7 @@ written-size (Next n) t word = (refl, refl, refl)
 written-size (Aborted n) t word = (refl, refl, refl)
 written-size (Done n chunk) t word = elim (nat_lt chunk (length t.done)) as (λ b. (length (cond b (record t { done = slice_set t.done chunk word }) t).slots ≡ length t.slots) × ((cond b (record t { done = slice_set t.done chunk word }) t).limit ≡ t.limit) × (length (cond b (record t { done = slice_set t.done chunk word }) t).done ≡ length t.done)) [ true ↦ (refl, refl, length-set t.done chunk word) | false ↦ (refl, refl, refl) ]
 written-size (Slot n i) t word = elim (nat_lt i (length t.slots)) as (λ b. (length (cond b (record t { slots = slice_set t.slots i word }) t).slots ≡ length t.slots) × ((cond b (record t { slots = slice_set t.slots i word }) t).limit ≡ t.limit) × (length (cond b (record t { slots = slice_set t.slots i word }) t).done ≡ length t.done)) [ true ↦ (length-set t.slots i word, refl, refl) | false ↦ (refl, refl, refl) ]
+written-size Made t word = (refl, refl, refl)
 
 -- a table that is there gives way to another
 module _ (w : Tables) (n : ℕ) (t t' : TableWords) (there : table_of w.tables n ≡ Some t) where
@@ -148,6 +139,10 @@ module _ (w : Tables) (at : At) (n word : ℕ) (t : TableWords) (there : table_o
   pub written-root : (put_at at n w word).root ≡ w.root
   written-root = ap (λ (v : Tables). v.root) put-table
 
+  -- nor the count of numbers for pairs
+  pub written-made : (put_at at n w word).made ≡ w.made
+  written-made = ap (λ (v : Tables). v.made) put-table
+
   -- the table that was written
   pub written-here : table_of (put_at at n w word).tables n ≡ Some (written at t word)
   written-here = ap (λ (v : Tables). table_of v.tables n) put-table ∙ swapped-here w n t (written at t word) there
@@ -187,6 +182,7 @@ module _ (w : Tables) (n i word : ℕ) (t : TableWords) (there : table_of w.tabl
   -- every other word is as it was
   pub word-other : (other : At) → (other ≡ Slot n i → ⊥) → word_at (put w (Slot n i) word) other ≡ word_at w other
   word-other Root differ = written-root w (Slot n i) n word t there
+  word-other Made differ = written-made w (Slot n i) n word t there
   word-other (Next u) differ = written-left w (Slot n i) n word t there (λ v. v.next) (ap (λ (y : TableWords). y.next) slot-written) u
   word-other (Aborted u) differ = written-left w (Slot n i) n word t there (λ v. v.aborted) (ap (λ (y : TableWords). y.aborted) slot-written) u
   word-other (Done u c) differ = written-left w (Slot n i) n word t there (λ v. slice_index v.done c) (ap (λ (y : TableWords). slice_index y.done c) slot-written) u
@@ -212,6 +208,7 @@ module _ (w : Tables) (n c word : ℕ) (t : TableWords) (there : table_of w.tabl
   -- every other word is as it was
   done-other : (other : At) → (other ≡ Done n c → ⊥) → word_at (put w (Done n c) word) other ≡ word_at w other
   done-other Root differ = written-root w (Done n c) n word t there
+  done-other Made differ = written-made w (Done n c) n word t there
   done-other (Next u) differ = written-left w (Done n c) n word t there (λ v. v.next) (ap (λ (y : TableWords). y.next) done-written) u
   done-other (Aborted u) differ = written-left w (Done n c) n word t there (λ v. v.aborted) (ap (λ (y : TableWords). y.aborted) done-written) u
   done-other (Slot u y) differ = written-left w (Done n c) n word t there (λ v. slice_index v.slots y) (ap (λ (z : TableWords). slice_index z.slots y) done-written) u
@@ -227,6 +224,7 @@ module _ (w : Tables) (n c word : ℕ) (t : TableWords) (there : table_of w.tabl
 -- two places are the same or they differ
 pub cases_place : (a b : At) → (a ≡ b) ⊎ (a ≡ b → ⊥)
 cases_place Root Root = inl refl
+cases_place Made Made = inl refl
 cases_place (Next m) (Next n) = elim (cases_same m n) [ inl same ↦ inl (ap Next same) | inr differ ↦ inr (λ e. differ cc) ]
 cases_place (Aborted m) (Aborted n) = elim (cases_same m n) [ inl same ↦ inl (ap Aborted same) | inr differ ↦ inr (λ e. differ cc) ]
 cases_place (Done m c) (Done n d) = elim (cases_same m n) [
@@ -239,9 +237,10 @@ cases_place (Slot m x) (Slot n y) = elim (cases_same m n) [
 ]
 cases_place a b = inr (λ e. absurd cc)
 
--- a word that is written is the root's, or stands in a table that is there
+-- a word that is written is the root's or the count of numbers, or stands in a table that is there
 abbrev pub IsPlaced : List TableWords → At → Type 0
 IsPlaced tables Root = Unit {0}
+IsPlaced tables Made = Unit {0}
 IsPlaced tables (Slot n i) = (t : TableWords) × (table_of tables n ≡ Some t) × (i < length t.slots)
 IsPlaced tables (Next n) = (t : TableWords) × (table_of tables n ≡ Some t)
 IsPlaced tables (Aborted n) = (t : TableWords) × (table_of tables n ≡ Some t)
@@ -250,6 +249,7 @@ IsPlaced tables (Done n chunk) = (t : TableWords) × (table_of tables n ≡ Some
 -- each table stays as long as it was
 pub placed-grown : (w : Tables) (at : At) (new : ℕ) → IsPlaced w.tables at → HasMoreTables w.tables (put w at new).tables
 placed-grown w Root new placed = grown-same w.tables
+placed-grown w Made new placed = grown-same w.tables
 placed-grown w (Slot n i) new (t, there, lt) = put-grown w n i new t there lt
 placed-grown w (Next n) new (t, there) = written-grown w (Next n) n new t there
 placed-grown w (Aborted n) new (t, there) = written-grown w (Aborted n) n new t there
@@ -258,6 +258,7 @@ placed-grown w (Done n chunk) new (t, there, lt) = written-grown w (Done n chunk
 -- and there are as many
 pub placed-many : (w : Tables) (at : At) (new : ℕ) → IsPlaced w.tables at → length (put w at new).tables ≡ length w.tables
 placed-many w Root new placed = refl
+placed-many w Made new placed = refl
 placed-many w (Slot n i) new (t, there, lt) = put-many w (Slot n i) n new t there
 placed-many w (Next n) new (t, there) = put-many w (Next n) n new t there
 placed-many w (Aborted n) new (t, there) = put-many w (Aborted n) n new t there
@@ -266,6 +267,7 @@ placed-many w (Done n chunk) new (t, there, lt) = put-many w (Done n chunk) n ne
 -- the word is written
 pub placed-here : (w : Tables) (at : At) (new : ℕ) → IsPlaced w.tables at → word_at (put w at new) at ≡ new
 placed-here w Root new placed = refl
+placed-here w Made new placed = refl
 placed-here w (Slot n i) new (t, there, lt) = word-here w n i new t there lt
 placed-here w (Next n) new (t, there) = ap (word_in (λ v. v.next)) (written-here w (Next n) n new t there)
 placed-here w (Aborted n) new (t, there) = ap (word_in (λ v. v.aborted)) (written-here w (Aborted n) n new t there)
@@ -278,13 +280,22 @@ placed-other w Root new placed (Next u) differ = refl
 placed-other w Root new placed (Aborted u) differ = refl
 placed-other w Root new placed (Done u c) differ = refl
 placed-other w Root new placed (Slot u y) differ = refl
+placed-other w Root new placed Made differ = refl
+placed-other w Made new placed Root differ = refl
+placed-other w Made new placed (Next u) differ = refl
+placed-other w Made new placed (Aborted u) differ = refl
+placed-other w Made new placed (Done u c) differ = refl
+placed-other w Made new placed (Slot u y) differ = refl
+placed-other w Made new placed Made differ = absurd (differ refl)
 placed-other w (Slot n i) new (t, there, lt) other differ = word-other w n i new t there lt other differ
 placed-other w (Next n) new (t, there) Root differ = written-root w (Next n) n new t there
+placed-other w (Next n) new (t, there) Made differ = written-made w (Next n) n new t there
 placed-other w (Next n) new (t, there) (Next u) differ = written-elsewhere w (Next n) n new t there (λ v. v.next) u (λ e. differ (ap Next e))
 placed-other w (Next n) new (t, there) (Aborted u) differ = written-left w (Next n) n new t there (λ v. v.aborted) refl u
 placed-other w (Next n) new (t, there) (Done u c) differ = written-left w (Next n) n new t there (λ v. slice_index v.done c) refl u
 placed-other w (Next n) new (t, there) (Slot u y) differ = written-left w (Next n) n new t there (λ v. slice_index v.slots y) refl u
 placed-other w (Aborted n) new (t, there) Root differ = written-root w (Aborted n) n new t there
+placed-other w (Aborted n) new (t, there) Made differ = written-made w (Aborted n) n new t there
 placed-other w (Aborted n) new (t, there) (Next u) differ = written-left w (Aborted n) n new t there (λ v. v.next) refl u
 placed-other w (Aborted n) new (t, there) (Aborted u) differ = written-elsewhere w (Aborted n) n new t there (λ v. v.aborted) u (λ e. differ (ap Aborted e))
 placed-other w (Aborted n) new (t, there) (Done u c) differ = written-left w (Aborted n) n new t there (λ v. slice_index v.done c) refl u
@@ -314,6 +325,7 @@ module _ (w : Tables) (number slots limit chunks : ℕ) where
   -- a table that is made changes no word
   pub word-made : (at : At) → word_at added at ≡ word_at w at
   word-made Root = refl
+  word-made Made = refl
   word-made (Next u) = word-grown (λ v. v.next) refl u
   word-made (Aborted u) = word-grown (λ v. v.aborted) refl u
   word-made (Done u c) = word-grown (λ v. slice_index v.done c) (index-zeros chunks c) u

@@ -178,6 +178,8 @@ module _ {K V S A : Type 0} (eq : K → K → Bool) (hash : K → ℕ) (law : Is
         links = o.links;
         unwritten = o.unwritten;
         shows = o.shows;
+        valued = o.valued;
+        again = o.again;
       }
 
       same_resizer : (z : Resizer) (t : Tale K V) (hands : visits.Hands (Stored K V)) → IsResizing eq hash s.mode s'.store z es' t → IsResizing eq hash s.mode s'.store z es' (record t { visit = hands })

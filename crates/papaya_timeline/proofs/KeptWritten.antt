@@ -1,7 +1,7 @@
 -- An exchange that was made, for the call itself or for its copy.
 use Rattle.std.proofs.Common.{◌≡◌, ℕ, ◌==◌, ◌<◌, true, List, [], ◌∷◌, ◌++◌, Option, Some, None, ◌⊎◌, inl, inr, refl, sym, ◌∙◌, ap, subst, MatchBool, eqb-true}
 use Rattle.papaya_ask.specs.declared.ask.At.{At}
-use Rattle.papaya_ask.specs.declared.ask.At.TheVariants.{Root, Next, Aborted, Done, Slot}
+use Rattle.papaya_ask.specs.declared.ask.At.TheVariants.{Root, Next, Aborted, Done, Slot, Made}
 use Rattle.papaya_ask.specs.declared.ask.Ask.TheVariants.{Exchange as Ask_exchange}
 use Rattle.papaya_ask.specs.declared.ask.Answer.TheVariants.{Exchanged, Found as Found_instead}
 use Rattle.papaya_ask.specs.declared.copy_ask.CopyAsk.TheVariants.{Exchange as Copy_exchange}
@@ -73,23 +73,24 @@ module _ {Q K V S A : Type 0} (g : Setting Q (Stored K V)) (c : Coding Q (Stored
     kinds_are = ap (kind_in r.machine.call) (call_asks r.machine (Ask_exchange at old new) a).0
 
     -- a slot that is exchanged is there
-    pub placed_call : (at ≡ Root) ⊎ ((t : ℕ) × (x : ℕ) × (at ≡ Slot t x)) → IsPlaced store.words.tables at
+    pub placed_call : (at ≡ Root) ⊎ (at ≡ Made) ⊎ ((t : ℕ) × (x : ℕ) × (at ≡ Slot t x)) → IsPlaced store.words.tables at
     placed_call (inl root) = subst (IsPlaced store.words.tables) (sym root) tt
-    placed_call (inr (t, x, is)) =
+    placed_call (inr (inl made)) = subst (IsPlaced store.words.tables) (sym made) tt
+    placed_call (inr (inr (t, x, is))) =
         let m = r.machine.call in
         let named_slot = slot_named g c hashed tale.begun tale.since may key (call_machine.ask_of m) (ask_named g c hashed tale.begun tale.since may key tale.hands.call m.task m.hash m.made m.state rests.call.stage) t x (inr (old, new, calls ∙ ap (λ y. Ask_exchange y old new) is)) in
         subst (IsPlaced store.words.tables) (sym is) (slot_there t x named_slot.0 named_slot.1)
 
     -- the exchange of the law that was made
-    pub asked_call : word_of g c now at ≡ old → (e : Exchange (Stored K V)) × IsAsked c (kind_of_ask r.machine) at new now tale.hands.call e × Allows g now e × IsWritten g c now at new (state_after now e)
-    asked_call = subst (λ kind. word_of g c now at ≡ old → (e : Exchange (Stored K V)) × IsAsked c kind at new now tale.hands.call e × Allows g now e × IsWritten g c now at new (state_after now e)) (sym kinds_are)
-        (subst (λ s. word_of g c s at ≡ old → (e : Exchange (Stored K V)) × IsAsked c (call_machine.kind_of_ask r.machine.call) at new s tale.hands.call e × Allows g s e × IsWritten g c s at new (state_after s e)) same_now
+    pub asked_call : word_of g c now at ≡ old → (e : Exchange (Stored K V)) × IsAsked g c key (kind_of_ask r.machine) at new now tale.hands.call e × Allows g now e × IsWritten g c now at new (state_after now e)
+    asked_call = subst (λ kind. word_of g c now at ≡ old → (e : Exchange (Stored K V)) × IsAsked g c key kind at new now tale.hands.call e × Allows g now e × IsWritten g c now at new (state_after now e)) (sym kinds_are)
+        (subst (λ s. word_of g c s at ≡ old → (e : Exchange (Stored K V)) × IsAsked g c key (call_machine.kind_of_ask r.machine.call) at new s tale.hands.call e × Allows g s e × IsWritten g c s at new (state_after s e)) same_now
         (machine_may g c hashed tale.begun tale.since may key r.machine.call tale.hands.call rests.call at old new calls))
 
     -- an exchange of the root finds none and opens a table
-    opening : (e : Exchange (Stored K V)) → IsAsked c (kind_of_ask r.machine) at new now tale.hands.call e → Allows g now e → word_of g c now at ≡ old → at ≡ Root → asks.Call (Ask_exchange at old new) ≡ asks.Call (Ask_exchange Root 0 new)
+    opening : (e : Exchange (Stored K V)) → IsAsked g c key (kind_of_ask r.machine) at new now tale.hands.call e → Allows g now e → word_of g c now at ≡ old → at ≡ Root → asks.Call (Ask_exchange at old new) ≡ asks.Call (Ask_exchange Root 0 new)
     opening e is allows stands root =
-        let none : now.root ≡ 0 = root_empty g c now tale.hands.call new (kind_of_ask r.machine) e (subst (λ y. IsAsked c (kind_of_ask r.machine) y new now tale.hands.call e) root is) allows in
+        let none : now.root ≡ 0 = root_empty g c key now tale.hands.call new (kind_of_ask r.machine) e (subst (λ y. IsAsked g c key (kind_of_ask r.machine) y new now tale.hands.call e) root is) allows in
         let zero : old ≡ 0 = sym stands ∙ ap (word_of g c now) root ∙ none in
         ap (λ y. asks.Call (Ask_exchange y old new)) root ∙ ap (λ y. asks.Call (Ask_exchange Root y new)) zero
 
@@ -98,10 +99,10 @@ module _ {Q K V S A : Type 0} (g : Setting Q (Stored K V)) (c : Coding Q (Stored
     call_exchanged hit =
         let stands : word_of g c now at ≡ old = coded at ∙ eqb-true (word_at store.words at) old hit in
         let x = asked_call stands in
-        let changed_by : IsChanged now tale.hands.call new (kind_of_ask r.machine) at x.0 = changes now tale.hands.call new c (kind_of_ask r.machine) at x.0 x.1 in
+        let changed_by : IsChanged now tale.hands.call new (kind_of_ask r.machine) at x.0 = changes now tale.hands.call new g c key (kind_of_ask r.machine) at x.0 x.1 in
         let told : IsCallTold g c key now (kind_of_ask r.machine) tale.hands.call (Ask_exchange at old new) Exchanged (x.0 ∷ []) tale.hands.call =
         subst (λ b. MatchBool b
-        ((Exchanged ≡ Exchanged) × ((y : Exchange (Stored K V)) × IsAsked c (kind_of_ask r.machine) at new now tale.hands.call y × (x.0 ∷ [] ≡ y ∷ [])) × (tale.hands.call ≡ tale.hands.call))
+        ((Exchanged ≡ Exchanged) × ((y : Exchange (Stored K V)) × IsAsked g c key (kind_of_ask r.machine) at new now tale.hands.call y × (x.0 ∷ [] ≡ y ∷ [])) × (tale.hands.call ≡ tale.hands.call))
         ((Exchanged ≡ Found_instead (word_of g c now at)) × (x.0 ∷ [] ≡ []) × (tale.hands.call ≡ told_of now at tale.hands.call)))
         (sym (ap (λ y. y == old) (coded at) ∙ hit)) (refl, (x.0, x.1, refl), refl) in
         let heard : Tells g c store r es tale own key (asks.Call (Ask_exchange at old new)) (answers.Call Exchanged) (x.0 ∷ []) tale.hands = own_told g c store r es tale own hashed key rests coded there (Ask_exchange at old new) Exchanged (x.0 ∷ []) tale.hands.call told in
@@ -123,6 +124,7 @@ module _ {Q K V S A : Type 0} (g : Setting Q (Stored K V)) (c : Coding Q (Stored
     placed_at Root h = tt
     placed_at (Next t) on = on_there t on
     placed_at (Aborted t) on = on_there t on
+    placed_at Made h = absurd h
     placed_at (Done t chunk) h = let words = on_there t h.0 in (words.0, words.1, subst (λ n. chunk < n) (chunks_are t ∙ ap chunks_in words.1) h.1)
     placed_at (Slot t x) h = slot_there t x h.0 h.1
 

@@ -3,9 +3,8 @@ use mathlib.Core.Path.{fun_ext}
 use Rattle.std.proofs.Common.{◌≡◌, ◌⊎◌, inl, inr, ⊎_elim, ℕ, Bool, true, false, cond, Option, None, Some, List, [], ◌∷◌, ◌++◌, refl, sym, ◌∙◌, ap, subst, append-nil}
 use Rattle.papaya_words.specs.Word.{pair_of}
 use Rattle.papaya_words.specs.Table.{TableWords}
-use Rattle.papaya_words.specs.declared.probe.ResizeMode.{ResizeMode}
 use Rattle.papaya_ask.specs.declared.ask.At.{At}
-use Rattle.papaya_ask.specs.declared.ask.At.TheVariants.{Root, Next, Aborted, Done, Slot}
+use Rattle.papaya_ask.specs.declared.ask.At.TheVariants.{Root, Next, Aborted, Done, Slot, Made}
 use Rattle.papaya_ask.specs.declared.ask.Ask.TheVariants.{Exchange as Ask_exchange}
 use Rattle.papaya_ask.specs.declared.ask.Answer.{Answer as Call_answer}
 use Rattle.papaya_ask.specs.declared.ask.StepKind.{StepKind}
@@ -19,7 +18,7 @@ use Rattle.papaya_ask.specs.declared.call.Task.TheVariants.{Insert as Insert_tas
 use Rattle.papaya_ask.specs.declared.copy_ask.CopyAsk.{CopyAsk}
 use Rattle.papaya_call.specs.declared.machine.Machine.{Machine as Call_machine}
 use Rattle.papaya_law.specs.Allows.{Allows, AllAllowed}
-use Rattle.papaya_law.specs.Exchange.{Live, Setting, State, Exchange, Open, Claim, Replace, Bury, run, start}
+use Rattle.papaya_law.specs.Exchange.{Live, Setting, State, Exchange, Open, Claim, Replace, Bury, run, start, Take}
 use Rattle.papaya_law.specs.Code.{Coding, code}
 use Rattle.papaya_law.specs.Meaning.{IsLawful, IsLegal as IsLegal_exchange}
 use Rattle.papaya_call.specs.Machine.{HasClosure}
@@ -56,30 +55,36 @@ use Rattle.papaya_timeline.proofs.MachineLemmas.{machine_replaces, machine_takes
 use Rattle.papaya_timeline.proofs.ReplayLemmas.{replay-append, replay-alike, next_legal}
 use Rattle.papaya_timeline.proofs.StepEvents.{IsCopied, copy_kind, copy_moves, copy_told}
 use Rattle.papaya_timeline.proofs.TimelineLemmas.{at_weaker}
+use Rattle.papaya_store.specs.declared.mode.Mode.{Mode}
 
 -- only a call that replaces puts a pair in place of another
 abbrev pub MayReplace : {K V : Type 0} → Option (Stored K V) → Task → Type 0
 MayReplace went task = (went ≡ None) ⊎ (task ≡ Insert_task true) ⊎ (task ≡ Compute_task)
 
--- a pair that comes is one that the call made of its key; where none comes, a pair goes, by a call that has a closure
+-- the key of a pair that comes is that of the one that goes, or the call's where none goes
+abbrev pub IsKeyFor : {K V : Type 0} → K → Option (Stored K V) → Stored K V → Type 0
+IsKeyFor k None q = q.key ≡ k
+IsKeyFor k (Some p) q = q.key ≡ p.key
+
+-- a pair that comes is one that the call made of that key; where none comes, a pair goes, by a call that has a closure
 abbrev pub MayPut : {K V : Type 0} → K → Task → List (Stored K V) → (went came : Option (Stored K V)) → Type 0
-MayPut k task made went (Some q) = IsOneOf made q × (q.key ≡ k) × MayReplace went task
+MayPut k task made went (Some q) = IsOneOf made q × IsKeyFor k went q × MayReplace went task
 MayPut k task made (Some p) None = HasClosure task
 MayPut k task made None None = ⊥
 
 module _ {K V A : Type 0} where
-  -- an insertion puts in a pair of its key and of a value that may be the call's, in place of none or, where it replaces, of another
-  pub insertion_does : (call : Call K V A) (k : K) (went : Option (Stored K V)) (q : Stored K V) → key_of call ≡ Some k → q.key ≡ k → IsValueOf call q.value → MayReplace went (the_task call) → (reply : Reply) × Does call went reply (Some q) × (change_of_reply reply ≡ Some (number_in went, number_in (Some q)))
+  -- an insertion puts in a pair of that key and of a value that may be the call's, in place of none or, where it replaces, of another
+  pub insertion_does : (call : Call K V A) (k : K) (went : Option (Stored K V)) (q : Stored K V) → key_of call ≡ Some k → IsKeyFor k went q → IsValueOf call q.value → MayReplace went (the_task call) → (reply : Reply) × Does call went reply (Some q) × (change_of_reply reply ≡ Some (number_in went, number_in (Some q)))
   insertion_does (Get j) k went q key own value may = absurd value
   insertion_does (Insert j v) k None q key own value may = (Inserted q.number, (q, record { number = refl; key = own ∙ sym (same_item _ _ key); value = sym value }, refl), refl)
-  insertion_does (Insert j v) k (Some p) q key own value may = (Replaced p.number q.number, (refl, (q, record { number = refl; key = own ∙ sym (same_item _ _ key); value = sym value }, refl)), refl)
+  insertion_does (Insert j v) k (Some p) q key own value may = (Replaced p.number q.number, (refl, (q, record { number = refl; key = own; value = sym value }, refl)), refl)
   insertion_does (TryInsert j v) k None q key own value may = (Inserted q.number, (q, record { number = refl; key = own ∙ sym (same_item _ _ key); value = sym value }, refl), refl)
   insertion_does (TryInsert j v) k (Some p) q key own value (inl none) = let f : Some p ≡ None = none in cc
   insertion_does (TryInsert j v) k (Some p) q key own value (inr (inl replaces)) = let f : Insert_task false ≡ Insert_task true = replaces in cc
   insertion_does (TryInsert j v) k (Some p) q key own value (inr (inr computes)) = let f : Insert_task false ≡ Compute_task = computes in cc
   insertion_does (RemoveIf j a) k went q key own value may = absurd value
   insertion_does (Compute j a) k None q key own value may = (Inserted q.number, (q, (q.value, record { number = refl; key = own ∙ sym (same_item _ _ key); value = refl }), refl), refl)
-  insertion_does (Compute j a) k (Some p) q key own value may = (Replaced p.number q.number, (refl, (q, (q.value, record { number = refl; key = own ∙ sym (same_item _ _ key); value = refl }), refl)), refl)
+  insertion_does (Compute j a) k (Some p) q key own value may = (Replaced p.number q.number, (refl, (q, (q.value, record { number = refl; key = own; value = refl }), refl)), refl)
   insertion_does (Reserve more) k went q key own value may = absurd value
   insertion_does CopyAll k went q key own value may = absurd value
   insertion_does Clear k went q key own value may = absurd value
@@ -136,7 +141,7 @@ module _ {K V : Type 0} where
   Moves eq k task made m m' (events.Gave n) = ⊥
   Moves eq k task made m m' (events.Replied reply) = Same m m'
 
-module _ {K V : Type 0} (eq : K → K → Bool) (hash : K → ℕ) (mode mode' : ResizeMode) (tables tables' : List TableWords) where
+module _ {K V : Type 0} (eq : K → K → Bool) (hash : K → ℕ) (mode mode' : Mode) (tables tables' : List TableWords) where
   -- the law's settings before a step and after it
   abbrev g : Setting K (Stored K V)
   g = setting_of eq (low hash) mode tables
@@ -172,18 +177,16 @@ module _ {K V : Type 0} (eq : K → K → Bool) (hash : K → ℕ) (mode mode' :
     classes_alike j l came alike = fun_ext (λ i. ap (λ b. cond b came (replay eq es i)) (same_right g' lawful' i j l alike))
 
     -- a pair was put into the class of the call's key
-    put_moves : (old new : Option ℕ) (e : Exchange (Stored K V)) (went : Option (Stored K V)) (q : Stored K V) → replay eq (es ++ e ∷ []) ≡ with_class eq (replay eq es) q.key (Some q) → IsOneOf hands.made q → replay eq es k ≡ went → MayReplace went m.task → number_in went ≡ old → Some q.number ≡ new → IsMoved eq k m.task hands.made (replay eq es) (replay eq (es ++ e ∷ [])) old new
-    put_moves old new e went q is made before replaces went_is came_is =
-        let own : q.key ≡ k = rests.made.keys q made in
-        record {
-          went = went;
-          came = Some q;
-          update = update_by eq k went (Some q) (replay eq es) (with_class eq (replay eq es) q.key (Some q)) (replay eq (es ++ e ∷ [])) is
-              (put_update eq (replay eq es) k q.key went (Some q) own before);
-          went_is = went_is;
-          came_is = came_is;
-          may = (made, own, replaces);
-        }
+    put_moves : (old new : Option ℕ) (e : Exchange (Stored K V)) (went : Option (Stored K V)) (q : Stored K V) → replay eq (es ++ e ∷ []) ≡ with_class eq (replay eq es) k (Some q) → IsOneOf hands.made q → IsKeyFor k went q → replay eq es k ≡ went → MayReplace went m.task → number_in went ≡ old → Some q.number ≡ new → IsMoved eq k m.task hands.made (replay eq es) (replay eq (es ++ e ∷ [])) old new
+    put_moves old new e went q is made key before replaces went_is came_is = record {
+      went = went;
+      came = Some q;
+      update = update_by eq k went (Some q) (replay eq es) (with_class eq (replay eq es) k (Some q)) (replay eq (es ++ e ∷ [])) is
+          (put_update eq (replay eq es) k k went (Some q) refl before);
+      went_is = went_is;
+      came_is = came_is;
+      may = (made, key, replaces);
+    }
 
     -- a pair was taken out of it
     take_moves : (old new : ℕ) (e : Exchange (Stored K V)) (p : Stored K V) → replay eq (es ++ e ∷ []) ≡ with_class eq (replay eq es) p.key None → eq p.key k ≡ true → HasClosure m.task → replay eq es p.key ≡ Some p → pair_of old ≡ p.number → IsMoved eq k m.task hands.made (replay eq es) (replay eq (es ++ e ∷ [])) (Some (pair_of old)) None
@@ -199,19 +202,19 @@ module _ {K V : Type 0} (eq : K → K → Bool) (hash : K → ℕ) (mode mode' :
 
     module _ (buries_own : BuriesOwn) where
       -- an exchange that was made moves the map by its kind
-      exchange_moves : (kind : Option StepKind) (at : At) (old new : ℕ) (e : Exchange (Stored K V)) → calls.kind_of_ask m ≡ kind → calls.ask_of m ≡ Ask_exchange at old new → IsAsked c kind at new now hands e → word_of g c now at ≡ old → IsLegal_exchange g' (replay eq es) e → Allows g' now e → Moves_by (kind_event kind old new) (e ∷ [])
+      exchange_moves : (kind : Option StepKind) (at : At) (old new : ℕ) (e : Exchange (Stored K V)) → calls.kind_of_ask m ≡ kind → calls.ask_of m ≡ Ask_exchange at old new → IsAsked g c k kind at new now hands e → word_of g c now at ≡ old → IsLegal_exchange g' (replay eq es) e → Allows g' now e → Moves_by (kind_event kind old new) (e ∷ [])
       exchange_moves None at old new e kind_is ask_is asked stood legal allows = absurd asked
       exchange_moves (Some kinds.Open) Root old new e kind_is ask_is asked stood legal allows = λ j. ap (λ fs. replay eq (es ++ fs) j) (ap (λ y. y ∷ []) asked) ∙ ap (λ n. n j) (replay-append eq es (Open new ∷ []))
-      exchange_moves (Some kinds.Claim) (Slot t x) old new e kind_is ask_is (q, own, is) stood legal allows =
+      exchange_moves (Some kinds.Take) Made old new e kind_is ask_is asked stood legal allows = λ j. ap (λ fs. replay eq (es ++ fs) j) (ap (λ y. y ∷ []) asked) ∙ ap (λ n. n j) (replay-append eq es (Take now.made ∷ []))
+      exchange_moves (Some kinds.Claim) (Slot t x) old new e kind_is ask_is (q, own, key, is) stood legal allows =
           let none : replay eq es q.key ≡ None = subst (λ y. IsLegal_exchange g' (replay eq es) y) is legal in
-          put_moves None (Some (pair_of new)) e None q (ap (λ y. replay eq (es ++ y ∷ [])) is ∙ replay-append eq es (Claim t x q ∷ [])) own.made
-          (ap (replay eq es) (sym (rests.made.keys q own.made)) ∙ none) (inl refl) refl (ap Some own.named)
-      exchange_moves (Some kinds.Replace) (Slot t x) old new e kind_is ask_is (p, q, live, own, is) stood legal allows =
+          put_moves None (Some (pair_of new)) e None q (ap (λ y. replay eq (es ++ y ∷ [])) is ∙ replay-append eq es (Claim t x q ∷ []) ∙ ap (λ j. with_class eq (replay eq es) j (Some q)) key) own.made key
+          (ap (replay eq es) (sym key) ∙ none) (inl refl) refl (ap Some own.named)
+      exchange_moves (Some kinds.Replace) (Slot t x) old new e kind_is ask_is (p, q, live, own, key, is) stood legal allows =
           let here : replay eq es p.key ≡ Some p = subst (λ y. IsLegal_exchange g' (replay eq es) y) is legal in
-          let alike : eq p.key q.key ≡ true = (subst (λ y. Allows g' now y) is allows).same in
-          let key : q.key ≡ k = rests.made.keys q own.made in
-          let before : replay eq es k ≡ Some p = ap (replay eq es) (sym key) ∙ sym (replay-alike eq (low hash) mode' tables' lawful' es p.key q.key alike) ∙ here in
-          put_moves (Some (pair_of old)) (Some (pair_of new)) e (Some p) q (ap (λ y. replay eq (es ++ y ∷ [])) is ∙ replay-append eq es (Replace t x p q ∷ []) ∙ classes_alike p.key q.key (Some q) alike) own.made
+          let alike : eq p.key k ≡ true = lawful'.back k p.key (sym (ap (eq k) key) ∙ rests.made.keys q own.made) in
+          let before : replay eq es k ≡ Some p = sym (replay-alike eq (low hash) mode' tables' lawful' es p.key k alike) ∙ here in
+          put_moves (Some (pair_of old)) (Some (pair_of new)) e (Some p) q (ap (λ y. replay eq (es ++ y ∷ [])) is ∙ replay-append eq es (Replace t x p q ∷ []) ∙ classes_alike p.key k (Some q) alike) own.made key
           before (inr (machine_replaces g c begun since k m hands rests kind_is)) (ap Some (sym (stood_number t x old p stood live))) (ap Some own.named)
       exchange_moves (Some kinds.Bury) (Slot t x) old new e kind_is ask_is (p, live, is) stood legal allows =
           let number : pair_of old ≡ p.number = stood_number t x old p stood live in
@@ -219,19 +222,23 @@ module _ {K V : Type 0} (eq : K → K → Bool) (hash : K → ℕ) (mode mode' :
           take_moves old new e p (ap (λ y. replay eq (es ++ y ∷ [])) is ∙ replay-append eq es (Bury t x p ∷ [])) (buries_own t x old new p kind_is ask_is live number)
           (machine_takes g c begun since k hashed.coding m hands rests kind_is (Slot t x) old new ask_is).removes here number
       exchange_moves (Some kinds.Open) (Next t) old new e kind_is ask_is asked stood legal allows = absurd asked
+      exchange_moves (Some kinds.Open) Made old new e kind_is ask_is asked stood legal allows = absurd asked
       exchange_moves (Some kinds.Open) (Aborted t) old new e kind_is ask_is asked stood legal allows = absurd asked
       exchange_moves (Some kinds.Open) (Done t chunk) old new e kind_is ask_is asked stood legal allows = absurd asked
       exchange_moves (Some kinds.Open) (Slot t x) old new e kind_is ask_is asked stood legal allows = absurd asked
       exchange_moves (Some kinds.Claim) Root old new e kind_is ask_is asked stood legal allows = absurd asked
       exchange_moves (Some kinds.Claim) (Next t) old new e kind_is ask_is asked stood legal allows = absurd asked
+      exchange_moves (Some kinds.Claim) Made old new e kind_is ask_is asked stood legal allows = absurd asked
       exchange_moves (Some kinds.Claim) (Aborted t) old new e kind_is ask_is asked stood legal allows = absurd asked
       exchange_moves (Some kinds.Claim) (Done t chunk) old new e kind_is ask_is asked stood legal allows = absurd asked
       exchange_moves (Some kinds.Replace) Root old new e kind_is ask_is asked stood legal allows = absurd asked
       exchange_moves (Some kinds.Replace) (Next t) old new e kind_is ask_is asked stood legal allows = absurd asked
+      exchange_moves (Some kinds.Replace) Made old new e kind_is ask_is asked stood legal allows = absurd asked
       exchange_moves (Some kinds.Replace) (Aborted t) old new e kind_is ask_is asked stood legal allows = absurd asked
       exchange_moves (Some kinds.Replace) (Done t chunk) old new e kind_is ask_is asked stood legal allows = absurd asked
       exchange_moves (Some kinds.Bury) Root old new e kind_is ask_is asked stood legal allows = absurd asked
       exchange_moves (Some kinds.Bury) (Next t) old new e kind_is ask_is asked stood legal allows = absurd asked
+      exchange_moves (Some kinds.Bury) Made old new e kind_is ask_is asked stood legal allows = absurd asked
       exchange_moves (Some kinds.Bury) (Aborted t) old new e kind_is ask_is asked stood legal allows = absurd asked
       exchange_moves (Some kinds.Bury) (Done t chunk) old new e kind_is ask_is asked stood legal allows = absurd asked
       exchange_moves (Some kinds.Link) at old new e kind_is ask_is asked stood legal allows = absurd asked
@@ -242,6 +249,11 @@ module _ {K V : Type 0} (eq : K → K → Bool) (hash : K → ℕ) (mode mode' :
       exchange_moves (Some kinds.Advance) at old new e kind_is ask_is asked stood legal allows = absurd asked
       exchange_moves (Some kinds.Promote) at old new e kind_is ask_is asked stood legal allows = absurd asked
       exchange_moves (Some kinds.Abort) at old new e kind_is ask_is asked stood legal allows = absurd asked
+      exchange_moves (Some kinds.Take) Root old new e kind_is ask_is asked stood legal allows = absurd asked
+      exchange_moves (Some kinds.Take) (Next t) old new e kind_is ask_is asked stood legal allows = absurd asked
+      exchange_moves (Some kinds.Take) (Aborted t) old new e kind_is ask_is asked stood legal allows = absurd asked
+      exchange_moves (Some kinds.Take) (Done t chunk) old new e kind_is ask_is asked stood legal allows = absurd asked
+      exchange_moves (Some kinds.Take) (Slot t x) old new e kind_is ask_is asked stood legal allows = absurd asked
 
       -- the event of what the call itself asks moves the map so
       pub call_moves : (answer : Call_answer) (made : List (Exchange (Stored K V))) (hands' : Hands (Stored K V)) → IsTold g c k now (calls.kind_of_ask m) hands (calls.ask_of m) answer made hands' → AllAllowed g' start (es ++ made) → Moves_by (call_event (calls.kind_of_ask m) (calls.ask_of m) answer) made
@@ -259,7 +271,7 @@ module _ {K V : Type 0} (eq : K → K → Bool) (hash : K → ℕ) (mode mode' :
           shown : IsShown (calls.kind_of_ask m) (calls.ask_of m) answer made → Moves_by (call_event (calls.kind_of_ask m) (calls.ask_of m) answer) made
           shown (n, op, ask_is, answer_is, none, is) = subst (λ y. Moves_by y made) (sym is) (unchanged none)
 
-          exchanged : IsExchanged g c now (calls.kind_of_ask m) hands (calls.ask_of m) answer made → Moves_by (call_event (calls.kind_of_ask m) (calls.ask_of m) answer) made
+          exchanged : IsExchanged g c k now (calls.kind_of_ask m) hands (calls.ask_of m) answer made → Moves_by (call_event (calls.kind_of_ask m) (calls.ask_of m) answer) made
           exchanged x =
               let is : call_event (calls.kind_of_ask m) (calls.ask_of m) answer ≡ kind_event (calls.kind_of_ask m) x.old x.new = ap (λ y. call_event (calls.kind_of_ask m) y answer) x.ask_is ∙ ap (answered_event (calls.kind_of_ask m) x.old x.new) x.answer_is in
               let allowed : AllAllowed g' start (es ++ x.by ∷ []) = subst (λ fs. AllAllowed g' start (es ++ fs)) x.made may' in
@@ -287,7 +299,7 @@ module _ {K V : Type 0} (eq : K → K → Bool) where
       (λ (x : IsCopied g c s kind hands.kept ask made). ap (λ fs. replay eq (es ++ fs) j) x.made ∙ ap (λ m. m j) (replay-append eq es (x.by ∷ []) ∙ copied_same c kind x.at x.new s hands.kept x.by (replay eq es) x.asked))
       (copy_told g c s kind follows hands ask answer made hands' told)
 
-module _ {K V : Type 0} (eq : K → K → Bool) (hash : K → ℕ) (mode mode' : ResizeMode) (tables tables' : List TableWords) where
+module _ {K V : Type 0} (eq : K → K → Bool) (hash : K → ℕ) (mode mode' : Mode) (tables tables' : List TableWords) where
   module _ (hashed : IsHashed (setting_of {V = V} eq (low hash) mode tables) (coding_of (low hash))) (lawful' : IsLawful (setting_of {V = V} eq (low hash) mode' tables')) (begun since : List (Exchange (Stored K V))) (k : K) (m : Chain_machine) (hands : Chain_hands (Stored K V)) (rests : Chain_rests (setting_of eq (low hash) mode tables) (coding_of (low hash)) begun since k m hands) (buries_own : BuriesOwn eq hash mode mode' tables tables' hashed lawful' begun since k m.call hands.call rests.call) where
     -- the event of a step moves the map so, and that of a copy leaves it
     pub step_moves : (answer : Answer) (made : List (Exchange (Stored K V))) (hands' : Chain_hands (Stored K V)) → Chain_told (setting_of eq (low hash) mode tables) (coding_of (low hash)) k (run (begun ++ since) start) (kind_of_ask m) (follows_of m) hands (ask_of m) answer made hands' → AllAllowed (setting_of eq (low hash) mode' tables') start ((begun ++ since) ++ made)
@@ -307,12 +319,13 @@ module _ {K V : Type 0} (eq : K → K → Bool) (hash : K → ℕ) (mode mode' :
             copy_moves (λ e. Moves eq k m.call.task hands.call.made (replay eq (begun ++ since)) (replay eq ((begun ++ since) ++ made)) e) same (λ kind. same) (kind_of_ask m) (copy_kind m ask e) ask answer
 
 -- a pair that takes the place of another is one that the call made
-asked_own : {K P : Type 0} (c : Coding K P) (kind : Option StepKind) (at : At) (new : ℕ) (s : State P) (hands : Hands P) (e : Exchange P) → IsAsked c kind at new s hands e → (t x : ℕ) (p q : P) → e ≡ Replace t x p q → IsOneOf hands.made q
-asked_own c (Some kinds.Open) Root new s hands e asked t x p q is = absurd cc
-asked_own c (Some kinds.Claim) (Slot u y) new s hands e (r, own, asked) t x p q is = absurd cc
-asked_own c (Some kinds.Replace) (Slot u y) new s hands e (o, r, live, own, asked) t x p q is = let same : r ≡ q = cc in subst (IsOneOf hands.made) same own.made
-asked_own c (Some kinds.Bury) (Slot u y) new s hands e (r, live, asked) t x p q is = absurd cc
-asked_own c kind at new s hands e asked t x p q is = absurd asked
+asked_own : {K P : Type 0} (g : Setting K P) (c : Coding K P) (k : K) (kind : Option StepKind) (at : At) (new : ℕ) (s : State P) (hands : Hands P) (e : Exchange P) → IsAsked g c k kind at new s hands e → (t x : ℕ) (p q : P) → e ≡ Replace t x p q → IsOneOf hands.made q
+asked_own g c k (Some kinds.Open) Root new s hands e asked t x p q is = absurd cc
+asked_own g c k (Some kinds.Claim) (Slot u y) new s hands e (r, own, key, asked) t x p q is = absurd cc
+asked_own g c k (Some kinds.Replace) (Slot u y) new s hands e (o, r, live, own, key, asked) t x p q is = let same : r ≡ q = cc in subst (IsOneOf hands.made) same own.made
+asked_own g c k (Some kinds.Bury) (Slot u y) new s hands e (r, live, asked) t x p q is = absurd cc
+asked_own g c k (Some kinds.Take) Made new s hands e asked t x p q is = absurd cc
+asked_own g c k kind at new s hands e asked t x p q is = absurd asked
 
 -- a step puts a pair in the place of another where its call asks for it
 pub replaces_own : {K V : Type 0} (eq : K → K → Bool) (g : Setting K (Stored K V)) (c : Coding K (Stored K V)) (k : K) (s : State (Stored K V)) (kind : Option StepKind) (follows : ℕ) (hands : Chain_hands (Stored K V)) (ask : Ask) (answer : Answer) (made : List (Exchange (Stored K V))) (hands' : Chain_hands (Stored K V)) (t x : ℕ) (p q : Stored K V) → eq p.key p.key ≡ true → made ≡ Replace t x p q ∷ []
@@ -321,9 +334,9 @@ replaces_own {K = K} {V = V} eq g c k s kind follows hands (asks.Call ask) answe
     ⊎_elim
     (λ quiet. nothing quiet.0)
     (λ y. ⊎_elim
-    (λ (by : IsExchanged g c s kind hands.call ask told.told made).
+    (λ (by : IsExchanged g c k s kind hands.call ask told.told made).
     let same : by.by ≡ Replace t x p q = (let f : by.by ∷ [] ≡ Replace t x p q ∷ [] = sym by.made ∙ is in cc) in
-    (by.at, by.old, by.new, ap asks.Call by.ask_is, asked_own c kind by.at by.new s hands.call by.by by.asked t x p q same))
+    (by.at, by.old, by.new, ap asks.Call by.ask_is, asked_own g c k kind by.at by.new s hands.call by.by by.asked t x p q same))
     (λ z. ⊎_elim (λ (shown : IsShowing kind ask told.told made). nothing shown.4) (λ (shown : IsShown kind ask told.told made). nothing shown.4) z) y)
     (told_cases g c k s kind hands.call ask told.told made told.call told.tells)
   where

@@ -38,7 +38,6 @@ pub mod KeptCore
 pub mod KeptExchange
 pub mod KeptHints
 pub mod KeptLemmas
-pub mod KeptLogs
 pub mod KeptMade
 pub mod KeptMap
 pub mod KeptOthers
@@ -51,6 +50,7 @@ pub mod KeptWritten
 pub mod LegalLemmas
 pub mod LinkWords
 pub mod MachineLemmas
+pub mod PairsBefore
 pub mod MakerLemmas
 pub mod MakerSteps
 pub mod MadeTables
@@ -101,3 +101,7 @@ pub mod VisitAlone
 pub mod EntersOnce
 -- what is so at the end
 pub mod VisitOver
+pub mod MadePairs
+pub mod Waits
+pub mod MadeBefore
+pub mod MadeStands

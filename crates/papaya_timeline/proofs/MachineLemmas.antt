@@ -22,6 +22,7 @@ use Rattle.papaya_rests.specs.Says.{said_in, said_in_reply}
 use Rattle.papaya_rests.specs.Told.{Hands}
 use Rattle.papaya_law.specs.Code.{IsHashed}
 use Rattle.papaya_law.proofs.Codes.{code_pair}
+use Rattle.papaya_rests.proofs.RestsHeld.{machine_replies as replied}
 use Rattle.papaya_rests.proofs.RestsOpened.{machine_opened}
 use Rattle.papaya_timeline.specs.declared.trace.Event.TheVariants.{Changed}
 use Rattle.papaya_timeline.specs.Advances.{call_event}
@@ -50,7 +51,7 @@ machine_says m reply e = search rules
 module _ {K P : Type 0} (g : Setting K P) (c : Coding K P) (begun since : List (Exchange P)) (k : K) where
   -- where a machine asks no more, the reply is that of its task
   pub machine_replies : (m : Machine) (hands : Hands P) → Rests g c begun since k m hands → (reply : Reply) → ask_of m ≡ Ask_done reply → IsReply g c begun since k hands m.task reply × (change_in m.state ≡ change_of_reply reply)
-  machine_replies m hands rests reply e = search rules
+  machine_replies m hands rests reply e = replied g c begun since k hands m rests reply e
 
   -- a pair that a closure is shown is the one last told of, has the call's key, and was the map's at a moment of the call
   pub machine_shows : (hashed : IsHashed g c) (m : Machine) (hands : Hands P) → Rests g c begun since k m hands → (n : ℕ) → ask_of m ≡ ShowPair n → (p : P) × (hands.last ≡ Some p) × (c.number p ≡ n) × (g.same k (g.key p) ≡ true) × WasAtMoment g c begun since k (Some p)

@@ -2,7 +2,6 @@
 use Rattle.std.proofs.Common.{◌≡◌, ℕ, zero, suc, ◌-◌, ◌<◌, Bool, List, [], length, Option, Some, None, refl, ◌∙◌, ap, append-nil, arith}
 use Rattle.std.proofs.lemmas.Option.{slice_get_within}
 use Rattle.papaya_words.specs.Table.{TableWords}
-use Rattle.papaya_words.specs.declared.probe.ResizeMode.{ResizeMode}
 use Rattle.papaya_ask.specs.declared.ask.At.TheVariants.{Next}
 use Rattle.papaya_law.specs.ChainContent.{joined}
 use Rattle.papaya_law.specs.Exchange.{Exchange, run, start}
@@ -12,6 +11,7 @@ use Rattle.papaya_timeline.specs.Kept.{IsKept, Tale}
 use Rattle.papaya_store.specs.Store.{StoreState, Stored}
 use Rattle.papaya_store.specs.Tables.{table_of, word_in}
 use Rattle.papaya_timeline.proofs.KeptTables.{table_there}
+use Rattle.papaya_store.specs.declared.mode.Mode.{Mode}
 
 -- the pairs of a table, if it is there
 abbrev pub pairs_of_table : {K V S : Type 0} → StoreState K V S → Option TableWords → List (Stored K V)
@@ -49,7 +49,7 @@ module _ {K V S : Type 0} (eq : K → K → Bool) (store : StoreState K V S) whe
     root_content = root_there (length store.words.tables) refl (table_of store.words.tables store.words.root) refl
 
     -- no table of the law has a next one
-    pub law_single : {A : Type 0} (hash : K → ℕ) (mode : ResizeMode) (callers : List (Seat K V A)) (es : List (Exchange (Stored K V))) (tales : ℕ → Tale K V) → IsKept eq hash mode store callers es tales → (t : ℕ) → (run es start).next t ≡ 0
+    pub law_single : {A : Type 0} (hash : K → ℕ) (mode : Mode) (callers : List (Seat K V A)) (es : List (Exchange (Stored K V))) (tales : ℕ → Tale K V) → IsKept eq hash mode store callers es tales → (t : ℕ) → (run es start).next t ≡ 0
     law_single hash mode callers es tales kept t = kept.coded (Next t) ∙ next_none (table_of store.words.tables t) refl
       where
         next_none : (o : Option TableWords) → table_of store.words.tables t ≡ o → word_in (λ v. v.next) o ≡ 0

@@ -2,12 +2,11 @@
 use Rattle.std.proofs.Common.{◌≡◌, ◌⊎◌, inl, inr, ⊎_elim, ℕ, Bool, true, false, cond, Option, None, Some, List, [], ◌∷◌, ◌++◌, refl, sym, ◌∙◌, ap, subst, append_assoc}
 use Rattle.std.proofs.lemmas.Bool.{cases_Bool}
 use Rattle.papaya_words.specs.Table.{TableWords}
-use Rattle.papaya_words.specs.declared.probe.ResizeMode.{ResizeMode}
 use Rattle.papaya_words.specs.declared.probe.ResizeMode.TheVariants.{Blocking}
 use Rattle.papaya_law.specs.Allows.{AllAllowed}
 use Rattle.papaya_law.specs.Class.{IsOn, IsTied}
 use Rattle.papaya_law.specs.Content.{lookup, content}
-use Rattle.papaya_law.specs.Exchange.{Setting, State, Word, Exchange, Open, Claim, Replace, Bury, Link, Mark, Close, Place, Finish, Advance, Promote, Abort, run, start}
+use Rattle.papaya_law.specs.Exchange.{Setting, State, Word, Exchange, Open, Claim, Replace, Bury, Link, Mark, Close, Place, Finish, Advance, Promote, Abort, Take, run, start}
 use Rattle.papaya_law.specs.Invariant.{IsBlockingState, IsIncrementalState, IsKeeping, named}
 use Rattle.papaya_law.specs.Meaning.{map_of, map_after, map_left, IsLegal, AllLegal, IsLawful}
 use Rattle.papaya_law.specs.View.{Here, Leaving, look}
@@ -20,6 +19,7 @@ use Rattle.papaya_timeline.specs.Kept.{setting_of}
 use Rattle.papaya_timeline.specs.Maps.{Map}
 use Rattle.papaya_store.specs.Store.{Stored}
 use Rattle.papaya_timeline.proofs.Good.{replayed, replay}
+use Rattle.papaya_store.specs.declared.mode.Mode.{Mode}
 
 -- of a list that may be longer by one, a beginning is one of the list, or it is the whole
 pub beginning-cases : {A : Type 0} (so_far rest since made : List A) → (made ≡ []) ⊎ ((e : A) × (made ≡ e ∷ [])) → so_far ++ rest ≡ since ++ made → ((left : List A) × (so_far ++ left ≡ since)) ⊎ (so_far ≡ since ++ made)
@@ -44,7 +44,7 @@ beginning-cases (x ∷ so_far) rest (y ∷ since) made one e =
 
 module _ {K V : Type 0} (eq : K → K → Bool) where
   -- the law's map in the setting that tables are is the replay
-  pub map_replayed : (hash : K → ℕ) (mode : ResizeMode) (tables : List TableWords) (es : List (Exchange (Stored K V))) (m : Map K V) → map_of (setting_of eq hash mode tables) m es ≡ replayed eq m es
+  pub map_replayed : (hash : K → ℕ) (mode : Mode) (tables : List TableWords) (es : List (Exchange (Stored K V))) (m : Map K V) → map_of (setting_of eq hash mode tables) m es ≡ replayed eq m es
   map_replayed hash mode tables [] m = refl
   map_replayed hash mode tables (Open t ∷ es) m = map_replayed hash mode tables es m
   map_replayed hash mode tables (Claim t x p ∷ es) m = map_replayed hash mode tables es (λ k. cond (eq k p.key) (Some p) (m k))
@@ -58,16 +58,17 @@ module _ {K V : Type 0} (eq : K → K → Bool) where
   map_replayed hash mode tables (Advance n c ∷ es) m = map_replayed hash mode tables es m
   map_replayed hash mode tables (Promote t n ∷ es) m = map_replayed hash mode tables es m
   map_replayed hash mode tables (Abort n ∷ es) m = map_replayed hash mode tables es m
+  map_replayed hash mode tables (Take n ∷ es) m = map_replayed hash mode tables es m
 
   -- two lists after each other
   pub replay-append : (es fs : List (Exchange (Stored K V))) → replay eq (es ++ fs) ≡ replayed eq (replay eq es) fs
-  replay-append es fs = map_of-append (setting_of eq (λ k. 0) Blocking []) es fs (λ k. None)
+  replay-append es fs = map_of-append (setting_of eq (λ k. 0) (record { resize = Blocking; limit = None }) []) es fs (λ k. None)
 
   -- three
   pub replay-three : (begun since made : List (Exchange (Stored K V))) → replay eq ((begun ++ since) ++ made) ≡ replayed eq (replay eq begun) (since ++ made)
   replay-three begun since made = ap (λ l. replay eq l) (append_assoc begun since made) ∙ replay-append begun (since ++ made)
 
-  module _ (hash : K → ℕ) (mode : ResizeMode) (tables : List TableWords) (law : IsLawful (setting_of {V = V} eq hash mode tables)) where
+  module _ (hash : K → ℕ) (mode : Mode) (tables : List TableWords) (law : IsLawful (setting_of {V = V} eq hash mode tables)) where
     -- the law's setting
     abbrev g : Setting K (Stored K V)
     g = setting_of eq hash mode tables
@@ -101,6 +102,7 @@ module _ {K V : Type 0} (eq : K → K → Bool) where
     respects (Advance n c ∷ es) m alike = respects es m alike
     respects (Promote t n ∷ es) m alike = respects es m alike
     respects (Abort n ∷ es) m alike = respects es m alike
+    respects (Take n ∷ es) m alike = respects es m alike
 
     -- equal keys have one pair
     pub replay-alike : (es : List (Exchange (Stored K V))) (j k : K) → eq j k ≡ true → replay eq es j ≡ replay eq es k

@@ -3,7 +3,6 @@ use Rattle.std.proofs.Common.{rules, ◌≡◌, ◌⊎◌, inl, inr, ⊎_elim, �
 use Rattle.papaya_call.specs.Answers.{Says, op_kind}
 use Rattle.papaya_call.specs.declared.answers.Operation.{Operation}
 use Rattle.papaya_call.specs.declared.answers.Operation.TheVariants as ops
-use Rattle.papaya_ask.specs.declared.ask.Ask.TheVariants.{MakePair}
 use Rattle.papaya_ask.specs.declared.ask.Answer.TheVariants.{Op, Made as Made_number}
 use Rattle.papaya_ask.specs.declared.ask.OpKind.{OpKind}
 use Rattle.papaya_ask.specs.declared.ask.OpKind.TheVariants as kinds
@@ -16,30 +15,32 @@ use Rattle.papaya_chain.specs.declared.ask.Answer.{Answer}
 use Rattle.papaya_chain.specs.declared.ask.Answer.TheVariants as given
 use Rattle.papaya_chain.specs.declared.machine.Machine.{Machine}
 use Rattle.papaya_chain.specs.Machine.{ask_of, kind_of_ask, after}
-use Rattle.papaya_rests.specs.Says.{IsSaidBy, IsSaidChange, Said, Agrees, Inserts, Makes, Removes, StandsOn, show}
+use Rattle.papaya_rests.specs.Says.{Agrees, Inserts, IsAnswered, IsSaidBy, IsSaidChange, Makes, MakesPair, Removes, Said, ShowsPairs, StandsOn, show}
 use Rattle.papaya_chain_rests.specs.Goes.{IsOwnStep}
 use Rattle.papaya_store.specs.declared.pairs.Running.{Running}
 use Rattle.papaya_timeline.specs.declared.trace.Event.{Event}
 use Rattle.papaya_timeline.specs.Advances.{event_of}
 use Rattle.papaya_timeline.proofs.Begun.{the_task}
 use Rattle.papaya_store.specs.Asks.{PerformsAsk}
-use Rattle.papaya_store.specs.Performs.{value_answered}
+use Rattle.papaya_store.specs.Performs.{own_value, value_answered}
 use Rattle.papaya_timeline.specs.Runs.{History}
 use Rattle.papaya_store.specs.Store.{KeepsPairs, StoreState, Stored, pair_of}
 use Rattle.papaya_timeline.specs.Timeline.{Answered, IsAgreed, IsAnsweredIn, WasAnswered, number_in}
-use Rattle.papaya_timeline.proofs.ChainLemmas.{asks_own, made_own, own_asks}
+use Rattle.papaya_timeline.proofs.ChainLemmas.{asks_own, own_asks}
 use Rattle.papaya_timeline.proofs.Good.{WasSaid}
 use Rattle.papaya_timeline.proofs.StepEvents.{event_shown, step_asked, step_answered}
 use Rattle.papaya_timeline.proofs.StepTells.{at_hand}
 use Rattle.papaya_timeline.proofs.TellLemmas.{IsAnswering}
 use Rattle.papaya_timeline.proofs.TimelineLemmas.{entry}
+use Rattle.papaya_store.specs.Pairs.{value_at}
+use Rattle.papaya_timeline.proofs.MadePairs.{MakesOver}
+use Rattle.papaya_timeline.proofs.MadeStands.{made_stands}
 
--- a call that made a pair stands on no value yet to be made one
-made_stands : (m : Call_machine) (n : ℕ) (shown : Option ℕ) → calls.ask_of m ≡ MakePair → StandsOn (calls.after m (Made_number n)) (Inserts shown) → ⊥
-made_stands m n shown e stands = search rules
-
-pub pair_made : (m : Machine) (n : ℕ) (shown : Option ℕ) → ask_of m ≡ asks.Call MakePair → StandsOn (after m (given.Call (Made_number n))).call (Inserts shown) → ⊥
-pair_made m n shown e stands = made_stands m.call n shown (own_asks m MakePair e).1 (subst (λ d. StandsOn d (Inserts shown)) (made_own m n e) stands)
+-- What a call that made a pair stands on of it was answered just now to be stored, or before: then the pair has the value that was logged last.
+pub made_said : (m : Machine) (answer : Answer) (own : IsOwnStep m answer) (shown : Option ℕ) (n : ℕ) → MakesPair (calls.ask_of m.call) → own.told ≡ Made_number n → ShowsPairs m.call → StandsOn (after m answer).call (Makes shown n)
+    → StandsOn m.call (Inserts shown) ⊎ StandsOn m.call (Makes shown n) ⊎ ((i : ℕ) × (before : ℕ) × (shown ≡ Some i) × StandsOn m.call (Makes (Some i) before) × (IsAnswered m.call.state → ⊥))
+made_said m answer own shown n makes told shows stands =
+    made_stands m.call shown n makes shows (subst (λ y. StandsOn (calls.after m.call y) (Makes shown n)) told (subst (λ d. StandsOn d (Makes shown n)) own.call stands))
 
 -- it was answered a value but once
 stands_once : (m : Call_machine) (shown other : Option ℕ) → StandsOn m (Inserts shown) → calls.ask_of m ≡ show other → ⊥
@@ -62,7 +63,8 @@ inserting (ops.Abort t) e = absurd cc
 
 module _ {K V S A : Type 0} (eq : K → K → Bool) (says : Says K V A) (hash : S → K → ℕ) (refuse : Bool) (s : StoreState K V S) (r : Running K V A) (a : Answer) (s' : StoreState K V S) (r' : Running K V A) where
   -- A step of the call r, which answers what its machine asks; a pair that it makes is of the value at hand.
-  module _ (performs : PerformsAsk eq says hash refuse (ask_of r.machine) s r a s' r') (stay : KeepsPairs s s') (made : (n : ℕ) → ask_of r.machine ≡ asks.Call MakePair → a ≡ given.Call (Made_number n) → (q : Stored K V) × (pair_of s' n ≡ Some q) × (r.value ≡ Some q.value)) where
+  module _ (performs : PerformsAsk eq says hash refuse (ask_of r.machine) s r a s' r') (stay : KeepsPairs s s') (made : (n : ℕ) → MakesOver (ask_of r.machine) → a ≡ given.Call (Made_number n) → (q : Stored K V) × (pair_of s' n ≡ Some q) × (own_value s r ≡ Some q.value))
+      (again : (i n : ℕ) → StandsOn r.machine.call (Makes (Some i) n) → IsAnswered r.machine.call.state ⊎ ((p : Stored K V) × (pair_of s n ≡ Some p) × (own_value s r ≡ Some p.value))) (shows : ShowsPairs r.machine.call) where
     module _ (turn c : ℕ) (event : Event) (is : event ≡ event_of (kind_of_ask r.machine) (ask_of r.machine) a) (h : History) (answers : Answered V) (answering : IsAnswering says s' r r' event) where
       abbrev o : Option (Operation V ℕ)
       o = answering.answered
@@ -87,33 +89,41 @@ module _ {K V S A : Type 0} (eq : K → K → Bool) (says : Says K V A) (hash : 
       still_said (Agrees n agrees) before stands was = step_asked c turn n agrees (kind_of_ask r.machine) (ask_of r.machine) a event h is (inl was)
       still_said (Inserts shown) before stands (v, has, was) = (v, value, answered_still shown (ops.Insert v) was)
         where
-          value : r'.value ≡ Some v
-          value = ⊎_elim
-              (λ kept. kept ∙ has)
-              (λ z. ⊎_elim
-              (λ pair. absurd (pair_made r.machine pair.0 shown pair.1 (subst (λ y. StandsOn (after r.machine y).call (Inserts shown)) pair.2 stands)))
-              (λ showing. absurd (one_value r.machine shown showing.0 before showing.2))
-              z)
-              (at_hand eq says hash refuse s r a s' r' (ask_of r.machine) performs)
+          value : own_value s' later ≡ Some v
+          value = ⊎_elim (λ kept. kept.0 v has) (λ showing. absurd (one_value r.machine shown showing.0 before showing.2)) (at_hand eq says hash refuse s r a s' r' (ask_of r.machine) performs)
       still_said (Makes shown n) before stands (q, there, was) = (q, stay n q there, answered_still shown (ops.Insert q.value) was)
       still_said (Removes n) before stands was = answered_still (Some n) ops.Remove was
 
       -- what is said now
-      now_said : (said : Said) (own : IsOwnStep r.machine a) → IsSaidBy r.machine.call own.told said → ((shown : Option ℕ) → StandsOn r.machine.call (Inserts shown) → WasSaid s r c h answers (Inserts shown)) → WasSaid s' later c (entry turn c event ∷ h) (o ∷ answers) said
-      now_said (Agrees n agrees) own (asking, answer) before = step_asked c turn n agrees (kind_of_ask r.machine) (ask_of r.machine) a event h is (inr (asks_own r.machine own.phase ∙ ap asks.Call asking, own.is ∙ ap given.Call answer))
-      now_said (Inserts shown) own (asking, answer) before =
+      now_said : (said : Said) (own : IsOwnStep r.machine a) → IsSaidBy r.machine.call own.told said → StandsOn (after r.machine a).call said → ((said : Said) → StandsOn r.machine.call said → WasSaid s r c h answers said) → WasSaid s' later c (entry turn c event ∷ h) (o ∷ answers) said
+      now_said (Agrees n agrees) own (asking, answer) stands before = step_asked c turn n agrees (kind_of_ask r.machine) (ask_of r.machine) a event h is (inr (asks_own r.machine own.phase ∙ ap asks.Call asking, own.is ∙ ap given.Call answer))
+      now_said (Inserts shown) own (asking, answer) stands before =
           let asking' : ask_of r.machine ≡ asks.Call (show shown) = asks_own r.machine own.phase ∙ ap asks.Call asking in
           let answer' : a ≡ given.Call (Op kinds.Insert) = own.is ∙ ap given.Call answer in
           let (op, now, kind) = operation shown kinds.Insert asking' answer' in
           let (v, inserts) = inserting op kind in
-          let value : r'.value ≡ Some v = answering.value op now ∙ ap (λ y. value_answered y r.value) inserts in
+          let value : own_value s' later ≡ Some v = ap (value_at s'.pairs) (answering.value op now ∙ ap (λ y. value_answered y r.value) inserts) in
           (v, value, answered_now shown (ops.Insert v) asking' answer' (now ∙ ap (λ y. Some y) inserts))
-      now_said (Makes shown n) own (stands, asking, answer) before =
-          let (q, there, of) = made n (asks_own r.machine own.phase ∙ ap asks.Call asking) (own.is ∙ ap given.Call answer) in
-          let (v, has, was) = before shown stands in
-          let same : v ≡ q.value = cc in
-          (q, there, answered_still shown (ops.Insert q.value) (subst (λ y. WasAnswered c shown (ops.Insert y) h answers) same was))
-      now_said (Removes n) own (asking, answer) before =
+      now_said (Makes shown n) own (was_said, makes, answer) stands before =
+          let (q, there, of) = made n (subst MakesOver (sym (asks_own r.machine own.phase)) makes) (own.is ∙ ap given.Call answer) in
+          elim (made_said r.machine a own shown n makes answer shows stands) [
+            | inl inserts ↦
+                let (v, has, was) = before (Inserts shown) inserts in
+                let same : v ≡ q.value = cc in
+                (q, there, answered_still shown (ops.Insert q.value) (subst (λ y. WasAnswered c shown (ops.Insert y) h answers) same was))
+            | inr others ↦ elim others [
+              | inl stood ↦ still_said (Makes shown n) stood stands (before (Makes shown n) stood)
+              | inr (i, m, is_shown, stood, newest) ↦
+                  let (p, logged, was) = before (Makes (Some i) m) stood in
+                  elim (again i m stood) [
+                    | inl waits ↦ absurd (newest waits)
+                    | inr (p', logged', value) ↦
+                        let same : p.value ≡ q.value = cc (logged, logged', value, of) in
+                        (q, there, answered_still shown (ops.Insert q.value) (subst (λ y. WasAnswered c y (ops.Insert q.value) h answers) (sym is_shown) (subst (λ y. WasAnswered c (Some i) (ops.Insert y) h answers) same was)))
+                  ]
+            ]
+          ]
+      now_said (Removes n) own (asking, answer) stands before =
           let asking' : ask_of r.machine ≡ asks.Call (show (Some n)) = asks_own r.machine own.phase ∙ ap asks.Call asking in
           let answer' : a ≡ given.Call (Op kinds.Remove) = own.is ∙ ap given.Call answer in
           let (op, now, kind) = operation (Some n) kinds.Remove asking' answer' in
@@ -124,7 +134,7 @@ module _ {K V S A : Type 0} (eq : K → K → Bool) (says : Says K V A) (hash : 
       said_after goes before said stands =
           ⊎_elim
           (λ was. still_said said was stands (before said was))
-          (λ (by : (own : IsOwnStep r.machine a) × IsSaidBy r.machine.call own.told said). now_said said by.0 by.1 (λ shown was. before (Inserts shown) was))
+          (λ (by : (own : IsOwnStep r.machine a) × IsSaidBy r.machine.call own.told said). now_said said by.0 by.1 stands before)
           (goes said stands)
 
 module _ {K V S A : Type 0} where

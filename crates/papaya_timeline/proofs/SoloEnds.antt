@@ -1,9 +1,8 @@
 -- A call that is made alone comes to its end: each of its steps lowers a measure.
-use Rattle.std.proofs.Common.{◌≡◌, ℕ, ◌^◌, ◌<◌, Bool, true, None, Some, List, [], ◌++◌, refl, sym, ◌∙◌, ap, subst}
+use Rattle.std.proofs.Common.{◌≡◌, inl, inr, ℕ, ◌^◌, ◌<◌, Bool, true, Option, None, Some, List, [], ◌++◌, refl, sym, ◌∙◌, ap, subst}
 use Rattle.std.specs.Cmp.{IsEquivalence}
 use mathlib.Core.Path.{fun_ext}
 use Rattle.papaya_call.specs.Answers.{Says}
-use Rattle.papaya_call.specs.declared.write.Made.TheVariants.{Nothing}
 use Rattle.papaya_ask.specs.declared.ask.At.TheVariants.{Root}
 use Rattle.papaya_ask.specs.declared.ask.Ask.TheVariants.{ShowPair}
 use Rattle.papaya_ask.specs.declared.call.Call.{Call}
@@ -30,7 +29,7 @@ use Rattle.papaya_keys.specs.Hashes.{hash_of}
 use Rattle.papaya_timeline.specs.declared.seat.Seat.{Seat}
 use Rattle.papaya_timeline.specs.declared.trace.Event.{Event}
 use Rattle.papaya_timeline.specs.Advances.{Advances}
-use Rattle.papaya_timeline.specs.Begins.{Begins, begun_work, task_of_call, value_of_call}
+use Rattle.papaya_timeline.specs.Begins.{Begins, begun_work, handed, task_of_call, value_of_call}
 use Rattle.papaya_timeline.specs.Callers.{running, with_call, with_seat, with_work}
 use Rattle.papaya_timeline.specs.declared.seat.Work.{Work}
 use Rattle.papaya_timeline.specs.declared.seat.Work.TheVariants as works
@@ -48,7 +47,7 @@ use Rattle.papaya_chain.specs.Visitor.{begun}
 use Rattle.papaya_alone.specs.Visitors.{IsVisitorRead}
 use Rattle.papaya_store.specs.declared.visits.Visiting.{Visiting}
 use Rattle.papaya_timeline.specs.Core.{CoreState, IsCore}
-use Rattle.papaya_timeline.specs.Ends.{HasValue, IsLone, IsMaker, IsNearer, budget_of, lone_measure}
+use Rattle.papaya_timeline.specs.Ends.{HasValue, IsLone, IsMaker, IsNearer, IsToPair, budget_of, lone_measure}
 use Rattle.papaya_timeline.specs.Kept.{IsCall, IsKept, IsLawfulCore, Tale, coding_of, low, setting_of, told_tales}
 use Rattle.papaya_timeline.proofs.BudgetSpends.{budget_bounded, kept_bounded, performs_spends}
 use Rattle.papaya_timeline.proofs.CallersLemmas.{same_item}
@@ -59,23 +58,40 @@ use Rattle.papaya_timeline.proofs.MachineLemmas.{machine_shows}
 use Rattle.papaya_timeline.proofs.MakerSteps.{ask_served, next_maker}
 use Rattle.papaya_timeline.proofs.SoloRun.{Follows, follows_begin, one_seat}
 use Rattle.papaya_timeline.specs.Solo.{whatever}
+use Rattle.papaya_ask.specs.declared.ask.Ask.TheVariants.{MakePairOf}
+use Rattle.papaya_rests.proofs.RestsCopied.{machine_copied}
+use Rattle.papaya_rests.specs.Alone.{IsNumberRead}
+use Rattle.papaya_call.specs.Made.{wanted}
+use Rattle.papaya_store.specs.declared.pairs.Part.TheVariants.{Own}
+use Rattle.papaya_chain.specs.Machine.{started}
+use Rattle.papaya_ask.specs.declared.ask.At.{At}
 
 -- an insertion begins with its value
 module _ {K V A : Type 0} where
-  begins_with : (call : Call K V A) (task : Task) → task ≡ the_task call → HasValue task Nothing (value_of_call call)
-  begins_with (Get k) task e = subst (λ t. HasValue {V = V} t Nothing None) (sym e) tt
-  begins_with (Insert k v) task e = subst (λ t. HasValue t Nothing (Some v)) (sym e) (v, refl)
-  begins_with (TryInsert k v) task e = subst (λ t. HasValue t Nothing (Some v)) (sym e) (v, refl)
-  begins_with (RemoveIf k a) task e = subst (λ t. HasValue {V = V} t Nothing None) (sym e) tt
-  begins_with (Compute k a) task e = subst (λ t. HasValue {V = V} t Nothing None) (sym e) tt
-  begins_with (Reserve more) task e = subst (λ t. HasValue {V = V} t Nothing None) (sym e) tt
-  begins_with CopyAll task e = subst (λ t. HasValue {V = V} t Nothing None) (sym e) tt
-  begins_with Clear task e = subst (λ t. HasValue {V = V} t Nothing None) (sym e) tt
-  begins_with (Retain a) task e = subst (λ t. HasValue {V = V} t Nothing None) (sym e) tt
-  begins_with Walk task e = subst (λ t. HasValue {V = V} t Nothing None) (sym e) tt
+  begins_with : (call : Call K V A) (task : Task) → task ≡ the_task call → HasValue task (handed (value_of_call call))
+  begins_with (Get k) task e = subst (λ t. HasValue {V = V} t None) (sym e) tt
+  begins_with (Insert k v) task e = subst (λ t. HasValue t (Some (Own v))) (sym e) (Own v, refl)
+  begins_with (TryInsert k v) task e = subst (λ t. HasValue t (Some (Own v))) (sym e) (Own v, refl)
+  begins_with (RemoveIf k a) task e = subst (λ t. HasValue {V = V} t None) (sym e) tt
+  begins_with (Compute k a) task e = subst (λ t. HasValue {V = V} t None) (sym e) tt
+  begins_with (Reserve more) task e = subst (λ t. HasValue {V = V} t None) (sym e) tt
+  begins_with CopyAll task e = subst (λ t. HasValue {V = V} t None) (sym e) tt
+  begins_with Clear task e = subst (λ t. HasValue {V = V} t None) (sym e) tt
+  begins_with (Retain a) task e = subst (λ t. HasValue {V = V} t None) (sym e) tt
+  begins_with Walk task e = subst (λ t. HasValue {V = V} t None) (sym e) tt
 
-  begun_value : (call : Call K V A) (task : Task) → task_of_call call ≡ Some task → HasValue task Nothing (value_of_call call)
+  begun_value : (call : Call K V A) (task : Task) → task_of_call call ≡ Some task → HasValue task (handed (value_of_call call))
   begun_value call task is = begins_with call task (task_is_own call task is)
+
+-- and is to make no pair of what its closure answered, for it answered nothing
+begun_unpaired : (task : Task) (hash : ℕ) (mode : ResizeMode) (initial number : ℕ) (limit : Option ℕ) → IsToPair (started task hash mode initial number limit).call → ⊥
+begun_unpaired task hash mode initial number limit (inl (purpose, e)) = cc
+begun_unpaired task hash mode initial number limit (inr (old, new, e)) = cc
+
+-- it has read no count of numbers
+begun_number : (limit : Option ℕ) (words : At → ℕ) → IsNumberRead words (wanted limit)
+begun_number None words = tt
+begun_number (Some most) words = tt
 
 module _ {K V S A : Type 0} (eq : K → K → Bool) (hash : S → K → ℕ) (s : CoreState K V S A) (law : IsLawfulKeys eq (hash s.store.hasher)) where
   -- a call that begins alone is so
@@ -101,22 +117,22 @@ module _ {K V S A : Type 0} (eq : K → K → Bool) (hash : S → K → ℕ) (s 
           record {
             callers = alone (works.Call r) e;
             lawful = in_order';
-            maker = subst (λ (y : Running K V A). IsMaker y) (sym is.is) (record { key = (is.key, refl); value = begun_value call is.task is.task_is; answered = tt });
-            current = subst (λ (y : Running K V A). IsCurrent (word_at s'.store.words) y.machine) (sym is.is) (tt, tt);
+            maker = subst (λ (y : Running K V A). IsMaker y) (sym is.is) (record { value = begun_value call is.task is.task_is; answered = λ pairs. absurd (begun_unpaired is.task (hash s.store.hasher is.key) s.mode.resize s.initial x.number s.mode.limit pairs) });
+            current = subst (λ (y : Running K V A). IsCurrent (word_at s'.store.words) y.machine) (sym is.is) (record { number = begun_number s.mode.limit (word_at s'.store.words); read = (tt, tt) });
           }
       by_work (works.Resize z) e =
           let is = resizer_begun_is (hash s.store.hasher) s.mode s.initial x.number call z e in
           record {
             callers = alone (works.Resize z) e;
             lawful = in_order';
-            read = subst (IsResizerRead (word_at s'.store.words)) (sym is.is) (begun_read s.mode (word_at s'.store.words) is.resize);
+            read = subst (IsResizerRead (word_at s'.store.words)) (sym is.is) (begun_read s.mode.resize (word_at s'.store.words) is.resize);
           }
       by_work (works.Visit v) e =
           let is = visitor_begun_is (hash s.store.hasher) s.mode s.initial x.number call v e in
           record {
             callers = alone (works.Visit v) e;
             lawful = in_order';
-            read = subst (λ (y : Visiting A). IsVisitorRead (word_at s'.store.words) y.visitor) (sym is.is) (visit_read s.mode is.visit);
+            read = subst (λ (y : Visiting A). IsVisitorRead (word_at s'.store.words) y.visitor) (sym is.is) (visit_read s.mode.resize is.visit);
           }
 
   module _ (says : Says K V A) (refuse : Bool) (s' : CoreState K V S A) (event : Event) (x : Advances eq says hash refuse s 0 s' event None) (core : IsCore s.store s.callers s.mode) (es : List (Exchange (Stored K V))) (tales : ℕ → Tale K V) (kept : IsKept eq (hash s.store.hasher) s.mode s.store s.callers es tales)
@@ -181,9 +197,15 @@ module _ {K V S A : Type 0} (eq : K → K → Bool) (hash : S → K → ℕ) (s 
         let (p, last, number, same, moment) = machine_shows g c tale.begun tale.since call.key hashed x.before.machine.call tale.hands.call call.rests.call n (call_asks x.before.machine (ShowPair n) e).1 in
         (p, subst (λ m. pair_of s.store m ≡ Some p) number (call.last p last))
 
+    -- and so is one of whose key a pair is to be made
+    loaded : (n : ℕ) → ask_of x.before.machine ≡ asks.Call (MakePairOf n) → (p : Stored K V) × (pair_of s.store n ≡ Some p)
+    loaded n e =
+        let (p, last, number, same) = machine_copied g c hashed tale.begun tale.since call.key tale.hands.call x.before.machine.call call.rests.call n (call_asks x.before.machine (MakePairOf n) e).1 in
+        (p, subst (λ m. pair_of s.store m ≡ Some p) number (call.last p last))
+
     -- what is asked is served
     served : IsServedAsk x.before.machine.call.task (ask_of x.before.machine) x.answer
-    served = ask_served eq says hash refuse s.store x.before x.answer s'.store x.later x.performs (core.standing 0 x.before x.was).call.state maker call.answers shows (core.going 0 x.before x.was)
+    served = ask_served eq says hash refuse s.store x.before x.answer s'.store x.later x.performs (core.standing 0 x.before x.was).call.state maker call.answers shows loaded (core.going 0 x.before x.was)
 
     -- the table that it is about to link has its words
     words : HasWords g (link_in x.before.machine.phase)

@@ -1,5 +1,5 @@
 -- The run of one call that is made alone: what it leaves of the core, and its history.
-use Rattle.std.proofs.Common.{◌≡◌, ◌⊎◌, inl, inr, ℕ, zero, suc, ◌≤◌, ◌<◌, ◌+ℤ◌, Bool, true, false, Option, None, Some, List, [], ◌∷◌, ◌++◌, length, slice_get, refl, sym, ◌∙◌, ap, subst, arith}
+use Rattle.std.proofs.Common.{◌≡◌, ◌⊎◌, inl, inr, ℕ, zero, suc, ◌≤◌, ◌<◌, ◌+ℤ◌, Bool, true, false, Option, None, Some, List, [], ◌∷◌, ◌++◌, length, refl, sym, ◌∙◌, ap, subst, arith}
 use Rattle.std.specs.Int.{w64, int_wrap}
 use Rattle.papaya_call.specs.Answers.{Says}
 use Rattle.papaya_ask.specs.declared.ask.Ask.TheVariants.{Done as Ask_done}
@@ -11,7 +11,7 @@ use Rattle.papaya_ask.specs.declared.call.Task.TheVariants.{Insert, Compute}
 use Rattle.papaya_law.specs.Exchange.{Exchange, Setting}
 use Rattle.papaya_chain.specs.declared.ask.Ask.TheVariants as asks
 use Rattle.papaya_chain.specs.Machine.{after, ask_of, kind_of_ask}
-use Rattle.papaya_rests.specs.Rests.{IsOwnPair, IsReply, change_in}
+use Rattle.papaya_rests.specs.Rests.{IsMadePair, IsReply, change_in}
 use Rattle.papaya_rests.specs.Told.{Hands, IsOneOf}
 use Rattle.papaya_timeline.specs.declared.seat.Seat.{Seat}
 use Rattle.papaya_store.specs.declared.pairs.Pair.{Pair}
@@ -36,7 +36,7 @@ use Rattle.papaya_timeline.specs.Counted.{IsCounted, owed_in}
 use Rattle.papaya_timeline.specs.Kept.{IsKept, IsLawfulCore, Tale, begun_tales, coding_of, low, setting_of, told_tales}
 use Rattle.papaya_timeline.specs.Runs.{BeginRuns, History, StepRuns, StepsRun, TurnRuns, TurnsRun, with_event, with_step}
 use Rattle.papaya_timeline.specs.Solo.{IsNewIn, RunsAlone, whatever}
-use Rattle.papaya_store.specs.Store.{KeepsPairs, StoreState, Stored, pair_of, stored_at, stored_in}
+use Rattle.papaya_store.specs.Store.{KeepsPairs, StoreState, Stored, pair_of}
 use Rattle.papaya_timeline.specs.Timeline.{begins, open_after}
 use Rattle.papaya_timeline.specs.Maps.{Same}
 use Rattle.papaya_timeline.proofs.AdvanceLemmas.{unmoved}
@@ -48,7 +48,7 @@ use Rattle.papaya_timeline.proofs.StepEvents.{event_begins, event_open, stage_mo
 use Rattle.papaya_timeline.proofs.HeadlineLemmas.{advance-core, begin-core, resize-core}
 use Rattle.papaya_timeline.proofs.KeptCore.{performs-hasher}
 use Rattle.papaya_timeline.proofs.KeptLemmas.{IsLawfulKeys, IsStep, kept_begin, kept_step}
-use Rattle.papaya_timeline.proofs.KeptLogs.{pair_below}
+use Rattle.papaya_store.proofs.Logs.{pair_below, pair_number}
 use Rattle.papaya_timeline.proofs.MachineLemmas.{machine_replies}
 use Rattle.papaya_timeline.proofs.SoloTimeline.{AreOfSteps, IsOfStep, open_history}
 use Rattle.papaya_words.specs.declared.probe.Refused.{Refused as Refusal}
@@ -72,21 +72,7 @@ of_step (Gave n) no_begin stays = tt
 of_step Other no_begin stays = tt
 of_step (Replied reply) no_begin stays = cc
 
--- a pair that is logged has the number that it is logged under
-number_stored : {K V : Type 0} (n : ℕ) (v : V) (o : Option K) (p : Stored K V) → stored_at n v o ≡ Some p → p.number ≡ n
-number_stored n v None p e = let f : None ≡ Some p = e in cc
-number_stored {K} {V} n v (Some k) p e = let same : record { number = n; key = k; value = v } ≡ p = same_item _ p e in sym (ap (λ (q : Stored K V). q.number) same)
-
--- and so has one that was read from the log
-number_in_log : {K V : Type 0} (keys : List K) (n : ℕ) (o : Option (Pair V)) (p : Stored K V) → stored_in keys n o ≡ Some p → p.number ≡ n
-number_in_log keys n None p e = let f : None ≡ Some p = e in cc
-number_in_log keys n (Some pair) p e = number_stored n pair.value (slice_get keys pair.key) p e
-
 module _ {K V S : Type 0} where
-  -- so it is in a store
-  number_logged : (store : StoreState K V S) (n : ℕ) (p : Stored K V) → pair_of store n ≡ Some p → p.number ≡ n
-  number_logged store n p e = number_in_log store.keys n (slice_get store.pairs n) p e
-
   -- under a number past the end of the log there is nothing
   past_log : (store : StoreState K V S) (n : ℕ) → length store.pairs ≤ n → pair_of store n ≡ None
   past_log store n past = by_pair (pair_of store n) refl
@@ -157,7 +143,7 @@ module _ {K V S A : Type 0} (eq : K → K → Bool) (hash : S → K → ℕ) (s 
         mode_is = x.mode ∙ f.mode_is;
         initial_is = x.initial ∙ f.initial_is;
         keeps = λ n p e. let there = f.keeps n p e in
-            let number = number_logged now.store n p there in
+            let number = pair_number now.store n p there in
             subst (λ m. pair_of s'.store m ≡ Some p) number (step.logged p (subst (λ m. pair_of now.store m ≡ Some p) (sym number) there));
         longer = let more = f.longer in let further = step.longer in omega arith;
         new = new_after now s' event reply f x;
@@ -178,7 +164,7 @@ module _ {K V S A : Type 0} (eq : K → K → Bool) (hash : S → K → ℕ) (s 
         mode_is = x.mode ∙ f.mode_is;
         initial_is = x.initial ∙ f.initial_is;
         keeps = λ n p e. left_logged (setting_of eq (low (hash s.store.hasher)) now.mode now.store.words.tables) (coding_of (low (hash s.store.hasher))) now.store f.es (f.tales 0).hands left n p (f.keeps n p e);
-        longer = let more = f.longer in let same = ap (λ (l : List (Pair V)). length l) left.pairs_are in omega (arith, more, same);
+        longer = let more = f.longer in let same = ap (λ (l : List (Pair K V)). length l) left.pairs_are in omega (arith, more, same);
         new = λ q made. f.new q (subst (λ l. IsOneOf l q) left.same_made made);
       }
 
@@ -197,19 +183,19 @@ module _ {K V S A : Type 0} (eq : K → K → Bool) (hash : S → K → ℕ) (s 
         mode_is = x.mode ∙ f.mode_is;
         initial_is = x.initial ∙ f.initial_is;
         keeps = λ n p e. then.keeps n p (f.keeps n p e);
-        longer = let more = f.longer in let same = ap (λ (l : List (Pair V)). length l) then.pairs_are in omega (arith, more, same);
+        longer = let more = f.longer in let same = ap (λ (l : List (Pair K V)). length l) then.pairs_are in omega (arith, more, same);
         new = λ q made. f.new q (subst (λ (l : chain_told.Hands (Stored K V)). IsOneOf l.call.made q) then.own_made made);
       }
 
   -- the pair that a call replies that it made was not logged at the begin
-  owned : (g : Setting K (Stored K V)) (first since : List (Exchange (Stored K V))) (k : K) (hands : Hands (Stored K V)) (n : ℕ) → ((q : Stored K V) → IsOneOf hands.made q → length s.store.pairs ≤ q.number) → IsOwnPair g (coding_of (low (hash s.store.hasher))) first since k hands n → pair_of s.store n ≡ None
+  owned : (g : Setting K (Stored K V)) (first since : List (Exchange (Stored K V))) (k : K) (hands : Hands (Stored K V)) (n : ℕ) → ((q : Stored K V) → IsOneOf hands.made q → length s.store.pairs ≤ q.number) → IsMadePair g (coding_of (low (hash s.store.hasher))) first since k hands n → pair_of s.store n ≡ None
   owned g first since k hands n new (q, made, number) = past_log s.store n (let most = new q made in let same : q.number ≡ n = number in omega arith)
 
   -- whatever it replies
   unlogged_by : (g : Setting K (Stored K V)) (first since : List (Exchange (Stored K V))) (k : K) (hands : Hands (Stored K V)) (task : Task) (reply : Reply) → ((q : Stored K V) → IsOneOf hands.made q → length s.store.pairs ≤ q.number) → IsReply g (coding_of (low (hash s.store.hasher))) first since k hands task reply → IsNewIn s.store reply
-  unlogged_by g first since k hands (Insert replace) (Inserted n) new own = owned g first since k hands n new own
+  unlogged_by g first since k hands (Insert replace) (Inserted n) new (q, made, number, key) = owned g first since k hands n new (q, made, number)
   unlogged_by g first since k hands (Insert true) (Replaced o n) new own = owned g first since k hands n new own
-  unlogged_by g first since k hands Compute (Inserted n) new own = owned g first since k hands n new own
+  unlogged_by g first since k hands Compute (Inserted n) new (q, made, number, key) = owned g first since k hands n new (q, made, number)
   unlogged_by g first since k hands Compute (Replaced o n) new own = owned g first since k hands n new own
   unlogged_by g first since k hands task Absent new own = tt
   unlogged_by g first since k hands task (Found n) new own = tt
@@ -438,7 +424,7 @@ module _ {K V S A : Type 0} (eq : K → K → Bool) (hash : S → K → ℕ) (s 
   pub without_seat : (s' : CoreState K V S A) {says : Says K V A} → Follows eq hash s law says s' → IsLawfulCore {A = A} eq (hash s'.store.hasher) s'.store [] s'.mode
   without_seat s' f =
       record {
-        core = record { chunked = f.core.chunked; sizes = f.core.sizes; standing = λ caller r e. let n : None ≡ Some r = e in absurd cc; going = λ caller r e. let n : None ≡ Some r = e in absurd cc; resizers = λ caller z e. let n : None ≡ Some z = e in absurd cc; visitors = λ caller v e. let n : None ≡ Some v = e in absurd cc };
+        core = record { chunked = f.core.chunked; limit = f.core.limit; sizes = f.core.sizes; standing = λ caller r e. let n : None ≡ Some r = e in absurd cc; going = λ caller r e. let n : None ≡ Some r = e in absurd cc; resizers = λ caller z e. let n : None ≡ Some z = e in absurd cc; visitors = λ caller v e. let n : None ≡ Some v = e in absurd cc };
         law = subst (λ y. (es : _) × ((tales : _) × IsKept {A = A} eq (hash y) s'.mode s'.store [] es tales)) (sym f.hasher_is) (
           f.es,
           (

@@ -59,6 +59,7 @@ IsCopyKind (Some kinds.Open) = ⊥
 IsCopyKind (Some kinds.Claim) = ⊥
 IsCopyKind (Some kinds.Replace) = ⊥
 IsCopyKind (Some kinds.Bury) = ⊥
+IsCopyKind (Some kinds.Take) = ⊥
 IsCopyKind _ = Unit {0}
 
 -- a copy asks for no other
@@ -109,6 +110,7 @@ moved_cases P other moved kind copies old new answer = by_answer answer
     by_kind (Some kinds.Claim) copies = absurd copies
     by_kind (Some kinds.Replace) copies = absurd copies
     by_kind (Some kinds.Bury) copies = absurd copies
+    by_kind (Some kinds.Take) copies = absurd copies
     by_kind (Some kinds.Link) copies = moved kinds.Link
     by_kind (Some kinds.Mark) copies = moved kinds.Mark
     by_kind (Some kinds.Close) copies = moved kinds.Close

@@ -1,9 +1,9 @@
 -- What a step's event tells of its ask and the answer, what a closure answered in it, and which value is at hand after it. A copy asks no closure, and leaves the call as it was.
-use Rattle.std.proofs.Common.{◌≡◌, ◌⊎◌, inl, inr, ⊎_elim, ℕ, Bool, true, false, Option, None, List, ◌∷◌, length, refl, sym, ◌∙◌, ap, subst}
+use Rattle.std.proofs.Common.{◌≡◌, ◌⊎◌, inl, inr, ⊎_elim, ℕ, Bool, true, false, Option, List, ◌∷◌, refl, sym, ◌∙◌, ap, subst}
 use Rattle.papaya_call.specs.Answers.{Says}
 use Rattle.papaya_ask.specs.declared.ask.At.{At}
 use Rattle.papaya_ask.specs.declared.ask.Ask.{Ask as Call_ask}
-use Rattle.papaya_ask.specs.declared.ask.Ask.TheVariants.{Exchange as Ask_exchange, ShowPair, MakePair}
+use Rattle.papaya_ask.specs.declared.ask.Ask.TheVariants.{Exchange as Ask_exchange, ShowPair}
 use Rattle.papaya_ask.specs.declared.ask.Answer.{Answer as Call_answer}
 use Rattle.papaya_ask.specs.declared.ask.Answer.TheVariants.{Yes, Op, Made as Made_number}
 use Rattle.papaya_ask.specs.declared.ask.OpKind.{OpKind}
@@ -17,7 +17,7 @@ use Rattle.papaya_chain.specs.declared.machine.Machine.{Machine}
 use Rattle.papaya_chain.specs.Machine.{ask_of, kind_of_ask}
 use Rattle.papaya_law.specs.Code.{Coding}
 use Rattle.papaya_law.specs.Exchange.{Exchange, Setting, State}
-use Rattle.papaya_rests.specs.Says.{show}
+use Rattle.papaya_rests.specs.Says.{MakesPair, show}
 use Rattle.papaya_chain_rests.specs.Told.{Hands, IsTold}
 use Rattle.papaya_store.specs.declared.pairs.Running.{Running}
 use Rattle.papaya_store.specs.Asks.{PerformsAsk}
@@ -29,6 +29,9 @@ use Rattle.papaya_timeline.specs.Given.{asks_closure}
 use Rattle.papaya_timeline.proofs.StepEvents.{IsCopyKind, copy_cases, copy_kind, copy_moves}
 use Rattle.papaya_timeline.proofs.TellLemmas as calls
 use Rattle.papaya_timeline.proofs.TellLemmas.{IsAnswering, silent}
+use Rattle.papaya_store.specs.Pairs.{value_at}
+use Rattle.papaya_store.specs.Performs.{own_value}
+use Rattle.papaya_timeline.proofs.StoreLemmas.{copy_pairs}
 
 -- what an event tells: a change was asked for by the call itself, and a closure was shown something and answered; no step begins a call or is a reply
 abbrev pub Tells : Event → Ask → Answer → Type 0
@@ -73,30 +76,25 @@ module _ {K V S A : Type 0} (eq : K → K → Bool) (says : Says K V A) (hash : 
       silent eq says refuse kind s r (Yes false) s' r' (event_of kind (asks.Copy ask) a) (λ asking. let f : false ≡ true = sym (unasked kind ask a) ∙ asking in absurd cc) (ap (λ (z : Running K V A). z.answers) as_was)
 
   module _ (s : StoreState K V S) (r : Running K V A) (a : Answer) (s' : StoreState K V S) (r' : Running K V A) where
-    -- the value at hand is that of before, or a pair was made of it, or a closure answered
+    -- the value of the call is that of before, or a closure answered
     abbrev pub AtHand : Ask → Type 0
-    AtHand ask = (r'.value ≡ r.value) ⊎ ((n : ℕ) × (ask ≡ asks.Call MakePair) × (a ≡ answers.Call (Made_number n)) × (r'.value ≡ None)) ⊎ ((shown : Option ℕ) × (op : OpKind) × (ask ≡ asks.Call (show shown)) × (a ≡ answers.Call (Op op)))
+    AtHand ask = calls.SameValue eq says refuse s r (Yes false) s' r' ⊎ ((shown : Option ℕ) × (op : OpKind) × (ask ≡ asks.Call (show shown)) × (a ≡ answers.Call (Op op)))
 
     pub at_hand : (ask : Ask) → PerformsAsk eq says hash refuse ask s r a s' r' → AtHand ask
     at_hand (asks.Call ask) (told, is, performs) =
         ⊎_elim
-        (λ (kept : r'.value ≡ r.value). inl kept)
-        (λ z. ⊎_elim
-        (λ (pair : (n : ℕ) × (ask ≡ MakePair) × (told ≡ Made_number n) × (r'.value ≡ None)). inr (inl (pair.0, ap asks.Call pair.1, is ∙ ap answers.Call pair.2, pair.3)))
-        (λ (showing : (shown : Option ℕ) × (op : OpKind) × (ask ≡ show shown) × (told ≡ Op op)). inr (inr (showing.0, showing.1, ap asks.Call showing.2, is ∙ ap answers.Call showing.3)))
-        z)
+        (λ (kept : calls.SameValue eq says refuse s r told s' r'). inl kept)
+        (λ (showing : (shown : Option ℕ) × (op : OpKind) × (ask ≡ show shown) × (told ≡ Op op)). inr (showing.0, showing.1, ap asks.Call showing.2, is ∙ ap answers.Call showing.3))
         (calls.at_hand eq says refuse s r told s' r' ask performs)
-    at_hand (asks.Copy ask) (performs, as_was) = inl (ap (λ (y : Running K V A). y.value) as_was)
-
-    -- a pair that is made has the number after all others
-    pub made_number : (n : ℕ) → PerformsAsk eq says hash refuse (asks.Call MakePair) s r a s' r' → a ≡ answers.Call (Made_number n) → n ≡ length s.pairs
-    made_number n (told, is, performs) made = let same : told ≡ Made_number n = cc (is, made) in calls.made_number eq says refuse s r told s' r' n performs same
+    at_hand (asks.Copy ask) (performs, as_was) =
+        let same : own_value s' r' ≡ own_value s r = ap (λ l. value_at l r'.value) (copy_pairs eq hash refuse ask s a s' performs) ∙ ap (λ (y : Running K V A). value_at s.pairs y.value) as_was in
+        inl (λ v h. same ∙ h, λ valued v h. sym same ∙ h)
 
 module _ {K P : Type 0} (g : Setting K P) (c : Coding K P) (k : K) (s : State P) (kind : Option StepKind) (follows : ℕ) (hands : Hands P) where
   -- a pair that was made is at the head of those that the machine was told of
-  pub told_made : (ask : Ask) (a : Answer) (es : List (Exchange P)) (hands' : Hands P) (n : ℕ) → ask ≡ asks.Call MakePair → a ≡ answers.Call (Made_number n) → IsTold g c k s kind follows hands ask a es hands' → (q : P) × (c.number q ≡ n) × (hands'.call.made ≡ q ∷ hands.call.made)
-  told_made ask a es hands' n asking is told =
+  pub told_made : (asked : Call_ask) (ask : Ask) (a : Answer) (es : List (Exchange P)) (hands' : Hands P) (n : ℕ) → ask ≡ asks.Call asked → MakesPair asked → a ≡ answers.Call (Made_number n) → IsTold g c k s kind follows hands ask a es hands' → (q : P) × (c.number q ≡ n) × (hands'.call.made ≡ q ∷ hands.call.made)
+  told_made asked ask a es hands' n asking makes is told =
       let h = subst (λ y. IsTold g c k s kind follows hands y a es hands') asking told in
       let same : h.told ≡ Made_number n = cc (h.is, is) in
-      let (q, number, made) = calls.told_made g c k s kind hands.call MakePair h.told es h.call n refl same h.tells in
+      let (q, number, made) = calls.told_made g c k s kind hands.call asked h.told es h.call n makes same h.tells in
       (q, number, ap (λ (y : Hands P). y.call.made) h.handed ∙ made)

@@ -6,9 +6,9 @@ use Rattle.papaya_timeline.proofs.ShowLemmas.{IsShowing, none_shown, pair_shown}
 use Rattle.papaya_words.specs.Table.{TableWords, new_table, noted as noted_hints}
 use Rattle.papaya_call.specs.Answers.{Says}
 use Rattle.papaya_ask.specs.declared.ask.At.{At}
-use Rattle.papaya_ask.specs.declared.ask.At.TheVariants.{Root, Next, Aborted, Done, Slot}
+use Rattle.papaya_ask.specs.declared.ask.At.TheVariants.{Root, Next, Aborted, Done, Slot, Made}
 use Rattle.papaya_ask.specs.declared.ask.Ask.{Ask}
-use Rattle.papaya_ask.specs.declared.ask.Ask.TheVariants.{Load, Exchange, LoadHint, WriteHint, SameKey, ShowNone, ShowPair, SizeOf, MakeKey, MakePair, MakeTable, AddToShard, Done as Ask_done}
+use Rattle.papaya_ask.specs.declared.ask.Ask.TheVariants.{Load, Exchange, LoadHint, WriteHint, SameKey, ShowNone, ShowPair, SizeOf, MakeKey, MakeValue, MakePair, MakePairOf, MakeTable, AddToShard, Done as Ask_done}
 use Rattle.papaya_ask.specs.declared.ask.Answer.{Answer}
 use Rattle.papaya_ask.specs.Search.{IsSize}
 use Rattle.papaya_ask.specs.declared.copy_ask.CopyAsk.{CopyAsk}
@@ -20,18 +20,58 @@ use Rattle.papaya_chain.specs.declared.ask.Ask.TheVariants as chain_asks
 use Rattle.papaya_chain.specs.declared.ask.Answer.{Answer as Chain_answer}
 use Rattle.papaya_chain.specs.declared.ask.Answer.TheVariants as answers
 use Rattle.papaya_chain.specs.Machine as machine
+use Rattle.papaya_store.specs.declared.pairs.Part.{Part}
+use Rattle.papaya_store.specs.declared.pairs.Part.TheVariants.{Logged}
 use Rattle.papaya_store.specs.declared.pairs.Running.{Running}
 use Rattle.papaya_words.specs.declared.limits.TheConstants.{MAX_TABLES, MAX_LOG_LEN}
 use Rattle.papaya_store.specs.Tables.{Tables, hint_in, hinted, note, table_of, word_at, written, put, put_at, put_in}
 use Rattle.papaya_store.specs.Store.{StoreState, Stored, pair_of}
 use Rattle.papaya_store.specs.Asks.{PerformsAsk}
 use Rattle.papaya_store.specs.Copies.{PerformsCopy, hash_in}
-use Rattle.papaya_store.specs.Performs.{Exchanges, Performs, Refuses, Stays, LogsKey, LogsPair, MakesTable, HasKey, HasNoPair, size_of}
+use Rattle.papaya_store.specs.Pairs.{brought_by}
+use Rattle.papaya_store.specs.Performs.{Exchanges, Performs, Refuses, Stays, HasNoPair, HasNoPairOf, IsPutOff, LogsOf, LogsOwn, LogsPair, MakesOr, MakesTable, size_of}
+use Rattle.papaya_ask.specs.declared.ask.Answer.TheVariants.{Made as Made_number, Ok as Ok_told, Refused as Was_refused}
+use Rattle.papaya_words.specs.declared.probe.Refused.TheVariants.{Memory, Capacity}
 
 -- what a test of two facts chose
 pub matched : (R : Type 0) (b : Bool) (P Q : Type 0) → MatchBool b P Q → (b ≡ true → P → R) → (b ≡ false → Q → R) → R
 matched R true P Q h f g = f refl h
 matched R false P Q h f g = g refl h
+
+module _ {K V S A : Type 0} (s : StoreState K V S) (r : Running K V A) (a : Answer) (s' : StoreState K V S) (r' : Running K V A) where
+  -- Nothing was logged: that was refused, there was nothing to log, or it goes into the log with a pair.
+  abbrev pub IsUnlogged : Type 0
+  IsUnlogged = (a ≡ Was_refused Memory) ⊎ (a ≡ Was_refused Capacity) ⊎ (a ≡ Ok_told) ⊎ (a ≡ Made_number 0)
+
+  -- what an ask for a key, a value or a pair leaves
+  abbrev pub LogsOrNot : Type 0
+  LogsOrNot = (IsUnlogged × Stays s r s' r') ⊎ ((key : Part K) × (left : Part K) × LogsPair key left a s r s' r')
+
+  unlogged : (most count : ℕ) → Refuses most count a → IsUnlogged
+  unlogged most count (inl e) = inl e
+  unlogged most count (inr (e, full)) = inr (inl e)
+
+  -- a key or a value
+  pub part_logs : (refuse : Bool) → MakesOr refuse a s r s' r' (IsPutOff a s r s' r') → LogsOrNot
+  part_logs refuse h = matched LogsOrNot refuse _ _ h (λ _ none. inl (inl none.0, none.1)) (λ _ off. inl (inr (inr (inr off.0)), off.1))
+
+  -- a pair of the call's own key
+  pub own_logs : (refuse : Bool) → MakesOr refuse a s r s' r' ((Refuses MAX_LOG_LEN (length s.pairs) a × Stays s r s' r') ⊎ (HasNoPair a r × Stays s r s' r') ⊎ LogsOwn a s r s' r') → LogsOrNot
+  own_logs refuse h = matched LogsOrNot refuse _ _ h (λ _ none. inl (inl none.0, none.1)) (λ _ makes. by_cases makes)
+    where
+      by_cases : (Refuses MAX_LOG_LEN (length s.pairs) a × Stays s r s' r') ⊎ (HasNoPair a r × Stays s r s' r') ⊎ LogsOwn a s r s' r' → LogsOrNot
+      by_cases (inl (f, stays)) = inl (unlogged _ _ f, stays)
+      by_cases (inr (inl (has, stays))) = inl (inr (inr (inl has.0)), stays)
+      by_cases (inr (inr logs)) = inr (r.key, Logged (brought_by (length s.pairs) r.key), logs)
+
+  -- and one of another's
+  pub of_logs : (refuse : Bool) (n : ℕ) → MakesOr refuse a s r s' r' ((Refuses MAX_LOG_LEN (length s.pairs) a × Stays s r s' r') ⊎ (HasNoPairOf n a s r × Stays s r s' r') ⊎ LogsOf n a s r s' r') → LogsOrNot
+  of_logs refuse n h = matched LogsOrNot refuse _ _ h (λ _ none. inl (inl none.0, none.1)) (λ _ makes. by_cases makes)
+    where
+      by_cases : (Refuses MAX_LOG_LEN (length s.pairs) a × Stays s r s' r') ⊎ (HasNoPairOf n a s r × Stays s r s' r') ⊎ LogsOf n a s r s' r' → LogsOrNot
+      by_cases (inl (f, stays)) = inl (unlogged _ _ f, stays)
+      by_cases (inr (inl (has, stays))) = inl (inr (inr (inl has.0)), stays)
+      by_cases (inr (inr (first, from, logs))) = inr (Logged first, r.key, logs)
 
 -- each table of a list has the size of a table
 abbrev pub AllSized : List TableWords → Type 0
@@ -55,6 +95,7 @@ unnumbered tables all i t e =
 -- a write keeps a table's size
 written-size : (at : At) (t : TableWords) (word : ℕ) → IsSize (length t.slots) t.limit → IsSize (length (written at t word).slots) (written at t word).limit
 written-size Root t word h = h
+written-size Made t word h = h
 written-size (Next n) t word h = h
 written-size (Aborted n) t word h = h
 written-size (Done n chunk) t word h = elim (nat_lt chunk (length t.done)) as (λ b. IsSize (length (cond b (record t { done = slice_set t.done chunk word }) t).slots) (cond b (record t { done = slice_set t.done chunk word }) t).limit) [ true ↦ h | false ↦ h ]
@@ -96,6 +137,7 @@ put_at-sized at n w word all = go (n == 0)
 
 pub put-sized : (w : Tables) (at : At) (word : ℕ) → AllSized w.tables → AllSized (put w at word).tables
 put-sized w Root word all = all
+put-sized w Made word all = all
 put-sized w (Next n) word all = put_at-sized (Next n) n w word all
 put-sized w (Aborted n) word all = put_at-sized (Aborted n) n w word all
 put-sized w (Done n chunk) word all = put_at-sized (Done n chunk) n w word all
@@ -140,7 +182,7 @@ module _ {K V S : Type 0} where
   quiet a s s' fit same all = record { fit = fit; sized = subst (λ (y : StoreState K V S). AllSized y.words.tables) (sym same) all }
 
   -- what a closure says is within the limits
-  said_fit : {A : Type 0} (s : StoreState K V S) (r : Running K V A) (a : Answer) (s' : StoreState K V S) (r' : Running K V A) → IsShowing s r a s' r' → AllSized s.words.tables → IsKept a s'
+  said_fit : {A Computes : Type 0} (s : StoreState K V S) (r : Running K V A) (a : Answer) (s' : StoreState K V S) (r' : Running K V A) → IsShowing Computes s r a s' r' → AllSized s.words.tables → IsKept a s'
   said_fit s r a s' r' shown all = quiet a s s' (elim shown.says [ inl agrees ↦ said a _ agrees.1 tt | inr others ↦ elim others [ inl op ↦ said a _ op.1 tt | inr none ↦ said a _ none tt ] ]) shown.store all
 
   refused : (most count : ℕ) (a : Answer) (s s' : StoreState K V S) → Refuses most count a → s' ≡ s → AllSized s.words.tables → IsKept a s'
@@ -175,6 +217,14 @@ module _ {K V S : Type 0} where
   noted t x hint s a s' all fit same = record { fit = fit; sized = subst (λ (y : StoreState K V S). AllSized y.words.tables) (sym same) (note-sized s.words t x hint all) }
 
 module _ {K V S A : Type 0} (eq : K → K → Bool) (says : Says K V A) where
+  -- a key, a value or a pair
+  made_fit : (s : StoreState K V S) (r : Running K V A) (a : Answer) (s' : StoreState K V S) (r' : Running K V A) → AllSized s.words.tables → LogsOrNot s r a s' r' → IsKept a s'
+  made_fit s r a s' r' all (inl (inl e, stays)) = quiet a s s' (said a _ e tt) stays.0 all
+  made_fit s r a s' r' all (inl (inr (inl e), stays)) = quiet a s s' (said a _ e tt) stays.0 all
+  made_fit s r a s' r' all (inl (inr (inr (inl e)), stays)) = quiet a s s' (said a _ e tt) stays.0 all
+  made_fit s r a s' r' all (inl (inr (inr (inr e)), stays)) = quiet a s s' (said a _ e (omega arith)) stays.0 all
+  made_fit s r a s' r' all (inr (key, left, (value, has, e, few, same, moved))) = record { fit = said a _ e few; sized = subst (λ (y : StoreState K V S). AllSized y.words.tables) (sym same) all }
+
   -- what an answered ask leaves
   pub performed : (refuse : Bool) (ask : Ask) (s : StoreState K V S) (r : Running K V A) (a : Answer) (s' : StoreState K V S) (r' : Running K V A) → AllSized s.words.tables → IsFitAsk ask → Performs eq says refuse ask s r a s' r' → IsKept a s'
   performed refuse (Load at) s r a s' r' all fit (e, stays) = quiet a s s' (said a _ e tt) stays.0 all
@@ -185,24 +235,10 @@ module _ {K V S A : Type 0} (eq : K → K → Bool) (says : Says K V A) where
   performed refuse (LoadHint t x) s r a s' r' all fit (e, stays) = quiet a s s' (said a _ e tt) stays.0 all
   performed refuse (WriteHint t x hint) s r a s' r' all fit (e, same, _) = noted t x hint s a s' all (said a _ e tt) same
   performed refuse (SizeOf n) s r a s' r' all fit (e, stays) = quiet a s s' (sized_answer a s n all e) stays.0 all
-  performed refuse MakeKey s r a s' r' all fit h =
-      matched (IsKept a s') refuse _ _ h
-      (λ _ none. quiet a s s' (said a _ none.0 tt) none.1.0 all)
-      (λ _ makes. key_made s r a s' r' all makes)
-    where
-      key_made : (s : StoreState K V S) (r : Running K V A) (a : Answer) (s' : StoreState K V S) (r' : Running K V A) → AllSized s.words.tables → (Refuses MAX_LOG_LEN (length s.keys) a × Stays s r s' r') ⊎ (HasKey a r × Stays s r s' r') ⊎ LogsKey a s r s' r' → IsKept a s'
-      key_made s r a s' r' all (inl (f, stays)) = refused _ _ a s s' f stays.0 all
-      key_made s r a s' r' all (inr (inl (has, stays))) = quiet a s s' (said a _ has.0 tt) stays.0 all
-      key_made s r a s' r' all (inr (inr (k, own, e, few, same, _))) = record { fit = said a _ e few; sized = subst (λ (y : StoreState K V S). AllSized y.words.tables) (sym same) all }
-  performed refuse MakePair s r a s' r' all fit h =
-      matched (IsKept a s') refuse _ _ h
-      (λ _ none. quiet a s s' (said a _ none.0 tt) none.1.0 all)
-      (λ _ makes. pair_made s r a s' r' all makes)
-    where
-      pair_made : (s : StoreState K V S) (r : Running K V A) (a : Answer) (s' : StoreState K V S) (r' : Running K V A) → AllSized s.words.tables → (Refuses MAX_LOG_LEN (length s.pairs) a × Stays s r s' r') ⊎ (HasNoPair a r × Stays s r s' r') ⊎ LogsPair a s r s' r' → IsKept a s'
-      pair_made s r a s' r' all (inl (f, stays)) = refused _ _ a s s' f stays.0 all
-      pair_made s r a s' r' all (inr (inl (has, stays))) = quiet a s s' (said a _ has.0 tt) stays.0 all
-      pair_made s r a s' r' all (inr (inr (n, v, key, value, e, few, same, _))) = record { fit = said a _ e few; sized = subst (λ (y : StoreState K V S). AllSized y.words.tables) (sym same) all }
+  performed refuse MakeKey s r a s' r' all fit h = made_fit s r a s' r' all (part_logs s r a s' r' refuse h)
+  performed refuse MakeValue s r a s' r' all fit h = made_fit s r a s' r' all (part_logs s r a s' r' refuse h)
+  performed refuse MakePair s r a s' r' all fit h = made_fit s r a s' r' all (own_logs s r a s' r' refuse h)
+  performed refuse (MakePairOf n) s r a s' r' all fit h = made_fit s r a s' r' all (of_logs s r a s' r' refuse n h)
   performed refuse (MakeTable slots limit chunks) s r a s' r' all fit h =
       matched (IsKept a s') refuse _ _ h
       (λ _ none. quiet a s s' (said a _ none.0 tt) none.1.0 all)
@@ -245,3 +281,38 @@ module _ {K V S : Type 0} where
     pub performed_ask : {A : Type 0} (says : Says K V A) (refuse : Bool) (ask : Chain_ask) (s : StoreState K V S) (r : Running K V A) (a : Chain_answer) (s' : StoreState K V S) (r' : Running K V A) → AllSized s.words.tables → machine.IsFitAsk ask → PerformsAsk eq says hash refuse ask s r a s' r' → IsKeptAsked a s'
     performed_ask says refuse (chain_asks.Call ask) s r a s' r' all fit (told, is, h) = as_call a told s' is (performed eq says refuse ask s r told s' r' all fit h)
     performed_ask says refuse (chain_asks.Copy ask) s r a s' r' all fit (h, same) = performed_copy refuse ask s a s' all fit h
+
+module _ {K V S : Type 0} (eq : K → K → Bool) (hash : S → K → ℕ) (refuse : Bool) where
+  -- a copy leaves the log
+  pub copy_pairs : (ask : CopyAsk) (s : StoreState K V S) (a : Chain_answer) (s' : StoreState K V S) → PerformsCopy eq hash refuse ask s a s' → s'.pairs ≡ s.pairs
+  copy_pairs (copies.Load at) s a s' (e, same) = ap (λ (y : StoreState K V S). y.pairs) same
+  copy_pairs (copies.Exchange at old new) s a s' (told, e, ex) =
+      matched (s'.pairs ≡ s.pairs) (word_at s.words at == old) _ _ ex (λ _ done. ap (λ (y : StoreState K V S). y.pairs) done.1) (λ _ lost. ap (λ (y : StoreState K V S). y.pairs) lost.1)
+  copy_pairs (copies.LoadHint t x) s a s' (e, same) = ap (λ (y : StoreState K V S). y.pairs) same
+  copy_pairs (copies.WriteHint t x hint) s a s' (e, same) = ap (λ (y : StoreState K V S). y.pairs) same
+  copy_pairs (copies.SizeOf t) s a s' (e, same) = ap (λ (y : StoreState K V S). y.pairs) same
+  copy_pairs (copies.HashOf n) s a s' (e, hashes, same) = ap (λ (y : StoreState K V S). y.pairs) same
+  copy_pairs (copies.SamePair m n) s a s' (e, same) = ap (λ (y : StoreState K V S). y.pairs) same
+  copy_pairs copies.Count s a s' (e, same) = ap (λ (y : StoreState K V S). y.pairs) same
+  copy_pairs (copies.MakeTable slots limit chunks) s a s' (told, e, makes) =
+      matched (s'.pairs ≡ s.pairs) refuse _ _ makes
+      (λ _ none. ap (λ (y : StoreState K V S). y.pairs) none.1)
+      (λ _ made. ⊎_elim (λ refused. ap (λ (y : StoreState K V S). y.pairs) refused.1) (λ table. ap (λ (y : StoreState K V S). y.pairs) table.2) made)
+
+module _ {K V S : Type 0} (eq : K → K → Bool) (hash : S → K → ℕ) (refuse : Bool) where
+  -- it leaves the hasher
+  pub copy_hasher : (ask : CopyAsk) (s : StoreState K V S) (a : Chain_answer) (s' : StoreState K V S) → PerformsCopy eq hash refuse ask s a s' → s'.hasher ≡ s.hasher
+  copy_hasher (copies.Load at) s a s' (is, same) = ap (λ (y : StoreState K V S). y.hasher) same
+  copy_hasher (copies.Exchange at old new) s a s' (told, is, h) =
+      matched (s'.hasher ≡ s.hasher) (word_at s.words at == old) _ _ h
+      (λ _ done. ap (λ (y : StoreState K V S). y.hasher) done.1) (λ _ lost. ap (λ (y : StoreState K V S). y.hasher) lost.1)
+  copy_hasher (copies.LoadHint t x) s a s' (is, same) = ap (λ (y : StoreState K V S). y.hasher) same
+  copy_hasher (copies.WriteHint t x hint) s a s' (is, same) = ap (λ (y : StoreState K V S). y.hasher) same
+  copy_hasher (copies.SizeOf n) s a s' (is, same) = ap (λ (y : StoreState K V S). y.hasher) same
+  copy_hasher (copies.HashOf n) s a s' (is, hashed, same) = ap (λ (y : StoreState K V S). y.hasher) same
+  copy_hasher (copies.SamePair m n) s a s' (is, same) = ap (λ (y : StoreState K V S). y.hasher) same
+  copy_hasher copies.Count s a s' (is, same) = ap (λ (y : StoreState K V S). y.hasher) same
+  copy_hasher (copies.MakeTable slots limit chunks) s a s' (told, is, h) =
+      matched (s'.hasher ≡ s.hasher) refuse _ _ h
+      (λ _ none. ap (λ (y : StoreState K V S). y.hasher) none.1)
+      (λ _ makes. elim makes [ inl refused ↦ ap (λ (y : StoreState K V S). y.hasher) refused.1 | inr (is, few, same) ↦ ap (λ (y : StoreState K V S). y.hasher) same ])

@@ -1,11 +1,10 @@
 -- What the event of an ask of a call tells of the ask and the answer, what a closure answered to it, and which value is at hand after it.
-use Rattle.std.proofs.Common.{◌≡◌, ◌⊎◌, inl, inr, ⊎_elim, ℕ, Bool, true, false, Option, None, Some, List, ◌∷◌, length, refl, sym, ◌∙◌, ap, subst}
-use Rattle.papaya_words.specs.declared.limits.TheConstants.{MAX_LOG_LEN}
+use Rattle.std.proofs.Common.{◌≡◌, ◌⊎◌, inl, inr, ⊎_elim, ℕ, ◌==◌, Bool, true, false, Option, None, Some, List, ◌∷◌, refl, sym, ◌∙◌, ap, subst}
 use Rattle.papaya_call.specs.Answers.{Says, op_kind}
 use Rattle.papaya_call.specs.declared.answers.Operation.{Operation}
 use Rattle.papaya_ask.specs.declared.ask.At.{At}
 use Rattle.papaya_ask.specs.declared.ask.Ask.{Ask}
-use Rattle.papaya_ask.specs.declared.ask.Ask.TheVariants.{Load, Exchange as Ask_exchange, SameKey, ShowNone, ShowPair, SizeOf, MakeKey, MakePair, MakeTable, AddToShard, Done as Ask_done, LoadHint, WriteHint}
+use Rattle.papaya_ask.specs.declared.ask.Ask.TheVariants.{Load, Exchange as Ask_exchange, SameKey, ShowNone, ShowPair, SizeOf, MakeKey, MakeValue, MakePair, MakePairOf, MakeTable, AddToShard, Done as Ask_done, LoadHint, WriteHint}
 use Rattle.papaya_ask.specs.declared.ask.Answer.{Answer}
 use Rattle.papaya_ask.specs.declared.ask.Answer.TheVariants.{Word as Word_read, Exchanged, Found as Found_instead, Yes, Op, Size, Made as Made_number, Ok as Ok_done, Refused as Was_refused}
 use Rattle.papaya_ask.specs.declared.ask.OpKind.{OpKind}
@@ -15,19 +14,23 @@ use Rattle.papaya_ask.specs.declared.call.Task.{Task}
 use Rattle.papaya_ask.specs.declared.call.Task.TheVariants as tasks
 use Rattle.papaya_law.specs.Code.{Coding}
 use Rattle.papaya_law.specs.Exchange.{Exchange, Setting, State}
-use Rattle.papaya_rests.specs.Says.{show}
+use Rattle.papaya_rests.specs.Says.{MakesPair, show}
 use Rattle.papaya_rests.specs.Told.{Hands, IsTold}
 use Rattle.papaya_store.specs.declared.pairs.Running.{Running}
 use Rattle.papaya_timeline.specs.declared.trace.Event.{Event}
 use Rattle.papaya_timeline.specs.declared.trace.Event.TheVariants as events
 use Rattle.papaya_timeline.specs.Advances.{call_event, answered_event, kind_event, shown_event}
 use Rattle.papaya_timeline.specs.Given.{GivesIn, IsEntryOf, asks_closure}
-use Rattle.papaya_store.specs.Performs.{Performs, Decides, HasKey, HasNoPair, LogsKey, LogsPair, Refuses, ShowsNothing, ShowsPair, Stays, value_answered}
+use Rattle.papaya_store.specs.declared.pairs.Part.{Part}
+use Rattle.papaya_store.specs.Pairs.{value_at, value_in}
+use Rattle.papaya_store.specs.Performs.{Performs, Decides, ShowsNothing, ShowsPair, Stays, own_value, value_answered}
 use Rattle.papaya_store.specs.Store.{StoreState, Stored, pair_of}
 use Rattle.papaya_timeline.specs.Timeline.{IsAnsweredIn}
 use Rattle.papaya_timeline.proofs.CallersLemmas.{same_item}
 use Rattle.papaya_timeline.proofs.EventLemmas.{event_shown}
-use Rattle.papaya_timeline.proofs.StoreLemmas.{matched}
+use Rattle.papaya_timeline.proofs.StoreLemmas.{LogsOrNot, matched, of_logs, own_logs, part_logs}
+use Rattle.papaya_store.proofs.Logs.{value_logged}
+use Rattle.papaya_store.specs.Tables.{word_at}
 
 -- what an event tells: a change was asked for, and a closure was shown something and answered; no step begins a call or is a reply
 abbrev pub Tells : Event → Ask → Answer → Type 0
@@ -58,6 +61,7 @@ event_tells kind (Ask_exchange at old new) answer = by_answer answer
     by_kind (Some kinds.Advance) = tt
     by_kind (Some kinds.Promote) = tt
     by_kind (Some kinds.Abort) = tt
+    by_kind (Some kinds.Take) = tt
 
     by_answer : (answer : Answer) → Tells (answered_event kind old new answer) (Ask_exchange at old new) answer
     by_answer Exchanged = by_kind kind
@@ -98,7 +102,9 @@ event_tells kind (LoadHint t x) answer = tt
 event_tells kind (WriteHint t x hint) answer = tt
 event_tells kind (SizeOf n) answer = tt
 event_tells kind MakeKey answer = tt
+event_tells kind MakeValue answer = tt
 event_tells kind MakePair answer = tt
+event_tells kind (MakePairOf n) answer = tt
 event_tells kind (MakeTable slots limit chunks) answer = tt
 event_tells kind (AddToShard by) answer = tt
 event_tells kind (Ask_done reply) answer = tt
@@ -114,7 +120,9 @@ is_showing (LoadHint t x) = false
 is_showing (WriteHint t x hint) = false
 is_showing (SizeOf n) = false
 is_showing MakeKey = false
+is_showing MakeValue = false
 is_showing MakePair = false
+is_showing (MakePairOf n) = false
 is_showing (MakeTable slots limit chunks) = false
 is_showing (AddToShard by) = false
 is_showing (Ask_done reply) = false
@@ -218,21 +226,9 @@ module _ {K V S A : Type 0} (eq : K → K → Bool) (says : Says K V A) (refuse 
     as_was : r' ≡ r → r'.answers ≡ r.answers
     as_was same = ap (λ (z : Running K V A). z.answers) same
 
-    key_made : Performs eq says refuse MakeKey s r a s' r' → r'.answers ≡ r.answers
-    key_made h = matched (r'.answers ≡ r.answers) refuse _ _ h (λ _ none. as_was none.1.1) (λ _ makes. by_cases makes)
-      where
-        by_cases : (Refuses MAX_LOG_LEN (length s.keys) a × Stays s r s' r') ⊎ (HasKey a r × Stays s r s' r') ⊎ LogsKey a s r s' r' → r'.answers ≡ r.answers
-        by_cases (inl (f, stays)) = as_was stays.1
-        by_cases (inr (inl (has, stays))) = as_was stays.1
-        by_cases (inr (inr (k, own, e, few, same, is))) = ap (λ (y : Running K V A). y.answers) is
-
-    pair_made : Performs eq says refuse MakePair s r a s' r' → r'.answers ≡ r.answers
-    pair_made h = matched (r'.answers ≡ r.answers) refuse _ _ h (λ _ none. as_was none.1.1) (λ _ makes. by_cases makes)
-      where
-        by_cases : (Refuses MAX_LOG_LEN (length s.pairs) a × Stays s r s' r') ⊎ (HasNoPair a r × Stays s r s' r') ⊎ LogsPair a s r s' r' → r'.answers ≡ r.answers
-        by_cases (inl (f, stays)) = as_was stays.1
-        by_cases (inr (inl (has, stays))) = as_was stays.1
-        by_cases (inr (inr (i, v, key, value, e, few, same, is))) = ap (λ (y : Running K V A). y.answers) is
+    logged_leaves : LogsOrNot s r a s' r' → r'.answers ≡ r.answers
+    logged_leaves (inl (unlogged, stays)) = as_was stays.1
+    logged_leaves (inr (key, left, (value, has, e, few, same, moved))) = ap (λ (y : Running K V A). y.answers) moved
 
     table_made : (slots limit chunks : ℕ) → Performs eq says refuse (MakeTable slots limit chunks) s r a s' r' → r'.answers ≡ r.answers
     table_made slots limit chunks h = matched (r'.answers ≡ r.answers) refuse _ _ h (λ _ none. as_was none.1.1) (λ _ makes. as_was makes.1)
@@ -255,84 +251,82 @@ module _ {K V S A : Type 0} (eq : K → K → Bool) (says : Says K V A) (refuse 
     answering (LoadHint t x) h = not_shown (LoadHint t x) refl (as_was h.1.1)
     answering (WriteHint t x hint) h = not_shown (WriteHint t x hint) refl (as_was h.2)
     answering (SizeOf n) h = not_shown (SizeOf n) refl (as_was h.1.1)
-    answering MakeKey h = not_shown MakeKey refl (key_made h)
-    answering MakePair h = not_shown MakePair refl (pair_made h)
+    answering MakeKey h = not_shown MakeKey refl (logged_leaves (part_logs s r a s' r' refuse h))
+    answering MakeValue h = not_shown MakeValue refl (logged_leaves (part_logs s r a s' r' refuse h))
+    answering MakePair h = not_shown MakePair refl (logged_leaves (own_logs s r a s' r' refuse h))
+    answering (MakePairOf n) h = not_shown (MakePairOf n) refl (logged_leaves (of_logs s r a s' r' refuse n h))
     answering (MakeTable slots limit chunks) h = not_shown (MakeTable slots limit chunks) refl (table_made slots limit chunks h)
     answering (AddToShard by) (e, same, kept) = not_shown (AddToShard by) refl (as_was kept)
     answering (Ask_done reply) h = not_shown (Ask_done reply) refl (as_was h.1.1)
 
   module _ (s : StoreState K V S) (r : Running K V A) (a : Answer) (s' : StoreState K V S) (r' : Running K V A) where
-    -- the value at hand is that of before, or a pair was made of it, or a closure answered
-    abbrev pub AtHand : Ask → Type 0
-    AtHand ask = (r'.value ≡ r.value) ⊎ ((n : ℕ) × (ask ≡ MakePair) × (a ≡ Made_number n) × (r'.value ≡ None)) ⊎ ((shown : Option ℕ) × (op : OpKind) × (ask ≡ show shown) × (a ≡ Op op))
+    -- the value of the call is that of before, or a closure answered
+    abbrev pub SameValue : Type 0
+    SameValue = ((v : V) → own_value s r ≡ Some v → own_value s' r' ≡ Some v)
+        × (((part : Part V) → r.value ≡ Some part → (w : V) × (value_in s.pairs part ≡ Some w)) → (v : V) → own_value s' r' ≡ Some v → own_value s r ≡ Some v)
 
-    kept : (ask : Ask) → r' ≡ r → AtHand ask
-    kept ask same = inl (ap (λ (y : Running K V A). y.value) same)
+    abbrev pub AtHand : Ask → Type 0
+    AtHand ask = SameValue ⊎ ((shown : Option ℕ) × (op : OpKind) × (ask ≡ show shown) × (a ≡ Op op))
+
+    -- where the log is the same, or longer
+    kept : (ask : Ask) → s'.pairs ≡ s.pairs → r'.value ≡ r.value → AtHand ask
+    kept ask log value = let same : own_value s' r' ≡ own_value s r = ap (λ l. value_at l r'.value) log ∙ ap (value_at s.pairs) value in inl (λ v h. same ∙ h, λ valued v h. sym same ∙ h)
+
+    stayed : (ask : Ask) → Stays s r s' r' → AtHand ask
+    stayed ask stays = kept ask (ap (λ (y : StoreState K V S). y.pairs) stays.0) (ap (λ (y : Running K V A). y.value) stays.1)
+
+    made : (ask : Ask) → LogsOrNot s r a s' r' → AtHand ask
+    made ask (inl (unlogged, stays)) = stayed ask stays
+    made ask (inr (key, left, logs)) = inl (
+      λ v h. value_logged s r s' r' key left a v h logs,
+      λ valued v h.
+          let (w, there) = valued logs.0 logs.1 in
+          let before : own_value s r ≡ Some w = ap (value_at s.pairs) logs.1 ∙ there in
+          before ∙ sym (value_logged s r s' r' key left a w before logs) ∙ h,
+    )
 
     pub at_hand : (ask : Ask) → Performs eq says refuse ask s r a s' r' → AtHand ask
-    at_hand (Load at) (e, stays) = kept (Load at) stays.1
-    at_hand (Ask_exchange at old new) (ex, as_was) = kept (Ask_exchange at old new) as_was
-    at_hand (SameKey n) (e, stays) = kept (SameKey n) stays.1
-    at_hand ShowNone (inl (none, (e, stays))) = kept ShowNone stays.1
-    at_hand ShowNone (inr (x, op, y, has, gives, is, same, later)) = inr (inr (None, op_kind op, refl, is))
+    at_hand (Load at) (e, stays) = stayed (Load at) stays
+    at_hand (Ask_exchange at old new) (ex, as_was) =
+        matched (AtHand (Ask_exchange at old new)) (word_at s.words at == old) _ _ ex
+        (λ _ done. kept (Ask_exchange at old new) (ap (λ (y : StoreState K V S). y.pairs) done.1) (ap (λ (y : Running K V A). y.value) as_was))
+        (λ _ lost. stayed (Ask_exchange at old new) (lost.1, as_was))
+    at_hand (SameKey n) (e, stays) = stayed (SameKey n) stays
+    at_hand ShowNone (inl (none, (e, stays))) = stayed ShowNone stays
+    at_hand ShowNone (inr (x, op, y, has, gives, is, same, later)) = inr (None, op_kind op, refl, is)
     at_hand (ShowPair n) h = by_task r.machine.call.task h
       where
         by_task : (task : Task) → ShowsPair task says n s r a s' r' → AtHand (ShowPair n)
-        by_task tasks.RemoveIf (inl (none, (e, stays))) = kept (ShowPair n) stays.1
-        by_task tasks.RemoveIf (inr (x, p, agrees, y, has, there, gives, answer_is, same, later)) = inl (ap (λ (y : Running K V A). y.value) later)
-        by_task tasks.Compute (inl (none, (e, stays))) = kept (ShowPair n) stays.1
-        by_task tasks.Compute (inr (p, there, (x, op, y, has, gives, answer_is, same, later))) = inr (inr (Some n, op_kind op, refl, answer_is))
-        by_task tasks.Get (e, stays) = kept (ShowPair n) stays.1
-        by_task (tasks.Insert replace) (e, stays) = kept (ShowPair n) stays.1
-    at_hand (LoadHint t x) (e, stays) = kept (LoadHint t x) stays.1
-    at_hand (WriteHint t x hint) (e, same, as_was) = kept (WriteHint t x hint) as_was
-    at_hand (SizeOf n) (e, stays) = kept (SizeOf n) stays.1
-    at_hand MakeKey h =
-        matched (AtHand MakeKey) refuse _ _ h
-        (λ _ none. kept MakeKey none.1.1)
-        (λ _ makes. by_cases makes)
-      where
-        by_cases : (Refuses MAX_LOG_LEN (length s.keys) a × Stays s r s' r') ⊎ (HasKey a r × Stays s r s' r') ⊎ LogsKey a s r s' r' → AtHand MakeKey
-        by_cases (inl (f, stays)) = kept MakeKey stays.1
-        by_cases (inr (inl (has, stays))) = kept MakeKey stays.1
-        by_cases (inr (inr (k, own, e, few, same, is))) = inl (ap (λ (y : Running K V A). y.value) is)
-    at_hand MakePair h =
-        matched (AtHand MakePair) refuse _ _ h
-        (λ _ none. kept MakePair none.1.1)
-        (λ _ makes. by_cases makes)
-      where
-        by_cases : (Refuses MAX_LOG_LEN (length s.pairs) a × Stays s r s' r') ⊎ (HasNoPair a r × Stays s r s' r') ⊎ LogsPair a s r s' r' → AtHand MakePair
-        by_cases (inl (f, stays)) = kept MakePair stays.1
-        by_cases (inr (inl (has, stays))) = kept MakePair stays.1
-        by_cases (inr (inr (i, v, key, value, e, few, same, is))) = inr (inl (length s.pairs, refl, e, ap (λ (y : Running K V A). y.value) is))
+        by_task tasks.RemoveIf (inl (none, (e, stays))) = stayed (ShowPair n) stays
+        by_task tasks.RemoveIf (inr (x, p, agrees, y, has, there, gives, answer_is, same, later)) = kept (ShowPair n) (ap (λ (y : StoreState K V S). y.pairs) same) (ap (λ (y : Running K V A). y.value) later)
+        by_task tasks.Compute (inl (none, (e, stays))) = stayed (ShowPair n) stays
+        by_task tasks.Compute (inr (p, there, (x, op, y, has, gives, answer_is, same, later))) = inr (Some n, op_kind op, refl, answer_is)
+        by_task tasks.Get (e, stays) = stayed (ShowPair n) stays
+        by_task (tasks.Insert replace) (e, stays) = stayed (ShowPair n) stays
+    at_hand (LoadHint t x) (e, stays) = stayed (LoadHint t x) stays
+    at_hand (WriteHint t x hint) (e, same, as_was) = kept (WriteHint t x hint) (ap (λ (y : StoreState K V S). y.pairs) same) (ap (λ (y : Running K V A). y.value) as_was)
+    at_hand (SizeOf n) (e, stays) = stayed (SizeOf n) stays
+    at_hand MakeKey h = made MakeKey (part_logs s r a s' r' refuse h)
+    at_hand MakeValue h = made MakeValue (part_logs s r a s' r' refuse h)
+    at_hand MakePair h = made MakePair (own_logs s r a s' r' refuse h)
+    at_hand (MakePairOf n) h = made (MakePairOf n) (of_logs s r a s' r' refuse n h)
     at_hand (MakeTable slots limit chunks) h =
         matched (AtHand (MakeTable slots limit chunks)) refuse _ _ h
-        (λ _ none. kept (MakeTable slots limit chunks) none.1.1)
-        (λ _ makes. kept (MakeTable slots limit chunks) makes.1)
-    at_hand (AddToShard by) (e, same, as_was) = kept (AddToShard by) as_was
-    at_hand (Ask_done reply) (e, stays) = kept (Ask_done reply) stays.1
-
-    -- a pair that is made has the number after all others
-    pub made_number : (n : ℕ) → Performs eq says refuse MakePair s r a s' r' → a ≡ Made_number n → n ≡ length s.pairs
-    made_number n h is =
-        matched (n ≡ length s.pairs) refuse _ _ h
-        (λ _ none. let f = sym is ∙ none.0 in absurd cc)
-        (λ _ makes. by_cases makes)
-      where
-        by_cases : (Refuses MAX_LOG_LEN (length s.pairs) a × Stays s r s' r') ⊎ (HasNoPair a r × Stays s r s' r') ⊎ LogsPair a s r s' r' → n ≡ length s.pairs
-        by_cases (inl (inl e, stays)) = let f = sym is ∙ e in absurd cc
-        by_cases (inl (inr (e, full), stays)) = let f = sym is ∙ e in absurd cc
-        by_cases (inr (inl (has, stays))) = let f = sym is ∙ has.0 in absurd cc
-        by_cases (inr (inr (i, v, key, value, e, few, same, later))) = let f : Made_number n ≡ Made_number (length s.pairs) = sym is ∙ e in cc
+        (λ _ none. stayed (MakeTable slots limit chunks) none.1)
+        (λ _ makes. kept (MakeTable slots limit chunks) (elim makes.0 [ inl refused ↦ ap (λ (y : StoreState K V S). y.pairs) refused.1 | inr (is, few, same) ↦ ap (λ (y : StoreState K V S). y.pairs) same ]) (ap (λ (y : Running K V A). y.value) makes.1))
+    at_hand (AddToShard by) (e, (number, same), as_was) = kept (AddToShard by) (ap (λ (y : StoreState K V S). y.pairs) same) (ap (λ (y : Running K V A). y.value) as_was)
+    at_hand (Ask_done reply) (e, stays) = stayed (Ask_done reply) stays
 
 module _ {K P : Type 0} (g : Setting K P) (c : Coding K P) (k : K) (s : State P) (kind : Option StepKind) (hands : Hands P) where
+  number_made : (q : P) (n : ℕ) → Made_number (c.number q) ≡ Made_number n → c.number q ≡ n
+  number_made q n e = cc
+
   -- a pair that was made is at the head of those that the machine was told of
-  pub told_made : (ask : Ask) (a : Answer) (es : List (Exchange P)) (hands' : Hands P) (n : ℕ) → ask ≡ MakePair → a ≡ Made_number n → IsTold g c k s kind hands ask a es hands' → (q : P) × (c.number q ≡ n) × (hands'.made ≡ q ∷ hands.made)
-  told_made ask a es hands' n asks is told = by_cases (subst (λ y. IsTold g c k s kind hands y a es hands') asks told)
-    where
-      by_cases : IsTold g c k s kind hands MakePair a es hands' → (q : P) × (c.number q ≡ n) × (hands'.made ≡ q ∷ hands.made)
-      by_cases (inl (inl (why, e), quiet)) = let f = sym is ∙ e in absurd cc
-      by_cases (inl (inr e, quiet)) = let f = sym is ∙ e in absurd cc
-      by_cases (inr (q, own, e, none, same)) =
-          let number : Made_number (c.number q) ≡ Made_number n = sym e ∙ is in
-          (q, cc, ap (λ (y : Hands P). y.made) same)
+  pub told_made : (ask : Ask) (a : Answer) (es : List (Exchange P)) (hands' : Hands P) (n : ℕ) → MakesPair ask → a ≡ Made_number n → IsTold g c k s kind hands ask a es hands' → (q : P) × (c.number q ≡ n) × (hands'.made ≡ q ∷ hands.made)
+  told_made MakePair a es hands' n makes is (inl (inl (why, e), quiet)) = let f = sym is ∙ e in absurd cc
+  told_made MakePair a es hands' n makes is (inl (inr e, quiet)) = let f = sym is ∙ e in absurd cc
+  told_made MakePair a es hands' n makes is (inr (q, own, (e, none, same))) = (q, number_made q n (sym e ∙ is), ap (λ (y : Hands P). y.made) same)
+  told_made (MakePairOf m) a es hands' n makes is (inl (inl (why, e), quiet)) = let f = sym is ∙ e in absurd cc
+  told_made (MakePairOf m) a es hands' n makes is (inl (inr e, quiet)) = let f = sym is ∙ e in absurd cc
+  told_made (MakePairOf m) a es hands' n makes is (inr (q, of, (e, none, same))) = (q, number_made q n (sym e ∙ is), ap (λ (y : Hands P). y.made) same)
+  told_made ask a es hands' n makes is told = absurd makes

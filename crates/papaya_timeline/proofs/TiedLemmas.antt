@@ -1,7 +1,7 @@
 -- How calls under way stand to a history that grows by an entry.
-use Rattle.std.proofs.Common.{◌≡◌, ◌≢◌, ◌⊎◌, inl, inr, ⊎_elim, ℕ, ◌==◌, Bool, true, false, cond, Option, None, Some, List, [], ◌∷◌, ◌++◌, length, slice_get, refl, sym, ◌∙◌, ap, subst, zero, suc}
+use Rattle.std.proofs.Common.{◌≡◌, ◌≢◌, ◌⊎◌, inl, inr, ⊎_elim, ℕ, ◌==◌, Bool, true, false, cond, Option, None, Some, List, [], ◌∷◌, ◌++◌, slice_get, refl, sym, ◌∙◌, ap, subst}
 use Rattle.papaya_ask.specs.declared.ask.Ask.{Ask as Call_ask}
-use Rattle.papaya_ask.specs.declared.ask.Ask.TheVariants.{Load, Exchange as Ask_exchange, SameKey, ShowNone, ShowPair, SizeOf, MakeKey, MakePair, MakeTable, AddToShard, Done as Ask_done, LoadHint, WriteHint}
+use Rattle.papaya_ask.specs.declared.ask.Ask.TheVariants.{Load, Exchange as Ask_exchange, SameKey, ShowNone, ShowPair, SizeOf, MakeKey, MakeValue, MakePair, MakePairOf, MakeTable, AddToShard, Done as Ask_done, LoadHint, WriteHint}
 use Rattle.papaya_ask.specs.declared.ask.Answer.{Answer as Call_answer}
 use Rattle.papaya_ask.specs.declared.call.Call.{Call}
 use Rattle.papaya_ask.specs.declared.call.Call.TheVariants.{Get, Insert, TryInsert, RemoveIf, Compute, Reserve, CopyAll, Clear, Retain, Walk}
@@ -16,7 +16,6 @@ use Rattle.papaya_ask.specs.declared.ask.OpKind.TheVariants as op_kinds
 use Rattle.papaya_call.specs.Answers.{Says}
 use Rattle.papaya_law.specs.Exchange.{Exchange}
 use Rattle.papaya_ask.specs.declared.copy_ask.CopyAsk.{CopyAsk}
-use Rattle.papaya_ask.specs.declared.copy_ask.CopyAsk.TheVariants as copies
 use Rattle.papaya_chain.specs.declared.ask.Ask.{Ask}
 use Rattle.papaya_chain.specs.declared.ask.Ask.TheVariants as asks
 use Rattle.papaya_chain.specs.declared.ask.Answer.{Answer}
@@ -27,12 +26,10 @@ use Rattle.papaya_rests.specs.Rests.{IsReply, change_of_reply, WasAtMoment}
 use Rattle.papaya_rests.specs.Says.{Said, Agrees, Inserts, Makes, Removes, said_in_reply}
 use Rattle.papaya_rests.specs.Told.{IsOneOf}
 use Rattle.papaya_words.specs.Table.{TableWords}
-use Rattle.papaya_words.specs.declared.limits.TheConstants.{MAX_LOG_LEN}
 use Rattle.papaya_words.specs.declared.probe.Refused.{Refused as Refusal}
 use Rattle.papaya_words.specs.declared.probe.Refused.TheVariants.{RemoveNothing}
-use Rattle.papaya_words.specs.declared.probe.ResizeMode.{ResizeMode}
-use Rattle.papaya_store.specs.declared.pairs.KeyOf.{KeyOf}
-use Rattle.papaya_store.specs.declared.pairs.KeyOf.TheVariants.{Own, Logged}
+use Rattle.papaya_store.specs.declared.pairs.Pair.{Pair}
+use Rattle.papaya_store.specs.declared.pairs.Part.{Part}
 use Rattle.papaya_store.specs.declared.pairs.Running.{Running}
 use Rattle.papaya_timeline.specs.declared.trace.Entry.{Entry}
 use Rattle.papaya_timeline.specs.declared.trace.Event.{Event}
@@ -41,7 +38,8 @@ use Rattle.papaya_timeline.specs.Kept.{Tale, told_tales, setting_of, coding_of}
 use Rattle.papaya_timeline.specs.Maps.{Map, Does, at_key, key_of}
 use Rattle.papaya_store.specs.Asks.{PerformsAsk}
 use Rattle.papaya_store.specs.Copies.{PerformsCopy}
-use Rattle.papaya_store.specs.Performs.{Performs, own_key, key_at, Stays, LogsKey, LogsPair, Decides, ShowsPair, Refuses, HasKey, HasNoPair}
+use Rattle.papaya_store.specs.Pairs.{key_in, pair_with, value_at, value_in}
+use Rattle.papaya_store.specs.Performs.{Performs, own_key, own_value, Decides, ShowsPair}
 use Rattle.papaya_store.specs.Store.{KeepsPairs, StoreState, Stored, pair_of, stored_in}
 use Rattle.papaya_store.specs.Tables.{word_at}
 use Rattle.papaya_timeline.specs.Runs.{History}
@@ -49,73 +47,89 @@ use Rattle.papaya_timeline.specs.Timeline.{Answered, is_begin, change_of, last_s
 use Rattle.papaya_timeline.proofs.CallersLemmas.{differs}
 use Rattle.papaya_timeline.proofs.ChainLemmas.{own_asks}
 use Rattle.papaya_timeline.proofs.Good.{IsTied, WasSaid, replay, replayed}
-use Rattle.papaya_timeline.proofs.KeptLogs.{pair-more_keys, pair-more_pairs}
+use Rattle.papaya_store.proofs.Logs.{key-more, pair-more, value-more, value_logged}
 use Rattle.papaya_timeline.proofs.MachineLemmas.{machine_replies, machine_says}
 use Rattle.papaya_timeline.proofs.ReplayLemmas.{beginning-cases, map_replayed, replay-three}
-use Rattle.papaya_timeline.proofs.StoreLemmas.{matched}
+use Rattle.papaya_timeline.proofs.StoreLemmas.{LogsOrNot, copy_hasher, copy_pairs, matched, of_logs, own_logs, part_logs}
 use Rattle.papaya_timeline.proofs.TimelineLemmas.{entry, answered-other, answered_shown, asked-other, at_weaker, change_of-other, not_begin-other, was_shown_none-other}
+use Rattle.papaya_store.specs.declared.mode.Mode.{Mode}
 
--- an item of a list is one of a longer list
-pub get-append : {A : Type 0} (xs ys : List A) (n : ℕ) (x : A) → slice_get xs n ≡ Some x → slice_get (xs ++ ys) n ≡ Some x
-get-append [] ys n x e = let f : None ≡ Some x = e in cc
-get-append (y ∷ xs) ys zero x e = e
-get-append (y ∷ xs) ys (suc n) x e = get-append xs ys n x e
+-- the value of a call, where the log is as long or longer
+pub value_forth : {K V : Type 0} (log log' : List (Pair K V)) → ((at : Part V) (v : V) → value_in log at ≡ Some v → value_in log' at ≡ Some v) → (value : Option (Part V)) (v : V) → value_at log value ≡ Some v → value_at log' value ≡ Some v
+value_forth log log' stay None v e = let f : None ≡ Some v = e in absurd cc
+value_forth log log' stay (Some part) v e = stay part v e
+
+pub value_back : {K V : Type 0} (log log' : List (Pair K V)) → ((at : Part V) (v : V) → value_in log at ≡ Some v → value_in log' at ≡ Some v) → (value : Option (Part V)) → ((part : Part V) → value ≡ Some part → (v : V) × (value_in log part ≡ Some v)) → (v : V) → value_at log' value ≡ Some v → value_at log value ≡ Some v
+value_back log log' stay None valued v e = let f : None ≡ Some v = e in cc
+value_back log log' stay (Some part) valued v e = let (w, there) = valued part refl in there ∙ sym (stay part w there) ∙ e
+
+module _ {K V S : Type 0} where
+  -- No key and no value is gone from the log.
+  pub record KeepsParts (s s' : StoreState K V S) : Type 0 where
+    pub keys : (at : Part K) (k : K) → key_in s.pairs at ≡ Some k → key_in s'.pairs at ≡ Some k
+    pub values : (at : Part V) (v : V) → value_in s.pairs at ≡ Some v → value_in s'.pairs at ≡ Some v
+
+  -- the log is the same
+  pub same_parts : (s s' : StoreState K V S) → s'.pairs ≡ s.pairs → KeepsParts s s'
+  same_parts s s' same = record { keys = λ at k e. ap (λ l. key_in l at) same ∙ e; values = λ at v e. ap (λ l. value_in l at) same ∙ e }
 
 module _ {K V S A : Type 0} where
-  -- What a step leaves of the logs: no key and no pair is gone, and a value comes only of a compute's closure.
+  -- what a call has to store is there
+  abbrev pub IsValued : StoreState K V S → Running K V A → Type 0
+  IsValued s r = (part : Part V) → r.value ≡ Some part → (v : V) × (value_in s.pairs part ≡ Some v)
+
+  -- What a step leaves of the log: no pair is gone, and a value comes only of a compute's closure.
   pub record HasMoreLogs (s : StoreState K V S) (r : Running K V A) (s' : StoreState K V S) (r' : Running K V A) : Type 0 where
     pub hasher_is : s'.hasher ≡ s.hasher
-    pub keys_stay : (n : ℕ) (k : K) → slice_get s.keys n ≡ Some k → slice_get s'.keys n ≡ Some k
+    pub keys_stay : (at : Part K) (k : K) → key_in s.pairs at ≡ Some k → key_in s'.pairs at ≡ Some k
+    pub values_stay : (at : Part V) (v : V) → value_in s.pairs at ≡ Some v → value_in s'.pairs at ≡ Some v
     pub pairs_stay : KeepsPairs s s'
-    pub value_stays : (v : V) → r'.value ≡ Some v → (r.value ≡ Some v) ⊎ (r.machine.call.task ≡ tasks.Compute)
+    pub value_stays : IsValued s r → (v : V) → own_value s' r' ≡ Some v → (own_value s r ≡ Some v) ⊎ (r.machine.call.task ≡ tasks.Compute)
 
-  -- the store is as it was
-  unstored : (s : StoreState K V S) (r : Running K V A) (s' : StoreState K V S) (r' : Running K V A) → s' ≡ s → ((v : V) → r'.value ≡ Some v → (r.value ≡ Some v) ⊎ (r.machine.call.task ≡ tasks.Compute)) → HasMoreLogs s r s' r'
-  unstored s r s' r' same value = record {
-    hasher_is = ap (λ (y : StoreState K V S). y.hasher) same;
-    keys_stay = λ n k e. ap (λ (y : StoreState K V S). slice_get y.keys n) same ∙ e;
-    pairs_stay = λ n q e. ap (λ (y : StoreState K V S). pair_of y n) same ∙ e;
-    value_stays = value;
-  }
-
-  still : (s : StoreState K V S) (r : Running K V A) (s' : StoreState K V S) (r' : Running K V A) → s' ≡ s → r' ≡ r → HasMoreLogs s r s' r'
-  still s r s' r' same as_was = unstored s r s' r' same (λ v e. inl (sym (ap (λ (y : Running K V A). y.value) as_was) ∙ e))
-
-  key_logged : (answer : Call_answer) (s : StoreState K V S) (r : Running K V A) (s' : StoreState K V S) (r' : Running K V A) → LogsKey answer s r s' r' → HasMoreLogs s r s' r'
-  key_logged answer s r s' r' (k, own, e, few, same, is) = record {
-    hasher_is = ap (λ (y : StoreState K V S). y.hasher) same;
-    keys_stay = λ n j there. ap (λ (y : StoreState K V S). slice_get y.keys n) same ∙ get-append s.keys (k ∷ []) n j there;
-    pairs_stay = λ n q there. ap (λ (y : StoreState K V S). pair_of y n) same ∙ pair-more_keys s (k ∷ []) n q there;
-    value_stays = λ v e. inl (sym (ap (λ (y : Running K V A). y.value) is) ∙ e);
-  }
-
-  pair_logged : (answer : Call_answer) (s : StoreState K V S) (r : Running K V A) (s' : StoreState K V S) (r' : Running K V A) → LogsPair answer s r s' r' → HasMoreLogs s r s' r'
-  pair_logged answer s r s' r' (n, v, key, value, e, few, same, is) = record {
-    hasher_is = ap (λ (y : StoreState K V S). y.hasher) same;
-    keys_stay = λ i j there. ap (λ (y : StoreState K V S). slice_get y.keys i) same ∙ there;
-    pairs_stay = λ i q there. ap (λ (y : StoreState K V S). pair_of y i) same ∙ pair-more_pairs s (record { key = n; value = v } ∷ []) i q there;
-    value_stays = λ u e. let f : None ≡ Some u = sym (ap (λ (y : Running K V A). y.value) is) ∙ e in absurd cc;
+  -- the log is as it was
+  unlogged : (s : StoreState K V S) (r : Running K V A) (s' : StoreState K V S) (r' : Running K V A) → s'.hasher ≡ s.hasher → s'.pairs ≡ s.pairs → ((v : V) → own_value s' r' ≡ Some v → (own_value s r ≡ Some v) ⊎ (r.machine.call.task ≡ tasks.Compute)) → HasMoreLogs s r s' r'
+  unlogged s r s' r' hasher pairs value = record {
+    hasher_is = hasher;
+    keys_stay = λ at k e. ap (λ l. key_in l at) pairs ∙ e;
+    values_stay = λ at v e. ap (λ l. value_in l at) pairs ∙ e;
+    pairs_stay = λ n q e. ap (λ l. stored_in l n (slice_get l n)) pairs ∙ e;
+    value_stays = λ valued v e. value v e;
   }
 
   -- words alone were written
-  words_changed : (s : StoreState K V S) (r : Running K V A) (s' : StoreState K V S) (r' : Running K V A) → s'.hasher ≡ s.hasher → s'.keys ≡ s.keys → s'.pairs ≡ s.pairs → r' ≡ r → HasMoreLogs s r s' r'
-  words_changed s r s' r' hasher keys pairs as_was = record {
-    hasher_is = hasher;
-    keys_stay = λ n k e. ap (λ (y : List K). slice_get y n) keys ∙ e;
-    pairs_stay = λ n q e. ap (λ y. stored_in y n (slice_get s'.pairs n)) keys ∙ ap (λ y. stored_in s.keys n (slice_get y n)) pairs ∙ e;
-    value_stays = λ v e. inl (sym (ap (λ (y : Running K V A). y.value) as_was) ∙ e);
-  }
+  words_changed : (s : StoreState K V S) (r : Running K V A) (s' : StoreState K V S) (r' : Running K V A) → s'.hasher ≡ s.hasher → s'.pairs ≡ s.pairs → r'.value ≡ r.value → HasMoreLogs s r s' r'
+  words_changed s r s' r' hasher pairs value = unlogged s r s' r' hasher pairs (λ v e. inl (sym (ap (value_at s.pairs) value) ∙ sym (ap (λ l. value_at l r'.value) pairs) ∙ e))
+
+  still : (s : StoreState K V S) (r : Running K V A) (s' : StoreState K V S) (r' : Running K V A) → s' ≡ s → r' ≡ r → HasMoreLogs s r s' r'
+  still s r s' r' same as_was = words_changed s r s' r' (ap (λ (y : StoreState K V S). y.hasher) same) (ap (λ (y : StoreState K V S). y.pairs) same) (ap (λ (y : Running K V A). y.value) as_was)
+
+  -- a key, a value or a pair was asked for
+  made : (s : StoreState K V S) (r : Running K V A) (a : Call_answer) (s' : StoreState K V S) (r' : Running K V A) → LogsOrNot s r a s' r' → HasMoreLogs s r s' r'
+  made s r a s' r' (inl (none, stays)) = still s r s' r' stays.0 stays.1
+  made s r a s' r' (inr (key, left, logs)) =
+      let (value, has, e, few, same, moved) = logs in
+      let more : List (Pair K V) = pair_with key value ∷ [] in
+      record {
+        hasher_is = ap (λ (y : StoreState K V S). y.hasher) same;
+        keys_stay = λ at k there. ap (λ (y : StoreState K V S). key_in y.pairs at) same ∙ key-more s.pairs more at k there;
+        values_stay = λ at v there. ap (λ (y : StoreState K V S). value_in y.pairs at) same ∙ value-more s.pairs more at v there;
+        pairs_stay = λ i q there. ap (λ (y : StoreState K V S). pair_of y i) same ∙ pair-more s more i q there;
+        value_stays = λ valued v later.
+            let (w, there) = valued value has in
+            let before : own_value s r ≡ Some w = ap (value_at s.pairs) has ∙ there in
+            inl (before ∙ sym (value_logged s r s' r' key left a w before logs) ∙ later);
+      }
 
   -- a compute's closure answered
   decided : (says : Says K V A) (shown : Option (K × V)) (s : StoreState K V S) (r : Running K V A) (a : Call_answer) (s' : StoreState K V S) (r' : Running K V A) → r.machine.call.task ≡ tasks.Compute → Decides says shown s r a s' r' → HasMoreLogs s r s' r'
-  decided says shown s r a s' r' computes (answers, op, rest, has, given, e, same, is) = unstored s r s' r' same (λ v e'. inr computes)
+  decided says shown s r a s' r' computes (answers, op, rest, has, given, e, same, is) = unlogged s r s' r' (ap (λ (y : StoreState K V S). y.hasher) same) (ap (λ (y : StoreState K V S). y.pairs) same) (λ v e'. inr computes)
 
   -- a closure was shown a pair
   showed : (says : Says K V A) (n : ℕ) (s : StoreState K V S) (r : Running K V A) (a : Call_answer) (s' : StoreState K V S) (r' : Running K V A) (task : Task) → r.machine.call.task ≡ task → ShowsPair task says n s r a s' r' → HasMoreLogs s r s' r'
   showed says n s r a s' r' tasks.Get is (e, stays) = still s r s' r' stays.0 stays.1
   showed says n s r a s' r' (tasks.Insert replace) is (e, stays) = still s r s' r' stays.0 stays.1
   showed says n s r a s' r' tasks.RemoveIf is (inl (none, (e, stays))) = still s r s' r' stays.0 stays.1
-  showed says n s r a s' r' tasks.RemoveIf is (inr (answers, p, agrees, rest, has, there, given, e, same, later)) = unstored s r s' r' same (λ v e'. inl (sym (ap (λ (y : Running K V A). y.value) later) ∙ e'))
+  showed says n s r a s' r' tasks.RemoveIf is (inr (answers, p, agrees, rest, has, there, given, e, same, later)) = words_changed s r s' r' (ap (λ (y : StoreState K V S). y.hasher) same) (ap (λ (y : StoreState K V S). y.pairs) same) (ap (λ (y : Running K V A). y.value) later)
   showed says n s r a s' r' tasks.Compute is (inl (none, (e, stays))) = still s r s' r' stays.0 stays.1
   showed says n s r a s' r' tasks.Compute is (inr (p, there, decides)) = decided says (Some (p.key, p.value)) s r a s' r' is decides
 
@@ -124,76 +138,37 @@ module _ {K V S A : Type 0} where
   call_grown eq says refuse (Load at) s r a s' r' (e, stays) offers = still s r s' r' stays.0 stays.1
   call_grown eq says refuse (Ask_exchange at old new) s r a s' r' (ex, as_was) offers =
       matched (HasMoreLogs s r s' r') (word_at s.words at == old) _ _ ex
-      (λ _ done. words_changed s r s' r' (ap (λ (y : StoreState K V S). y.hasher) done.1) (ap (λ (y : StoreState K V S). y.keys) done.1) (ap (λ (y : StoreState K V S). y.pairs) done.1) as_was)
+      (λ _ done. words_changed s r s' r' (ap (λ (y : StoreState K V S). y.hasher) done.1) (ap (λ (y : StoreState K V S). y.pairs) done.1) (ap (λ (y : Running K V A). y.value) as_was))
       (λ _ lost. still s r s' r' lost.1 as_was)
   call_grown eq says refuse (SameKey n) s r a s' r' (e, stays) offers = still s r s' r' stays.0 stays.1
   call_grown eq says refuse ShowNone s r a s' r' (inl (none, (e, stays))) offers = still s r s' r' stays.0 stays.1
   call_grown eq says refuse ShowNone s r a s' r' (inr decides) offers = decided says None s r a s' r' (offers refl) decides
   call_grown eq says refuse (ShowPair n) s r a s' r' h offers = showed says n s r a s' r' r.machine.call.task refl h
   call_grown eq says refuse (LoadHint t x) s r a s' r' (e, stays) offers = still s r s' r' stays.0 stays.1
-  call_grown eq says refuse (WriteHint t x hint) s r a s' r' (e, same, as_was) offers = words_changed s r s' r' (ap (λ (y : StoreState K V S). y.hasher) same) (ap (λ (y : StoreState K V S). y.keys) same) (ap (λ (y : StoreState K V S). y.pairs) same) as_was
+  call_grown eq says refuse (WriteHint t x hint) s r a s' r' (e, same, as_was) offers = words_changed s r s' r' (ap (λ (y : StoreState K V S). y.hasher) same) (ap (λ (y : StoreState K V S). y.pairs) same) (ap (λ (y : Running K V A). y.value) as_was)
   call_grown eq says refuse (SizeOf n) s r a s' r' (e, stays) offers = still s r s' r' stays.0 stays.1
-  call_grown eq says refuse MakeKey s r a s' r' h offers =
-      matched (HasMoreLogs s r s' r') refuse _ _ h
-      (λ _ none. still s r s' r' none.1.0 none.1.1)
-      (λ _ makes. by_cases s r a s' r' makes)
-    where
-      by_cases : (s : StoreState K V S) (r : Running K V A) (a : Call_answer) (s' : StoreState K V S) (r' : Running K V A) → (Refuses MAX_LOG_LEN (length s.keys) a × Stays s r s' r') ⊎ (HasKey a r × Stays s r s' r') ⊎ LogsKey a s r s' r' → HasMoreLogs s r s' r'
-      by_cases s r a s' r' (inl (f, stays)) = still s r s' r' stays.0 stays.1
-      by_cases s r a s' r' (inr (inl (has, stays))) = still s r s' r' stays.0 stays.1
-      by_cases s r a s' r' (inr (inr logs)) = key_logged a s r s' r' logs
-  call_grown eq says refuse MakePair s r a s' r' h offers =
-      matched (HasMoreLogs s r s' r') refuse _ _ h
-      (λ _ none. still s r s' r' none.1.0 none.1.1)
-      (λ _ makes. by_cases s r a s' r' makes)
-    where
-      by_cases : (s : StoreState K V S) (r : Running K V A) (a : Call_answer) (s' : StoreState K V S) (r' : Running K V A) → (Refuses MAX_LOG_LEN (length s.pairs) a × Stays s r s' r') ⊎ (HasNoPair a r × Stays s r s' r') ⊎ LogsPair a s r s' r' → HasMoreLogs s r s' r'
-      by_cases s r a s' r' (inl (f, stays)) = still s r s' r' stays.0 stays.1
-      by_cases s r a s' r' (inr (inl (has, stays))) = still s r s' r' stays.0 stays.1
-      by_cases s r a s' r' (inr (inr logs)) = pair_logged a s r s' r' logs
+  call_grown eq says refuse MakeKey s r a s' r' h offers = made s r a s' r' (part_logs s r a s' r' refuse h)
+  call_grown eq says refuse MakeValue s r a s' r' h offers = made s r a s' r' (part_logs s r a s' r' refuse h)
+  call_grown eq says refuse MakePair s r a s' r' h offers = made s r a s' r' (own_logs s r a s' r' refuse h)
+  call_grown eq says refuse (MakePairOf n) s r a s' r' h offers = made s r a s' r' (of_logs s r a s' r' refuse n h)
   call_grown eq says refuse (MakeTable slots limit chunks) s r a s' r' h offers =
       matched (HasMoreLogs s r s' r') refuse _ _ h
       (λ _ none. still s r s' r' none.1.0 none.1.1)
       (λ _ makes. ⊎_elim
       (λ refused. still s r s' r' refused.1 makes.1)
-      (λ table. words_changed s r s' r' (ap (λ (y : StoreState K V S). y.hasher) table.2) (ap (λ (y : StoreState K V S). y.keys) table.2) (ap (λ (y : StoreState K V S). y.pairs) table.2) makes.1)
+      (λ table. words_changed s r s' r' (ap (λ (y : StoreState K V S). y.hasher) table.2) (ap (λ (y : StoreState K V S). y.pairs) table.2) (ap (λ (y : Running K V A). y.value) makes.1))
       makes.0)
-  call_grown eq says refuse (AddToShard by) s r a s' r' (e, (number, same), as_was) offers = words_changed s r s' r' (ap (λ (y : StoreState K V S). y.hasher) same) (ap (λ (y : StoreState K V S). y.keys) same) (ap (λ (y : StoreState K V S). y.pairs) same) as_was
+  call_grown eq says refuse (AddToShard by) s r a s' r' (e, (number, same), as_was) offers = words_changed s r s' r' (ap (λ (y : StoreState K V S). y.hasher) same) (ap (λ (y : StoreState K V S). y.pairs) same) (ap (λ (y : Running K V A). y.value) as_was)
   call_grown eq says refuse (Ask_done reply) s r a s' r' (e, stays) offers = still s r s' r' stays.0 stays.1
 
-  -- a copy leaves the logs, and the call
+  -- a copy leaves the log, and the call
   copy_grown : (eq : K → K → Bool) (hash : S → K → ℕ) (refuse : Bool) (ask : CopyAsk) (s : StoreState K V S) (r : Running K V A) (a : Answer) (s' : StoreState K V S) (r' : Running K V A) → PerformsCopy eq hash refuse ask s a s' → r' ≡ r → HasMoreLogs s r s' r'
-  copy_grown eq hash refuse (copies.Load at) s r a s' r' (e, same) as_was = still s r s' r' same as_was
-  copy_grown eq hash refuse (copies.Exchange at old new) s r a s' r' (told, e, ex) as_was =
-      matched (HasMoreLogs s r s' r') (word_at s.words at == old) _ _ ex
-      (λ _ done. words_changed s r s' r' (ap (λ (y : StoreState K V S). y.hasher) done.1) (ap (λ (y : StoreState K V S). y.keys) done.1) (ap (λ (y : StoreState K V S). y.pairs) done.1) as_was)
-      (λ _ lost. still s r s' r' lost.1 as_was)
-  copy_grown eq hash refuse (copies.LoadHint t x) s r a s' r' (e, same) as_was = still s r s' r' same as_was
-  copy_grown eq hash refuse (copies.WriteHint t x hint) s r a s' r' (e, same) as_was = words_changed s r s' r' (ap (λ (y : StoreState K V S). y.hasher) same) (ap (λ (y : StoreState K V S). y.keys) same) (ap (λ (y : StoreState K V S). y.pairs) same) as_was
-  copy_grown eq hash refuse (copies.SizeOf t) s r a s' r' (e, same) as_was = still s r s' r' same as_was
-  copy_grown eq hash refuse (copies.HashOf n) s r a s' r' (e, hashes, same) as_was = still s r s' r' same as_was
-  copy_grown eq hash refuse (copies.SamePair m n) s r a s' r' (e, same) as_was = still s r s' r' same as_was
-  copy_grown eq hash refuse copies.Count s r a s' r' (e, same) as_was = still s r s' r' same as_was
-  copy_grown eq hash refuse (copies.MakeTable slots limit chunks) s r a s' r' (told, e, makes) as_was =
-      matched (HasMoreLogs s r s' r') refuse _ _ makes
-      (λ _ none. still s r s' r' none.1 as_was)
-      (λ _ made. ⊎_elim
-      (λ refused. still s r s' r' refused.1 as_was)
-      (λ table. words_changed s r s' r' (ap (λ (y : StoreState K V S). y.hasher) table.2) (ap (λ (y : StoreState K V S). y.keys) table.2) (ap (λ (y : StoreState K V S). y.pairs) table.2) as_was)
-      made)
+  copy_grown eq hash refuse ask s r a s' r' performs as_was = words_changed s r s' r' (copy_hasher eq hash refuse ask s a s' performs) (copy_pairs eq hash refuse ask s a s' performs) (ap (λ (y : Running K V A). y.value) as_was)
 
   -- what a step leaves; only a compute asks its closure what to put where nothing is
   pub grown : (eq : K → K → Bool) (says : Says K V A) (hash : S → K → ℕ) (refuse : Bool) (ask : Ask) (s : StoreState K V S) (r : Running K V A) (a : Answer) (s' : StoreState K V S) (r' : Running K V A) → PerformsAsk eq says hash refuse ask s r a s' r' → (ask ≡ asks.Call ShowNone → r.machine.call.task ≡ tasks.Compute) → HasMoreLogs s r s' r'
   grown eq says hash refuse (asks.Call ask) s r a s' r' (told, is, performs) offers = call_grown eq says refuse ask s r told s' r' performs (λ e. offers (ap asks.Call e))
   grown eq says hash refuse (asks.Copy ask) s r a s' r' (performs, as_was) offers = copy_grown eq hash refuse ask s r a s' r' performs as_was
-
-  -- a call's key stays
-  pub own_key_stays : (s s' : StoreState K V S) (r : Running K V A) (k : K) → ((n : ℕ) (k : K) → slice_get s.keys n ≡ Some k → slice_get s'.keys n ≡ Some k) → own_key s r ≡ Some k → own_key s' r ≡ Some k
-  own_key_stays s s' r k stay e = by_key r.key e
-    where
-      by_key : (at : KeyOf K) → key_at s.keys at ≡ Some k → key_at s'.keys at ≡ Some k
-      by_key (Own j) e = e
-      by_key (Logged n) e = stay n k e
 
 module _ {K V : Type 0} (eq : K → K → Bool) where
   -- each key's moments, after an entry that begins no call of the caller's, and after one exchange more at most
@@ -212,11 +187,11 @@ module _ {K V S A : Type 0} where
   SaidForReply s r task reply caller h answers = (said : Said) → said_in_reply task reply ≡ Some said → WasSaid s r caller h answers said
 
   -- what a closure said stays said, whatever another caller does
-  pub said-other : (s s' : StoreState K V S) (r : Running K V A) (c d turn : ℕ) (event : Event) (h : History) (o : Option (Operation V ℕ)) (answers : Answered V) → KeepsPairs s s' → c ≢ d → (said : Said) → WasSaid s r d h answers said → WasSaid s' r d (entry turn c event ∷ h) (o ∷ answers) said
-  said-other s s' r c d turn event h o answers stay differ (Agrees n agrees) was = asked-other c d turn n agrees event h differ was
-  said-other s s' r c d turn event h o answers stay differ (Inserts shown) (v, has, was) = (v, has, answered-other c d turn shown (ops.Insert v) event h o answers differ was)
-  said-other s s' r c d turn event h o answers stay differ (Makes shown n) (q, there, was) = (q, stay n q there, answered-other c d turn shown (ops.Insert q.value) event h o answers differ was)
-  said-other s s' r c d turn event h o answers stay differ (Removes n) was = answered-other c d turn (Some n) ops.Remove event h o answers differ was
+  pub said-other : (s s' : StoreState K V S) (r : Running K V A) (c d turn : ℕ) (event : Event) (h : History) (o : Option (Operation V ℕ)) (answers : Answered V) → KeepsParts s s' → KeepsPairs s s' → c ≢ d → (said : Said) → WasSaid s r d h answers said → WasSaid s' r d (entry turn c event ∷ h) (o ∷ answers) said
+  said-other s s' r c d turn event h o answers parts stay differ (Agrees n agrees) was = asked-other c d turn n agrees event h differ was
+  said-other s s' r c d turn event h o answers parts stay differ (Inserts shown) (v, has, was) = (v, value_forth s.pairs s'.pairs parts.values r.value v has, answered-other c d turn shown (ops.Insert v) event h o answers differ was)
+  said-other s s' r c d turn event h o answers parts stay differ (Makes shown n) (q, there, was) = (q, stay n q there, answered-other c d turn shown (ops.Insert q.value) event h o answers differ was)
+  said-other s s' r c d turn event h o answers parts stay differ (Removes n) was = answered-other c d turn (Some n) ops.Remove event h o answers differ was
 
 module _ {K V A : Type 0} where
   -- what a compute's closure was last shown, its key had at a moment of the call
@@ -243,7 +218,7 @@ module _ {K V A : Type 0} (eq : K → K → Bool) where
   abbrev pub Moments : Call K V A → ℕ → Tale K V → History → List (Map K V) → Type 0
   Moments call caller tale h maps = (so_far rest : List (Exchange (Stored K V))) → so_far ++ rest ≡ tale.since → AtSomeMoment (λ m. at_key m (key_of call) ≡ at_key (replayed eq (replay eq tale.begun) so_far) (key_of call)) caller h maps
 
-  module _ (call : Call K V A) (caller : ℕ) (tale : Tale K V) (h : History) (maps : List (Map K V)) (hash : K → ℕ) (mode : ResizeMode) (tables : List TableWords) (k : K) (own : Some k ≡ key_of call) (moments : Moments call caller tale h maps) where
+  module _ (call : Call K V A) (caller : ℕ) (tale : Tale K V) (h : History) (maps : List (Map K V)) (hash : K → ℕ) (mode : Mode) (tables : List TableWords) (k : K) (own : Some k ≡ key_of call) (moments : Moments call caller tale h maps) where
     -- so what a machine rests on of a moment was so at a moment of the run
     pub at_moment : (v : Option (Stored K V)) → WasAtMoment (setting_of eq hash mode tables) (coding_of hash) tale.begun tale.since k v → AtSomeMoment (λ m. at_key m (key_of call) ≡ v) caller h maps
     at_moment v was =
@@ -274,17 +249,17 @@ module _ {K V A : Type 0} (eq : K → K → Bool) where
   module _ {S : Type 0} where
     -- another caller's step leaves how a call stands to its history
     pub tied_other : (s s' : StoreState K V S) (r : Running K V A) (call : Call K V A) (c d turn : ℕ) (event : Event) (tales : ℕ → Tale K V) (made : List (Exchange (Stored K V))) (hands : Hands (Stored K V)) (h : History) (es : List (Exchange (Stored K V))) (maps : List (Map K V)) (o : Option (Operation V ℕ)) (answers : Answered V)
-        → ((n : ℕ) (k : K) → slice_get s.keys n ≡ Some k → slice_get s'.keys n ≡ Some k) → KeepsPairs s s' → (made ≡ []) ⊎ ((x : Exchange (Stored K V)) × (made ≡ x ∷ [])) → c ≢ d → (tales d).begun ++ (tales d).since ≡ es
+        → KeepsParts s s' → IsValued s r → KeepsPairs s s' → (made ≡ []) ⊎ ((x : Exchange (Stored K V)) × (made ≡ x ∷ [])) → c ≢ d → (tales d).begun ++ (tales d).since ≡ es
         → IsTied eq s r call d (tales d) h maps answers → IsTied eq s' r call d (told_tales tales c made hands d) (entry turn c event ∷ h) (replay eq (es ++ made) ∷ maps) (o ∷ answers)
-    tied_other s s' r call c d turn event tales made hands h es maps o answers keys pairs one differ split tied = record {
+    tied_other s s' r call c d turn event tales made hands h es maps o answers parts valued pairs one differ split tied = record {
       own = tied.own;
-      key = own_key_stays s s' r tied.own keys tied.key;
+      key = parts.keys r.key tied.own tied.key;
       key_is = tied.key_is;
       task = tied.task;
-      value = tied.value;
+      value = λ v e. tied.value v (value_back s.pairs s'.pairs parts.values r.value valued v e);
       made = λ q one. tied.made q (subst (λ (y : Hands (Stored K V)). IsOneOf y.call.made q) (ap (λ b. cond b hands (tales d).hands) (differs d c (λ z. differ (sym z)))) one);
       change = change_of-other c d turn event h differ ∙ tied.change;
-      said = λ said stands. said-other s s' r c d turn event h o answers pairs differ said (tied.said said stands);
+      said = λ said stands. said-other s s' r c d turn event h o answers parts pairs differ said (tied.said said stands);
       shows = tied.shows;
       once = λ e. tied.once (sym (was_shown_none-other c d turn event h differ) ∙ e);
       moments = subst (λ (l : List (Exchange (Stored K V))). (so_far rest : List (Exchange (Stored K V))) → so_far ++ rest ≡ (tales d).since ++ made → AtSomeMoment (λ m. at_key m (key_of call) ≡ at_key (replayed eq (replay eq (tales d).begun) so_far) (key_of call)) d (entry turn c event ∷ h) (replay eq (l ++ made) ∷ maps)) split
@@ -299,17 +274,17 @@ module _ {K V A : Type 0} (eq : K → K → Bool) where
       key = ap (λ (y : StoreState K V S). own_key y r) same ∙ tied.key;
       key_is = tied.key_is;
       task = tied.task;
-      value = tied.value;
+      value = λ v e. tied.value v (sym (ap (λ (y : StoreState K V S). own_value y r) same) ∙ e);
       made = tied.made;
       change = change_of-other c d turn event h differ ∙ tied.change;
-      said = λ said stands. said-other s s' r c d turn event h o answers (λ n q e. ap (λ (y : StoreState K V S). pair_of y n) same ∙ e) differ said (tied.said said stands);
+      said = λ said stands. said-other s s' r c d turn event h o answers (same_parts s s' (ap (λ (y : StoreState K V S). y.pairs) same)) (λ n q e. ap (λ (y : StoreState K V S). pair_of y n) same ∙ e) differ said (tied.said said stands);
       shows = tied.shows;
       once = λ e. tied.once (sym (was_shown_none-other c d turn event h differ) ∙ e);
       moments = λ so_far rest is. inr (not_begin-other c d turn event differ, tied.moments so_far rest is);
     }
 
     -- where the machine asks no more, its reply fits
-    pub tied_fits : (s : StoreState K V S) (r : Running K V A) (call : Call K V A) (caller : ℕ) (tale : Tale K V) (h : History) (maps : List (Map K V)) (answers : Answered V) (hash : K → ℕ) (mode : ResizeMode) (tables : List TableWords) (k : K) → Some k ≡ key_of call
+    pub tied_fits : (s : StoreState K V S) (r : Running K V A) (call : Call K V A) (caller : ℕ) (tale : Tale K V) (h : History) (maps : List (Map K V)) (answers : Answered V) (hash : K → ℕ) (mode : Mode) (tables : List TableWords) (k : K) → Some k ≡ key_of call
         → IsTied eq s r call caller tale h maps answers → Rests (setting_of eq hash mode tables) (coding_of hash) tale.begun tale.since k r.machine tale.hands → (reply : Reply) → ask_of r.machine ≡ asks.Call (Ask_done reply) → IsEnding r.machine.call.task call reply caller h maps → Fits eq call reply caller h maps
     tied_fits s r call caller tale h maps answers hash mode tables k own tied rests reply done ending =
         let replied = (own_asks r.machine (Ask_done reply) done).1 in

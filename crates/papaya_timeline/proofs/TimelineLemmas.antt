@@ -13,7 +13,7 @@ use Rattle.papaya_timeline.specs.Runs.{History}
 use Rattle.papaya_store.specs.Store.{StoreState, Stored, pair_of}
 use Rattle.papaya_timeline.specs.Timeline.{Answered, begun_by, open_call, open_after, change_of, change_by, is_begin, begins, last_shown, shown_by, was_shown_none, none_by, WasAnswered, WasAsked, WasShown, AtSomeMoment, IsUnused}
 use Rattle.papaya_timeline.proofs.CallersLemmas.{differs}
-use Rattle.papaya_timeline.proofs.KeptLogs.{pair_below}
+use Rattle.papaya_store.proofs.Logs.{pair_below}
 
 -- an entry of this turn and caller
 abbrev pub entry : (turn caller : ℕ) → Event → Entry

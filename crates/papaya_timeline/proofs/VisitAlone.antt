@@ -105,7 +105,7 @@ module _ {K V S A : Type 0} (eq : K → K → Bool) (hash : K → ℕ) (law : Is
       less spot at new e is p live buries may written =
           subst (λ y. changes_at (length s.store.words.tables) at new < changes_at (length s.store.words.tables) at y) (kept.coded at)
           (subst (λ y. IsWritten g c now y new (state_after now e) → changes_at (length s.store.words.tables) y new < changes_at (length s.store.words.tables) y (word_of g c now y)) (sym is)
-          (λ w. call_fewer g c now (length s.store.words.tables) (Some kinds.Bury) (words_at.Slot spot.table spot.slot) new tale.hands.copy.call e (p, live, buries) may (sym w.here) (λ root. absurd (cc root))) written)
+          (λ w. call_fewer g c now (length s.store.words.tables) (Some kinds.Bury) (words_at.Slot spot.table spot.slot) new tale.hands.copy.call p.key e (p, live, buries) may (sym w.here) (λ root. absurd (cc root))) written)
 
   -- the table that it is about to link has its words
   words : (state : State) → v.visitor.state ≡ state → HasWords g (link_in_visit state)

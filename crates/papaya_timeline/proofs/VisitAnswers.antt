@@ -62,7 +62,6 @@ retold g c store es hands T T' a store' left told = record {
   hands' = left.hands';
   told = told;
   hasher_is = left.hasher_is;
-  keys_are = left.keys_are;
   pairs_are = left.pairs_are;
   sum_is = left.sum_is;
   tables_few = left.tables_few;

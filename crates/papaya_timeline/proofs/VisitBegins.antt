@@ -47,15 +47,15 @@ module _ {K V S A : Type 0} (eq : K → K → Bool) (hash : K → ℕ) (s : Core
   gives_none Retain = refl
 
   -- so it rests on the exchanges as they are
-  pub visit_begins : (v : Visiting A) → v.visitor ≡ begun visit s.mode initial number → HasAnswers visit v.answers → v.given ≡ [] → IsVisiting eq hash s.mode s.store v es (record { begun = es; since = []; hands = no_hands })
+  pub visit_begins : (v : Visiting A) → v.visitor ≡ begun visit s.mode.resize initial number → HasAnswers visit v.answers → v.given ≡ [] → IsVisiting eq hash s.mode s.store v es (record { begun = es; since = []; hands = no_hands })
   visit_begins v is answers none = record {
     split = append-nil es;
     rests = subst (λ w. RestsVisitor g_now c_now (run es start) (map_left g_now es) [] w no_hands) (sym is)
-        (record { mode = mode_of s.mode; cut = mode_cut s.mode; gives = gives_none visit; state = state_begins s.mode (mode_of s.mode) });
+        (record { mode = mode_of s.mode.resize; cut = mode_cut s.mode.resize; gives = gives_none visit; state = state_begins s.mode.resize (mode_of s.mode.resize) });
     answers = subst (λ (w : Visitor). HasAnswers w.visit v.answers) (sym is) answers;
     given = none;
     last = λ p e. absurd cc;
     carried = λ p e. absurd cc;
     shown = λ p h. absurd h;
-    links = λ behind t chunks h. absurd (begun_none s.mode behind t chunks (subst (λ (w : Visitor). IsVisitLink w.state (links.Linking behind t chunks)) is h));
+    links = λ behind t chunks h. absurd (begun_none s.mode.resize behind t chunks (subst (λ (w : Visitor). IsVisitLink w.state (links.Linking behind t chunks)) is h));
   }

@@ -19,7 +19,7 @@ use Rattle.papaya_law.proofs.Grows.{map_of_carries}
 use Rattle.papaya_law.proofs.Moments.{allowed_append, allowed_first, allowed_rest, run-append}
 use Rattle.papaya_law.proofs.OneMap.{keeping}
 use Rattle.papaya_rests.specs.Told.{word_of}
-use Rattle.papaya_store.specs.Performs.{key_at}
+use Rattle.papaya_store.specs.Pairs.{key_in, value_in}
 use Rattle.papaya_store.specs.Store.{KeepsPairs, StoreState, Stored, pair_of}
 use Rattle.papaya_store.specs.Tables.{word_at}
 use Rattle.papaya_store.specs.declared.pairs.Pair.{Pair}
@@ -143,9 +143,10 @@ module _ {K V S A : Type 0} (eq : K → K → Bool) (hash : K → ℕ) (law : Is
     leaving : others.IsLeaving eq hash law s caller s' refl es tales core kept made (tales caller).hands (λ p. ⊥)
     leaving = record {
       allowed = allowed_append g es made start kept.allowed (subst (λ w. AllAllowed g w made) same (allowed_rest g tale.since made first learnt.0));
-      keys = λ at k h. of_store (λ y. key_at y.keys at ≡ Some k) (ap (λ list. key_at list at) l.left.keys_are ∙ h);
+      keys = λ at k h. of_store (λ y. key_in y.pairs at ≡ Some k) (ap (λ list. key_in list at) l.left.pairs_are ∙ h);
+      values = λ at w h. of_store (λ y. value_in y.pairs at ≡ Some w) (ap (λ list. value_in list at) l.left.pairs_are ∙ h);
       logged = logged;
-      few = λ h. of_store (λ y. length y.pairs ≤ MAX_LOG_LEN) (subst (λ (list : List (Pair V)). length list ≤ MAX_LOG_LEN) (sym l.left.pairs_are) h);
+      few = λ h. of_store (λ y. length y.pairs ≤ MAX_LOG_LEN) (subst (λ (list : List (Pair K V)). length list ≤ MAX_LOG_LEN) (sym l.left.pairs_are) h);
       tables_few = λ h. of_store (λ y. length y.words.tables ≤ MAX_TABLES) (l.left.tables_few h);
       grown = of_store (λ y. HasMoreTables s.store.words.tables y.words.tables) l.left.grown;
       coded = of_store (λ y. (at : At) → word_of g c (run (es ++ made) start) at ≡ word_at y.words at) l.left.coded;

@@ -1,6 +1,5 @@
 -- The laws of a call that visits a table, of any list of exchanges.
 use Rattle.std.proofs.Common.{IsSome, ◌≡◌, ◌⊎◌, ℕ, ◌<◌, Bool, None, Some, Option, List, refl, subst}
-use Rattle.papaya_words.specs.declared.probe.ResizeMode.{ResizeMode}
 use Rattle.papaya_ask.specs.declared.call.Reply.{Reply}
 use Rattle.papaya_ask.specs.declared.call.Reply.TheVariants.{Done as Reply_done}
 use Rattle.papaya_call.specs.Answers.{Says}
@@ -28,6 +27,7 @@ use Rattle.papaya_timeline.proofs.VisitMoves as moving
 use Rattle.papaya_timeline.proofs.VisitOthers.{step_beside}
 use Rattle.papaya_timeline.proofs.VisitOver.{visit_asks, visit_over}
 use Rattle.papaya_timeline.proofs.VisitStands.{visit_core}
+use Rattle.papaya_store.specs.declared.mode.Mode.{Mode}
 
 module _ {K V S A : Type 0} (eq : K → K → Bool) (hashes : S → K → ℕ) (says : Says K V A) (refuse : Bool) (s : CoreState K V S A) (law : IsLawfulKeys eq (hashes s.store.hasher)) (core : IsCore s.store s.callers s.mode) (tales : ℕ → Tale K V) (v : Visiting A) (tale : VisitTale K V) where
   -- the hash of keys
@@ -93,7 +93,7 @@ module _ {K V S A : Type 0} (eq : K → K → Bool) (hashes : S → K → ℕ) (
         lone.falls eq (hashes s.store.hasher) law says hashes refuse s core refl caller tale tales kept v visiting ask asks a store' v' performs heard read after_it.0 after_it.2,
       )) kept visiting heard
 
-module _ {K V S A : Type 0} (eq : K → K → Bool) (hash : K → ℕ) (mode : ResizeMode) (store : StoreState K V S) (v : Visiting A) (es : List (Exchange (Stored K V))) (tale : VisitTale K V) (visiting : IsVisiting eq hash mode store v es tale) where
+module _ {K V S A : Type 0} (eq : K → K → Bool) (hash : K → ℕ) (mode : Mode) (store : StoreState K V S) (v : Visiting A) (es : List (Exchange (Stored K V))) (tale : VisitTale K V) (visiting : IsVisiting eq hash mode store v es tale) where
   -- it asks something until it has replied
   pub asks_so : reply_of v.visitor ≡ None → IsSome (ask_of v.visitor)
   asks_so going = visit_asks (setting_of eq (low hash) mode store.words.tables) (coding_of (low hash)) (run tale.begun start) (map_left (setting_of eq (low hash) mode store.words.tables) tale.begun) tale.since v.visitor.visit tale.hands v.visitor.state visiting.rests.state going

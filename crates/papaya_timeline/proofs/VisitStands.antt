@@ -23,7 +23,6 @@ use Rattle.papaya_timeline.specs.declared.seat.Seat.{Seat}
 use Rattle.papaya_timeline.specs.Core.{IsCore}
 use Rattle.papaya_timeline.proofs.ResizerStands.{resizer_fits, resizer_stands}
 use Rattle.papaya_timeline.proofs.StoreLemmas.{AllSized, IsKeptAsked, numbered, performed_copy, unnumbered}
-use Rattle.papaya_words.specs.declared.probe.ResizeMode.{ResizeMode}
 use Rattle.papaya_chain.specs.declared.visit_ask.VisitAsk.{VisitAsk}
 use Rattle.papaya_chain.specs.declared.visit_ask.VisitAsk.TheVariants.{Copy, Show, Give, AddToShard}
 use Rattle.papaya_chain.specs.declared.visitor.Spot.{Spot}
@@ -35,6 +34,7 @@ use Rattle.papaya_chain.specs.declared.visitor.Visitor.{Visitor}
 use Rattle.papaya_chain.specs.Visitor.{IsStandingIn, IsStandingSpot, IsStandingVisitor, after, after_in, ask_of, asks_in, at_root, buries, copied, copy_asks, found_by, looks, meets, next, resizer_of, shown, told, visited}
 use Rattle.papaya_store.specs.declared.visits.Visiting.{Visiting}
 use Rattle.papaya_store.specs.Visits.{PerformsVisit}
+use Rattle.papaya_store.specs.declared.mode.Mode.{Mode}
 
 -- a slot that is looked at is one of its table
 looks_stands : (spot : Spot) → IsStandingIn (looks spot)
@@ -132,7 +132,7 @@ module _ (visitor : Visitor) (stands : IsStandingVisitor visitor) where
   pub visitor_fits : (ask : CopyAsk) → ask_of visitor ≡ Some (Copy ask) → IsFitCopyAsk ask
   visitor_fits ask e = fits_in visitor.state stands.state ask e
 
-module _ {K V S A : Type 0} (eq : K → K → Bool) (says : Says K V A) (hash : S → K → ℕ) (refuse : Bool) (store : StoreState K V S) (callers : List (Seat K V A)) (mode : ResizeMode) (core : IsCore store callers mode) (v : Visiting A) (stands : IsStandingVisitor v.visitor) (a : Answer) (store' : StoreState K V S) (v' : Visiting A) where
+module _ {K V S A : Type 0} (eq : K → K → Bool) (says : Says K V A) (hash : S → K → ℕ) (refuse : Bool) (store : StoreState K V S) (callers : List (Seat K V A)) (mode : Mode) (core : IsCore store callers mode) (v : Visiting A) (stands : IsStandingVisitor v.visitor) (a : Answer) (store' : StoreState K V S) (v' : Visiting A) where
   all_sized : AllSized store.words.tables
   all_sized = unnumbered store.words.tables core.sizes
 
@@ -158,6 +158,7 @@ module _ {K V S A : Type 0} (eq : K → K → Bool) (says : Says K V A) (hash : 
       let kept = kept_asked ask asks performs in (
         record {
           chunked = core.chunked;
+          limit = core.limit;
           sizes = numbered store'.words.tables kept.sized;
           standing = core.standing;
           going = core.going;

@@ -8,7 +8,7 @@ use Rattle.papaya_ask.specs.declared.ask.Ask.TheVariants.{AddToShard, Exchange, 
 use Rattle.papaya_ask.specs.declared.ask.Answer.{Answer as Call_answer}
 use Rattle.papaya_ask.specs.declared.ask.Answer.TheVariants.{Exchanged, Yes, Op}
 use Rattle.papaya_ask.specs.declared.ask.StepKind.{StepKind}
-use Rattle.papaya_ask.specs.declared.ask.StepKind.TheVariants.{Open, Claim, Replace, Bury, Link, Mark, Close, Place, Finish, Advance, Promote, Abort}
+use Rattle.papaya_ask.specs.declared.ask.StepKind.TheVariants.{Open, Claim, Replace, Bury, Link, Mark, Close, Place, Finish, Advance, Promote, Abort, Take}
 use Rattle.papaya_ask.specs.declared.call.Reply.{Reply}
 use Rattle.papaya_ask.specs.declared.call.Reply.TheVariants.{Refused as Reply_refused}
 use Rattle.papaya_ask.specs.declared.copy_ask.CopyAsk.{CopyAsk}
@@ -45,6 +45,7 @@ exchange_event Finish old new = Moved Finish
 exchange_event Advance old new = Moved Advance
 exchange_event Promote old new = Moved Promote
 exchange_event Abort old new = Moved Abort
+exchange_event Take old new = Moved Take
 
 -- the event of an exchange of no kind, which no machine asks for
 abbrev pub kind_event : Option StepKind → (old new : ℕ) → Event
@@ -107,8 +108,9 @@ pub record AddsToShard {K V S A : Type 0} (s : CoreState K V S A) (caller : ℕ)
 
 -- Just one ask of the caller's machine is answered, a load or an exchange by the word that stands
 -- there. A reply is the one in the machine's Done. No other caller's call changes. A call is refused
--- where what it asked to be made was refused, where its closure would remove a pair and there is
--- none, or where the next table was refused or would be longer than a table may be.
+-- where what it asked to be made was refused, where no number was left for its pair, where its
+-- closure would remove a pair and there is none, or where the next table was refused or would be
+-- longer than a table may be.
 pub record Advances {K V S A : Type 0} (eq : K → K → Bool) (says : Says K V A) (hash : S → K → ℕ)
     (refuse : Bool) (s : CoreState K V S A) (caller : ℕ) (s' : CoreState K V S A) (event : Event)
     (reply : Option Reply) : Type 0 where

@@ -10,7 +10,9 @@ use Rattle.papaya_chain.specs.declared.resizer.Resize.{Resize}
 use Rattle.papaya_chain.specs.declared.resizer.Resize.TheVariants as resizes
 use Rattle.papaya_chain.specs.Machine.{started}
 use Rattle.papaya_chain.specs.Resizer as resizer
-use Rattle.papaya_store.specs.declared.pairs.KeyOf.TheVariants.{Own}
+use Rattle.papaya_store.specs.declared.mode.Mode.{Mode}
+use Rattle.papaya_store.specs.declared.pairs.Part.{Part}
+use Rattle.papaya_store.specs.declared.pairs.Part.TheVariants.{Own}
 use Rattle.papaya_store.specs.declared.pairs.Running.{Running}
 use Rattle.papaya_timeline.specs.declared.seat.Work.{Work}
 use Rattle.papaya_timeline.specs.declared.seat.Work.TheVariants as works
@@ -51,21 +53,26 @@ visitor_begun mode initial number visit answers = record {
   given = [];
 }
 
+-- a value that was handed in is the call's own
+abbrev pub handed : {V : Type 0} → Option V → Option (Part V)
+handed None = None
+handed (Some v) = Some (Own v)
+
 -- a call copies from the chunk on that its number picks
-module _ {K V A : Type 0} (hash : K → ℕ) (mode : ResizeMode) (initial number : ℕ) where
+module _ {K V A : Type 0} (hash : K → ℕ) (mode : Mode) (initial number : ℕ) where
   -- a call on this key as it begins
   abbrev pub begun : Task → K → Option V → Option A → Running K V A
   begun task key value answers =
       record {
-        machine = started task (hash key) mode initial number;
+        machine = started task (hash key) mode.resize initial number mode.limit;
         key = Own key;
-        value = value;
+        value = handed value;
         answers = answers;
       }
 
   -- a call that resizes the map as it begins
   abbrev pub resizer_begun : Resize → Work K V A
-  resizer_begun resize = works.Resize (resizer.begun resize mode initial number)
+  resizer_begun resize = works.Resize (resizer.begun resize mode.resize initial number)
 
   -- a call as it begins
   abbrev pub begun_work : Call K V A → Work K V A
@@ -76,9 +83,10 @@ module _ {K V A : Type 0} (hash : K → ℕ) (mode : ResizeMode) (initial number
   begun_work (Compute k a) = works.Call (begun tasks.Compute k None (Some a))
   begun_work (Reserve more) = resizer_begun (resizes.Reserve more)
   begun_work CopyAll = resizer_begun resizes.CopyAll
-  begun_work Clear = works.Visit (visitor_begun mode initial number visits.Clear None)
-  begun_work (Retain a) = works.Visit (visitor_begun mode initial number visits.Retain (Some a))
-  begun_work Walk = works.Visit (visitor_begun mode initial number visits.Walk None)
+  begun_work Clear = works.Visit (visitor_begun mode.resize initial number visits.Clear None)
+  begun_work (Retain a) =
+      works.Visit (visitor_begun mode.resize initial number visits.Retain (Some a))
+  begun_work Walk = works.Visit (visitor_begun mode.resize initial number visits.Walk None)
 
 -- a begin changes no word, no log and no other caller's call
 pub record Begins {K V S A : Type 0} (hash : K → ℕ) (s : CoreState K V S A) (caller : ℕ)

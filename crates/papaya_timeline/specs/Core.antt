@@ -6,9 +6,11 @@ use Rattle.papaya_ask.specs.Search.{IsSize}
 use Rattle.papaya_ask.specs.declared.ask.Ask.TheVariants.{Done as Ask_done}
 use Rattle.papaya_ask.specs.declared.call.Reply.{Reply}
 use Rattle.papaya_words.specs.Mode.{IsChunked}
+use Rattle.papaya_call.specs.Made.{IsLimit}
 use Rattle.papaya_chain.specs.declared.ask.Ask.TheVariants.{Call}
 use Rattle.papaya_chain.specs.declared.machine.Machine.{Machine}
 use Rattle.papaya_chain.specs.Machine.{IsStanding, ask_of}
+use Rattle.papaya_store.specs.declared.mode.Mode.{Mode}
 use Rattle.papaya_store.specs.declared.pairs.Running.{Running}
 use Rattle.papaya_timeline.specs.declared.seat.Seat.{Seat}
 use Rattle.papaya_timeline.specs.Callers.{resizing, running, visiting, working}
@@ -20,13 +22,17 @@ use Rattle.papaya_store.specs.Store.{StoreState}
 use Rattle.papaya_chain.specs.Visitor as visitor
 use Rattle.papaya_store.specs.declared.visits.Visiting.{Visiting}
 
--- the words, the logs and the count; the callers with what they have under way; and how the core
--- resizes
+-- the words, the log and the count; the callers with what they have under way; and how the core
+-- resizes, and its limit
 pub record CoreState (K V S A : Type 0) : Type 0 where
   pub store : StoreState K V S
   pub callers : List (Seat K V A)
-  pub mode : ResizeMode
+  pub mode : Mode
   pub initial : ℕ
+
+-- how a core resizes that has no limit
+abbrev pub unlimited : ResizeMode → Mode
+unlimited mode = record { resize = mode; limit = None }
 
 -- what a caller has under way
 abbrev pub work_of : {K V S A : Type 0} → CoreState K V S A → ℕ → Option (Work K V A)
@@ -43,8 +49,9 @@ IsGoing m = (reply : Reply) → ask_of m ≡ Call (Ask_done reply) → ⊥
 -- each table has the size of a table, each machine, each resizer and each visitor stands within its
 -- tables, and no call under way has replied
 pub record IsCore {K V S A : Type 0} (store : StoreState K V S) (callers : List (Seat K V A))
-    (mode : ResizeMode) : Type 0 where
-  pub chunked : IsChunked mode
+    (mode : Mode) : Type 0 where
+  pub chunked : IsChunked mode.resize
+  pub limit : IsLimit mode.limit
   pub sizes : (n : ℕ) (t : TableWords) → table_of store.words.tables n ≡ Some t
       → IsSize (length t.slots) t.limit
   pub standing : (caller : ℕ) (r : Running K V A) → running callers caller ≡ Some r

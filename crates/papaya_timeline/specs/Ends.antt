@@ -1,21 +1,21 @@
 -- The end of a call that is made alone: how many tables may still be made and words exchanged, and
 -- what holds of the core while nobody else has a call under way.
-use Rattle.std.specs.Prelude.{◌≡◌, ℕ, ◌+◌, ◌-◌, ◌^◌, ◌<◌, ◌==◌, if◌then◌else◌, Bool, List, [], ◌∷◌, length, Option, Some, sum_by, take}
+use Rattle.std.specs.Prelude.{◌≡◌, ◌⊎◌, ℕ, ◌+◌, ◌-◌, ◌^◌, ◌<◌, ◌==◌, if◌then◌else◌, Bool, List, [], ◌∷◌, length, Option, Some, sum_by, take}
 use Rattle.papaya_words.specs.Table.{TableWords}
 use Rattle.papaya_words.specs.Word.{kind_of}
 use Rattle.papaya_words.specs.declared.word.Kind.{Kind}
 use Rattle.papaya_words.specs.declared.word.Kind.TheVariants.{Empty, Live, Marked}
 use Rattle.papaya_ask.specs.declared.call.Task.{Task}
 use Rattle.papaya_ask.specs.declared.call.Task.TheVariants.{Insert}
-use Rattle.papaya_call.specs.declared.machine.State.{State}
+use Rattle.papaya_call.specs.declared.compute.Choice.TheVariants.{Replace as To_replace}
+use Rattle.papaya_call.specs.declared.compute.Purpose.{Purpose}
+use Rattle.papaya_call.specs.declared.machine.Machine.{Machine}
 use Rattle.papaya_call.specs.declared.machine.State.TheVariants.{Pairing}
-use Rattle.papaya_call.specs.declared.write.Made.{Made}
-use Rattle.papaya_call.specs.declared.write.Made.TheVariants.{Nothing, Key, Pair}
+use Rattle.papaya_call.specs.declared.made.Of.{Of}
 use Rattle.papaya_alone.specs.Ahead.{IsCurrent}
 use Rattle.papaya_alone.specs.Budget.{Budget}
 use Rattle.papaya_alone.specs.Rank.{measure}
-use Rattle.papaya_store.specs.declared.pairs.KeyOf.{KeyOf}
-use Rattle.papaya_store.specs.declared.pairs.KeyOf.TheVariants.{Own, Logged}
+use Rattle.papaya_store.specs.declared.pairs.Part.{Part}
 use Rattle.papaya_store.specs.declared.pairs.Running.{Running}
 use Rattle.papaya_store.specs.Store.{StoreState}
 use Rattle.papaya_store.specs.Tables.{Tables, word_at}
@@ -67,28 +67,20 @@ budget_of store = budget_in store.words
 abbrev pub IsThere : {X : Type 0} → Option X → Type 0
 IsThere {X = X} o = (x : X) × (o ≡ Some x)
 
--- the key is the call's own until it is made, and is in the log from then on
-abbrev pub IsKeyFor : {K : Type 0} → Made → KeyOf K → Type 0
-IsKeyFor {K = K} Nothing key = (k : K) × (key ≡ Own k)
-IsKeyFor Key key = (n : ℕ) × (key ≡ Logged n)
-IsKeyFor (Pair m) key = (n : ℕ) × (key ≡ Logged n)
+-- an insertion has its value
+abbrev pub HasValue : {V : Type 0} → Task → Option (Part V) → Type 0
+HasValue (Insert replace) value = IsThere value
+HasValue task value = Unit {0}
 
--- an insertion has its value until a pair is made of it
-abbrev pub HasValue : {V : Type 0} → Task → Made → Option V → Type 0
-HasValue (Insert replace) Nothing value = IsThere value
-HasValue (Insert replace) Key value = IsThere value
-HasValue task made value = Unit {0}
+-- a compute is to make a pair of the value that its closure answered, now or again
+abbrev pub IsToPair : Machine → Type 0
+IsToPair m = ((purpose : Purpose) × (m.state ≡ Pairing purpose))
+    ⊎ ((old : ℕ) × (new : Of) × (m.remembered.choice ≡ Some (To_replace old new)))
 
--- and a compute has the one that its closure answered, where a pair is to be made of it
-abbrev pub HasAnswered : {V : Type 0} → State → Option V → Type 0
-HasAnswered (Pairing purpose) value = IsThere value
-HasAnswered state value = Unit {0}
-
--- a call has the key and the value that it has yet to make something of
+-- a call has the value that it has yet to make something of
 pub record IsMaker {K V A : Type 0} (r : Running K V A) : Type 0 where
-  pub key : IsKeyFor r.machine.call.made r.key
-  pub value : HasValue r.machine.call.task r.machine.call.made r.value
-  pub answered : HasAnswered r.machine.call.state r.value
+  pub value : HasValue r.machine.call.task r.value
+  pub answered : IsToPair r.machine.call → IsThere r.value
 
 -- The one caller has this call under way: the core is in order, what the call has read stands there
 -- still, and it has what it is to make.

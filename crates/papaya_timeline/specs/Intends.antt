@@ -8,12 +8,14 @@ use Rattle.papaya_ask.specs.declared.call.Task.TheVariants.{Insert, RemoveIf, Co
 use Rattle.papaya_call.specs.Answers.{Says, op_kind}
 use Rattle.papaya_call.specs.declared.answers.Operation.{Operation}
 use Rattle.papaya_call.specs.declared.answers.Operation.TheVariants as ops
-use Rattle.papaya_call.specs.declared.write.Made.TheVariants.{Pair}
+use Rattle.papaya_call.specs.declared.made.Made.{Made}
+use Rattle.papaya_call.specs.declared.made.Of.{Of}
 use Rattle.papaya_chain.specs.declared.visitor.State.{State}
 use Rattle.papaya_chain.specs.declared.visitor.State.TheVariants.{Burying}
 use Rattle.papaya_chain.specs.declared.visitor.Visit.TheVariants.{Retain}
 use Rattle.papaya_rests.specs.Says.{Agrees, Inserts, Makes, Removes, StandsOn}
 use Rattle.papaya_store.specs.declared.pairs.Running.{Running}
+use Rattle.papaya_store.specs.Performs.{own_value}
 use Rattle.papaya_store.specs.Store.{StoreState, Stored, pair_of}
 use Rattle.papaya_timeline.specs.declared.seat.Work.{Work}
 use Rattle.papaya_timeline.specs.declared.seat.Work.TheVariants as works
@@ -28,20 +30,25 @@ abbrev pub TakesOut : State → ℕ → Type 0
 TakesOut (Burying spot word) n = pair_in word ≡ n
 TakesOut _ n = ⊥
 
+-- an insertion made this pair, of its own key or of one that it met
+abbrev pub HasMade : Made → ℕ → Type 0
+HasMade made n = (made.own ≡ Some n) ⊎ ((of : Of) × (made.of ≡ Some of) × (of.pair ≡ n))
+
 -- the pair of this number has the value
 abbrev pub HasValue : {K V S : Type 0} → StoreState K V S → ℕ → V → Type 0
 HasValue {K = K} {V = V} store n v = (p : Stored K V) × (pair_of store n ≡ Some p) × (p.value ≡ v)
 
 module _ {K V S A : Type 0} (store : StoreState K V S) where
-  -- An insertion would store the value that it was handed. That is at hand until a pair is made of
-  -- it, and then is the pair's.
+  -- An insertion would store the value that it was handed. It has that, and so has each pair that it
+  -- made.
   abbrev pub WouldStore : Running K V A → V → Type 0
-  WouldStore r v = (r.value ≡ Some v)
-      ⊎ ((n : ℕ) × (r.machine.call.made ≡ Pair n) × HasValue store n v)
+  WouldStore r v = (own_value store r ≡ Some v)
+      ⊎ ((n : ℕ) × HasMade r.machine.call.made n × HasValue store n v)
 
   -- A compute would store the value that its closure answered when it was shown this.
   abbrev pub WouldStoreFor : Running K V A → Option ℕ → V → Type 0
-  WouldStoreFor r shown v = (StandsOn r.machine.call (Inserts shown) × (r.value ≡ Some v))
+  WouldStoreFor r shown v = (StandsOn r.machine.call (Inserts shown)
+      × (own_value store r ≡ Some v))
       ⊎ ((n : ℕ) × StandsOn r.machine.call (Makes shown n) × HasValue store n v)
 
   abbrev pub IntendsAs : Task → Running K V A → Option ℕ → Operation V ℕ → Type 0

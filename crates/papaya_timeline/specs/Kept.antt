@@ -25,8 +25,10 @@ use Rattle.papaya_law.specs.Hints.{IsHint}
 use Rattle.papaya_law.specs.Invariant.{named}
 use Rattle.papaya_law.specs.Meaning.{map_left}
 use Rattle.papaya_rests.specs.Rests.{change_in}
-use Rattle.papaya_rests.specs.Says.{ShowsPairs}
+use Rattle.papaya_rests.specs.Says.{IsAnswered, Makes, ShowsPairs, StandsOn}
 use Rattle.papaya_rests.specs.Told.{IsOneOf, word_of}
+use Rattle.papaya_store.specs.declared.mode.Mode.{Mode}
+use Rattle.papaya_store.specs.declared.pairs.Part.{Part}
 use Rattle.papaya_store.specs.declared.pairs.Running.{Running}
 use Rattle.papaya_timeline.specs.declared.seat.Seat.{Seat}
 use Rattle.papaya_timeline.specs.Callers.{resizing, running, visiting}
@@ -34,7 +36,8 @@ use Rattle.papaya_chain.specs.declared.resizer.Resizer.{Resizer}
 use Rattle.papaya_chain.specs.declared.resizer.State.TheVariants.{Opening}
 use Rattle.papaya_chain_rests.specs.Resizers.{HasLink, RestsResizer}
 use Rattle.papaya_timeline.specs.Core.{IsCore}
-use Rattle.papaya_store.specs.Performs.{own_key}
+use Rattle.papaya_store.specs.Pairs.{value_in}
+use Rattle.papaya_store.specs.Performs.{own_key, own_value}
 use Rattle.papaya_store.specs.Store.{StoreState, Stored, pair_of}
 use Rattle.papaya_store.specs.Tables.{hint_at, table_of, word_at}
 use Rattle.papaya_chain.specs.declared.visitor.State.{State}
@@ -66,10 +69,11 @@ chunks_in None = 0
 chunks_in (Some t) = length t.done
 
 -- the setting of the law that tables are
-abbrev pub setting_of : {K V : Type 0} → (K → K → Bool) → (K → ℕ) → ResizeMode → List TableWords
+abbrev pub setting_of : {K V : Type 0} → (K → K → Bool) → (K → ℕ) → Mode → List TableWords
     → Setting K (Stored K V)
 setting_of eq hash mode tables =
-    planned (hashed (is_blocking mode) (chunk_of (chunk_len mode)) (λ p. p.key) eq hash)
+    planned (hashed (is_blocking mode.resize) (chunk_of (chunk_len mode.resize)) mode.limit
+    (λ p. p.key) eq hash)
     (λ t. slots_in (table_of tables t)) (λ t. places_in (table_of tables t))
     (λ t. chunks_in (table_of tables t))
 
@@ -143,7 +147,7 @@ module _ {K V S : Type 0} (store : StoreState K V S) where
   IsMadeFor t chunks = (words : TableWords) × (table_of store.words.tables t ≡ Some words)
       × (chunks ≤ length words.done)
 
-module _ {K V S : Type 0} (eq : K → K → Bool) (hash : K → ℕ) (mode : ResizeMode)
+module _ {K V S : Type 0} (eq : K → K → Bool) (hash : K → ℕ) (mode : Mode)
     (store : StoreState K V S) where
   -- a call that resizes the map rests on what is told of it, after the exchanges es
   pub record IsResizing (resizer : Resizer) (es : List (Exchange (Stored K V)))
@@ -157,7 +161,7 @@ module _ {K V S : Type 0} (eq : K → K → Bool) (hash : K → ℕ) (mode : Res
     pub links : (behind t chunks : ℕ) → HasLink resizer.state (Linking behind t chunks)
         → IsMadeFor store t chunks
 
-module _ {K V S A : Type 0} (eq : K → K → Bool) (hash : K → ℕ) (mode : ResizeMode)
+module _ {K V S A : Type 0} (eq : K → K → Bool) (hash : K → ℕ) (mode : Mode)
     (store : StoreState K V S) where
   -- a call that visits a table rests on what is told of it, after the exchanges es
   pub record IsVisiting (v : Visiting A) (es : List (Exchange (Stored K V)))
@@ -176,6 +180,11 @@ module _ {K V S A : Type 0} (eq : K → K → Bool) (hash : K → ℕ) (mode : R
     -- the table that it is about to link was made, as was asked for
     pub links : (behind t chunks : ℕ) → IsVisitLink v.visitor.state (Linking behind t chunks)
         → IsMadeFor store t chunks
+
+  -- the pair of this number has the value that a call has
+  abbrev pub HasOwnValue : Running K V A → ℕ → Type 0
+  HasOwnValue r n = (p : Stored K V) × (pair_of store n ≡ Some p)
+      × (own_value store r ≡ Some p.value)
 
   -- a call under way rests on what is told of it, after the exchanges es
   pub record IsCall (r : Running K V A) (es : List (Exchange (Stored K V)))
@@ -200,7 +209,13 @@ module _ {K V S A : Type 0} (eq : K → K → Bool) (hash : K → ℕ) (mode : R
         → (t x : ℕ) (q : Stored K V) → named ((run es start).slot t x) ≡ Some q
         → q.number ≢ p.number
     -- a pair that its closure is shown, or was shown, has a word
-    pub shows : ShowsPairs r.machine.call.state
+    pub shows : ShowsPairs r.machine.call
+    -- the value that it is to store, if it has one, was handed in, answered or logged
+    pub valued : (part : Part V) → r.value ≡ Some part → (v : V)
+        × (value_in store.pairs part ≡ Some v)
+    -- and a pair that is to take the place of another has it, but while a newer answer waits
+    pub again : (i n : ℕ) → StandsOn r.machine.call (Makes (Some i) n)
+        → IsAnswered r.machine.call.state ⊎ HasOwnValue r n
 
   -- The words are those that the exchanges es leave, which were allowed, and each call under way
   -- rests on what is told of it.
@@ -233,7 +248,7 @@ module _ {K V S A : Type 0} (eq : K → K → Bool) (hash : K → ℕ) (mode : R
 -- What always holds of a core: its tables and machines are in order, and there are exchanges by
 -- which its words keep to the law.
 pub record IsLawfulCore {K V S A : Type 0} (eq : K → K → Bool) (hash : K → ℕ)
-    (store : StoreState K V S) (callers : List (Seat K V A)) (mode : ResizeMode) : Type 0 where
+    (store : StoreState K V S) (callers : List (Seat K V A)) (mode : Mode) : Type 0 where
   pub core : IsCore store callers mode
   pub law : (es : List (Exchange (Stored K V)))
       × ((tales : ℕ → Tale K V) × IsKept eq hash mode store callers es tales)

@@ -30,7 +30,7 @@ at_key m None = None
 at_key m (Some k) = m k
 
 module _ {K V : Type 0} where
-  -- a pair of this number that was made of the key and the value that the call was handed
+  -- a pair of this number that was made of this key and this value
   pub record IsMadeOf (k : K) (v : V) (n : ℕ) (q : Stored K V) : Type 0 where
     pub number : q.number ≡ n
     pub key : q.key ≡ k
@@ -42,13 +42,14 @@ module _ {K V : Type 0} where
 
 module _ {K V A : Type 0} where
   -- What a call on one key does where the class of its key has `here`: what it replies, and which
-  -- pair the class has next.
+  -- pair the class has next. What comes where the class has a pair has that pair's key, and only
+  -- what comes where it has none has the key that the call was handed.
   abbrev pub Does : Call K V A → Option (Stored K V) → Reply → Option (Stored K V) → Type 0
   Does (Get k) None Absent next = next ≡ None
   Does (Get k) (Some p) (Found n) next = (p.number ≡ n) × (next ≡ Some p)
   Does (Insert k v) None (Inserted n) next = (q : Stored K V) × IsMadeOf k v n q × (next ≡ Some q)
   Does (Insert k v) (Some p) (Replaced m n) next = (p.number ≡ m)
-      × ((q : Stored K V) × IsMadeOf k v n q × (next ≡ Some q))
+      × ((q : Stored K V) × IsMadeOf p.key v n q × (next ≡ Some q))
   Does (TryInsert k v) None (Inserted n) next = (q : Stored K V) × IsMadeOf k v n q
       × (next ≡ Some q)
   Does (TryInsert k v) (Some p) (Occupied n) next = (p.number ≡ n) × (next ≡ Some p)
@@ -59,7 +60,7 @@ module _ {K V A : Type 0} where
   Does (Compute k a) None (Aborted t) next = next ≡ None
   Does (Compute k a) None (Refused RemoveNothing) next = next ≡ None
   Does (Compute k a) (Some p) (Replaced m n) next = (p.number ≡ m)
-      × ((q : Stored K V) × IsMadeWith k n q × (next ≡ Some q))
+      × ((q : Stored K V) × IsMadeWith p.key n q × (next ≡ Some q))
   Does (Compute k a) (Some p) (Removed n) next = (p.number ≡ n) × (next ≡ None)
   Does (Compute k a) (Some p) (Aborted t) next = next ≡ Some p
   Does _ _ _ _ = ⊥

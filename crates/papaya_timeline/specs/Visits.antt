@@ -2,7 +2,6 @@
 use Rattle.std.specs.Prelude.{◌≡◌, ◌⊎◌, ℕ, pos, ◌+ℤ◌, Bool, false, length, Some, None, List, ◌++◌}
 use Rattle.std.specs.Int.{w64, int_wrap}
 use Rattle.papaya_words.specs.declared.probe.Refused.TheVariants.{Memory}
-use Rattle.papaya_words.specs.declared.probe.ResizeMode.{ResizeMode}
 use Rattle.papaya_ask.specs.declared.ask.At.{At}
 use Rattle.papaya_ask.specs.declared.ask.Answer.TheVariants.{Refused as Was_refused}
 use Rattle.papaya_chain.specs.declared.ask.Answer.{Answer}
@@ -12,6 +11,7 @@ use Rattle.papaya_law.specs.Exchange.{Exchange, run, start}
 use Rattle.papaya_law.specs.Meaning.{map_left}
 use Rattle.papaya_rests.specs.Told.{word_of}
 use Rattle.papaya_store.specs.Tables.{word_at}
+use Rattle.papaya_store.specs.declared.mode.Mode.{Mode}
 use Rattle.papaya_store.specs.Store.{KeepsPairs, StoreState, Stored}
 use Rattle.papaya_timeline.specs.Content.{content, map_in}
 use Rattle.papaya_timeline.specs.declared.trace.Event.{Event}
@@ -41,7 +41,7 @@ IsCountedBeside eq store callers state =
 -- Each slot was visited: since a moment of the call, a walk's list has each key that was in the map
 -- all the time once, and nothing that was not there; of the pairs that the map had as the call began
 -- a clear has left none, and a retain just those of which the last answer was that they stay.
-pub record HasVisitedIn {K V S A : Type 0} (eq : K → K → Bool) (hash : K → ℕ) (mode : ResizeMode)
+pub record HasVisitedIn {K V S A : Type 0} (eq : K → K → Bool) (hash : K → ℕ) (mode : Mode)
     (store : StoreState K V S) (v : Visiting A) (tale : VisitTale K V) : Type 0 where
   pub visited : HasVisited (setting_of eq (low hash) mode store.words.tables)
       (coding_of (low hash)) (run tale.begun start)

@@ -32,7 +32,7 @@ use std::hash::{BuildHasher, Hash};
 pub fn visits_keep<K: Hash + Eq, V, S: BuildHasher, A: Answers<K, V>>()
     ensures begins { (s : CoreState K V S A) → IsCore s.store s.callers s.mode
         → (es : List (Exchange (Stored K V))) (visit : Visit) (initial number : ℕ)
-        (v : Visiting A) → v.visitor ≡ begun visit s.mode initial number
+        (v : Visiting A) → v.visitor ≡ begun visit s.mode.resize initial number
         → HasAnswers visit v.answers
         → v.given ≡ [] → IsVisiting K.eq
         (hash_of K.hash_input S.build_hasher S.Hasher.write S.Hasher.finish s.store.hasher)

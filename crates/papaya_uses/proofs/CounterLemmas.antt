@@ -8,8 +8,9 @@ use Rattle.papaya_call.specs.declared.answers.Operation.{Operation}
 use Rattle.papaya_call.specs.declared.answers.Operation.TheVariants.{Insert, Remove, Abort}
 use Rattle.papaya_keys.specs.declared.compute.Compute.{Compute}
 use Rattle.papaya_keys.specs.declared.compute.Compute.TheVariants.{Inserted, Updated, Removed, Aborted}
-use Rattle.papaya.specs.Threads.{AreShown, IsComputeBy, IsOperated, Member, Operates, Stored, WasLast}
+use Rattle.papaya.specs.Threads.{AreShown, IsComputeBy, IsLegalHistory, IsOperated, Member, Operates, Stored, WasLast, key_of}
 use Rattle.papaya_uses.specs.Counters.{HasAdded, Seen, next_count}
+use Rattle.papaya_uses.proofs.PutLemmas.{put_at}
 use Rattle.papaya_uses.proofs.Said.{said_each}
 
 -- the number that an operation inserts, and which of the three it is
@@ -68,8 +69,8 @@ module _ {F : Type 0} (called : Mut F (Option (Bor ℕ × Bor ℕ) × Unit {0}) 
       (None, q, change, key_is, sym of.1, of.1 ∙ next)
 
   -- else it is the sum
-  pub added : (before after : Bor ℕ × Bor ℕ) → answer ≡ Ok (Updated before after) → HasAdded k by old new after.1.now
-  added before after is =
+  pub added : IsLegalHistory (λ a b. a == b) key_of new → (before after : Bor ℕ × Bor ℕ) → answer ≡ Ok (Updated before after) → HasAdded k by old new after.1.now
+  added legal before after is =
       let (p, q, change, key_is, (shown, same, member), of_old, of_new) : Operated (Ok (Updated before after)) = subst Operated is h.operated in
       let next : q.value.value ≡ next_count by (Some shown.value.value) = ap inserted (said_so (Some shown) (Insert q.value.value) member) in
-      (Some p, q, change, key_is, sym of_new.1, of_new.1 ∙ next ∙ ap (λ v. next_count by (Some v.value)) same.1)
+      (Some p, q, change, put_at k old new (Some p) q change legal, sym of_new.1, of_new.1 ∙ next ∙ ap (λ v. next_count by (Some v.value)) same.1)

@@ -1,7 +1,9 @@
 mod CacheLemmas
 mod CounterLemmas
 mod HitLemmas
+mod LimitLemmas
 mod MetricLemmas
+mod PutLemmas
 mod Said
 mod SeenLemmas
 mod SessionLemmas

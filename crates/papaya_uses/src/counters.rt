@@ -35,6 +35,7 @@ pub fn add<R: Wait>(
             Operation::<u64, ()>::Insert(before.wrapping_add(by))
         },
     );
+    counters.legal();
     match computed {
         Ok(Compute::Inserted(_, count)) => Ok(*count),
         Ok(

@@ -5,7 +5,7 @@
 //! stored is found, or what a retain left, take a session, as [`hit`] and [`crate::sessions`] do.
 ghost use Rattle.std.specs.Prelude.{◌≡◌, IfErr, IfOk};
 ghost use mathlib.Core.List.{IsPrefix};
-ghost use Rattle.papaya.specs.Threads.{IsMemoryOrCapacity};
+ghost use Rattle.papaya.specs.Threads.{IsMemoryOrCapacity, IsWriteRefusal};
 ghost use Rattle.papaya_uses.specs.Hits.{HasCounted, IsCountOf};
 
 use crate::words::one_more;
@@ -21,9 +21,10 @@ pub type Hits = HashMap<u64, u64, BuildHasherDefault<FoldHasher>>;
 pub fn hit<R: Wait>(rt: &R, hits: &mut Session<'_, u64, u64>, page: u64) -> Result<u64, Refused>
     ensures seen { IsPrefix hits.old.history hits.new.history }
     ensures counted { IfOk result (HasCounted page hits.old.history hits.new.history) }
-    ensures refused { IfErr result IsMemoryOrCapacity }
+    ensures refused { IfErr result (IsWriteRefusal hits.old.map.begun.limit hits.new.taken) }
 {
     let count = hits.update_or_insert(rt, page, one_more, 1)?;
+    hits.legal();
     Ok(*count)
 }
 

@@ -1,5 +1,5 @@
 //! Texts by numbers: each text is stored once, and gets a number that it keeps. Threads share it.
-ghost use Rattle.std.specs.Prelude.{IfErr};
+ghost use Rattle.std.specs.Prelude.{◌≡◌, IfErr, None};
 ghost use Rattle.papaya.specs.Threads.{IsMemoryOrCapacity};
 
 use papaya::{HashMap, Refused, Session, TextKey};
@@ -14,6 +14,8 @@ pub struct Interner {
     numbers: HashMap<String, u64, BuildHasherDefault<FoldHasher>>,
     texts: HashMap<u64, String, BuildHasherDefault<FoldHasher>>,
     next: AtomicU64,
+    ghost numbers_unlimited: { numbers.begun.limit ≡ None },
+    ghost texts_unlimited: { texts.begun.limit ≡ None },
 }
 
 impl Interner {
@@ -28,6 +30,7 @@ impl Interner {
 
     /// The number of a text, which gets one where it has none. Where threads bring one text at once, all
     /// get the number of the first; a number that another has drawn for it stays unused.
+    #[tactic(auto, using(crate::proofs::LimitLemmas::unlimited))]
     pub fn number<R: Wait>(&self, rt: &R, alloc: Global, text: &str) -> Result<u64, Refused>
         ensures { IfErr result IsMemoryOrCapacity }
     {

@@ -3,7 +3,7 @@
 //! in the logs.
 ghost use Rattle.std.specs.Prelude.{IfErr};
 ghost use mathlib.Core.List.{IsPrefix};
-ghost use Rattle.papaya.specs.Threads.{IsMemoryOrCapacity};
+ghost use Rattle.papaya.specs.Threads.{IsWriteRefusal};
 
 use papaya::{HashMap, Refused, Session, TextKey};
 use std::alloc::Global;
@@ -25,7 +25,7 @@ pub fn add<R: Wait>(
     by: u64,
 ) -> Result<u64, Refused>
     ensures seen { IsPrefix metrics.old.history metrics.new.history }
-    ensures refused { IfErr result IsMemoryOrCapacity }
+    ensures refused { IfErr result (IsWriteRefusal metrics.old.map.begun.limit metrics.new.taken) }
 {
     if let Some(counter) = metrics.get(&TextKey(name)) {
         return Ok(counter.fetch_add(by, Ordering::SeqCst));

@@ -2,7 +2,7 @@
 //! A path is looked up as a text, with no copy of it.
 ghost use Rattle.std.specs.Prelude.{IfErr, IfOk};
 ghost use mathlib.Core.List.{IsPrefix};
-ghost use Rattle.papaya.specs.Threads.{IsMemoryOrCapacity};
+ghost use Rattle.papaya.specs.Threads.{IsWriteRefusal};
 ghost use Rattle.papaya_uses.specs.Routes.{IsLed, IsLedBetween};
 
 use papaya::{HashMap, Refused, Session, TextKey};
@@ -30,7 +30,7 @@ pub fn lead<R: Wait>(
 ) -> Result<Option<u64>, Refused>
     ensures seen { IsPrefix routes.old.history routes.new.history }
     ensures led { IfOk result (IsLed path handler routes.old.history routes.new.history) }
-    ensures refused { IfErr result IsMemoryOrCapacity }
+    ensures refused { IfErr result (IsWriteRefusal routes.old.map.begun.limit routes.new.taken) }
 {
     match routes.insert(rt, path, handler) {
         Ok(before) => Ok(before.copied()),

@@ -3,7 +3,7 @@
 //! what one was told can be set beside what another was.
 ghost use Rattle.std.specs.Prelude.{◌≡◌, ◌==◌, ◌⊎◌, ℕ, [], true, IfErr, IfOk};
 ghost use mathlib.Core.List.{IsPrefix};
-ghost use Rattle.papaya.specs.Threads.{IsLegalHistory, IsMemoryOrCapacity, key_of};
+ghost use Rattle.papaya.specs.Threads.{IsLegalHistory, IsMemoryOrCapacity, IsWriteRefusal, key_of};
 ghost use Rattle.papaya_uses.specs.Seen.{IsMet, Seen, WasForgotten};
 
 use papaya::{HashSet, Refused, Session};
@@ -48,7 +48,7 @@ impl<'a> Finder<'a> {
         ensures map { self.new.map ≡ self.old.map }
         ensures seen { IsPrefix self.old.history self.new.history }
         ensures met { IfOk result (IsMet item self.old.history self.new.history) }
-        ensures refused { IfErr result IsMemoryOrCapacity }
+        ensures refused { IfErr result (IsWriteRefusal self.old.map.begun.limit self.new.taken) }
     {
         match self.items.insert(rt, item, ()) {
             Ok(before) => Ok(before.is_none()),

@@ -1,7 +1,7 @@
 -- How refusals are reported.
 use Rattle.std.specs.Prelude.{ℕ, List, codes}
 use Rattle.papaya_words.specs.declared.probe.Refused.{Refused}
-use Rattle.papaya_words.specs.declared.probe.Refused.TheVariants.{Memory, Capacity, WrongGuard, RemoveNothing, ZeroChunk, Shape, KeyClash, Item}
+use Rattle.papaya_words.specs.declared.probe.Refused.TheVariants.{Memory, Capacity, WrongGuard, RemoveNothing, ZeroChunk, Shape, KeyClash, Item, Limit}
 
 -- the number by which a refusal is reported
 abbrev pub number_of : Refused → ℕ
@@ -13,6 +13,7 @@ number_of ZeroChunk = 5
 number_of Shape = 6
 number_of KeyClash = 7
 number_of Item = 8
+number_of Limit = 9
 
 -- the name by which a refusal is printed
 abbrev pub name_of : Refused → List ℕ
@@ -24,3 +25,4 @@ name_of ZeroChunk = codes "ZeroChunk"
 name_of Shape = codes "Shape"
 name_of KeyClash = codes "KeyClash"
 name_of Item = codes "Item"
+name_of Limit = codes "Limit"

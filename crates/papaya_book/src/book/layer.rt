@@ -48,7 +48,7 @@ impl<K: Hash + Eq, V, S: BuildHasher> Book<K, V, S> {
         ensures seen { IsPrefix sight.old.log sight.new.log }
         ensures len { IfOk result (λ v. length v.items ≡ len) }
         ensures words { IfOk result (λ v. AllOf self.now.begun.book v.items) }
-        ensures made { IfOk result (λ v. (least : ℕ) → least < 2 + length (seals_of sight.old.log)
+        ensures made { IfOk result (λ v. (least : ℕ) → least < 3 + length (seals_of sight.old.log)
             → AreMade (map (λ w. w.key) v.items) least seal.now.nib.key sight.new.log) }
     {
         let mut words = Vec::with_capacity(alloc, len)?;
@@ -72,7 +72,7 @@ impl<K: Hash + Eq, V, S: BuildHasher> Book<K, V, S> {
         ensures seen { IsPrefix sight.old.log sight.new.log }
         ensures len { IfOk result (λ v. length v.items ≡ len) }
         ensures words { IfOk result (λ v. AllOf self.now.begun.book v.items) }
-        ensures made { IfOk result (λ v. (least : ℕ) → least < 2 + length (seals_of sight.old.log)
+        ensures made { IfOk result (λ v. (least : ℕ) → least < 3 + length (seals_of sight.old.log)
             → AreMade (map (λ w. w.key) v.items) least seal.now.nib.key sight.new.log) }
     {
         let mut slots = Vec::with_capacity(alloc, len)?;

@@ -1,18 +1,11 @@
-//! Opening the book of a map, and logging what callers put into it.
-ghost use Rattle.papaya_book.specs.Books.{IsIn};
-ghost use Rattle.std.specs.Prelude.{◌≡◌, ◌^◌, ◌<◌, Some, IfOk, IfErr, [], ◌∷◌};
-ghost use Rattle.papaya_book.specs.Pairs.{IsKeyIn};
+//! Opening the book of a map.
+ghost use Rattle.std.specs.Prelude.{◌≡◌, IfOk, [], ◌∷◌};
 ghost use Rattle.papaya_words.specs.Mode.{IsChunked};
 ghost use Rattle.papaya_book.specs.Parts.{begun_of};
 ghost use Rattle.papaya_book.specs.declared.rule.entry.Event.TheVariants.{Begin};
-ghost use Rattle.papaya_book.specs.declared.rule.entry.Named.TheVariants.{Pair as PairNamed};
-ghost use Rattle.papaya_book.specs.declared.rule.own.Given.TheVariants as given;
 
 use crate::book::Book;
 use crate::book::parts::Parts;
-use crate::rule::entry::Stored;
-use crate::rule::own::{Given, Own};
-use crate::rule::pair::{KeyAt, Pair, first_of};
 use crate::rule::trade::Sight;
 use papaya_log::log::Log;
 use papaya_words::probe::ResizeMode;
@@ -22,20 +15,22 @@ use std::sync::Wait;
 
 impl<K: Hash + Eq + Drop, V: Drop, S: BuildHasher + Drop> Parts<K, V, S> {
     /// The hasher, and two logs that hold nothing. The log of pairs will begin with room for
-    /// `capacity`.
+    /// `capacity`, and may have no more pairs than `limit`.
     pub fn new(
         alloc: Global,
         mode: ResizeMode,
+        limit: Option<u64>,
         capacity: usize,
         hasher: S,
     ) -> Result<Parts<K, V, S>, AllocError>
-        ensures { IfOk result (λ p. (p.hasher ≡ hasher) × (p.mode ≡ mode)) }
+        ensures { IfOk result (λ p. (p.hasher ≡ hasher) × (p.mode ≡ mode) × (p.limit ≡ limit)) }
     {
         let pairs = Log::new(alloc, capacity)?;
         let tables = boxcar::Vec::new(alloc)?;
         Ok(Parts {
             hasher,
             mode,
+            limit,
             pairs,
             tables,
         })
@@ -58,35 +53,6 @@ impl<K: Hash + Eq, V, S: BuildHasher> Book<K, V, S> {
         unreachable!()
     }
 
-    /// The pair that a token shows.
-    pub fn pair<'a>(&'a self, stored: &Stored<K, V>) -> &'a Pair<K, V>
-        requires { IsIn self.now (PairNamed stored.now) }
-        ensures { result.now ≡ stored.now.value }
-    {
-        self.parts.pairs.value(stored)
-    }
-
-    /// Its key.
-    #[inline(always)]
-    pub fn key<'a>(&'a self, pair: &'a Pair<K, V>) -> &'a K
-        requires { IsKeyIn self.now.parts.pairs pair.now.key }
-        ensures { result.now ≡ pair.now.key.value }
-    {
-        match &pair.key {
-            KeyAt::Here(key) => key,
-            KeyAt::With(first) => self.parts.pairs.value(&first_of(first)).brought_key(),
-        }
-    }
-
-    /// What tells that the log of pairs gave this number.
-    pub fn gave_pair(&self, stored: &Stored<K, V>) -> Own<Given>
-        requires { IsIn self.now (PairNamed stored.now) }
-        ensures { result.done ≡ given.Pair stored.now.index ∷ [] }
-    {
-        let number = Given::Pair(stored.index());
-        Own::only(&number)
-    }
-
     /// What one has seen who saw the book opened, and no more: no exchange.
     pub fn unseen(&self) -> Sight<K, V, S>
         ensures book { result.book ≡ self.now.begun.book }
@@ -100,17 +66,5 @@ impl<K: Hash + Eq, V, S: BuildHasher> Book<K, V, S> {
         ensures { result ≡ self.now.begun }
     {
         self.begun.again()
-    }
-}
-
-impl<K: Hash + Eq + Drop, V: Drop, S: BuildHasher> Book<K, V, S> {
-    /// The pair, logged. It comes back where there is no memory.
-    pub fn log_pair<R: Wait>(&self, rt: &R, pair: Pair<K, V>) -> Result<Stored<K, V>, Pair<K, V>>
-        requires { IsKeyIn self.now.parts.pairs pair.key }
-        ensures placed { IfOk result (λ p. IsIn self.now (PairNamed p)) }
-        ensures ok { IfOk result (λ p. p.value ≡ pair) }
-        ensures err { IfErr result (λ back. back ≡ pair) }
-    {
-        self.parts.pairs.push_shown(rt, pair)
     }
 }

@@ -38,12 +38,14 @@ impl<K: Hash + Eq, V, S: BuildHasher> Book<K, V, S> {
         let (mut begun, mut pens) = Seen::open_row::<Parts<K, V, S>, First>(
             &parts,
             trade::begin(&parts),
-            2,
+            3,
         );
         let mut pen = pens.take();
         let root = Word::tracked(0, &mut pen);
         let mut pen = pens.take();
         let maker = Word::tracked(0, &mut pen);
+        let mut pen = pens.take();
+        let made = Word::tracked(0, &mut pen);
         let known = begun.again();
         let mut trade = trade::bare::<K, V, S, Sight<K, V, S>, Call>(&known, &known);
         let mut pen = begun.no_pen();
@@ -57,6 +59,7 @@ impl<K: Hash + Eq, V, S: BuildHasher> Book<K, V, S> {
             parts,
             root,
             maker,
+            made,
             begun,
             origin: known,
         })
@@ -71,7 +74,7 @@ impl<K: Hash + Eq, V, S: BuildHasher> Book<K, V, S> {
         ensures pen { (result.1.book ≡ self.now.begun.book)
             × (result.1.nib ≡ nib may_write result.0.key 0) }
         ensures owner { owner result.0.key sight.new.log ≡ Some result.0.key }
-        ensures after { 2 + length (seals_of sight.old.log) ≤ result.0.key }
+        ensures after { 3 + length (seals_of sight.old.log) ≤ result.0.key }
     {
         let mut pen = sight.no_pen();
         let mut trade = trade::bare::<K, V, S, Pen, Add>(sight, &pen);
@@ -89,7 +92,7 @@ impl<K: Hash + Eq, V, S: BuildHasher> Book<K, V, S> {
         ensures word { result ≡ word_named self.now.begun.book result.key }
         ensures home { Member (Home result.key) sight.new.log }
         ensures owner { owner result.key sight.new.log ≡ Some seal.now.nib.key }
-        ensures after { 2 + length (seals_of sight.old.log) ≤ result.key }
+        ensures after { 3 + length (seals_of sight.old.log) ≤ result.key }
     {
         let mut trade = trade::bare::<K, V, S, Pen, Add>(sight, seal);
         let mut pen = sight.no_pen();

@@ -7,12 +7,13 @@ use papaya_log::log::Log;
 use papaya_words::probe::ResizeMode;
 use std::hash::{BuildHasher, Hash};
 
-/// The hasher, how the map resizes, and the logs of pairs and of tables. A pair or a table stays
-/// where it was logged.
+/// The hasher, how the map resizes, how many pairs it may log, where there is a limit, and the logs of
+/// pairs and of tables. A pair or a table stays where it was logged.
 #[derive(Drop)]
 pub struct Parts<K: Hash + Eq, V, S: BuildHasher> {
     pub hasher: S,
     pub mode: ResizeMode,
+    pub limit: Option<u64>,
     pub pairs: Log<Pair<K, V>>,
     pub tables: boxcar::Vec<Table<K, V, S>>,
 }

@@ -62,7 +62,7 @@ impl Model for Name {
     ghost view = { λ n. record { number = n.number; log_name = n.log; cells_name = n.cells } };
 }
 
-/// An exchange, of one of the twelve kinds. Tables are named by number, but for one that comes.
+/// An exchange, of one of the thirteen kinds. Tables are named by number, but for one that comes.
 pub enum Step<K, V> {
     Open(Laid),
     Claim(u64, u64, Stored<K, V>),
@@ -76,6 +76,7 @@ pub enum Step<K, V> {
     Advance(u64, usize),
     Promote(u64, u64),
     Abort(u64),
+    Take(u64),
 }
 
 /// What a word names: nothing, a pair or a table.
@@ -85,11 +86,12 @@ pub enum Named<K, V> {
     Table(Laid),
 }
 
-/// What the book was opened with: the hasher, how the map resizes, and the logs of pairs and of
-/// tables.
+/// What the book was opened with: the hasher, how the map resizes, how many pairs it may log, and the
+/// logs of pairs and of tables.
 pub struct Begun<K, V, S> {
     pub hasher: S,
     pub mode: ResizeMode,
+    pub limit: Option<u64>,
     pub pairs: Log<Pair<K, V>>,
     pub tables: boxcar::Vec<Sheet>,
 }

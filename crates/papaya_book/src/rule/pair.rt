@@ -1,8 +1,9 @@
 //! Pairs, as the log of pairs keeps them.
 //!
 //! A pair's key lies beside its value, so that a lookup that has found the pair has its key at
-//! hand. A call may make several pairs by one key: the first brings the key, and each other names
-//! that one.
+//! hand. But keys and values are logged once: a pair that replaces another has that one's key, and a
+//! call may make several pairs of one value. So a pair brings its key, or names the pair that brought
+//! it, and so with its value. No name leads to another name.
 ghost use Rattle.std.specs.Prelude.{◌≡◌, None, Some};
 ghost use Rattle.papaya_book.specs.Pairs.{Pair as PairSeen, pair_coded};
 
@@ -20,93 +21,110 @@ impl<K, V> Model for Shown<K, V> {
 
     ghost coded = { pair_coded K.code V.code };
 
-    ghost view = { λ p. record { key = record { value = p.key; at = None }; value = p.value } };
+    ghost view = { λ p. record {
+      key = record { value = p.key; at = None };
+      value = p.value;
+      value_at = None;
+    } };
 }
 
-/// Where a pair's key lies: with the pair, or with the pair that brought it.
+/// A pair's key and its value, or the pairs that brought them.
 #[derive(Drop)]
-pub(crate) enum KeyAt<K, V> {
-    Here(K),
-    With(Pushed<Shown<K, V>>),
+pub(crate) enum Held<K, V> {
+    Own(K, V),
+    Keyed(Pushed<Shown<K, V>>, V),
+    Lent(K, Pushed<Shown<K, V>>),
+    Both(Pushed<Shown<K, V>>, Pushed<Shown<K, V>>),
 }
 
-/// What lies in the log of pairs: a value, and its key or where that is.
+/// What lies in the log of pairs.
 #[derive(Drop)]
 pub struct Pair<K, V> {
-    pub(crate) key: KeyAt<K, V>,
-    pub(crate) value: V,
+    pub(crate) held: Held<K, V>,
 }
 
 impl<K, V> Model for Pair<K, V> {
-    ghost use Rattle.papaya_book.specs.Brought.{IsBrought, key_held};
+    ghost use Rattle.papaya_book.specs.Brought.{IsBrought, pair_held};
     ghost use Rattle.papaya_book.specs.Pairs.{Pair as PairSeen, pair_coded};
 
     ghost Value = { PairSeen K V };
 
     ghost coded = { pair_coded K.code V.code };
 
-    ghost view = { λ p. record { key = key_held p.key; value = p.value } };
+    ghost view = { λ p. pair_held p.held };
 
-    ghost invariant = { λ p. IsBrought p.key };
+    ghost invariant = { λ p. IsBrought p.held };
 }
 
 impl<K, V> Pair<K, V> {
-    /// A pair that brings its key.
-    pub fn new(key: K, value: V) -> Pair<K, V>
-        ensures key { result.key ≡ record { value = key; at = None } }
-        ensures value { result.value ≡ value }
-    {
-        Pair {
-            key: KeyAt::Here(key),
-            value,
-        }
-    }
-
-    /// A further pair by the key that this one brought.
-    pub fn by_key_of(first: &Pushed<Pair<K, V>>, value: V) -> Pair<K, V>
-        requires { first.now.value.key.at ≡ None }
-        ensures key { result.key ≡ record {
-          value = first.now.value.key.value;
-          at = Some (first.now.bucket, first.now.row);
-        } }
-        ensures value { result.value ≡ value }
-    {
-        Pair {
-            key: KeyAt::With(token(tell_shown(first), first.index())),
-            value,
-        }
-    }
-
-    /// Its value.
-    #[inline(always)]
-    pub fn value(&self) -> &V
-        ensures { result.now ≡ self.now.value }
-    {
-        &self.value
-    }
-
     /// The key of a pair that brought it.
     pub(crate) fn brought_key(&self) -> &K
         requires { self.now.key.at ≡ None }
         ensures { result.now ≡ self.now.key.value }
     {
-        match &self.key {
-            KeyAt::Here(key) => key,
-            KeyAt::With(_) => unreachable!(),
+        match &self.held {
+            Held::Own(key, _) => key,
+            Held::Lent(key, _) => key,
+            Held::Keyed(_, _) => unreachable!(),
+            Held::Both(_, _) => unreachable!(),
+        }
+    }
+
+    /// The value of a pair that brought it.
+    pub(crate) fn brought_value(&self) -> &V
+        requires { self.now.value_at ≡ None }
+        ensures { result.now ≡ self.now.value }
+    {
+        match &self.held {
+            Held::Own(_, value) => value,
+            Held::Keyed(_, value) => value,
+            Held::Lent(_, _) => unreachable!(),
+            Held::Both(_, _) => unreachable!(),
         }
     }
 }
 
 impl<K: Drop, V: Drop> Pair<K, V> {
-    /// Its key, if it brought that.
-    pub fn into_key(self) -> Option<K>
-        ensures brought { self.key.at ≡ None → result ≡ Some self.key.value }
-        ensures key { (k : K) → result ≡ Some k → k ≡ self.key.value }
+    /// The key and the value of a pair that brought both.
+    pub(crate) fn into_both(self) -> (K, V)
+        requires key { self.key.at ≡ None }
+        requires value { self.value_at ≡ None }
+        ensures { (result.0 ≡ self.key.value) × (result.1 ≡ self.value) }
     {
-        let Pair { key, value: _ } = self;
-        match key {
-            KeyAt::Here(key) => Some(key),
-            KeyAt::With(_) => None,
+        let Pair { held } = self;
+        match held {
+            Held::Own(key, value) => (key, value),
+            Held::Keyed(_, _) => unreachable!(),
+            Held::Lent(_, _) => unreachable!(),
+            Held::Both(_, _) => unreachable!(),
+        }
+    }
+
+    /// The key of a pair that brought it.
+    pub(crate) fn into_key(self) -> K
+        requires { self.key.at ≡ None }
+        ensures { result ≡ self.key.value }
+    {
+        let Pair { held } = self;
+        match held {
+            Held::Own(key, _) => key,
+            Held::Lent(key, _) => key,
+            Held::Keyed(_, _) => unreachable!(),
+            Held::Both(_, _) => unreachable!(),
+        }
+    }
+
+    /// The value of a pair that brought it.
+    pub(crate) fn into_value(self) -> V
+        requires { self.value_at ≡ None }
+        ensures { result ≡ self.value }
+    {
+        let Pair { held } = self;
+        match held {
+            Held::Own(_, value) => value,
+            Held::Keyed(_, value) => value,
+            Held::Lent(_, _) => unreachable!(),
+            Held::Both(_, _) => unreachable!(),
         }
     }
 }
@@ -129,7 +147,16 @@ fn tell_pair<K, V>(token: &Pushed<Shown<K, V>>) -> Known<Pair<K, V>>
     }
 }
 
-/// The token of the pair that brought a key.
+/// The token of a pair, as another pair can hold it.
+#[inline(always)]
+pub(crate) fn shown_of<K, V>(pair: &Pushed<Pair<K, V>>) -> Pushed<Shown<K, V>>
+    ensures { result ≡ pair.now }
+{
+    token(tell_shown(pair), pair.index())
+}
+
+/// The token of the pair that brought a key or a value.
+#[inline(always)]
 pub(crate) fn first_of<K, V>(shown: &Pushed<Shown<K, V>>) -> Pushed<Pair<K, V>>
     ensures { result ≡ shown.now }
 {

@@ -1,6 +1,6 @@
 -- With blocking: each list of allowed exchanges keeps one map.
 use Rattle.std.proofs.Common.{◌≡◌, ◌⊎◌, ⊎_elim, ℕ, ◌<◌, true, Option, List, [], ◌∷◌, sym, subst}
-use Rattle.papaya_law.specs.Exchange.{Setting, State, Exchange, Open, Claim, Replace, Bury, Link, Mark, Close, Place, Finish, Advance, Promote, Abort, after, run}
+use Rattle.papaya_law.specs.Exchange.{Setting, State, Exchange, Open, Claim, Replace, Bury, Link, Mark, Close, Place, Finish, Advance, Promote, Abort, Take, after, run}
 use Rattle.papaya_law.specs.View.{Free, Here, Leaving, look, beyond, IsPassed}
 use Rattle.papaya_law.specs.Allows.{Allows, AllAllowed}
 use Rattle.papaya_law.specs.Meaning.{map_after, map_of, IsLegal, IsLawful, IsMeaning}
@@ -10,6 +10,7 @@ use Rattle.papaya_law.proofs.Class.{passed_not_held}
 use Rattle.papaya_law.proofs.Blocking.ClassSteps.{root_found, root_none, root_empty}
 use Rattle.papaya_law.proofs.Views.{held-active, active-own}
 use Rattle.papaya_law.proofs.Blocking.SlotSteps.{claim_blocking, replace_blocking, bury_blocking, mark_blocking, close_blocking, place_blocking}
+use Rattle.papaya_law.proofs.Base.{take_sound}
 use Rattle.papaya_law.proofs.Blocking.TableSteps.{open_blocking, link_blocking, advance_blocking, promote_blocking, abort_blocking, none_own}
 
 module _ {K P : Type 0} (g : Setting K P) (law : IsLawful g) (blocks : g.blocking ≡ true) where
@@ -27,6 +28,21 @@ module _ {K P : Type 0} (g : Setting K P) (law : IsLawful g) (blocks : g.blockin
   step_blocking s m holds (Advance n c) may = (tt, advance_blocking g s m holds n c may)
   step_blocking s m holds (Promote t n) may = (tt, promote_blocking g s m holds law t n may)
   step_blocking s m holds (Abort n) may = (tt, abort_blocking g s m holds law n may)
+  step_blocking s m holds (Take k) may = (
+    tt,
+    record {
+      sound = take_sound g s holds.sound k;
+      alive = holds.alive;
+      frozen = holds.frozen;
+      fresh = holds.fresh;
+      copied = holds.copied;
+      given_up = λ u a lt. let v = holds.given_up u a lt in record { on = v.on; between = v.between; slot = v.slot; pair = v.pair; marked = v.marked; full = v.full };
+      done_to = λ u c lt h. let v = holds.done_to u c lt h in record { between = v.between; settled = v.settled };
+      linked_by = holds.linked_by;
+      covered = λ t n was r. holds.covered t n was (record { links = r.links; is = r.is; made = r.made; mode = r.mode; over = r.over });
+      class = holds.class;
+    },
+  )
 
   -- what is kept is what the words mean
   pub meaning_blocking : (s : State P) (m : K → Option P) → IsBlockingState g s m → (k : K) → IsMeaning g s k (m k)

@@ -1,6 +1,6 @@
 -- Without blocking: each list of allowed exchanges keeps one map.
 use Rattle.std.proofs.Common.{◌≡◌, ⊎_elim, ℕ, true, false, Option, None, List, [], ◌∷◌, arith}
-use Rattle.papaya_law.specs.Exchange.{Setting, State, Exchange, Open, Claim, Replace, Bury, Link, Mark, Close, Place, Finish, Advance, Promote, Abort, after, run}
+use Rattle.papaya_law.specs.Exchange.{Setting, State, Exchange, Open, Claim, Replace, Bury, Link, Mark, Close, Place, Finish, Advance, Promote, Abort, Take, after, run}
 use Rattle.papaya_law.specs.View.{look, held}
 use Rattle.papaya_law.specs.Allows.{Allows, AllAllowed}
 use Rattle.papaya_law.specs.Meaning.{map_after, map_of, IsLegal, IsLawful, IsMeaning}
@@ -12,6 +12,7 @@ use Rattle.papaya_law.proofs.Chain.{has_next}
 use Rattle.papaya_law.proofs.Incremental.States.{reached_front, claim_incremental}
 use Rattle.papaya_law.proofs.Incremental.SlotSteps.{replace_incremental, bury_incremental, mark_incremental, close_incremental, place_incremental, finish_incremental}
 use Rattle.papaya_law.proofs.Incremental.TableSteps.{open_incremental, link_incremental, advance_incremental, promote_incremental}
+use Rattle.papaya_law.proofs.Base.{take_sound}
 use Rattle.papaya_law.proofs.Base.{no_root}
 
 module _ {K P : Type 0} (g : Setting K P) (law : IsLawful g) (inc : g.blocking ≡ false) where
@@ -29,6 +30,7 @@ module _ {K P : Type 0} (g : Setting K P) (law : IsLawful g) (inc : g.blocking �
   step_incremental s m holds (Advance n c) may = (tt, advance_incremental g inc s m holds n c may)
   step_incremental s m holds (Promote t n) may = (tt, promote_incremental g inc s m holds t n may)
   step_incremental s m holds (Abort n) may = absurd (let b = may.mode in cc (b, inc))
+  step_incremental s m holds (Take k) may = (tt, record { sound = take_sound g s holds.sound k; settled = holds.settled; done = holds.done; covered = holds.covered; class = holds.class })
 
   -- what is kept is what the words mean
   pub meaning_incremental : (s : State P) (m : K → Option P) → IsIncrementalState g s m → (k : K) → IsMeaning g s k (m k)

@@ -1,5 +1,5 @@
 //! Making a map that threads share.
-ghost use Rattle.std.specs.Prelude.{◌≡◌, ◌<◌, ◌≤◌, IfErr, IfOk};
+ghost use Rattle.std.specs.Prelude.{◌≡◌, ◌<◌, ◌≤◌, IfErr, IfOk, None};
 ghost use Rattle.papaya_words.specs.Probe.{IsEntriesFor};
 ghost use Rattle.papaya_words.specs.declared.limits.TheConstants.{DEFAULT_CHUNK, DEFAULT_SHARDS, MAX_TABLE_LEN};
 ghost use Rattle.papaya_keys.specs.Sizes.{IsAllowed, IsSizeRefusal};
@@ -46,7 +46,8 @@ fn first_table<R: Wait, K: Hash + Eq, V, S: BuildHasher>(
 
 impl<K: Hash + Eq + Drop, V: Drop, S: BuildHasher + Drop> HashMap<K, V, S> {
     /// A map of all its parts. `capacity` is for how many pairs its first table is made at once;
-    /// with 0 the first change makes one. `shards` is rounded up to a power of two. Its collector has
+    /// with 0 the first change makes one. `shards` is rounded up to a power of two. `limit` is how many
+    /// pairs it may log, those replaced or removed among them, if there is a limit. Its collector has
     /// number 0.
     ///
     /// `Refused::ZeroChunk` for chunks of no slots. `Refused::Capacity` for more shards than
@@ -59,14 +60,24 @@ impl<K: Hash + Eq + Drop, V: Drop, S: BuildHasher + Drop> HashMap<K, V, S> {
         capacity: usize,
         shards: usize,
         hasher: S,
+        limit: Option<u64>,
     ) -> Result<HashMap<K, V, S>, Refused>
         ensures ok { IfOk result (λ map. IsAllowed mode capacity shards) }
-        ensures made { IfOk result (IsFor mode capacity shards) }
+        ensures made { IfOk result (IsFor mode capacity shards limit) }
         ensures hasher { IfOk result (λ map. map.begun.hasher ≡ hasher) }
         ensures collector { IfOk result (λ map. map.collector ≡ 0) }
         ensures err { IfErr result (λ e. IsSizeRefusal mode capacity shards e) }
     {
-        HashMap::with_collector(rt, alloc, mode, capacity, shards, hasher, Collector::new(0))
+        HashMap::with_collector(
+            rt,
+            alloc,
+            mode,
+            capacity,
+            shards,
+            hasher,
+            limit,
+            Collector::new(0),
+        )
     }
 
     /// The same with this collector.
@@ -77,10 +88,11 @@ impl<K: Hash + Eq + Drop, V: Drop, S: BuildHasher + Drop> HashMap<K, V, S> {
         capacity: usize,
         shards: usize,
         hasher: S,
+        limit: Option<u64>,
         collector: Collector,
     ) -> Result<HashMap<K, V, S>, Refused>
         ensures ok { IfOk result (λ map. IsAllowed mode capacity shards) }
-        ensures made { IfOk result (IsFor mode capacity shards) }
+        ensures made { IfOk result (IsFor mode capacity shards limit) }
         ensures hasher { IfOk result (λ map. map.begun.hasher ≡ hasher) }
         ensures collector { IfOk result (λ map. map.collector ≡ collector) }
         ensures err { IfErr result (λ e. IsSizeRefusal mode capacity shards e) }
@@ -88,7 +100,7 @@ impl<K: Hash + Eq + Drop, V: Drop, S: BuildHasher + Drop> HashMap<K, V, S> {
         check_chunk(mode)?;
         let initial = initial_len(capacity)?;
         let count = Count::new(alloc, shards)?;
-        let Ok(parts) = Parts::new(alloc, mode, capacity, hasher) else {
+        let Ok(parts) = Parts::new(alloc, mode, limit, capacity, hasher) else {
             return Err(Refused::Memory);
         };
         let book = Book::opened(rt, parts);
@@ -115,7 +127,7 @@ impl<K: Hash + Eq + Drop, V: Drop, S: BuildHasher + Drop> HashMap<K, V, S> {
         ensures ok { IfOk result (λ map. IsAllowed (ResizeMode.Incremental DEFAULT_CHUNK) capacity
             DEFAULT_SHARDS) }
         ensures made { IfOk result (IsFor (ResizeMode.Incremental DEFAULT_CHUNK) capacity
-            DEFAULT_SHARDS) }
+            DEFAULT_SHARDS None) }
         ensures hasher { IfOk result (λ map. map.begun.hasher ≡ hasher) }
         ensures err { IfErr result (λ e. IsSizeRefusal (ResizeMode.Incremental DEFAULT_CHUNK)
             capacity
@@ -128,6 +140,7 @@ impl<K: Hash + Eq + Drop, V: Drop, S: BuildHasher + Drop> HashMap<K, V, S> {
             capacity,
             DEFAULT_SHARDS,
             hasher,
+            None,
         )
     }
 
@@ -138,7 +151,7 @@ impl<K: Hash + Eq + Drop, V: Drop, S: BuildHasher + Drop> HashMap<K, V, S> {
         hasher: S,
     ) -> Result<HashMap<K, V, S>, Refused>
         ensures made { IfOk result (IsFor (ResizeMode.Incremental DEFAULT_CHUNK) 0
-            DEFAULT_SHARDS) }
+            DEFAULT_SHARDS None) }
         ensures hasher { IfOk result (λ map. map.begun.hasher ≡ hasher) }
         ensures err { IfErr result (λ e. e ≡ Refused.Memory) }
     {
@@ -147,8 +160,8 @@ impl<K: Hash + Eq + Drop, V: Drop, S: BuildHasher + Drop> HashMap<K, V, S> {
 }
 
 impl<K: Hash + Eq + Drop, V: Drop, S: BuildHasher + Clone + Drop> HashMap<K, V, S> {
-    /// A map of no pairs with the settings of this one: its mode, its initial capacity, the number of its
-    /// collector, a clone of its hasher, and as many shards. It has room for as many pairs as this one
+    /// A map of no pairs with the settings of this one: its mode, its limit, its initial capacity, the
+    /// number of its collector, a clone of its hasher, and as many shards. It has room for as many pairs as this one
     /// counts.
     pub(crate) fn anew<R: Wait>(&self, rt: &R) -> Result<HashMap<K, V, S>, Refused>
         ensures settings { IfOk result (HasSettingsOf self.now) }
@@ -160,7 +173,13 @@ impl<K: Hash + Eq + Drop, V: Drop, S: BuildHasher + Clone + Drop> HashMap<K, V, 
             return Err(Refused::Memory);
         };
         let count = self.count.anew(self.alloc)?;
-        let Ok(parts) = Parts::new(self.alloc, self.book.parts.mode, pairs, hasher) else {
+        let Ok(parts) = Parts::new(
+            self.alloc,
+            self.book.parts.mode,
+            self.book.parts.limit,
+            pairs,
+            hasher,
+        ) else {
             return Err(Refused::Memory);
         };
         let book = Book::opened(rt, parts);
@@ -186,7 +205,7 @@ impl<K: Hash + Eq + Drop, V: Drop> HashMap<K, V, BuildHasherDefault<FoldHasher>>
         alloc: Global,
     ) -> Result<HashMap<K, V, BuildHasherDefault<FoldHasher>>, Refused>
         ensures made { IfOk result (IsFor (ResizeMode.Incremental DEFAULT_CHUNK) 0
-            DEFAULT_SHARDS) }
+            DEFAULT_SHARDS None) }
         ensures err { IfErr result (λ e. e ≡ Refused.Memory) }
     {
         HashMap::with_capacity(rt, alloc, 0)
@@ -203,7 +222,7 @@ impl<K: Hash + Eq + Drop, V: Drop> HashMap<K, V, BuildHasherDefault<FoldHasher>>
         ensures ok { IfOk result (λ map. IsAllowed (ResizeMode.Incremental DEFAULT_CHUNK) capacity
             DEFAULT_SHARDS) }
         ensures made { IfOk result (IsFor (ResizeMode.Incremental DEFAULT_CHUNK) capacity
-            DEFAULT_SHARDS) }
+            DEFAULT_SHARDS None) }
         ensures err { IfErr result (λ e. IsSizeRefusal (ResizeMode.Incremental DEFAULT_CHUNK)
             capacity
             DEFAULT_SHARDS e) }
@@ -215,6 +234,7 @@ impl<K: Hash + Eq + Drop, V: Drop> HashMap<K, V, BuildHasherDefault<FoldHasher>>
             capacity,
             DEFAULT_SHARDS,
             BuildHasherDefault::new(),
+            None,
         )
     }
 
@@ -224,7 +244,7 @@ impl<K: Hash + Eq + Drop, V: Drop> HashMap<K, V, BuildHasherDefault<FoldHasher>>
         alloc: Global,
     ) -> Result<HashMap<K, V, BuildHasherDefault<FoldHasher>>, Refused>
         ensures made { IfOk result (IsFor (ResizeMode.Incremental DEFAULT_CHUNK) 0
-            DEFAULT_SHARDS) }
+            DEFAULT_SHARDS None) }
         ensures err { IfErr result (λ e. e ≡ Refused.Memory) }
     {
         HashMap::new(rt, alloc)

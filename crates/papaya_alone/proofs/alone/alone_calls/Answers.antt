@@ -1,8 +1,17 @@
+use Rattle.std.proofs.Common.{ℕ, Option, None, Some}
+use Rattle.papaya_ask.specs.declared.ask.At.{At}
+use Rattle.papaya_call.specs.Made.{wanted}
+use Rattle.papaya_rests.specs.Alone.{IsNumberRead}
 use Rattle.papaya_alone.proofs.ChainLaw.{call_current, call_nears}
 use Rattle.papaya_alone.proofs.alone.alone_calls.Goals as goal
 
+-- a number that is yet to be taken was not read
+wanted_read : (words : At → ℕ) (limit : Option ℕ) → IsNumberRead words (wanted limit)
+wanted_read words None = tt
+wanted_read words (Some most) = tt
+
 pub returns-clause-begins : goal.returns-clause-begins
-returns-clause-begins g c = λ words task hash mode initial number. (tt, tt)
+returns-clause-begins g c = λ words task hash mode initial number limit. record { number = wanted_read words limit; read = (tt, tt) }
 
 pub returns-clause-nearer : goal.returns-clause-nearer
 returns-clause-nearer g c = λ h d hashed begun since may bounded k m hands r made current answer es hands' told served before later spends few standing.

@@ -1,16 +1,17 @@
-use Rattle.std.specs.Prelude.{◌≡◌}
+use Rattle.std.specs.Prelude.{◌≡◌, None, List}
+use Rattle.papaya_book.specs.declared.rule.entry.Event.{Event}
 use Rattle.papaya_ask.specs.Search.{IsWithin}
 use Rattle.papaya_ask.specs.declared.search.Search.TheVariants.{Looking}
 use Rattle.papaya_call.specs.declared.machine.State.TheVariants.{Searching}
 use Rattle.papaya_book.specs.Windows.{Sees}
 use Rattle.papaya_change.specs.Seeking.{left_at}
-use Rattle.papaya_change.specs.Seeks.{Leads}
+use Rattle.papaya_change.specs.Seeks.{IsInsertingAt}
 use Rattle.papaya_change.proofs.at_once.seek.Given as goal
 
 -- the turns so far led on from the first place to this one
 abbrev pub invariant-loop-next : goal.invariant-loop-next
 invariant-loop-next g l =
-    Leads l.fn.window l.window l.key l.table (Searching (Looking l.fn.at)) (Searching (Looking l.place))
+    ((begun : List (Event _ _ _)) → IsInsertingAt l.fn.window l.key begun (Searching (Looking l.fn.at)) None l.table → IsInsertingAt l.window l.key begun (Searching (Looking l.place)) None l.table)
     × IsWithin l.place
     × Sees l.fn.window l.window
     × (l.window.own ≡ l.fn.window.own)

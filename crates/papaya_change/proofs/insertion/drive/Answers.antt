@@ -7,7 +7,6 @@ use Rattle.papaya_chain.specs.declared.ask.Ask.TheVariants.{Call}
 use Rattle.papaya_chain.specs.declared.machine.Machine.{Machine}
 use Rattle.papaya_chain.specs.Machine.{after, ask_of}
 use Rattle.papaya_book.specs.Limits.{HasNoRoom, tables_of}
-use Rattle.papaya_book.specs.Plays.{made_list}
 use Rattle.papaya_change.specs.declared.driver.Driver.{Driver}
 use Rattle.papaya_change.specs.Changing.{IsDriven}
 use Rattle.papaya_change.specs.Inserting.{IsInserting}
@@ -15,6 +14,7 @@ use denote.Bor.{Bor}
 use Rattle.papaya_book.specs.declared.book.Book.{Book as BookOf}
 use Rattle.papaya_book.specs.Hashes.{hash_of}
 use Rattle.papaya_book.specs.Parts.{begun_of}
+use Rattle.papaya_book.specs.declared.window.Window.{Window}
 use Rattle.papaya_book.specs.Windows.{Does}
 use Rattle.papaya_change.specs.Doing.{has_changed}
 use Rattle.papaya_change.proofs.Doing.{does_on, does_still, idles, makes}
@@ -57,15 +57,15 @@ help-requires-clause-can g c =
     let begin = c.requires.can in let key = begin.0 in let value = begin.1 in let begun = begin.2 in
     let u = c.loop.invariant.0 key value begun (subst (λ (z : Bor (BookOf _ _ _ _)). IsInserting g.K.PartialEq.eq (hash_of g.K.Hash.hash_input g.S.BuildHasher.build_hasher g.S.Hasher.Hasher.write g.S.Hasher.Hasher.finish) (begun_of z.now.parts) z.now.begun.book key value begun c.args.window.now.sight.log c.args.begun) (sym c.loop.invariant.4.book) begin.3) in
     let w = c.answer.new.window.book.now in let b = begun_of w.parts in
-    let on = subst (λ (z : Driver _ _ _ _). IsDriven g.K.PartialEq.eq (hash_of g.K.Hash.hash_input g.S.BuildHasher.build_hasher g.S.Hasher.Hasher.write g.S.Hasher.Hasher.finish) b w.begun.book (g.K.PartialEq.eq key) ((hash_of g.K.Hash.hash_input g.S.BuildHasher.build_hasher g.S.Hasher.Hasher.write g.S.Hasher.Hasher.finish) b.hasher key) (Some key) begun c.answer.new.window.sight.log (made_list c.answer.new.self.made) z) (sym c.answer-in-Some-answer.ensures.after)
-    (subst (λ (z : Bor (BookOf _ _ _ _)). IsInserting g.K.PartialEq.eq (hash_of g.K.Hash.hash_input g.S.BuildHasher.build_hasher g.S.Hasher.Hasher.write g.S.Hasher.Hasher.finish) (begun_of z.now.parts) z.now.begun.book key value begun c.answer.new.window.sight.log (record c.answer.new.self { writer = record c.answer.new.self.writer { call = record c.answer.new.self.writer.call { machine = after c.answer.new.self.writer.call.machine (answers.Call c.in-Some-answer.answer) } } })) (sym c.answer.ensures.sees.book) (c.in-Some-answer.ensures.inserts key value begun u).0).writing.calling in
+    let it = subst (λ (z : Bor (BookOf _ _ _ _)). IsInserting g.K.PartialEq.eq (hash_of g.K.Hash.hash_input g.S.BuildHasher.build_hasher g.S.Hasher.Hasher.write g.S.Hasher.Hasher.finish) (begun_of z.now.parts) z.now.begun.book key value begun c.answer.new.window.sight.log (record c.answer.new.self { writer = record c.answer.new.self.writer { call = record c.answer.new.self.writer.call { machine = after c.answer.new.self.writer.call.machine (answers.Call c.in-Some-answer.answer) } } })) (sym c.answer.ensures.sees.book) (c.in-Some-answer.ensures.inserts key value begun u).0 in
+    let on = subst (λ (z : Driver _ _ _ _). IsDriven g.K.PartialEq.eq (hash_of g.K.Hash.hash_input g.S.BuildHasher.build_hasher g.S.Hasher.Hasher.write g.S.Hasher.Hasher.finish) b w.begun.book (g.K.PartialEq.eq key) ((hash_of g.K.Hash.hash_input g.S.BuildHasher.build_hasher g.S.Hasher.Hasher.write g.S.Hasher.Hasher.finish) b.hasher key) (Some key) begun c.answer.new.window.sight.log it.made z) (sym c.answer-in-Some-answer.ensures.after) it.writing.calling in
     let query = own_query g.K.PartialEq.eq g.K.Hash.hash_input g.S.BuildHasher.build_hasher g.S.Hasher.Hasher.write g.S.Hasher.Hasher.finish g.met.K.Eq.laws g.met.K.Hash.respects_eq b w.begun.book key in (
       g.K.PartialEq.eq key,
       (hash_of g.K.Hash.hash_input g.S.BuildHasher.build_hasher g.S.Hasher.Hasher.write g.S.Hasher.Hasher.finish) b.hasher key,
       form g.K.PartialEq.eq g.K.Hash.hash_input g.S.BuildHasher.build_hasher g.S.Hasher.Hasher.write g.S.Hasher.Hasher.finish g.met.K.Eq.laws g.met.K.Hash.respects_eq b (g.K.PartialEq.eq key) (g.K.Hash.hash_input key) query (Some key) w.begun.book begun,
       Some key,
       begun,
-      made_list c.answer.new.self.made,
+      it.made,
       on,
     )
 
@@ -82,8 +82,8 @@ loop-preserved g c =
           let on = subst (λ (z : Driver _ _ _ _). IsInserting g.K.PartialEq.eq (hash_of g.K.Hash.hash_input g.S.BuildHasher.build_hasher g.S.Hasher.Hasher.write g.S.Hasher.Hasher.finish) b w.begun.book key value begun c.answer.new.window.sight.log (record c.answer.new.self { writer = record c.answer.new.self.writer { call = z } })) (sym c.answer-in-Some-answer.ensures.after)
           (subst (λ (z : Bor (BookOf _ _ _ _)). IsInserting g.K.PartialEq.eq (hash_of g.K.Hash.hash_input g.S.BuildHasher.build_hasher g.S.Hasher.Hasher.write g.S.Hasher.Hasher.finish) (begun_of z.now.parts) z.now.begun.book key value begun c.answer.new.window.sight.log (record c.answer.new.self { writer = record c.answer.new.self.writer { call = record c.answer.new.self.writer.call { machine = after c.answer.new.self.writer.call.machine (answers.Call answer) } } })) (sym c.answer.ensures.sees.book) (c.in-Some-answer.ensures.inserts key value begun u).0) in
           let query = own_query g.K.PartialEq.eq g.K.Hash.hash_input g.S.BuildHasher.build_hasher g.S.Hasher.Hasher.write g.S.Hasher.Hasher.finish g.met.K.Eq.laws g.met.K.Hash.respects_eq b w.begun.book key in
-          let driven = c.help.ensures.goes_on (g.K.PartialEq.eq key) ((hash_of g.K.Hash.hash_input g.S.BuildHasher.build_hasher g.S.Hasher.Hasher.write g.S.Hasher.Hasher.finish) b.hasher key) (form g.K.PartialEq.eq g.K.Hash.hash_input g.S.BuildHasher.build_hasher g.S.Hasher.Hasher.write g.S.Hasher.Hasher.finish g.met.K.Eq.laws g.met.K.Hash.respects_eq b (g.K.PartialEq.eq key) (g.K.Hash.hash_input key) query (Some key) w.begun.book begun) (Some key) begun (made_list x.made) on.writing.calling in
-          let went = inserting_helped g.K.PartialEq.eq (hash_of g.K.Hash.hash_input g.S.BuildHasher.build_hasher g.S.Hasher.Hasher.write g.S.Hasher.Hasher.finish) b w.begun.book key value begun c.answer.new.window.sight.log log c.help.ensures.sees.log x on then driven c.help.ensures.rest.1 c.help.ensures.calling (λ e. (c.help.ensures.still e).0) c.help.ensures.helped in
+          let driven = c.help.ensures.goes_on (g.K.PartialEq.eq key) ((hash_of g.K.Hash.hash_input g.S.BuildHasher.build_hasher g.S.Hasher.Hasher.write g.S.Hasher.Hasher.finish) b.hasher key) (form g.K.PartialEq.eq g.K.Hash.hash_input g.S.BuildHasher.build_hasher g.S.Hasher.Hasher.write g.S.Hasher.Hasher.finish g.met.K.Eq.laws g.met.K.Hash.respects_eq b (g.K.PartialEq.eq key) (g.K.Hash.hash_input key) query (Some key) w.begun.book begun) (Some key) begun on.made on.writing.calling in
+          let went = inserting_helped g.K.PartialEq.eq g.K.Hash.hash_input g.S.BuildHasher.build_hasher g.S.Hasher.Hasher.write g.S.Hasher.Hasher.finish g.met.K.Eq.laws g.met.K.Hash.respects_eq b w.begun.book key value begun c.answer.new.window.sight.log log c.help.ensures.sees.log x on then driven c.help.ensures.rest.1 c.help.ensures.calling (λ e. let s = c.help.ensures.still e in (s.0, ap (λ (z : Window _ _ _ _ _). z.sight.log) s.1)) c.help.ensures.helped in
           subst (λ (z : Bor (BookOf _ _ _ _)). IsInserting g.K.PartialEq.eq (hash_of g.K.Hash.hash_input g.S.BuildHasher.build_hasher g.S.Hasher.Hasher.write g.S.Hasher.Hasher.finish) (begun_of z.now.parts) z.now.begun.book key value begun log (record x { writer = record x.writer { call = then } })) (sym c.help.ensures.sees.book) went),
       c.help.ensures.standing,
       c.help.ensures.calling,
@@ -122,7 +122,7 @@ returns-in-None-answer-clause-made g c =
     let u = c.loop.invariant.0 key value begun (subst (λ (z : Bor (BookOf _ _ _ _)). IsInserting g.K.PartialEq.eq (hash_of g.K.Hash.hash_input g.S.BuildHasher.build_hasher g.S.Hasher.Hasher.write g.S.Hasher.Hasher.finish) (begun_of z.now.parts) z.now.begun.book key value begun c.args.window.now.sight.log c.args.begun) (sym c.loop.invariant.4.book) begin.3) in
     let r = (c.in-None-answer.ensures.inserts key value begun u).0 in let call = c.answer.new.self.writer.call in
     let does = does_still c.loop.insertion.writer.call.machine c.args.window.now c.loop.window c.answer.new.window c.loop.invariant.5 c.in-None-answer.ensures.answers in
-    rw c.replied.ensures.changed (makes g.K.PartialEq.eq begun call.taken call.put call.machine c.args.window.now c.answer.new.window r.writing.calling.changed (rw c.answer.ensures.machine does))
+    rw c.replied.ensures.changed (makes g.K.PartialEq.eq (Some key) begun call.taken call.put call.machine c.args.window.now c.answer.new.window r.writing.calling.changed (rw c.answer.ensures.machine does))
 
 pub returns-in-None-answer-clause-crowded : goal.returns-in-None-answer-clause-crowded
 returns-in-None-answer-clause-crowded g c = λ e.
@@ -132,3 +132,11 @@ returns-in-None-answer-clause-crowded g c = λ e.
     let refused = subst (λ (z : _). IfErr z (λ cause. ask_of c.answer.new.self.writer.call.machine ≡ Call (Done (Refused cause)))) e c.replied.ensures.refusal in
     let initial : c.answer.new.self.writer.call.machine.call.initial ≡ c.args.begun.writer.call.machine.call.initial = ap (λ (z : Machine). z.call.initial) c.answer.ensures.machine ∙ c.loop.invariant.3 in
     rw c.again.ensures (subst (λ n. HasNoRoom n (tables_of c.answer.new.window.sight.log) c.answer.new.self.writer.call.given.done) initial (r.crowded refused))
+
+pub returns-in-None-answer-clause-spent : goal.returns-in-None-answer-clause-spent
+returns-in-None-answer-clause-spent g c = λ e.
+    let begin = c.requires.can in let key = begin.0 in let value = begin.1 in let begun = begin.2 in
+    let u = c.loop.invariant.0 key value begun (subst (λ (z : Bor (BookOf _ _ _ _)). IsInserting g.K.PartialEq.eq (hash_of g.K.Hash.hash_input g.S.BuildHasher.build_hasher g.S.Hasher.Hasher.write g.S.Hasher.Hasher.finish) (begun_of z.now.parts) z.now.begun.book key value begun c.args.window.now.sight.log c.args.begun) (sym c.loop.invariant.4.book) begin.3) in
+    let r = (c.in-None-answer.ensures.inserts key value begun u).0 in
+    let refused = subst (λ (z : _). IfErr z (λ cause. ask_of c.answer.new.self.writer.call.machine ≡ Call (Done (Refused cause)))) e c.replied.ensures.refusal in
+    rw c.answer.ensures.sees.book (r.spent refused)

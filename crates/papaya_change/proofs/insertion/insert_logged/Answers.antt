@@ -1,13 +1,17 @@
-use Rattle.std.proofs.Common.{◌≡◌, Result, Ok, Err, IfOk, Some, refl, ap, ◌∙◌}
+use Rattle.std.proofs.Common.{◌≡◌, ◌∙◌, Result, Ok, Err, IfOk, Some, refl, sym, ap, subst}
 use Rattle.papaya_call.specs.declared.machine.State.TheVariants.{AtRoot}
-use Rattle.papaya_call.specs.declared.write.Made.TheVariants.{Pair}
-use Rattle.papaya_chain.specs.declared.machine.Machine.{Machine}
+use Rattle.papaya_call.specs.declared.made.Made.{Made}
+use Rattle.papaya_call.specs.Made.{nothing_made}
 use Rattle.papaya_book.specs.declared.rule.entry.Named.TheVariants as names
 use Rattle.papaya_book.specs.Hashes.{hash_of}
+use Rattle.papaya_book.specs.Logs.{Stored}
 use Rattle.papaya_book.specs.Parts.{begun_of}
+use Rattle.papaya_book.specs.declared.book.pairs.KeyPart.TheVariants as keys
+use Rattle.papaya_book.specs.declared.book.pairs.ValuePart.TheVariants as values
 use Rattle.papaya_book.specs.Rule.{IsPlaced}
 use Rattle.papaya_lookup.specs.History.{key_of}
 use Rattle.papaya_change.specs.Seeking.{insertion_at}
+use Rattle.papaya_change.specs.Writing.{HasKey, HasValue, held_value}
 use Rattle.papaya_change.proofs.InsertingReplies.{put_since}
 use Rattle.papaya_change.proofs.Logged.{begins_logged}
 use Rattle.papaya_change.proofs.insertion.insert_logged.Goals as goal
@@ -18,26 +22,22 @@ if_ok P Q (Err e) p f = tt
 
 pub drive-requires-clause-can : goal.drive-requires-clause-can
 drive-requires-clause-can g c =
-    let hash = hash_of g.K.Hash.hash_input g.S.BuildHasher.build_hasher g.S.Hasher.Hasher.write g.S.Hasher.Hasher.finish in
+    let hash = (hash_of g.K.Hash.hash_input g.S.BuildHasher.build_hasher g.S.Hasher.Hasher.write g.S.Hasher.Hasher.finish) in
     let w = c.learn.new.self.book.now in let log = c.learn.new.self.sight.log in let q = c.args.pair in
     let placed : IsPlaced (begun_of w.parts) (Some w.begun.book) (names.Pair q) = rw c.learn.ensures.sees.book c.requires.placed in
     let hashed : c.args.hash ≡ hash w.parts.hasher (key_of q) = rw c.learn.ensures.sees.book c.requires.hashed in
-    let made : Machine = insertion_at c.args.hash w.parts.mode c.args.means.now.initial (Pair q.index) AtRoot in
-    let machine : record c.new-call.result.machine { call = record c.new-call.result.machine.call { made = Pair c.index.result } } ≡ made = λ i. record (c.new-call.ensures.machine i) { call = record (c.new-call.ensures.machine i).call { made = Pair (c.index.ensures i) } } in (
-      key_of q,
-      q.value.value,
-      log,
-      begins_logged g.K.PartialEq.eq hash (begun_of w.parts) w.begun.book q placed c.requires.brings log _ c.learn.ensures.lawful c.args.means.now.initial (machine ∙ ap (λ h. insertion_at h w.parts.mode c.args.means.now.initial (Pair q.index) AtRoot) hashed) c.new-call.ensures.table c.new-call.ensures.pairs refl refl (ap (λ z. Some z) c.again.ensures) refl,
-    )
+    let made : Made = record (nothing_made w.parts.limit) { own = Some q.index } in
+    let machine : record c.new-call.result.machine { call = record c.new-call.result.machine.call { made = record c.new-call.result.machine.call.made { own = Some c.index.result } } } ≡ insertion_at c.args.hash w.parts.mode c.args.means.now.initial made AtRoot = λ i. record (c.new-call.ensures.machine i) { call = record (c.new-call.ensures.machine i).call { made = record (c.new-call.ensures.machine i).call.made { own = Some (c.index.ensures i) } } } in
+    let there = machine ∙ ap (λ h. insertion_at h w.parts.mode c.args.means.now.initial made AtRoot) hashed in
+    ((key_of q), q.value.value, log, begins_logged g.K.PartialEq.eq hash (begun_of w.parts) w.begun.book (key_of q) q placed (g.met.K.Eq.laws.refl (key_of q)) log _ c.learn.ensures.lawful c.args.means.now.initial c.new-call.ensures.table c.new-call.ensures.pairs (subst (λ (z : Stored _ _). HasKey (begun_of w.parts) w.begun.book (key_of q) (Some (keys.Of z))) (sym c.again.ensures) (refl, placed)) (subst (λ (z : Stored _ _). HasValue (begun_of w.parts) w.begun.book (Some (values.Of z))) (sym c.again-2.ensures) placed) (ap (λ (z : Stored _ _). held_value (Some (values.Of z))) c.again-2.ensures) refl there refl refl)
 
 pub returns-clause-put : goal.returns-clause-put
 returns-clause-put g c =
-    let hash = hash_of g.K.Hash.hash_input g.S.BuildHasher.build_hasher g.S.Hasher.Hasher.write g.S.Hasher.Hasher.finish in
+    let hash = (hash_of g.K.Hash.hash_input g.S.BuildHasher.build_hasher g.S.Hasher.Hasher.write g.S.Hasher.Hasher.finish) in
     let w = c.learn.new.self.book.now in let log = c.learn.new.self.sight.log in let q = c.args.pair in
     let placed : IsPlaced (begun_of w.parts) (Some w.begun.book) (names.Pair q) = rw c.learn.ensures.sees.book c.requires.placed in
     let hashed : c.args.hash ≡ hash w.parts.hasher (key_of q) = rw c.learn.ensures.sees.book c.requires.hashed in
-    let made : Machine = insertion_at c.args.hash w.parts.mode c.args.means.now.initial (Pair q.index) AtRoot in
-    let machine : record c.new-call.result.machine { call = record c.new-call.result.machine.call { made = Pair c.index.result } } ≡ made = λ i. record (c.new-call.ensures.machine i) { call = record (c.new-call.ensures.machine i).call { made = Pair (c.index.ensures i) } } in
-    if_ok _ _ c.drive.result c.drive.ensures.put (λ a h.
-    put_since g.K.PartialEq.eq (key_of q) q.value.value c.args.window.now.sight.log log c.drive.new.window.sight.log a c.learn.ensures.sees.log
-    (h (key_of q) q.value.value log (begins_logged g.K.PartialEq.eq hash (begun_of w.parts) w.begun.book q placed c.requires.brings log _ c.learn.ensures.lawful c.args.means.now.initial (machine ∙ ap (λ h'. insertion_at h' w.parts.mode c.args.means.now.initial (Pair q.index) AtRoot) hashed) c.new-call.ensures.table c.new-call.ensures.pairs refl refl (ap (λ z. Some z) c.again.ensures) refl)))
+    let made : Made = record (nothing_made w.parts.limit) { own = Some q.index } in
+    let machine : record c.new-call.result.machine { call = record c.new-call.result.machine.call { made = record c.new-call.result.machine.call.made { own = Some c.index.result } } } ≡ insertion_at c.args.hash w.parts.mode c.args.means.now.initial made AtRoot = λ i. record (c.new-call.ensures.machine i) { call = record (c.new-call.ensures.machine i).call { made = record (c.new-call.ensures.machine i).call.made { own = Some (c.index.ensures i) } } } in
+    let there = machine ∙ ap (λ h. insertion_at h w.parts.mode c.args.means.now.initial made AtRoot) hashed in
+    if_ok _ _ c.drive.result c.drive.ensures.put (λ a h. put_since g.K.PartialEq.eq (key_of q) q.value.value c.args.window.now.sight.log log c.drive.new.window.sight.log a c.learn.ensures.sees.log (h (key_of q) q.value.value log (begins_logged g.K.PartialEq.eq hash (begun_of w.parts) w.begun.book (key_of q) q placed (g.met.K.Eq.laws.refl (key_of q)) log _ c.learn.ensures.lawful c.args.means.now.initial c.new-call.ensures.table c.new-call.ensures.pairs (subst (λ (z : Stored _ _). HasKey (begun_of w.parts) w.begun.book (key_of q) (Some (keys.Of z))) (sym c.again.ensures) (refl, placed)) (subst (λ (z : Stored _ _). HasValue (begun_of w.parts) w.begun.book (Some (values.Of z))) (sym c.again-2.ensures) placed) (ap (λ (z : Stored _ _). held_value (Some (values.Of z))) c.again-2.ensures) refl there refl refl)))

@@ -14,7 +14,7 @@ if_ok P Q (Err e) p f = tt
 pub drive-requires-clause-can : goal.drive-requires-clause-can
 drive-requires-clause-can g c =
     let w = c.learn.new.self.book.now in let log = c.learn.new.self.sight.log in
-    let machine = c.new.ensures.machine ∙ ap (λ h. started (Insert true) h w.parts.mode c.args.means.now.initial 0) c.hash-hash.ensures in (
+    let machine = c.new.ensures.machine ∙ ap (λ h. started (Insert true) h w.parts.mode c.args.means.now.initial 0 w.parts.limit) c.hash-hash.ensures in (
       c.args.key,
       c.args.value,
       log,
@@ -24,7 +24,7 @@ drive-requires-clause-can g c =
 pub returns-clause-put : goal.returns-clause-put
 returns-clause-put g c =
     let w = c.learn.new.self.book.now in let log = c.learn.new.self.sight.log in
-    let machine = c.new.ensures.machine ∙ ap (λ h. started (Insert true) h w.parts.mode c.args.means.now.initial 0) c.hash-hash.ensures in
+    let machine = c.new.ensures.machine ∙ ap (λ h. started (Insert true) h w.parts.mode c.args.means.now.initial 0 w.parts.limit) c.hash-hash.ensures in
     if_ok _ _ c.drive.result c.drive.ensures.put (λ a h.
     put_since g.K.PartialEq.eq c.args.key c.args.value c.args.window.now.sight.log log c.drive.new.window.sight.log a c.learn.ensures.sees.log
     (h c.args.key c.args.value log (begins g.K.PartialEq.eq (hash_of g.K.Hash.hash_input g.S.BuildHasher.build_hasher g.S.Hasher.Hasher.write g.S.Hasher.Hasher.finish) (begun_of w.parts) w.begun.book c.args.key c.args.value log _ c.learn.ensures.lawful c.args.means.now.initial machine c.new.ensures.table c.new.ensures.pairs refl refl refl refl)))

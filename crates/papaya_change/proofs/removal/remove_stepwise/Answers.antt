@@ -35,7 +35,7 @@ pub loop-init : goal.loop-init
 loop-init g c =
     let w = c.learn.new.self.book.now in let log = c.learn.new.self.sight.log in
     let fed = hash_of g.Q.Hash.hash_input g.S.BuildHasher.build_hasher g.S.Hasher.Hasher.write g.S.Hasher.Hasher.finish w.parts.hasher c.args.key.now in
-    let machine = c.new.ensures.machine ∙ ap (λ h. started RemoveIf h w.parts.mode c.args.means.now.initial 0) c.hash.ensures in (
+    let machine = c.new.ensures.machine ∙ ap (λ h. started RemoveIf h w.parts.mode c.args.means.now.initial 0 w.parts.limit) c.hash.ensures in (
       (
         log,
         c.learn.ensures.sees.log,
@@ -111,7 +111,7 @@ returns-in-None-answer-clause-made g c =
     let does = does_still c.loop.removal.call.machine c.args.window.now c.loop.window c.answer.new.window c.loop.invariant.6 c.in-None-answer.ensures.answers in
     let t = c.replied.ensures.tells in
     let changed = told_went c.answer.new.self t.0 c.replied.result t.2 ∙ sym (replied call.machine t.0 t.1) in
-    rw changed (makes g.K.PartialEq.eq u.0 call.taken call.put call.machine c.args.window.now c.answer.new.window r.calling.changed (rw c.answer.ensures.machine does))
+    rw changed (makes g.K.PartialEq.eq None u.0 call.taken call.put call.machine c.args.window.now c.answer.new.window r.calling.changed (rw c.answer.ensures.machine does))
 
 pub returns-in-None-answer-clause-crowded : goal.returns-in-None-answer-clause-crowded
 returns-in-None-answer-clause-crowded g c = λ e.

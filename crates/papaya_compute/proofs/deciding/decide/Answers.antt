@@ -1,4 +1,4 @@
-use Rattle.std.proofs.Common.{◌≡◌, [], ◌∷◌, refl, sym, ap, ◌∙◌, subst}
+use Rattle.std.proofs.Common.{◌≡◌, Some, [], ◌∷◌, refl, sym, ap, ◌∙◌, subst}
 use Rattle.std.specs.Prelude.{Bool, IfErr}
 use Rattle.papaya_ask.specs.declared.ask.Ask.TheVariants.{Done}
 use Rattle.papaya_ask.specs.declared.call.Reply.TheVariants.{Refused}
@@ -76,7 +76,13 @@ pub returns-in-Replied-clause-made : goal.returns-in-Replied-clause-made
 returns-in-Replied-clause-made g c =
     let u = c.loop.invariant.0 in let r = (c.in-Replied.ensures.turns.0 c.args.key u.1.0 u.0 u.1.2).0 in let call = c.turn.new.self.writer.call in
     let does = does_still c.loop.computing.writer.call.machine c.args.window.now c.loop.window c.turn.new.window c.loop.invariant.6 c.in-Replied.ensures.turns.1 in
-    rw c.decided.ensures.changed (makes g.K.PartialEq.eq u.1.0 call.taken call.put call.machine c.args.window.now c.turn.new.window r.writing.calling.changed (rw c.turn.ensures.machine does))
+    rw c.decided.ensures.changed (makes g.K.PartialEq.eq (Some c.args.key) u.1.0 call.taken call.put call.machine c.args.window.now c.turn.new.window r.writing.calling.changed (rw c.turn.ensures.machine does))
+
+pub returns-in-Replied-clause-spent : goal.returns-in-Replied-clause-spent
+returns-in-Replied-clause-spent g c = λ e.
+    let u = c.loop.invariant.0 in let r = (c.in-Replied.ensures.turns.0 c.args.key u.1.0 u.0 u.1.2).0 in
+    let refused = subst (λ (z : _). IfErr z (λ cause. ask_of c.turn.new.self.writer.call.machine ≡ Call (Done (Refused cause)))) e c.decided.ensures.refusal in
+    rw c.turn.ensures.sees.book (r.spent refused)
 
 pub returns-in-Replied-clause-crowded : goal.returns-in-Replied-clause-crowded
 returns-in-Replied-clause-crowded g c = λ e.

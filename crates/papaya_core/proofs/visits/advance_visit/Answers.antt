@@ -3,6 +3,7 @@ use Rattle.papaya_chain.specs.Visitor.{after, ask_of, reply_of}
 use Rattle.papaya_timeline.specs.declared.seat.Work.TheVariants as works
 use Rattle.papaya_timeline.specs.VisitGoes.{event_of_visit, reply_or}
 use Rattle.papaya_keys.specs.Hashes.{hash_of}
+use Rattle.papaya_store.specs.declared.mode.Mode.{Mode}
 use Rattle.papaya_timeline.specs.Core.{IsCore}
 use Rattle.papaya_timeline.proofs.VisitStands.{visit_core}
 use Rattle.papaya_timeline.specs.Outcomes.{ListsGiven, all_given, given_by}
@@ -73,13 +74,15 @@ returns-in-None-reply-clause-goes g c =
 -- what its ask is answered by fits it: a core with these tables and no callers is in order
 pub answer-requires-clause-fit : goal.answer-requires-clause-fit
 answer-requires-clause-fit g c =
-    let core : IsCore {A = g.row.A.Denot} c.args.store.now [] c.args.visiting.visitor.mode = record {
+    let mode : Mode = record { resize = c.args.visiting.visitor.mode; limit = None } in
+    let core : IsCore {A = g.row.A.Denot} c.args.store.now [] mode = record {
       chunked = c.requires.standing.chunked;
+      limit = tt;
       sizes = c.requires.sizes;
       standing = λ caller r e. let none : None ≡ Some r = e in absurd cc;
       going = λ caller r e. let none : None ≡ Some r = e in absurd cc;
       resizers = λ caller z e. let none : None ≡ Some z = e in absurd cc;
       visitors = λ caller v e. let none : None ≡ Some v = e in absurd cc;
     } in
-    (visit_core g.K.PartialEq.eq (record { op = g.A.Answers.op_gives; yes = g.A.Answers.yes_gives }) (hash_of g.K.Hash.hash_input g.S.BuildHasher.build_hasher g.S.Hasher.Hasher.write g.S.Hasher.Hasher.finish) c.args.refuse c.args.store.now [] c.args.visiting.visitor.mode core
+    (visit_core g.K.PartialEq.eq (record { op = g.A.Answers.op_gives; yes = g.A.Answers.yes_gives }) (hash_of g.K.Hash.hash_input g.S.BuildHasher.build_hasher g.S.Hasher.Hasher.write g.S.Hasher.Hasher.finish) c.args.refuse c.args.store.now [] mode core
     c.args.visiting c.requires.standing c.perform_visit-answer.result c.perform_visit-answer.new.store c.perform_visit-answer.new.visiting c.in-Some.ask (sym c.ask.ensures ∙ c.in-Some.is) c.perform_visit-answer.ensures.performs).1

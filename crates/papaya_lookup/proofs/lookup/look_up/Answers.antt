@@ -1,9 +1,12 @@
-use Rattle.std.proofs.Common.{option_map, ap}
-use Rattle.papaya_lookup.proofs.LookupReplies.{value_answer}
+use Rattle.std.proofs.Common.{subst}
+use Rattle.papaya_lookup.specs.Answers.{IsAnsweredBetween}
+use Rattle.papaya_lookup.specs.History.{history_of}
+use Rattle.papaya_lookup.proofs.Histories.{history_since}
+use Rattle.papaya_lookup.proofs.LookupReplies.{answered_since}
 use Rattle.papaya_lookup.proofs.lookup.look_up.Goals as goal
 
-pub returns-in-Some-clause-answered : goal.returns-in-Some-clause-answered
-returns-in-Some-clause-answered g c = value_answer _ _ _ _ _ _ (ap (option_map (λ pair. pair.1)) c.in-Some.is) c.look_up_pair.ensures.answered
-
 pub returns-in-None-clause-answered : goal.returns-in-None-clause-answered
-returns-in-None-clause-answered g c = value_answer _ _ _ _ _ _ (ap (option_map (λ pair. pair.1)) c.in-None.is) c.look_up_pair.ensures.answered
+returns-in-None-clause-answered g c =
+    let near = c.search_near in let found = c.look_up_anew-found in
+    let all = subst (λ z. IsAnsweredBetween g.K.PartialEq.eq (g.Q.Equivalent.matches c.args.key.now) (history_of z.log) (history_of found.new.sight.log) found.result) c.again-sight.ensures found.ensures.answered in
+    answered_since _ _ _ _ _ _ _ (history_since c.args.window.now.sight.log near.new.window.sight.log near.ensures.sees.log) all

@@ -32,10 +32,10 @@ returns-in-Here-clause-turned g c =
     record { feeds = g.met.Q.Equivalent.hashes_as_key c.args.key.now; class = λ k l. g.met.Q.Equivalent.matches_equal_keys c.args.key.now k l } in
     let w = c.args.window.now.book.now in let s = c.slot_word-word in
     let looks : look c.args.at s.result.0 ≡ On (Comparing c.in-On-Comparing.field-0-0 c.in-On-Comparing.field-0-1) = search rules in
-    let same = c.equivalent-same.ensures ∙ ap (g.Q.Equivalent.matches c.args.key.now) (c.key-stored_key.ensures ∙ ap (λ z. z.key.value) c.pair-pair.ensures) in
+    let same = c.equivalent-same.ensures ∙ ap (g.Q.Equivalent.matches c.args.key.now) (c.entry.ensures.key ∙ ap (λ z. z.key.value) c.pair-pair.ensures) in
     let here : at_yes (Comparing c.args.at s.result.0) c.equivalent-same.result ≡ Here c.in-Here.field-0 c.in-Here.field-1 = search rules in
-    let key = c.key-stored_key.ensures ∙ ap (λ z. z.key.value) c.pair-pair.ensures in
-    let value = c.value.ensures ∙ ap (λ z. z.value) c.pair-pair.ensures in
+    let key = c.entry.ensures.key ∙ ap (λ z. z.key.value) c.pair-pair.ensures in
+    let value = c.entry.ensures.value ∙ ap (λ z. z.value) c.pair-pair.ensures in
     rw s.ensures.sees.book (pair_found g.K.PartialEq.eq g.K.Hash.hash_input g.S.BuildHasher.build_hasher g.S.Hasher.Hasher.write g.S.Hasher.Hasher.finish g.met.K.Eq.laws g.met.K.Hash.respects_eq (begun_of w.parts) (g.Q.Equivalent.matches c.args.key.now) (g.Q.Hash.hash_input c.args.key.now) lawful (exchanges_of c.args.began.now.log) c.args.hash w.begun.book c.args.window.now.sight.log c.args.at c.requires.within c.args.table.now c.requires.reading
     s.new.self.sight.log s.ensures.sees.log s.result.0 s.result.1.state s.ensures.slot c.in-On-Comparing.field-0-0 c.in-On-Comparing.field-0-1 looks c.named_pair-stored.result c.named_pair-stored.ensures c.equivalent-same.result same c.in-Here.field-0 c.in-Here.field-1 here _ key value)
 
@@ -45,7 +45,7 @@ returns-in-On-Comparing g c =
     record { feeds = g.met.Q.Equivalent.hashes_as_key c.args.key.now; class = λ k l. g.met.Q.Equivalent.matches_equal_keys c.args.key.now k l } in
     let w = c.args.window.now.book.now in let s = c.slot_word-word in
     let looks : look c.args.at s.result.0 ≡ On (Comparing c.in-On-Comparing.field-0-0 c.in-On-Comparing.field-0-1) = search rules in
-    let same = c.equivalent-same.ensures ∙ ap (g.Q.Equivalent.matches c.args.key.now) (c.key-stored_key.ensures ∙ ap (λ z. z.key.value) c.pair-pair.ensures) in
+    let same = c.equivalent-same.ensures ∙ ap (g.Q.Equivalent.matches c.args.key.now) (c.entry.ensures.key ∙ ap (λ z. z.key.value) c.pair-pair.ensures) in
     let none : (a : Place) (n : ℕ) → at_yes (Comparing c.args.at s.result.0) c.equivalent-same.result ≡ Here a n → ⊥ = λ a n e. c.in_default-compared.not-Here a n (c.at_yes-compared.ensures.value ∙ e) in
     let seen : IsSeen (at_yes (Comparing c.args.at s.result.0) c.equivalent-same.result) = subst IsSeen c.at_yes-compared.ensures.value c.at_yes-compared.ensures.seen in
     let all = other_pair g.K.PartialEq.eq g.K.Hash.hash_input g.S.BuildHasher.build_hasher g.S.Hasher.Hasher.write g.S.Hasher.Hasher.finish g.met.K.Eq.laws g.met.K.Hash.respects_eq (begun_of w.parts) (g.Q.Equivalent.matches c.args.key.now) (g.Q.Hash.hash_input c.args.key.now) lawful (exchanges_of c.args.began.now.log) c.args.hash w.begun.book c.args.window.now.sight.log c.args.at c.requires.within c.args.table.now c.requires.reading

@@ -3,7 +3,7 @@ use Rattle.papaya_rests.proofs.AloneCurrent.{machine_stays}
 use Rattle.papaya_rests.proofs.AloneSteps.{machine_nears}
 
 pub returns-clause-nearer : goal.returns-clause-nearer
-returns-clause-nearer c = λ words words' m answer current last told. machine_nears words words' m answer current.read last told
+returns-clause-nearer c = λ words words' m answer current last told. machine_nears words words' m answer current.number current.read last told
 
 pub returns-clause-current : goal.returns-clause-current
-returns-clause-current c = λ words words' m answer current told. machine_stays words words' m current.bare answer current.read told
+returns-clause-current c = λ words words' m answer current told. machine_stays words words' m current.bare answer current.number current.read told

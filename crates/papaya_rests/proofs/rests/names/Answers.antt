@@ -1,6 +1,7 @@
 use Rattle.papaya_rests.proofs.rests.names.Goals as goal
 use Rattle.std.proofs.Common.{subst}
 use Rattle.papaya_call.specs.Machine.{ask_of}
+use Rattle.papaya_rests.proofs.RestsCopied.{machine_copied}
 use Rattle.papaya_rests.proofs.RestsHeld.{machine_made}
 use Rattle.papaya_rests.proofs.RestsNames.{IsNamed, ask_named, hint_named, slot_named}
 use Rattle.papaya_rests.proofs.RestsOpened.{machine_opened}
@@ -22,3 +23,6 @@ returns-clause-opened g c = λ m answer t e. machine_opened m t answer e
 
 pub returns-clause-made : goal.returns-clause-made
 returns-clause-made g c = λ s c' begun since k m hands rests t x old new e w. machine_made s c' begun since k hands m rests t x old new e w
+
+pub returns-clause-copied : goal.returns-clause-copied
+returns-clause-copied g c = λ s c' hashed begun since may k m hands rests n e. machine_copied s c' hashed begun since k hands m rests n e

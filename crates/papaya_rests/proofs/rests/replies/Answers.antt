@@ -1,6 +1,9 @@
 use Rattle.papaya_rests.proofs.rests.replies.Goals as goal
-use Rattle.papaya_rests.proofs.RestsReply.{machine_changes}
+use Rattle.papaya_rests.proofs.RestsReply.{machine_changes, machine_replies}
 use Rattle.papaya_rests.proofs.RestsReplyRefused.{machine_refused}
+
+pub returns-clause-reply : goal.returns-clause-reply
+returns-clause-reply g c = λ h d begun since k m hands r reply e. machine_replies h d begun since k m hands r reply e
 
 pub returns-clause-change : goal.returns-clause-change
 returns-clause-change g c = λ h d hashed begun since k m hands r s answer es hands' told. machine_changes h d hashed k s m r.hash hands es hands' answer told

@@ -1,8 +1,10 @@
 use Rattle.papaya_rests.proofs.rests.says.Goals as goal
+use Rattle.papaya_rests.proofs.RestsHeld.{machine_made_waits}
 use Rattle.papaya_rests.proofs.SaysWords.{machine_shows}
 use Rattle.papaya_rests.proofs.SaysSaid.{machine_said}
 use Rattle.papaya_rests.proofs.SaysChanges.{machine_aborted, machine_changed}
 use Rattle.papaya_rests.proofs.SaysOnce.{machine_shown}
+use Rattle.papaya_rests.proofs.SaysValues.{machine_values}
 use Rattle.papaya_rests.proofs.SaysOver.{computed_unsaid, machine_chosen, machine_exchanges, machine_paired, unsaid}
 
 pub returns-clause-words : goal.returns-clause-words
@@ -34,3 +36,9 @@ returns-clause-aborts c = λ m answer with open_still e. machine_aborted m answe
 
 pub returns-clause-once : goal.returns-clause-once
 returns-clause-once c = λ m answer h. machine_shown m answer h
+
+pub returns-clause-values : goal.returns-clause-values
+returns-clause-values c = λ m answer h. machine_values m answer h
+
+pub returns-clause-pairs : goal.returns-clause-pairs
+returns-clause-pairs c = λ m n shown makes stands. machine_made_waits m n shown makes stands

@@ -1,12 +1,12 @@
-use Rattle.std.proofs.Common.{rules, ◌≡◌, Bool, true, false, Option, None, Some, IsSome, refl, subst}
+use Rattle.std.proofs.Common.{rules, ◌≡◌, subst}
 use Rattle.papaya_words.specs.Word.{kind_of, pair_of as number_of}
 use Rattle.papaya_words.specs.declared.word.Kind.TheVariants.{Live}
-use Rattle.papaya_store.specs.Store.{Stored, pair_of}
-use Rattle.papaya_seq.specs.Looks.{matches_in}
+use Rattle.papaya_store.specs.Store.{pair_of}
 use Rattle.papaya_seq.specs.Searches.{IsRootTurn}
 use Rattle.papaya_seq.specs.declared.search.Turn.{Turn}
 use Rattle.papaya_seq.specs.declared.search.Turn.TheVariants as turns
 use Rattle.papaya_seq.proofs.Burying.{found_it, found_none}
+use Rattle.papaya_seq.proofs.TableSearch.{some_matched}
 use Rattle.papaya_seq.proofs.removal.remove_at_once.Goals as goal
 use Rattle.papaya_seq.proofs.removal.remove_at_once.Goals.{In-Some-Here}
 use Rattle.papaya_seq.proofs.removal.remove_at_once.Given.{Over}
@@ -15,11 +15,6 @@ use Rattle.papaya_seq.proofs.removal.remove_at_once.Given.{Over}
 here : (g : Over) (c : In-Some-Here g) → IsRootTurn (g.Q.Equivalent.matches c.args.key.now) c.args.store.now c.args.hash (turns.Here c.in-Some-Here.place c.in-Some-Here.word)
 here g c = subst (λ (t : Turn). IsRootTurn (g.Q.Equivalent.matches c.args.key.now) c.args.store.now c.args.hash t) (search rules) (c.search_root.ensures c.in-Some-Here.field-0 c.in-Some-Here.is)
 
--- a pair that matches is there
-some_matched : {K V : Type 0} (matches : K → Bool) (o : Option (Stored K V)) → matches_in matches o ≡ true → IsSome o
-some_matched matches None e = let f : false ≡ true = e in absurd cc
-some_matched matches (Some p) e = refl
-
 pub bury-requires-clause-stands : goal.bury-requires-clause-stands
 bury-requires-clause-stands g c = (here g (goal.at.bury-requires-clause-stands g c).In-Some-Here).stands
 
@@ -27,11 +22,11 @@ pub bury-requires-clause-logged : goal.bury-requires-clause-logged
 bury-requires-clause-logged g c = some_matched (g.Q.Equivalent.matches c.args.key.now) (pair_of c.args.store.now (number_of c.in-Some-Here.word)) (here g (goal.at.bury-requires-clause-logged g c).In-Some-Here).matched
 
 pub returns-in-Some-Empty-clause-removed : goal.returns-in-Some-Empty-clause-removed
-returns-in-Some-Empty-clause-removed g c mode initial =
+returns-in-Some-Empty-clause-removed g c mode initial limit =
     let root : IsRootTurn (g.Q.Equivalent.matches c.args.key.now) c.args.store.now c.args.hash (turns.Empty c.in-Some-Empty.field-0-0) = subst (λ (t : Turn). IsRootTurn (g.Q.Equivalent.matches c.args.key.now) c.args.store.now c.args.hash t) c.in-Some-Empty.field-0-is (c.search_root.ensures c.in-Some-Empty.field-0 c.in-Some-Empty.is) in
-    found_none g.F.FnMut (g.Q.Equivalent.matches c.args.key.now) c.args.store.now c.args.agrees.now c.args.hash mode initial c.in-Some-Empty.field-0-0 root
+    found_none g.F.FnMut (g.Q.Equivalent.matches c.args.key.now) c.args.store.now c.args.agrees.now c.args.hash mode initial limit c.in-Some-Empty.field-0-0 root
 
 pub returns-in-Some-Here-clause-removed : goal.returns-in-Some-Here-clause-removed
-returns-in-Some-Here-clause-removed g c mode initial =
+returns-in-Some-Here-clause-removed g c mode initial limit =
     let live : kind_of c.in-Some-Here.word ≡ Live = search rules in
-    found_it g.F.FnMut (g.Q.Equivalent.matches c.args.key.now) c.args.store.now c.args.agrees.now c.args.hash mode initial c.in-Some-Here.place c.in-Some-Here.word live (here g (goal.at.returns-in-Some-Here-clause-removed g c).In-Some-Here) c.bury.result c.bury.new.store c.bury.new.agrees (c.bury.ensures.buried (g.Q.Equivalent.matches c.args.key.now))
+    found_it g.F.FnMut (g.Q.Equivalent.matches c.args.key.now) c.args.store.now c.args.agrees.now c.args.hash mode initial limit c.in-Some-Here.place c.in-Some-Here.word live (here g (goal.at.returns-in-Some-Here-clause-removed g c).In-Some-Here) c.bury.result c.bury.new.store c.bury.new.agrees (c.bury.ensures.buried (g.Q.Equivalent.matches c.args.key.now))

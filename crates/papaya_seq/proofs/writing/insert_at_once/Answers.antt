@@ -1,11 +1,15 @@
 use Rattle.std.proofs.Common.{rules, ◌≡◌, true, false, subst}
-use Rattle.papaya_words.specs.Word.{kind_of}
+use Rattle.papaya_words.specs.Word.{kind_of, pair_of as number_of}
 use Rattle.papaya_words.specs.declared.word.Kind.TheVariants.{Live}
 use Rattle.papaya_keys.specs.Hashes.{hash_of}
 use Rattle.papaya_seq.specs.Searches.{IsRootTurn}
+use Rattle.papaya_seq.specs.Writes.{slot_of}
 use Rattle.papaya_seq.specs.declared.search.Turn.{Turn}
 use Rattle.papaya_seq.specs.declared.search.Turn.TheVariants as turns
+use Rattle.papaya_store.specs.Store.{pair_of}
+use Rattle.papaya_store.specs.Tables.{word_at}
 use Rattle.papaya_seq.proofs.AtOnce.{claimed, occupied, replaces_it}
+use Rattle.papaya_seq.proofs.TableSearch.{some_matched}
 use Rattle.papaya_seq.proofs.writing.insert_at_once.Goals as goal
 use Rattle.papaya_seq.proofs.writing.insert_at_once.Goals.{In-Some-Empty, In-Some-Here}
 use Rattle.papaya_seq.proofs.writing.insert_at_once.Given.{Over}
@@ -17,8 +21,12 @@ empty g c = subst (λ (t : Turn). IsRootTurn (g.K.PartialEq.eq c.args.key) c.arg
 here : (g : Over) (c : In-Some-Here g) → IsRootTurn (g.K.PartialEq.eq c.args.key) c.args.store.now c.args.hash (turns.Here c.in-Some-Here.place c.in-Some-Here.word)
 here g c = subst (λ (t : Turn). IsRootTurn (g.K.PartialEq.eq c.args.key) c.args.store.now c.args.hash t) (search rules) (c.search_root.ensures c.in-Some-Here.field-0 c.in-Some-Here.is)
 
-pub write-requires : goal.write-requires
-write-requires g c = c.requires.bare c.in-Some-Empty.place.table c.in-Some-Empty.place.probe.i (empty g (goal.at.write-requires g c).In-Some-Empty).stands
+-- where nothing was, no word stands
+bare : (g : Over) (c : In-Some-Empty g) → word_at c.args.store.now.words (slot_of c.in-Some-Empty.place) ≡ 0
+bare g c = c.requires.bare c.in-Some-Empty.place.table c.in-Some-Empty.place.probe.i (empty g c).stands
+
+pub write-requires-clause-stands : goal.write-requires-clause-stands
+write-requires-clause-stands g c = bare g (goal.at.write-requires-clause-stands g c).In-Some-Empty
 
 pub returns-then-not-replace-clause-ok : goal.returns-then-not-replace-clause-ok
 returns-then-not-replace-clause-ok g c mode initial =
@@ -26,12 +34,15 @@ returns-then-not-replace-clause-ok g c mode initial =
     let never : c.args.replace ≡ false = search rules in
     occupied g.K.PartialEq.eq (hash_of g.K.Hash.hash_input g.S.BuildHasher.build_hasher g.S.Hasher.Hasher.write g.S.Hasher.Hasher.finish) c.args.store.now c.args.key c.args.value c.args.hash c.in-Some-Here.place mode initial c.in-Some-Here.word live (here g (goal.at.returns-then-not-replace-clause-ok g c).In-Some-Here) c.args.replace never c.pair.result c.pair.ensures
 
-pub write-requires-in-Some-Here : goal.write-requires-in-Some-Here
-write-requires-in-Some-Here g c = (here g (goal.at.write-requires-in-Some-Here g c).In-Some-Here).stands
+pub write-requires-in-Some-Here-clause-stands : goal.write-requires-in-Some-Here-clause-stands
+write-requires-in-Some-Here-clause-stands g c = (here g (goal.at.write-requires-in-Some-Here-clause-stands g c).In-Some-Here).stands
+
+pub write-requires-in-Some-Here-clause-pair : goal.write-requires-in-Some-Here-clause-pair
+write-requires-in-Some-Here-clause-pair g c = λ some. some_matched (g.K.PartialEq.eq c.args.key) (pair_of c.args.store.now (number_of c.in-Some-Here.word)) (here g (goal.at.write-requires-in-Some-Here-clause-pair g c).In-Some-Here).matched
 
 pub returns-in-Some-Empty-clause-ok : goal.returns-in-Some-Empty-clause-ok
 returns-in-Some-Empty-clause-ok g c mode initial =
-    claimed g.K.PartialEq.eq (hash_of g.K.Hash.hash_input g.S.BuildHasher.build_hasher g.S.Hasher.Hasher.write g.S.Hasher.Hasher.finish) c.args.store.now c.args.key c.args.value c.args.hash c.in-Some-Empty.place mode initial c.args.replace (empty g (goal.at.returns-in-Some-Empty-clause-ok g c).In-Some-Empty) c.write.result c.write.new.store c.write.ensures
+    claimed g.K.PartialEq.eq (hash_of g.K.Hash.hash_input g.S.BuildHasher.build_hasher g.S.Hasher.Hasher.write g.S.Hasher.Hasher.finish) c.args.store.now c.args.key c.args.value c.args.hash c.in-Some-Empty.place mode initial c.args.replace (empty g (goal.at.returns-in-Some-Empty-clause-ok g c).In-Some-Empty) (bare g (goal.at.returns-in-Some-Empty-clause-ok g c).In-Some-Empty) c.write.result c.write.new.store c.write.ensures
 
 pub returns-else-not-replace-clause-ok : goal.returns-else-not-replace-clause-ok
 returns-else-not-replace-clause-ok g c mode initial =

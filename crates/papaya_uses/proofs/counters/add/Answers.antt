@@ -13,7 +13,7 @@ returns-in-Ok-Inserted-clause-added g c =
 pub returns-in-Ok-Updated-clause-added : goal.returns-in-Ok-Updated-clause-added
 returns-in-Ok-Updated-clause-added g c =
     let is : c.compute-computed.result ≡ Ok (Updated c.in-Ok-Updated.field-0-0 (c.in-Ok-Updated.field-0-1-0, c.in-Ok-Updated.count)) = search rules in
-    added _ c.args.counter c.args.by c.args.counters.now.history c.compute-computed.new.self.history _ c.compute-computed.result c.compute-computed.ensures.computed (λ f. f.0.now ≡ c.args.by) refl (λ f shown done g is called. (ap (λ z. z.now) called.met.1.0 ∙ is, called.met.1.1 ∙ ap (λ b. Insert (next_count b (option_map (λ p. p.1.now) shown))) is)) c.in-Ok-Updated.field-0-0 (c.in-Ok-Updated.field-0-1-0, c.in-Ok-Updated.count) is
+    added _ c.args.counter c.args.by c.args.counters.now.history c.compute-computed.new.self.history _ c.compute-computed.result c.compute-computed.ensures.computed (λ f. f.0.now ≡ c.args.by) refl (λ f shown done g is called. (ap (λ z. z.now) called.met.1.0 ∙ is, called.met.1.1 ∙ ap (λ b. Insert (next_count b (option_map (λ p. p.1.now) shown))) is)) c.legal.ensures c.in-Ok-Updated.field-0-0 (c.in-Ok-Updated.field-0-1-0, c.in-Ok-Updated.count) is
 
 pub unreachable-requires : goal.unreachable-requires
 unreachable-requires g c =

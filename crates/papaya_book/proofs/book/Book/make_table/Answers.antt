@@ -24,7 +24,7 @@ returns-clause-made g c =
     let from_two = prefix_trans two three log words.seen row.seen in
     let grown = seals_grow two three words.seen in
     let words_made : AreMade sheet.done n s three = subst (λ (k : ℕ). AreMade sheet.done n k three) pen (words.made n below_next) in
-    let row_made : (m : ℕ) → m < 2 + length (seals_of three) → AreMade sheet.slots m s log = λ m low. subst (λ (k : ℕ). AreMade sheet.slots m k log) pen (row.made m low) in
+    let row_made : (m : ℕ) → m < 3 + length (seals_of three) → AreMade sheet.slots m s log = λ m low. subst (λ (k : ℕ). AreMade sheet.slots m k log) pen (row.made m low) in
     let made : AreMade (n ∷ (sheet.done ++ sheet.slots)) s s log = (
       omega arith,
       owner_since two log n s from_two own_next,

@@ -13,5 +13,5 @@ invariant-loop g l = record {
   book : l.sight.book ≡ l.self.begun.book;
   seen : IsPrefix l.fn.sight.log l.sight.log;
   words : AllOf l.self.begun.book l.slots.items;
-  made : (least : ℕ) → least < 2 + length (seals_of l.fn.sight.log) → AreMade (map (λ (w : Named). w.key) l.slots.items) least l.seal.nib.key l.sight.log;
+  made : (least : ℕ) → least < 3 + length (seals_of l.fn.sight.log) → AreMade (map (λ (w : Named). w.key) l.slots.items) least l.seal.nib.key l.sight.log;
 }

@@ -1,70 +1,87 @@
-use Rattle.std.proofs.Common.{◌≡◌, ℕ, Some, refl, sym, ◌∙◌, rules}
+use Rattle.std.proofs.Common.{◌≡◌, ◌⊎◌, inl, inr, ⊎_elim, ℕ, true, Option, [], append-nil, refl, sym, ap, ◌∙◌, rules, subst}
 use Rattle.papaya_ask.specs.declared.ask.Answer.TheVariants.{Ok}
-use Rattle.papaya_ask.specs.declared.ask.Ask.TheVariants.{AddToShard, Exchange, Load, LoadHint, MakeKey, MakePair, MakeTable, SameKey, SizeOf, WriteHint}
-use Rattle.papaya_ask.specs.declared.ask.At.TheVariants.{Root}
+use Rattle.papaya_ask.specs.declared.ask.Ask.{Ask}
+use Rattle.papaya_ask.specs.declared.ask.Ask.TheVariants.{AddToShard, Exchange, Load, LoadHint, MakeKey, MakeTable, MakeValue, SameKey, ShowNone, ShowPair, SizeOf, WriteHint}
+use Rattle.papaya_ask.specs.declared.ask.At.{At}
+use Rattle.papaya_ask.specs.declared.ask.At.TheVariants.{Aborted, Done as Done_word, Made as Made_word, Next, Root, Slot}
+use Rattle.papaya_ask.specs.declared.ask.StepKind.{StepKind}
+use Rattle.papaya_ask.specs.declared.call.Task.{Task}
+use Rattle.papaya_ask.specs.declared.call.Task.TheVariants.{Insert}
+use Rattle.papaya_call.specs.Machine as calls
 use Rattle.papaya_chain.specs.Machine.{ask_of}
 use Rattle.papaya_chain.specs.declared.ask.Ask.TheVariants.{Call}
+use Rattle.papaya_rests.specs.Followed.{MayAsk}
+use Rattle.papaya_rests.proofs.Followed.{asked_of_task}
+use Rattle.papaya_rests.specs.Says.{MakesPair}
+use Rattle.papaya_rests.specs.Rests.{IsNumberAsk}
 use Rattle.papaya_chain_rests.proofs.Names.{call_asks}
 use Rattle.papaya_book.specs.Parts.{begun_of}
-use Rattle.papaya_book.specs.Plays.{made_list}
-use Rattle.papaya_change.proofs.Doing.{idle, left_alone}
 use Rattle.papaya_change.proofs.Inserting.{goes_on}
 use Rattle.papaya_change.proofs.WritingSteps.{counted_on}
 use Rattle.papaya_change.proofs.insertion.Insertion.answer.Goals as goal
 
+-- an insertion tries to exchange these words only
+exchanged : (kind : Option StepKind) (at : At) (old new : ℕ) → MayAsk (Insert true) kind (Exchange at old new) → (at ≡ Root) ⊎ ((at ≡ Made_word) ⊎ ((t : ℕ) × (i : ℕ) × (at ≡ Slot t i)))
+exchanged kind Root old new may = inl refl
+exchanged kind Made_word old new may = inr (inl refl)
+exchanged kind (Slot t i) old new may = inr (inr (t, i, refl))
+exchanged kind (Next t) old new may = absurd may
+exchanged kind (Aborted t) old new may = absurd may
+exchanged kind (Done_word t chunk) old new may = absurd may
+
+pub unreachable-requires-in-ShowNone : goal.unreachable-requires-in-ShowNone
+unreachable-requires-in-ShowNone g c =
+    let m = c.args.self.now.writer.call.machine in let task = c.requires.can.3.task_is in
+    let may : (a : Ask) → c.in-Call.ask ≡ a → MayAsk (Insert true) (calls.kind_of_ask m.call) a = λ a e.
+    let own = call_asks m a (sym c.ask.ensures.value ∙ c.in-Call.is ∙ ap (λ z. Call z) e) in
+    subst (λ (z : Ask). MayAsk (Insert true) (calls.kind_of_ask m.call) z) own.1 (subst (λ (z : Task). MayAsk z (calls.kind_of_ask m.call) (calls.ask_of m.call)) task (asked_of_task m.call c.requires.standing.call)) in
+    ⊎_elim
+    (λ e. may ShowNone e)
+    (λ o.
+    ⊎_elim
+    (λ e. may (ShowPair e.0) e.1)
+    (λ e.
+    ⊎_elim
+    (λ at. let is : c.in-Call.ask ≡ Exchange Root e.1 e.2 = e.3 ∙ ap (λ z. Exchange z e.1 e.2) at in search rules)
+    (λ o'.
+    ⊎_elim
+    (λ at. let is : c.in-Call.ask ≡ Exchange Made_word e.1 e.2 = e.3 ∙ ap (λ z. Exchange z e.1 e.2) at in search rules)
+    (λ at. let is : c.in-Call.ask ≡ Exchange (Slot at.0 at.1) e.1 e.2 = e.3 ∙ ap (λ z. Exchange z e.1 e.2) at.2 in search rules)
+    o')
+    (exchanged (calls.kind_of_ask m.call) e.0 e.1 e.2 (may (Exchange e.0 e.1 e.2) e.3)))
+    o)
+    c.in-ShowNone.is
+
 pub returns-in-Load-clause-inserts : goal.returns-in-Load-clause-inserts
-returns-in-Load-clause-inserts g c = λ key value begun r. let asks : ask_of c.args.self.now.writer.call.machine ≡ Call (Load c.in-Load.at) = search rules in let on = c.load.ensures in goes_on g.K.PartialEq.eq g.K.Hash.hash_input g.S.BuildHasher.build_hasher g.S.Hasher.Hasher.write g.S.Hasher.Hasher.finish g.met.K.Eq.laws g.met.K.Hash.respects_eq (begun_of c.args.window.now.book.now.parts) c.args.window.now.book.now.begun.book key value begun c.args.window.now.sight.log c.args.self.now r c.load.new.window.sight.log c.load.new.self c.load.result on.machine on.value on.put c.requires.standing c.requires.calling (λ reply h. let f = sym asks ∙ h in cc f) on.unsaid (on.writes key (made_list c.args.self.now.made) begun r.writing)
+returns-in-Load-clause-inserts g c = λ key value begun r. let asks : ask_of c.args.self.now.writer.call.machine ≡ Call (Load c.in-Load.at) = search rules in let on = c.load.ensures in goes_on g.K.PartialEq.eq g.K.Hash.hash_input g.S.BuildHasher.build_hasher g.S.Hasher.Hasher.write g.S.Hasher.Hasher.finish g.met.K.Eq.laws g.met.K.Hash.respects_eq (begun_of c.args.window.now.book.now.parts) c.args.window.now.book.now.begun.book key value begun c.args.window.now.sight.log c.args.self.now r c.load.new.window.sight.log c.load.ensures.sees.log c.load.new.self c.load.result on.machine on.value on.put c.requires.standing c.requires.calling (λ reply h. let f = sym asks ∙ h in cc f) (λ n e makes. subst (λ (a : Ask). MakesPair a) (call_asks c.args.self.now.writer.call.machine _ asks).1 makes) on.tells on.unsaid (on.writes key r.made begun r.writing)
 
 pub returns-in-LoadHint-clause-inserts : goal.returns-in-LoadHint-clause-inserts
-returns-in-LoadHint-clause-inserts g c = λ key value begun r. let asks : ask_of c.args.self.now.writer.call.machine ≡ Call (LoadHint c.in-LoadHint.number c.in-LoadHint.place) = search rules in goes_on g.K.PartialEq.eq g.K.Hash.hash_input g.S.BuildHasher.build_hasher g.S.Hasher.Hasher.write g.S.Hasher.Hasher.finish g.met.K.Eq.laws g.met.K.Hash.respects_eq (begun_of c.args.window.now.book.now.parts) c.args.window.now.book.now.begun.book key value begun c.args.window.now.sight.log c.args.self.now r c.hint.new.window.sight.log c.args.self.now.writer c.hint.result refl refl refl c.requires.standing c.requires.calling (λ reply h. let f = sym asks ∙ h in cc f) c.hint.ensures.unsaid (c.hint.ensures.writes key (made_list c.args.self.now.made) begun r.writing)
+returns-in-LoadHint-clause-inserts g c = λ key value begun r. let asks : ask_of c.args.self.now.writer.call.machine ≡ Call (LoadHint c.in-LoadHint.number c.in-LoadHint.place) = search rules in goes_on g.K.PartialEq.eq g.K.Hash.hash_input g.S.BuildHasher.build_hasher g.S.Hasher.Hasher.write g.S.Hasher.Hasher.finish g.met.K.Eq.laws g.met.K.Hash.respects_eq (begun_of c.args.window.now.book.now.parts) c.args.window.now.book.now.begun.book key value begun c.args.window.now.sight.log c.args.self.now r c.hint.new.window.sight.log c.hint.ensures.sees.log c.args.self.now.writer c.hint.result refl refl refl c.requires.standing c.requires.calling (λ reply h. let f = sym asks ∙ h in cc f) (λ n e makes. subst (λ (a : Ask). MakesPair a) (call_asks c.args.self.now.writer.call.machine _ asks).1 makes) (λ number. absurd (subst (λ (a : Ask). IsNumberAsk a) (call_asks c.args.self.now.writer.call.machine _ asks).1 number)) c.hint.ensures.unsaid (c.hint.ensures.writes key r.made begun r.writing)
 
 pub returns-in-WriteHint-clause-inserts : goal.returns-in-WriteHint-clause-inserts
-returns-in-WriteHint-clause-inserts g c = λ key value begun r. let asks : ask_of c.args.self.now.writer.call.machine ≡ Call (WriteHint c.in-WriteHint.number c.in-WriteHint.place c.in-WriteHint.hint) = search rules in goes_on g.K.PartialEq.eq g.K.Hash.hash_input g.S.BuildHasher.build_hasher g.S.Hasher.Hasher.write g.S.Hasher.Hasher.finish g.met.K.Eq.laws g.met.K.Hash.respects_eq (begun_of c.args.window.now.book.now.parts) c.args.window.now.book.now.begun.book key value begun c.args.window.now.sight.log c.args.self.now r c.args.window.now.sight.log c.args.self.now.writer c.note.result refl refl refl c.requires.standing c.requires.calling (λ reply h. let f = sym asks ∙ h in cc f) c.note.ensures.unsaid (c.note.ensures.writes key (made_list c.args.self.now.made) begun r.writing)
+returns-in-WriteHint-clause-inserts g c = λ key value begun r. let asks : ask_of c.args.self.now.writer.call.machine ≡ Call (WriteHint c.in-WriteHint.number c.in-WriteHint.place c.in-WriteHint.hint) = search rules in goes_on g.K.PartialEq.eq g.K.Hash.hash_input g.S.BuildHasher.build_hasher g.S.Hasher.Hasher.write g.S.Hasher.Hasher.finish g.met.K.Eq.laws g.met.K.Hash.respects_eq (begun_of c.args.window.now.book.now.parts) c.args.window.now.book.now.begun.book key value begun c.args.window.now.sight.log c.args.self.now r c.args.window.now.sight.log ([], append-nil _) c.args.self.now.writer c.note.result refl refl refl c.requires.standing c.requires.calling (λ reply h. let f = sym asks ∙ h in cc f) (λ n e makes. subst (λ (a : Ask). MakesPair a) (call_asks c.args.self.now.writer.call.machine _ asks).1 makes) (λ number. absurd (subst (λ (a : Ask). IsNumberAsk a) (call_asks c.args.self.now.writer.call.machine _ asks).1 number)) c.note.ensures.unsaid (c.note.ensures.writes key r.made begun r.writing)
 
 pub returns-in-SizeOf-clause-inserts : goal.returns-in-SizeOf-clause-inserts
-returns-in-SizeOf-clause-inserts g c = λ key value begun r. let some : (n : ℕ) × (ask_of c.args.self.now.writer.call.machine ≡ Call (SizeOf n)) = search rules in let asks = some.1 in goes_on g.K.PartialEq.eq g.K.Hash.hash_input g.S.BuildHasher.build_hasher g.S.Hasher.Hasher.write g.S.Hasher.Hasher.finish g.met.K.Eq.laws g.met.K.Hash.respects_eq (begun_of c.args.window.now.book.now.parts) c.args.window.now.book.now.begun.book key value begun c.args.window.now.sight.log c.args.self.now r c.args.window.now.sight.log c.args.self.now.writer c.size.result refl refl refl c.requires.standing c.requires.calling (λ reply h. let f = sym asks ∙ h in cc f) c.size.ensures.unsaid (c.size.ensures.writes key (made_list c.args.self.now.made) begun r.writing)
+returns-in-SizeOf-clause-inserts g c = λ key value begun r. let some : (n : ℕ) × (ask_of c.args.self.now.writer.call.machine ≡ Call (SizeOf n)) = search rules in let asks = some.1 in goes_on g.K.PartialEq.eq g.K.Hash.hash_input g.S.BuildHasher.build_hasher g.S.Hasher.Hasher.write g.S.Hasher.Hasher.finish g.met.K.Eq.laws g.met.K.Hash.respects_eq (begun_of c.args.window.now.book.now.parts) c.args.window.now.book.now.begun.book key value begun c.args.window.now.sight.log c.args.self.now r c.args.window.now.sight.log ([], append-nil _) c.args.self.now.writer c.size.result refl refl refl c.requires.standing c.requires.calling (λ reply h. let f = sym asks ∙ h in cc f) (λ n e makes. subst (λ (a : Ask). MakesPair a) (call_asks c.args.self.now.writer.call.machine _ asks).1 makes) (λ number. absurd (subst (λ (a : Ask). IsNumberAsk a) (call_asks c.args.self.now.writer.call.machine _ asks).1 number)) c.size.ensures.unsaid (c.size.ensures.writes key r.made begun r.writing)
 
 pub returns-in-SameKey-clause-inserts : goal.returns-in-SameKey-clause-inserts
-returns-in-SameKey-clause-inserts g c = λ key value begun r. let some : (n : ℕ) × (ask_of c.args.self.now.writer.call.machine ≡ Call (SameKey n)) = search rules in let asks = some.1 in goes_on g.K.PartialEq.eq g.K.Hash.hash_input g.S.BuildHasher.build_hasher g.S.Hasher.Hasher.write g.S.Hasher.Hasher.finish g.met.K.Eq.laws g.met.K.Hash.respects_eq (begun_of c.args.window.now.book.now.parts) c.args.window.now.book.now.begun.book key value begun c.args.window.now.sight.log c.args.self.now r c.args.window.now.sight.log c.args.self.now.writer c.same.result refl refl refl c.requires.standing c.requires.calling (λ reply h. let f = sym asks ∙ h in cc f) c.same.ensures.unsaid (c.same.ensures.writes key (made_list c.args.self.now.made) begun r.writing)
+returns-in-SameKey-clause-inserts g c = λ key value begun r. let some : (n : ℕ) × (ask_of c.args.self.now.writer.call.machine ≡ Call (SameKey n)) = search rules in let asks = some.1 in goes_on g.K.PartialEq.eq g.K.Hash.hash_input g.S.BuildHasher.build_hasher g.S.Hasher.Hasher.write g.S.Hasher.Hasher.finish g.met.K.Eq.laws g.met.K.Hash.respects_eq (begun_of c.args.window.now.book.now.parts) c.args.window.now.book.now.begun.book key value begun c.args.window.now.sight.log c.args.self.now r c.args.window.now.sight.log ([], append-nil _) c.args.self.now.writer c.same.result refl refl refl c.requires.standing c.requires.calling (λ reply h. let f = sym asks ∙ h in cc f) (λ n e makes. subst (λ (a : Ask). MakesPair a) (call_asks c.args.self.now.writer.call.machine _ asks).1 makes) (λ number. absurd (subst (λ (a : Ask). IsNumberAsk a) (call_asks c.args.self.now.writer.call.machine _ asks).1 number)) c.same.ensures.unsaid (c.same.ensures.writes key r.made begun r.writing)
 
 pub returns-in-MakeKey-clause-inserts : goal.returns-in-MakeKey-clause-inserts
-returns-in-MakeKey-clause-inserts g c = λ key value begun r. let asks : ask_of c.args.self.now.writer.call.machine ≡ Call MakeKey = search rules in goes_on g.K.PartialEq.eq g.K.Hash.hash_input g.S.BuildHasher.build_hasher g.S.Hasher.Hasher.write g.S.Hasher.Hasher.finish g.met.K.Eq.laws g.met.K.Hash.respects_eq (begun_of c.args.window.now.book.now.parts) c.args.window.now.book.now.begun.book key value begun c.args.window.now.sight.log c.args.self.now r c.args.window.now.sight.log c.args.self.now.writer c.make_key.result refl refl refl c.requires.standing c.requires.calling (λ reply h. let f = sym asks ∙ h in cc f) c.make_key.ensures.unsaid (c.make_key.ensures.makes c.args.window.now key (made_list c.args.self.now.made) begun r.writing)
+returns-in-MakeKey-clause-inserts g c = λ key value begun r.
+    ⊎_elim
+    (λ e. let asks : ask_of c.args.self.now.writer.call.machine ≡ Call MakeKey = sym c.ask.ensures.value ∙ c.in-Call.is ∙ ap (λ z. Call z) e in goes_on g.K.PartialEq.eq g.K.Hash.hash_input g.S.BuildHasher.build_hasher g.S.Hasher.Hasher.write g.S.Hasher.Hasher.finish g.met.K.Eq.laws g.met.K.Hash.respects_eq (begun_of c.args.window.now.book.now.parts) c.args.window.now.book.now.begun.book key value begun c.args.window.now.sight.log c.args.self.now r c.args.window.now.sight.log ([], append-nil _) c.args.self.now.writer c.make_part.result refl refl refl c.requires.standing c.requires.calling (λ reply h. let f = sym asks ∙ h in cc f) (λ n e makes. subst (λ (a : Ask). MakesPair a) (call_asks c.args.self.now.writer.call.machine _ asks).1 makes) (λ number. absurd (subst (λ (a : Ask). IsNumberAsk a) (call_asks c.args.self.now.writer.call.machine _ asks).1 number)) c.make_part.ensures.unsaid (c.make_part.ensures.makes c.args.window.now key r.made begun r.writing))
+    (λ e. let asks : ask_of c.args.self.now.writer.call.machine ≡ Call MakeValue = sym c.ask.ensures.value ∙ c.in-Call.is ∙ ap (λ z. Call z) e in goes_on g.K.PartialEq.eq g.K.Hash.hash_input g.S.BuildHasher.build_hasher g.S.Hasher.Hasher.write g.S.Hasher.Hasher.finish g.met.K.Eq.laws g.met.K.Hash.respects_eq (begun_of c.args.window.now.book.now.parts) c.args.window.now.book.now.begun.book key value begun c.args.window.now.sight.log c.args.self.now r c.args.window.now.sight.log ([], append-nil _) c.args.self.now.writer c.make_part.result refl refl refl c.requires.standing c.requires.calling (λ reply h. let f = sym asks ∙ h in cc f) (λ n e makes. subst (λ (a : Ask). MakesPair a) (call_asks c.args.self.now.writer.call.machine _ asks).1 makes) (λ number. absurd (subst (λ (a : Ask). IsNumberAsk a) (call_asks c.args.self.now.writer.call.machine _ asks).1 number)) c.make_part.ensures.unsaid (c.make_part.ensures.makes c.args.window.now key r.made begun r.writing))
+    c.in-MakeKey.is
 
 pub returns-in-MakeTable-clause-inserts : goal.returns-in-MakeTable-clause-inserts
-returns-in-MakeTable-clause-inserts g c = λ key value begun r. let asks : ask_of c.args.self.now.writer.call.machine ≡ Call (MakeTable c.in-MakeTable.len c.in-MakeTable.limit c.in-MakeTable.chunks) = search rules in let on = c.make_table.ensures in goes_on g.K.PartialEq.eq g.K.Hash.hash_input g.S.BuildHasher.build_hasher g.S.Hasher.Hasher.write g.S.Hasher.Hasher.finish g.met.K.Eq.laws g.met.K.Hash.respects_eq (begun_of c.args.window.now.book.now.parts) c.args.window.now.book.now.begun.book key value begun c.args.window.now.sight.log c.args.self.now r c.make_table.new.window.sight.log c.make_table.new.self c.make_table.result on.machine on.value on.put c.requires.standing c.requires.calling (λ reply h. let f = sym asks ∙ h in cc f) on.unsaid (on.writes key (made_list c.args.self.now.made) begun r.writing)
+returns-in-MakeTable-clause-inserts g c = λ key value begun r. let asks : ask_of c.args.self.now.writer.call.machine ≡ Call (MakeTable c.in-MakeTable.len c.in-MakeTable.limit c.in-MakeTable.chunks) = search rules in let on = c.make_table.ensures in goes_on g.K.PartialEq.eq g.K.Hash.hash_input g.S.BuildHasher.build_hasher g.S.Hasher.Hasher.write g.S.Hasher.Hasher.finish g.met.K.Eq.laws g.met.K.Hash.respects_eq (begun_of c.args.window.now.book.now.parts) c.args.window.now.book.now.begun.book key value begun c.args.window.now.sight.log c.args.self.now r c.make_table.new.window.sight.log c.make_table.ensures.sees.log c.make_table.new.self c.make_table.result on.machine on.value on.put c.requires.standing c.requires.calling (λ reply h. let f = sym asks ∙ h in cc f) (λ n e makes. subst (λ (a : Ask). MakesPair a) (call_asks c.args.self.now.writer.call.machine _ asks).1 makes) (λ number. absurd (subst (λ (a : Ask). IsNumberAsk a) (call_asks c.args.self.now.writer.call.machine _ asks).1 number)) on.unsaid (on.writes key r.made begun r.writing)
 
 pub returns-in-Exchange-Root-default-default-clause-inserts : goal.returns-in-Exchange-Root-default-default-clause-inserts
-returns-in-Exchange-Root-default-default-clause-inserts g c = λ key value begun r. let asks : ask_of c.args.self.now.writer.call.machine ≡ Call (Exchange Root c.in-Exchange-Root-default-default.field-1 c.in-Exchange-Root-default-default.field-2) = search rules in let on = c.open.ensures in goes_on g.K.PartialEq.eq g.K.Hash.hash_input g.S.BuildHasher.build_hasher g.S.Hasher.Hasher.write g.S.Hasher.Hasher.finish g.met.K.Eq.laws g.met.K.Hash.respects_eq (begun_of c.args.window.now.book.now.parts) c.args.window.now.book.now.begun.book key value begun c.args.window.now.sight.log c.args.self.now r c.open.new.window.sight.log c.open.new.self c.open.result on.machine on.value on.put c.requires.standing c.requires.calling (λ reply h. let f = sym asks ∙ h in cc f) on.unsaid (on.writes key (made_list c.args.self.now.made) begun r.writing)
+returns-in-Exchange-Root-default-default-clause-inserts g c = λ key value begun r. let asks : ask_of c.args.self.now.writer.call.machine ≡ Call (Exchange Root c.in-Exchange-Root-default-default.field-1 c.in-Exchange-Root-default-default.field-2) = search rules in let on = c.open.ensures in goes_on g.K.PartialEq.eq g.K.Hash.hash_input g.S.BuildHasher.build_hasher g.S.Hasher.Hasher.write g.S.Hasher.Hasher.finish g.met.K.Eq.laws g.met.K.Hash.respects_eq (begun_of c.args.window.now.book.now.parts) c.args.window.now.book.now.begun.book key value begun c.args.window.now.sight.log c.args.self.now r c.open.new.window.sight.log c.open.ensures.sees.log c.open.new.self c.open.result on.machine on.value on.put c.requires.standing c.requires.calling (λ reply h. let f = sym asks ∙ h in cc f) (λ n e makes. subst (λ (a : Ask). MakesPair a) (call_asks c.args.self.now.writer.call.machine _ asks).1 makes) (λ number. absurd (subst (λ (a : Ask). IsNumberAsk a) (call_asks c.args.self.now.writer.call.machine _ asks).1 number)) on.unsaid (on.writes key r.made begun r.writing)
 
 pub returns-in-AddToShard-clause-inserts : goal.returns-in-AddToShard-clause-inserts
-returns-in-AddToShard-clause-inserts g c = λ key value begun r. let asks : ask_of c.args.self.now.writer.call.machine ≡ Call (AddToShard c.in-AddToShard.by) = search rules in goes_on g.K.PartialEq.eq g.K.Hash.hash_input g.S.BuildHasher.build_hasher g.S.Hasher.Hasher.write g.S.Hasher.Hasher.finish g.met.K.Eq.laws g.met.K.Hash.respects_eq (begun_of c.args.window.now.book.now.parts) c.args.window.now.book.now.begun.book key value begun c.args.window.now.sight.log c.args.self.now r c.args.window.now.sight.log c.args.self.now.writer Ok refl refl refl c.requires.standing c.requires.calling (λ reply h. let f = sym asks ∙ h in cc f) (λ cause e. absurd (cc e)) (counted_on g.K.PartialEq.eq g.K.Hash.hash_input g.S.BuildHasher.build_hasher g.S.Hasher.Hasher.write g.S.Hasher.Hasher.finish g.met.K.Eq.laws g.met.K.Hash.respects_eq (begun_of c.args.window.now.book.now.parts) c.args.window.now.book.now.begun.book key (made_list c.args.self.now.made) begun c.args.window.now.sight.log c.args.self.now.writer r.writing c.in-AddToShard.by asks)
+returns-in-AddToShard-clause-inserts g c = λ key value begun r. let asks : ask_of c.args.self.now.writer.call.machine ≡ Call (AddToShard c.in-AddToShard.by) = search rules in goes_on g.K.PartialEq.eq g.K.Hash.hash_input g.S.BuildHasher.build_hasher g.S.Hasher.Hasher.write g.S.Hasher.Hasher.finish g.met.K.Eq.laws g.met.K.Hash.respects_eq (begun_of c.args.window.now.book.now.parts) c.args.window.now.book.now.begun.book key value begun c.args.window.now.sight.log c.args.self.now r c.args.window.now.sight.log ([], append-nil _) c.args.self.now.writer Ok refl refl refl c.requires.standing c.requires.calling (λ reply h. let f = sym asks ∙ h in cc f) (λ n e makes. subst (λ (a : Ask). MakesPair a) (call_asks c.args.self.now.writer.call.machine _ asks).1 makes) (λ number. absurd (subst (λ (a : Ask). IsNumberAsk a) (call_asks c.args.self.now.writer.call.machine _ asks).1 number)) (λ cause e. absurd (cc e)) (counted_on g.K.PartialEq.eq g.K.Hash.hash_input g.S.BuildHasher.build_hasher g.S.Hasher.Hasher.write g.S.Hasher.Hasher.finish g.met.K.Eq.laws g.met.K.Hash.respects_eq (begun_of c.args.window.now.book.now.parts) c.args.window.now.book.now.begun.book key r.made begun c.args.window.now.sight.log c.args.self.now.writer r.writing c.in-AddToShard.by asks)
 
-pub returns-in-Load-clause-answers : goal.returns-in-Load-clause-answers
-returns-in-Load-clause-answers g c = let asks : ask_of c.args.self.now.writer.call.machine ≡ Call (Load c.in-Load.at) = search rules in idle (Load c.in-Load.at) _ (sym (call_asks c.args.self.now.writer.call.machine _ asks).1) tt (Some c.load.result) c.args.window.now c.load.new.window c.load.ensures.own
-
-pub returns-in-LoadHint-clause-answers : goal.returns-in-LoadHint-clause-answers
-returns-in-LoadHint-clause-answers g c = let asks : ask_of c.args.self.now.writer.call.machine ≡ Call (LoadHint c.in-LoadHint.number c.in-LoadHint.place) = search rules in idle (LoadHint c.in-LoadHint.number c.in-LoadHint.place) _ (sym (call_asks c.args.self.now.writer.call.machine _ asks).1) tt (Some c.hint.result) c.args.window.now c.hint.new.window c.hint.ensures.own
-
-pub returns-in-WriteHint-clause-answers : goal.returns-in-WriteHint-clause-answers
-returns-in-WriteHint-clause-answers g c = let asks : ask_of c.args.self.now.writer.call.machine ≡ Call (WriteHint c.in-WriteHint.number c.in-WriteHint.place c.in-WriteHint.hint) = search rules in left_alone (WriteHint c.in-WriteHint.number c.in-WriteHint.place c.in-WriteHint.hint) tt _ (sym (call_asks c.args.self.now.writer.call.machine _ asks).1) (Some c.note.result) c.args.window.now
-
-pub returns-in-SizeOf-clause-answers : goal.returns-in-SizeOf-clause-answers
-returns-in-SizeOf-clause-answers g c = let some : (n : ℕ) × (ask_of c.args.self.now.writer.call.machine ≡ Call (SizeOf n)) = search rules in let asks = some.1 in idle (SizeOf some.0) _ (sym (call_asks c.args.self.now.writer.call.machine _ asks).1) tt (Some c.size.result) c.args.window.now c.args.window.now refl
-
-pub returns-in-SameKey-clause-answers : goal.returns-in-SameKey-clause-answers
-returns-in-SameKey-clause-answers g c = let some : (n : ℕ) × (ask_of c.args.self.now.writer.call.machine ≡ Call (SameKey n)) = search rules in let asks = some.1 in idle (SameKey some.0) _ (sym (call_asks c.args.self.now.writer.call.machine _ asks).1) tt (Some c.same.result) c.args.window.now c.args.window.now refl
-
-pub returns-in-MakeKey-clause-answers : goal.returns-in-MakeKey-clause-answers
-returns-in-MakeKey-clause-answers g c = let asks : ask_of c.args.self.now.writer.call.machine ≡ Call MakeKey = search rules in idle (MakeKey) _ (sym (call_asks c.args.self.now.writer.call.machine _ asks).1) tt (Some c.make_key.result) c.args.window.now c.args.window.now refl
-
-pub returns-in-MakePair-clause-answers : goal.returns-in-MakePair-clause-answers
-returns-in-MakePair-clause-answers g c = let asks : ask_of c.args.self.now.writer.call.machine ≡ Call MakePair = search rules in idle (MakePair) _ (sym (call_asks c.args.self.now.writer.call.machine _ asks).1) tt (Some c.make_pair.result) c.args.window.now c.args.window.now refl
-
-pub returns-in-MakeTable-clause-answers : goal.returns-in-MakeTable-clause-answers
-returns-in-MakeTable-clause-answers g c = let asks : ask_of c.args.self.now.writer.call.machine ≡ Call (MakeTable c.in-MakeTable.len c.in-MakeTable.limit c.in-MakeTable.chunks) = search rules in idle (MakeTable c.in-MakeTable.len c.in-MakeTable.limit c.in-MakeTable.chunks) _ (sym (call_asks c.args.self.now.writer.call.machine _ asks).1) tt (Some c.make_table.result) c.args.window.now c.make_table.new.window c.make_table.ensures.own
-
-pub returns-in-Exchange-Root-default-default-clause-answers : goal.returns-in-Exchange-Root-default-default-clause-answers
-returns-in-Exchange-Root-default-default-clause-answers g c = let asks : ask_of c.args.self.now.writer.call.machine ≡ Call (Exchange Root c.in-Exchange-Root-default-default.field-1 c.in-Exchange-Root-default-default.field-2) = search rules in idle (Exchange Root c.in-Exchange-Root-default-default.field-1 c.in-Exchange-Root-default-default.field-2) _ (sym (call_asks c.args.self.now.writer.call.machine _ asks).1) tt (Some c.open.result) c.args.window.now c.open.new.window c.open.ensures.own
-
-pub returns-in-AddToShard-clause-answers : goal.returns-in-AddToShard-clause-answers
-returns-in-AddToShard-clause-answers g c = let asks : ask_of c.args.self.now.writer.call.machine ≡ Call (AddToShard c.in-AddToShard.by) = search rules in left_alone (AddToShard c.in-AddToShard.by) tt _ (sym (call_asks c.args.self.now.writer.call.machine _ asks).1) (Some Ok) c.args.window.now
+pub returns-in-Exchange-Made-default-default-clause-inserts : goal.returns-in-Exchange-Made-default-default-clause-inserts
+returns-in-Exchange-Made-default-default-clause-inserts g c = λ key value begun r. let asks : ask_of c.args.self.now.writer.call.machine ≡ Call (Exchange Made_word c.in-Exchange-Made-default-default.old c.in-Exchange-Made-default-default.new) = search rules in let on = c.take.ensures in goes_on g.K.PartialEq.eq g.K.Hash.hash_input g.S.BuildHasher.build_hasher g.S.Hasher.Hasher.write g.S.Hasher.Hasher.finish g.met.K.Eq.laws g.met.K.Hash.respects_eq (begun_of c.args.window.now.book.now.parts) c.args.window.now.book.now.begun.book key value begun c.args.window.now.sight.log c.args.self.now r c.take.new.window.sight.log on.sees.log c.args.self.now.writer c.take.result refl refl refl c.requires.standing c.requires.calling (λ reply h. let f = sym asks ∙ h in cc f) (λ n e makes. subst (λ (a : Ask). MakesPair a) (call_asks c.args.self.now.writer.call.machine _ asks).1 makes) on.tells on.unsaid (on.writes key r.made begun r.writing)

@@ -1,17 +1,12 @@
-use Rattle.std.proofs.Common.{◌≡◌, Some, sym, ap, ◌∙◌, rules, subst}
+use Rattle.std.proofs.Common.{◌≡◌, sym, ap, ◌∙◌, rules}
 use Rattle.papaya_words.specs.declared.probe.Refused.{Refused as Cause}
 use Rattle.papaya_ask.specs.declared.ask.Ask.TheVariants.{Done}
 use Rattle.papaya_ask.specs.declared.call.Reply.TheVariants.{Refused}
 use Rattle.papaya_chain.specs.declared.ask.Ask.TheVariants.{Call}
-use Rattle.papaya_book.specs.Logs.{pair_named}
 use Rattle.papaya_book.specs.Parts.{begun_of}
-use Rattle.papaya_book.specs.Rule.{IsPlaced}
 use Rattle.papaya_change.proofs.InsertingReplies.{has_put, inserted, replaced}
 use Rattle.papaya_change.proofs.insertion.Insertion.replied.Goals.{in-Call+in-Done+in-Absent-1, in-Call+in-Load-1, in-Copy-1}
 use Rattle.papaya_change.proofs.insertion.Insertion.replied.Goals as goal
-
-pub pair-requires : goal.pair-requires
-pair-requires g c = subst (λ (o : _). IsPlaced (begun_of c.args.window.now.book.now.parts) (Some c.args.window.now.book.now.begun.book) (pair_named o)) c.in-Some.is c.requires.can.3.writing.calling.taken_placed
 
 pub returns-in-Some-clause-put : goal.returns-in-Some-clause-put
 returns-in-Some-clause-put g c = λ key value begun r.

@@ -1,42 +1,50 @@
-use Rattle.std.proofs.Common.{◌<◌, ◌^◌, inl, Option, refl, sym, ◌∙◌, subst}
+use Rattle.std.proofs.Common.{◌≡◌, ◌<◌, ◌^◌, inl, IfErr, IfOk, Some, Result, Ok, Err, ◌∷◌, refl, sym, ◌∙◌, rules, subst}
 use Rattle.papaya_words.specs.declared.probe.Refused.TheVariants.{Capacity, Memory}
-use Rattle.papaya_ask.specs.declared.ask.Answer.TheVariants.{Refused}
+use Rattle.papaya_ask.specs.declared.ask.Answer.TheVariants.{Made, Refused}
+use Rattle.papaya_book.specs.declared.book.pairs.KeyPart.TheVariants as keys
+use Rattle.papaya_book.specs.declared.book.pairs.ValuePart.TheVariants as values
 use Rattle.papaya_book.specs.Hashes.{hash_of}
-use Rattle.papaya_book.specs.Pairs.{Pair as PairSeen}
 use Rattle.papaya_book.specs.Parts.{begun_of}
-use Rattle.papaya_change.specs.Writing.{HasKey, IsKeyBy}
-use Rattle.papaya_change.proofs.OwnKeys.{first_of, key_back, key_by, key_logged}
+use Rattle.papaya_book.specs.Rule.{IsPlaced}
+use Rattle.papaya_book.specs.declared.rule.entry.Named.TheVariants as names
+use Rattle.papaya_lookup.specs.History.{key_of}
+use Rattle.papaya_change.specs.Writing.{HasKey, HasValue, IsWritingOn}
 use Rattle.papaya_change.proofs.Written.{pair_made, pair_unmade, with_given}
 use Rattle.papaya_change.proofs.writing.Writer.log_pair.Goals as goal
 
-pub pair_by-pair-requires : goal.pair_by-pair-requires
-pair_by-pair-requires g c = λ none. first_of (begun_of c.args.window.now.book.now.parts) c.args.window.now.book.now.begun.book c.requires.can.0 c.args.self.now.key c.args.self.now.brought c.requires.can.3.keyed (sym c.take-2.ensures.value ∙ none)
+if_ok : {A E : Type 0} (P Q : A → Type 0) (r : Result A E) → IfOk r P → ((a : A) → P a → Q a) → IfOk r Q
+if_ok P Q (Ok a) p f = f a p
+if_ok P Q (Err e) p f = tt
 
-pub returns-then-index-ge-MAX_LOG_LEN-clause-writes : goal.returns-then-index-ge-MAX_LOG_LEN-clause-writes
-returns-then-index-ge-MAX_LOG_LEN-clause-writes g c = λ key made begun r.
-    let w = c.args.window.now.book.now in let b = begun_of w.parts in let x = c.args.self.now in let q = c.in-Ok.pair in
-    let held = subst (λ (o : Option _). IsKeyBy o x.brought c.pair_by-pair.result.key) c.take-2.ensures.value c.pair_by-pair.ensures.key in
-    let held_here = subst (λ (z : PairSeen _ _). IsKeyBy x.key x.brought z.key) (sym c.in-Ok.ensures.ok) held in
-    let logged = key_logged b w.begun.book key x.key x.brought r.keyed q held_here c.in-Ok.ensures.placed in
-    let keyed : HasKey b w.begun.book key c.take-2.new.self c.or_this.result = rw (c.take-2.ensures.after, c.or_this.ensures, c.take-in-Ok.ensures.value) logged in
-    with_given g.K.PartialEq.eq (hash_of g.K.Hash.hash_input g.S.BuildHasher.build_hasher g.S.Hasher.Hasher.write g.S.Hasher.Hasher.finish) b w.begun.book key made begun c.args.window.now.sight.log (record x { value = c.take.new.self; key = c.take-2.new.self; brought = c.or_this.result }) c.gave_pair.result (Refused Capacity)
-    (pair_unmade g.K.PartialEq.eq g.K.Hash.hash_input g.S.BuildHasher.build_hasher g.S.Hasher.Hasher.write g.S.Hasher.Hasher.finish g.met.K.Eq.laws g.met.K.Hash.respects_eq b w.begun.book key made begun c.args.window.now.sight.log x r c.take.new.self c.take-2.new.self c.or_this.result (Refused Capacity) keyed c.requires.asks (inl (Capacity, refl)) tt)
+if_err : {A E : Type 0} (P Q : E → Type 0) (r : Result A E) → IfErr r P → ((e : E) → P e → Q e) → IfErr r Q
+if_err P Q (Ok a) p f = tt
+if_err P Q (Err e) p f = f e p
 
-pub returns-else-index-ge-MAX_LOG_LEN-clause-pairs : goal.returns-else-index-ge-MAX_LOG_LEN-clause-pairs
-returns-else-index-ge-MAX_LOG_LEN-clause-pairs g c = λ key made begun r.
-    let w = c.args.window.now.book.now in let b = begun_of w.parts in let x = c.args.self.now in let q = c.in-Ok.pair in
-    let held = subst (λ (o : Option _). IsKeyBy o x.brought c.pair_by-pair.result.key) c.take-2.ensures.value c.pair_by-pair.ensures.key in
-    let held_here = subst (λ (z : PairSeen _ _). IsKeyBy x.key x.brought z.key) (sym c.in-Ok.ensures.ok) held in
-    let own = (key_by b w.begun.book key x.key x.brought r.keyed q.value.key held_here).0 in
-    let logged = key_logged b w.begun.book key x.key x.brought r.keyed q held_here c.in-Ok.ensures.placed in
-    let keyed : HasKey b w.begun.book key c.take-2.new.self c.or_this.result = rw (c.take-2.ensures.after, c.or_this.ensures, c.take-in-Ok.ensures.value) logged in
-    let low = subst (λ n. n < 2 ^ 48) c.index.ensures c.if-index-ge-MAX_LOG_LEN.false in
-    (own, pair_made g.K.PartialEq.eq g.K.Hash.hash_input g.S.BuildHasher.build_hasher g.S.Hasher.Hasher.write g.S.Hasher.Hasher.finish g.met.K.Eq.laws g.met.K.Hash.respects_eq b w.begun.book key made begun c.args.window.now.sight.log x r q c.take.new.self c.take-2.new.self c.or_this.result keyed c.requires.asks low own c.in-Ok.ensures.placed)
+pub returns-in-Ok-clause-pairs : goal.returns-in-Ok-clause-pairs
+returns-in-Ok-clause-pairs g c = if_ok _ _ c.hold.result c.hold.ensures.ok (λ q' h key made begun r.
+    let w = c.args.window.now.book.now in let b = begun_of w.parts in let log = c.args.window.now.sight.log in let x = c.args.self.now in let q = c.in-Ok.pair in
+    let placed = c.in-Ok.ensures.placed in let low = subst (λ z. z.index < 2 ^ 48) h.0 h.1 in
+    let has_part : x.key ≡ Some c.in-Some-take.key = search rules in
+    let key_is : key_of q ≡ key = c.in-Ok.ensures.key ∙ (subst (HasKey b w.begun.book key) has_part r.keyed).0 in
+    let going = with_given g.K.PartialEq.eq (hash_of g.K.Hash.hash_input g.S.BuildHasher.build_hasher g.S.Hasher.Hasher.write g.S.Hasher.Hasher.finish) b w.begun.book key (q ∷ made) begun log (record x { value = Some (values.Of q); key = Some (keys.Of c.again.result) }) c.hold.new.self.call.given (Made q.index)
+    (pair_made g.K.PartialEq.eq g.K.Hash.hash_input g.S.BuildHasher.build_hasher g.S.Hasher.Hasher.write g.S.Hasher.Hasher.finish g.met.K.Eq.laws g.met.K.Hash.respects_eq b w.begun.book key made begun log x r (Some (keys.Of c.again.result)) (Some (values.Of q)) (subst (λ z. (key_of z ≡ key) × IsPlaced b (Some w.begun.book) (names.Pair z)) (sym c.again.ensures) (key_is, placed)) placed q low placed key_is c.requires.asks) in
+    subst (λ z. IsWritingOn g.K.PartialEq.eq (hash_of g.K.Hash.hash_input g.S.BuildHasher.build_hasher g.S.Hasher.Hasher.write g.S.Hasher.Hasher.finish) b w.begun.book key (z ∷ made) begun log c.hold.new.self (Made z.index)) (sym h.0) (rw c.hold.ensures.rest going))
+
+pub returns-in-Ok-clause-writes : goal.returns-in-Ok-clause-writes
+returns-in-Ok-clause-writes g c = if_err _ _ c.hold.result c.hold.ensures.err (λ answer h key made begun r.
+    let w = c.args.window.now.book.now in let b = begun_of w.parts in let log = c.args.window.now.sight.log in let x = c.args.self.now in let q = c.in-Ok.pair in
+    let placed = c.in-Ok.ensures.placed in
+    let has_part : x.key ≡ Some c.in-Some-take.key = search rules in
+    let key_is : key_of q ≡ key = c.in-Ok.ensures.key ∙ (subst (HasKey b w.begun.book key) has_part r.keyed).0 in
+    let going = with_given g.K.PartialEq.eq (hash_of g.K.Hash.hash_input g.S.BuildHasher.build_hasher g.S.Hasher.Hasher.write g.S.Hasher.Hasher.finish) b w.begun.book key made begun log (record x { value = Some (values.Of q); key = Some (keys.Of c.again.result) }) c.hold.new.self.call.given (Refused Capacity)
+    (pair_unmade g.K.PartialEq.eq g.K.Hash.hash_input g.S.BuildHasher.build_hasher g.S.Hasher.Hasher.write g.S.Hasher.Hasher.finish g.met.K.Eq.laws g.met.K.Hash.respects_eq b w.begun.book key made begun log x r (Some (keys.Of c.again.result)) (Some (values.Of q)) (subst (λ z. (key_of z ≡ key) × IsPlaced b (Some w.begun.book) (names.Pair z)) (sym c.again.ensures) (key_is, placed)) placed (Refused Capacity) c.requires.asks (inl (Capacity, refl)) tt) in
+    subst (λ z. IsWritingOn g.K.PartialEq.eq (hash_of g.K.Hash.hash_input g.S.BuildHasher.build_hasher g.S.Hasher.Hasher.write g.S.Hasher.Hasher.finish) b w.begun.book key made begun log c.hold.new.self z) (sym h.0) (rw c.hold.ensures.rest going))
 
 pub returns-in-Err-clause-writes : goal.returns-in-Err-clause-writes
 returns-in-Err-clause-writes g c = λ key made begun r.
-    let w = c.args.window.now.book.now in let b = begun_of w.parts in let x = c.args.self.now in
-    let held = subst (λ (o : Option _). IsKeyBy o x.brought c.pair_by-pair.result.key) c.take-2.ensures.value c.pair_by-pair.ensures.key in
-    let held_back = subst (λ (z : PairSeen _ _). IsKeyBy x.key x.brought z.key) (sym c.in-Err.ensures.err) held in
-    let keyed = key_back b w.begun.book key x.key x.brought r.keyed c.in-Err.back.key held_back c.into_key.result c.into_key.ensures.brought c.into_key.ensures.key in
-    pair_unmade g.K.PartialEq.eq g.K.Hash.hash_input g.S.BuildHasher.build_hasher g.S.Hasher.Hasher.write g.S.Hasher.Hasher.finish g.met.K.Eq.laws g.met.K.Hash.respects_eq b w.begun.book key made begun c.args.window.now.sight.log x r c.take.new.self c.into_key.result x.brought (Refused Memory) keyed c.requires.asks (inl (Memory, refl)) tt
+    let w = c.args.window.now.book.now in let b = begun_of w.parts in let log = c.args.window.now.sight.log in let x = c.args.self.now in
+    let has_value : x.value ≡ Some c.in-Err.value = search rules in
+    let valued = subst (HasValue b w.begun.book) has_value r.valued in
+    let has_key : x.key ≡ Some c.in-Err.key = search rules in
+    let back_keyed = subst (HasKey b w.begun.book key) has_key r.keyed in
+    pair_unmade g.K.PartialEq.eq g.K.Hash.hash_input g.S.BuildHasher.build_hasher g.S.Hasher.Hasher.write g.S.Hasher.Hasher.finish g.met.K.Eq.laws g.met.K.Hash.respects_eq b w.begun.book key made begun log x r (Some c.in-Err.key) (Some c.in-Err.value) back_keyed valued (Refused Memory) c.requires.asks (inl (Memory, refl)) tt

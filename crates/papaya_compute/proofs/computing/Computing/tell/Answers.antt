@@ -43,4 +43,4 @@ returns-clause-takes g c = λ key begun heard r.
     let on = subst (λ (z : Driver _ _ _ _). IsComputing g.K.PartialEq.eq (hash_of g.K.Hash.hash_input g.S.BuildHasher.build_hasher g.S.Hasher.Hasher.write g.S.Hasher.Hasher.finish) b w.begun.book key begun c.args.window.now.sight.log (record c.args.self.now { writer = record c.args.self.now.writer { call = z } }) heard) (sym c.answer.ensures.after) r.0 in
     let query = own_query g.K.PartialEq.eq g.K.Hash.hash_input g.S.BuildHasher.build_hasher g.S.Hasher.Hasher.write g.S.Hasher.Hasher.finish g.met.K.Eq.laws g.met.K.Hash.respects_eq b w.begun.book key in
     let driven = c.help.ensures.goes_on (g.K.PartialEq.eq key) ((hash_of g.K.Hash.hash_input g.S.BuildHasher.build_hasher g.S.Hasher.Hasher.write g.S.Hasher.Hasher.finish) b.hasher key) (form g.K.PartialEq.eq g.K.Hash.hash_input g.S.BuildHasher.build_hasher g.S.Hasher.Hasher.write g.S.Hasher.Hasher.finish g.met.K.Eq.laws g.met.K.Hash.respects_eq b (g.K.PartialEq.eq key) (g.K.Hash.hash_input key) query (Some key) w.begun.book begun) (Some key) begun on.made on.writing.calling in
-    computing_helped g.K.PartialEq.eq (hash_of g.K.Hash.hash_input g.S.BuildHasher.build_hasher g.S.Hasher.Hasher.write g.S.Hasher.Hasher.finish) b w.begun.book key begun c.args.window.now.sight.log log c.help.ensures.sees.log x heard on then driven c.help.ensures.rest.1 c.help.ensures.calling (λ e. (c.help.ensures.still e).0) c.help.ensures.helped
+    computing_helped g.K.PartialEq.eq g.K.Hash.hash_input g.S.BuildHasher.build_hasher g.S.Hasher.Hasher.write g.S.Hasher.Hasher.finish g.met.K.Eq.laws g.met.K.Hash.respects_eq b w.begun.book key begun c.args.window.now.sight.log log c.help.ensures.sees.log x heard on then driven c.help.ensures.rest.1 c.help.ensures.calling (λ e. let same = c.help.ensures.still e in (same.0, ap (λ (z : _). z.sight.log) same.1)) c.help.ensures.helped

@@ -3,8 +3,12 @@ use Rattle.papaya_call.specs.Answers.{Says}
 use Rattle.papaya_timeline.specs.declared.seat.Seat.{Seat}
 use Rattle.papaya_timeline.specs.Callers.{visiting, visitor_in, with_work}
 use Rattle.papaya_timeline.specs.Core.{CoreState}
+use Rattle.papaya_timeline.specs.Kept.{IsLawfulCore}
+use Rattle.papaya_keys.specs.Hashes.{hash_of}
 use Rattle.papaya_timeline.proofs.CallersLemmas.{with_work-twice}
 use Rattle.papaya_timeline.specs.Outcomes.{AnswersWalk, as_reply}
+use Rattle.papaya_core.proofs.LimitMet.{spent_refuses}
+use Rattle.papaya_core.proofs.LimitRefusals.{refused_spent}
 use Rattle.papaya_core.proofs.Steps.{IsSound, work_sound, work_stands}
 use Rattle.papaya_core.proofs.schedule.Core.advance.Goals as goal
 use Rattle.papaya_core.proofs.schedule.Core.advance.Goals.{After-put}
@@ -57,3 +61,21 @@ returns-clause-shard g c = (sound g (goal.at.returns-clause-shard g c).After-put
 
 pub returns-clause-counted : goal.returns-clause-counted
 returns-clause-counted g c = (sound g (goal.at.returns-clause-counted g c).After-put).counted
+
+-- the core after the step
+abbrev core_after : (g : Over) → After-put g → CoreState g.row.K.Denot g.row.V.Denot g.row.S.Denot g.row.A.Denot
+core_after g c = record { store = c.advance_work-event.new.store; callers = c.put.new.self; mode = c.self.inside.mode; initial = c.self.inside.initial }
+
+-- the core before the step is lawful, as what it shows
+lawful_before : (g : Over) (c : After-put g) → IsLawfulCore g.K.PartialEq.eq (hash_of g.K.Hash.hash_input g.S.BuildHasher.build_hasher g.S.Hasher.Hasher.write g.S.Hasher.Hasher.finish c.args.self.now.store.hasher) c.args.self.now.store c.args.self.now.callers c.args.self.now.mode
+lawful_before g c = subst (λ (s : CoreState _ _ _ _). IsLawfulCore g.K.PartialEq.eq (hash_of g.K.Hash.hash_input g.S.BuildHasher.build_hasher g.S.Hasher.Hasher.write g.S.Hasher.Hasher.finish s.store.hasher) s.store s.callers s.mode) c.self.view_is c.self.invariant.0
+
+pub returns-clause-limit : goal.returns-clause-limit
+returns-clause-limit g c e =
+    let at = (goal.at.returns-clause-limit g c).After-put in
+    refused_spent g.K.PartialEq.eq (says g) (hash_of g.K.Hash.hash_input g.S.BuildHasher.build_hasher g.S.Hasher.Hasher.write g.S.Hasher.Hasher.finish) c.args.refuse c.args.self.now c.args.caller (core_after g at) at.advance_work-event.result.0 (as_reply at.advance_work-event.result.1) (lawful_before g at) e (sound g at).steps
+
+pub returns-clause-spent : goal.returns-clause-spent
+returns-clause-spent g c needs spent =
+    let at = (goal.at.returns-clause-spent g c).After-put in
+    spent_refuses g.K.PartialEq.eq (says g) (hash_of g.K.Hash.hash_input g.S.BuildHasher.build_hasher g.S.Hasher.Hasher.write g.S.Hasher.Hasher.finish) c.args.refuse c.args.self.now c.args.caller (core_after g at) at.advance_work-event.result.0 (as_reply at.advance_work-event.result.1) (lawful_before g at) (sound g at).steps needs spent

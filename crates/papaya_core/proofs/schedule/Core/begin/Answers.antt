@@ -1,6 +1,6 @@
 use Rattle.std.proofs.Common.{◌≡◌, ℕ, List, Some, refl, sym, ap, subst, ◌∙◌}
-use Rattle.papaya_words.specs.declared.probe.ResizeMode.{ResizeMode}
 use Rattle.papaya_store.specs.Store.{StoreState}
+use Rattle.papaya_store.specs.declared.mode.Mode.{Mode}
 use Rattle.papaya_timeline.specs.declared.seat.Seat.{Seat}
 use Rattle.papaya_timeline.specs.Callers.{with_seat, with_work, working}
 use Rattle.papaya_timeline.specs.Begins.{Begins}
@@ -19,7 +19,7 @@ use Rattle.papaya_core.proofs.schedule.Core.begin.Goals.{After-put}
 use Rattle.papaya_core.proofs.schedule.Core.begin.Given.{Over}
 
 -- a core of these parts
-abbrev core_of : {K V S A : Type 0} → StoreState K V S → List (Seat K V A) → ResizeMode → ℕ → CoreState K V S A
+abbrev core_of : {K V S A : Type 0} → StoreState K V S → List (Seat K V A) → Mode → ℕ → CoreState K V S A
 core_of store callers mode initial = record { store = store; callers = callers; mode = mode; initial = initial }
 
 -- the call has begun, with its caller's number

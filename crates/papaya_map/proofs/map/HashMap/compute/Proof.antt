@@ -1,5 +1,6 @@
 -- `compute` with a guard answers what it is told, and hands over what shows the log. Assumes `Logic`.
 use Rattle.std.proofs.Common.{◌≡◌, [], ◌∷◌, Err, refl}
+use Rattle.std.specs.Prelude.{IsSome}
 use mathlib.Core.List.{IsPrefix}
 use mir.Syntax.{a_type, dcons, dnil, named}
 use mir.MapTy.{inst_fn}
@@ -10,7 +11,7 @@ use denote.Param.Laws.{param_laws}
 use Rattle.std.proofs.result.Result.TheLaws.{the_row_laws as result_laws}
 use Rattle.papaya_words.proofs.probe.Refused.TheLaws.{the_row_laws as refused_laws}
 use Rattle.papaya_words.specs.contracts.probe.Refused.{the_row as RefusedRow}
-use Rattle.papaya_words.specs.declared.probe.Refused.TheVariants.{WrongGuard}
+use Rattle.papaya_words.specs.declared.probe.Refused.TheVariants.{Limit, WrongGuard}
 use Rattle.papaya_book.specs.contracts.rule.entry.Event as event
 use Rattle.papaya_book.specs.contracts.rule.entry.Named as naming
 use Rattle.papaya_book.specs.contracts.rule.law.Law as law
@@ -24,7 +25,7 @@ use Rattle.papaya_map.proofs.Earlier.{computed}
 use Rattle.papaya_map.specs.Plain.{IsSince, rule_of, unpinned}
 use Rattle.papaya_map.proofs.Telling.{held_good, one_of, one_ref}
 use Rattle.papaya_map.proofs.ToldWalks.{walk_rroor}
-use Rattle.papaya_map.proofs.Handed.{meets, Answer, five_facts, handed_2}
+use Rattle.papaya_map.proofs.Handed.{meets, Answer, six_facts, handed_3}
 use Rattle.papaya_map.specs.contracts.map.HashMap as HashMap
 use Rattle.papaya_map.specs.contracts.map.HashMap.compute_told as callee
 use Rattle.papaya_map.specs.contracts.map.HashMap.compute_told.Key.{name as #callee}
@@ -40,10 +41,10 @@ compute_spec 𝓤 𝓛 𝓜 𝓡 wired K V S S-Hasher R T F G LK LV LS LH LR LT 
     let E = event.the_row (param 0 K) (param 1 V) (param 2 S) in let N = naming.the_row (param 0 K) (param 1 V) in let P = law.the_row (param 0 K) (param 1 V) (param 2 S) in let g = LawRule.ghosts (param 0 K) (param 1 V) (param 2 S) (param 3 S-Hasher) K-Hash LawRule.no_dict K-Eq LawRule.no_dict K-PartialEq LawRule.no_dict S-BuildHasher LawRule.no_dict S-Hasher-Hasher LawRule.no_dict LawRule.no_dict in
     let Ends = ended K V S S-Hasher R T F G K-Hash K-Hash-dict K-Eq K-Eq-dict K-PartialEq K-PartialEq-dict S-BuildHasher S-BuildHasher-dict S-Hasher-Hasher S-Hasher-Hasher-dict K-Destruct-dict V-Destruct-dict S-Hasher-Destruct-dict R-Wait R-Wait-dict F-FnMut F-FnMut-dict F-FnOnce-dict G-Guard G-Guard-dict T-Destruct-dict F-Destruct-dict Lasts in
     meets E N P g Ends 𝓛 𝓜 𝓡 (clauses K V S S-Hasher R T F G K-Hash K-Hash-dict K-Eq K-Eq-dict K-PartialEq K-PartialEq-dict S-BuildHasher S-BuildHasher-dict S-Hasher-Hasher S-Hasher-Hasher-dict K-Destruct-dict V-Destruct-dict S-Hasher-Destruct-dict R-Wait R-Wait-dict F-FnMut F-FnMut-dict F-FnOnce-dict G-Guard G-Guard-dict T-Destruct-dict F-Destruct-dict Lasts 𝓛 𝓜.mem 𝓡.returns) (callee.clauses K V S S-Hasher R T F G K-Hash K-Hash-dict K-Eq K-Eq-dict K-PartialEq K-PartialEq-dict S-BuildHasher S-BuildHasher-dict S-Hasher-Hasher S-Hasher-Hasher-dict K-Destruct-dict V-Destruct-dict S-Hasher-Destruct-dict R-Wait R-Wait-dict F-FnMut F-FnMut-dict F-FnOnce-dict G-Guard G-Guard-dict T-Destruct-dict F-Destruct-dict Lasts 𝓛 𝓜.mem 𝓡.returns)
-    (λ κs a r. (r.book ≡ a.0.now.book) × IsLegalHistory K-PartialEq.eq key_of (history_of r.log) × IsPrefix a.0.now.seen (history_of r.log) × ((G-Guard.collector_number a.1.1.1.1.0.now ≡ a.0.now.collector) → IsComputeBy K-PartialEq.eq a.1.1.0 a.0.now.seen (history_of r.log) (Operates F-FnMut) a.1.1.1.0 r.answer) × (((G-Guard.collector_number a.1.1.1.1.0.now ≡ a.0.now.collector) → ⊥) → r.answer ≡ Err WrongGuard))
-    (λ κs a u. (tt, id⊢ 𝓤 _)) (λ κs a u r ws. five_facts 𝓤)
-    (λ κs a u r ws f. handed_2 𝓛 E.coded.code (rule_of g) r.names r.log (λ log. IsSince (unpinned a.0.now) K-PartialEq.eq (λ h. (G-Guard.collector_number a.1.1.1.1.0.now ≡ a.0.now.collector) → IsComputeBy K-PartialEq.eq a.1.1.0 a.0.now.seen h (Operates F-FnMut) a.1.1.1.0 r.answer) (history_of log)) f.0 (f.1, f.2, f.3)
-    (λ right. record { history = (history_of r.log); legal = f.1; told = computed a.0.now.seen (history_of r.log) K-PartialEq.eq a.1.1.0 (Operates F-FnMut) a.1.1.1.0 r.answer (f.3 right) }) f.4)
+    (λ κs a r. (r.book ≡ a.0.now.book) × IsLegalHistory K-PartialEq.eq key_of (history_of r.log) × IsPrefix a.0.now.seen (history_of r.log) × ((G-Guard.collector_number a.1.1.1.1.0.now ≡ a.0.now.collector) → IsComputeBy K-PartialEq.eq a.1.1.0 a.0.now.seen (history_of r.log) (Operates F-FnMut) a.1.1.1.0 r.answer) × (r.answer ≡ Err Limit → IsSome a.0.now.begun.limit) × (((G-Guard.collector_number a.1.1.1.1.0.now ≡ a.0.now.collector) → ⊥) → r.answer ≡ Err WrongGuard))
+    (λ κs a u. (tt, id⊢ 𝓤 _)) (λ κs a u r ws. six_facts 𝓤)
+    (λ κs a u r ws f. handed_3 𝓛 E.coded.code (rule_of g) r.names r.log (λ log. IsSince (unpinned a.0.now) K-PartialEq.eq (λ h. (G-Guard.collector_number a.1.1.1.1.0.now ≡ a.0.now.collector) → IsComputeBy K-PartialEq.eq a.1.1.0 a.0.now.seen h (Operates F-FnMut) a.1.1.1.0 r.answer) (history_of log)) f.0 (f.1, f.2, f.3)
+    (λ right. record { history = (history_of r.log); legal = f.1; told = computed a.0.now.seen (history_of r.log) K-PartialEq.eq a.1.1.0 (Operates F-FnMut) a.1.1.1.0 r.answer (f.3 right) }) f.4 f.5)
     (λ κs. let ℓ : NamedLft = record { mir = named 0; lft = κs.0 } in result_laws (Computed.the_row ℓ (param 0 K) (param 1 V) (param 5 T)) RefusedRow (computed_laws ℓ (param 0 K) (param 1 V) (param 5 T) (param_laws 0 K LK) (param_laws 1 V LV) (param_laws 5 T LT)) refused_laws)
     (λ κs x f. refl, (λ κs x f. refl, (λ κs x f. refl, (λ κs x f. refl, (λ κs x f. refl, tt))))) (#self inst) (#callee inst) (inst_fn inst code.function) (code.unfolded 𝓤 𝓛.H 𝓜 𝓡 wired (K, (V, (S, (S-Hasher, (R, (T, (F, (G, tt)))))))) K-Hash-dict K-Eq-dict K-PartialEq-dict S-BuildHasher-dict S-Hasher-Hasher-dict K-Destruct-dict V-Destruct-dict S-Hasher-Destruct-dict R-Wait-dict F-FnMut-dict F-FnOnce-dict G-Guard-dict T-Destruct-dict F-Destruct-dict)
     (met 𝓤 𝓛 𝓜 𝓡 (code.calls-papaya_map::map::HashMap::compute_told 𝓡.env wired) K V S S-Hasher R T F G LK LV LS LH LR LT LF LG K-Hash K-Hash-dict K-Eq K-Eq-dict K-PartialEq K-PartialEq-dict S-BuildHasher S-BuildHasher-dict S-Hasher-Hasher S-Hasher-Hasher-dict K-Destruct-dict V-Destruct-dict S-Hasher-Destruct-dict R-Wait R-Wait-dict F-FnMut F-FnMut-dict F-FnOnce-dict G-Guard G-Guard-dict T-Destruct-dict F-Destruct-dict Lasts m1 m2 m3 m4 m5 m6 m7 m8 m9 m10 m11 m12 m13 m14)

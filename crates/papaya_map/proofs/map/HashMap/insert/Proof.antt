@@ -20,6 +20,7 @@ use Rattle.papaya_lookup.specs.History.{IsLegalHistory, history_of, key_of}
 use Rattle.std.specs.contracts.option.Option as Option
 use Rattle.papaya_change.specs.Changes.{IsPut}
 use Rattle.papaya_map.proofs.Earlier.{ok_of, put}
+use Rattle.papaya_map.specs.Limited.{IsPlainRefusal}
 use Rattle.papaya_map.specs.Plain.{IsSince, rule_of, unpinned}
 use Rattle.papaya_map.proofs.Telling.{held_good, one_of, one_ref, ref_laws, ref_row}
 use Rattle.papaya_map.proofs.ToldWalks.{walk_rroor}
@@ -39,7 +40,7 @@ insert_spec 𝓤 𝓛 𝓜 𝓡 wired K V S S-Hasher R G LK LV LS LH LR LG K-Has
     let E = event.the_row (param 0 K) (param 1 V) (param 2 S) in let N = naming.the_row (param 0 K) (param 1 V) in let P = law.the_row (param 0 K) (param 1 V) (param 2 S) in let g = LawRule.ghosts (param 0 K) (param 1 V) (param 2 S) (param 3 S-Hasher) K-Hash LawRule.no_dict K-Eq LawRule.no_dict K-PartialEq LawRule.no_dict S-BuildHasher LawRule.no_dict S-Hasher-Hasher LawRule.no_dict LawRule.no_dict in
     let Ends = ended K V S S-Hasher R G K-Hash K-Hash-dict K-Eq K-Eq-dict K-PartialEq K-PartialEq-dict S-BuildHasher S-BuildHasher-dict S-Hasher-Hasher S-Hasher-Hasher-dict K-Destruct-dict V-Destruct-dict S-Hasher-Destruct-dict R-Wait R-Wait-dict G-Guard G-Guard-dict in
     meets E N P g Ends 𝓛 𝓜 𝓡 (clauses K V S S-Hasher R G K-Hash K-Hash-dict K-Eq K-Eq-dict K-PartialEq K-PartialEq-dict S-BuildHasher S-BuildHasher-dict S-Hasher-Hasher S-Hasher-Hasher-dict K-Destruct-dict V-Destruct-dict S-Hasher-Destruct-dict R-Wait R-Wait-dict G-Guard G-Guard-dict 𝓛 𝓜.mem 𝓡.returns) (callee.clauses K V S S-Hasher R G K-Hash K-Hash-dict K-Eq K-Eq-dict K-PartialEq K-PartialEq-dict S-BuildHasher S-BuildHasher-dict S-Hasher-Hasher S-Hasher-Hasher-dict K-Destruct-dict V-Destruct-dict S-Hasher-Destruct-dict R-Wait R-Wait-dict G-Guard G-Guard-dict 𝓛 𝓜.mem 𝓡.returns)
-    (λ κs a r. (r.book ≡ a.0.now.book) × IsLegalHistory K-PartialEq.eq key_of (history_of r.log) × IsPrefix a.0.now.seen (history_of r.log) × IfOk r.answer (IsPut K-PartialEq.eq a.1.1.0 a.1.1.1.0 a.0.now.seen (history_of r.log)) × ((G-Guard.collector_number a.1.1.1.1.0.now ≡ a.0.now.collector) → IfErr r.answer (λ refused. (refused ≡ Memory) ⊎ (refused ≡ Capacity))) × (((G-Guard.collector_number a.1.1.1.1.0.now ≡ a.0.now.collector) → ⊥) → r.answer ≡ Err WrongGuard))
+    (λ κs a r. (r.book ≡ a.0.now.book) × IsLegalHistory K-PartialEq.eq key_of (history_of r.log) × IsPrefix a.0.now.seen (history_of r.log) × IfOk r.answer (IsPut K-PartialEq.eq a.1.1.0 a.1.1.1.0 a.0.now.seen (history_of r.log)) × ((G-Guard.collector_number a.1.1.1.1.0.now ≡ a.0.now.collector) → IfErr r.answer (IsPlainRefusal a.0.now.begun.limit)) × (((G-Guard.collector_number a.1.1.1.1.0.now ≡ a.0.now.collector) → ⊥) → r.answer ≡ Err WrongGuard))
     (λ κs a u. (tt, id⊢ 𝓤 _)) (λ κs a u r ws. six_facts 𝓤)
     (λ κs a u r ws f. handed_3 𝓛 E.coded.code (rule_of g) r.names r.log (λ log. IsSince (unpinned a.0.now) K-PartialEq.eq (λ h. IfOk r.answer (IsPut K-PartialEq.eq a.1.1.0 a.1.1.1.0 a.0.now.seen h)) (history_of log)) f.0 (f.1, f.2, f.3)
     (ok_of K-PartialEq.eq f.1 (λ h answer. IsPut K-PartialEq.eq a.1.1.0 a.1.1.1.0 [] h answer) (λ answer is. put a.0.now.seen (history_of r.log) K-PartialEq.eq a.1.1.0 a.1.1.1.0 answer is) r.answer f.3)

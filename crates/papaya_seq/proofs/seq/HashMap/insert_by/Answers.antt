@@ -1,4 +1,4 @@
-use Rattle.std.proofs.Common.{ℕ, ◌^◌, ◌<◌, [], subst}
+use Rattle.std.proofs.Common.{rules, ◌≡◌, ℕ, ◌^◌, ◌<◌, None, Some, [], subst}
 use Rattle.papaya_ask.specs.declared.call.Task.TheVariants.{Insert}
 use Rattle.papaya_call.specs.Machine.{started}
 use Rattle.papaya_chain_rests.proofs.Standing.{started_stands}
@@ -20,6 +20,10 @@ hash g = hash_of g.K.Hash.hash_input g.S.BuildHasher.build_hasher g.S.Hasher.Has
 pub insert_at_once-requires-clause-bare : goal.insert_at_once-requires-clause-bare
 insert_at_once-requires-clause-bare g c = core_bare g.K.PartialEq.eq (hash g c.self.inside.store.hasher) [] c.self.inside.mode c.self.inside.store c.self.invariant.lawful
 
+-- the map has no limit
+free : (g : Over) (c : In-Ok g) → None ≡ c.self.inside.mode.limit
+free g c = search rules
+
 -- it was done at once
 done : (g : Over) (c : In-Ok g) → InsertionDone g.K.PartialEq.eq (hash g) c.args.self.now c.args.replace c.args.key c.args.value c.in-Ok.done.0 c.in-Ok.done.1 (record { store = c.insert_at_once.new.store; mode = c.self.inside.mode; initial = c.self.inside.initial })
 done g c =
@@ -28,8 +32,9 @@ done g c =
     subst (λ (m : MapState g.row.K.Denot g.row.V.Denot g.row.S.Denot). InsertionDone g.K.PartialEq.eq (hash g) m c.args.replace c.args.key c.args.value c.in-Ok.done.0 c.in-Ok.done.1 (record { store = c.insert_at_once.new.store; mode = c.self.inside.mode; initial = c.self.inside.initial })) c.self.view_is
     (insertion_done g.K.PartialEq.eq g.K.Hash.hash_input g.S.BuildHasher.build_hasher g.S.Hasher.Hasher.write g.S.Hasher.Hasher.finish g.met.K.Eq.laws g.met.K.Hash.respects_eq view c.args.replace c.args.key c.args.value
     (keys_lawful g.K.PartialEq.eq g.K.Hash.hash_input g.S.BuildHasher.build_hasher g.S.Hasher.Hasher.write g.S.Hasher.Hasher.finish g.met.K.Eq.laws g.met.K.Hash.respects_eq view.store.hasher) c.self.invariant (subst (λ n. n < 2 ^ 64) c.hash-hash.ensures.value c.hash-hash.ensures.fits)
-    c.in-Ok.done.0 c.in-Ok.done.1 c.insert_at_once.new.store (started_stands (Insert c.args.replace) hashed view.mode view.initial 0 c.self.invariant.lawful.core.chunked c.self.invariant.power)
-    (subst (λ n. IsReplied g.K.PartialEq.eq (hash g) view.store (at_hand (started (Insert c.args.replace) n view.mode view.initial) c.args.key c.args.value) c.in-Ok.done.0 c.in-Ok.done.1 c.insert_at_once.new.store) c.hash-hash.ensures.value (c.in-Ok.ensures.ok view.mode view.initial)))
+    c.in-Ok.done.0 c.in-Ok.done.1 c.insert_at_once.new.store (started_stands (Insert c.args.replace) hashed view.mode.resize view.initial 0 view.mode.limit c.self.invariant.lawful.core.limit c.self.invariant.lawful.core.chunked c.self.invariant.power)
+    (subst (λ n. IsReplied g.K.PartialEq.eq (hash g) view.store (at_hand (started (Insert c.args.replace) n view.mode.resize view.initial view.mode.limit) c.args.key (Some c.args.value)) c.in-Ok.done.0 c.in-Ok.done.1 c.insert_at_once.new.store) c.hash-hash.ensures.value
+    (subst (λ limit. IsReplied g.K.PartialEq.eq (hash g) view.store (at_hand (started (Insert c.args.replace) c.hash-hash.result view.mode.resize view.initial limit) c.args.key (Some c.args.value)) c.in-Ok.done.0 c.in-Ok.done.1 c.insert_at_once.new.store) (free g c) (c.in-Ok.ensures.ok view.mode.resize view.initial))))
 
 pub invariant_of-self : goal.invariant_of-self
 invariant_of-self g c = (done g (goal.at.invariant_of-self g c).In-Ok).orderly

@@ -1,4 +1,4 @@
-use Rattle.std.proofs.Common.{rules, ◌≡◌, ℕ, ◌^◌, ◌<◌, false, Some, None, refl, sym, ◌∙◌, ap, subst}
+use Rattle.std.proofs.Common.{rules, ◌≡◌, ℕ, ◌^◌, ◌<◌, ◌≤◌, arith, false, Some, None, refl, sym, ◌∙◌, ap, subst}
 use Rattle.papaya_ask.specs.declared.ask.Ask.TheVariants.{Done as Ask_done}
 use Rattle.papaya_ask.specs.declared.call.Reply.{Reply}
 use Rattle.papaya_call.specs.Answers.{Says, first_or, rest_of}
@@ -7,19 +7,21 @@ use Rattle.papaya_call.specs.declared.answers.Listed.{Listed}
 use Rattle.papaya_chain.specs.declared.ask.Ask.TheVariants as asks
 use Rattle.papaya_chain.specs.declared.machine.Machine.{Machine}
 use Rattle.papaya_chain.specs.Machine.{IsStanding, after, ask_of}
-use Rattle.papaya_store.specs.declared.pairs.KeyOf.TheVariants.{Own}
+use Rattle.papaya_store.specs.declared.pairs.Part.TheVariants.{Own}
 use Rattle.papaya_keys.specs.Hashes.{hash_of}
 use Rattle.papaya_timeline.specs.Content.{map_in}
 use Rattle.papaya_timeline.proofs.KeptCore.{keys_lawful}
 use Rattle.papaya_timeline.proofs.KeptSettings.{IsLawfulKeys}
 use Rattle.papaya_seq.specs.MadeAlone.{IsMadeAlone}
+use Rattle.papaya_seq.specs.Drives.{value_left}
 use Rattle.papaya_seq.specs.Map.{IsLawfulMap, IsTryCause, IsWriteCauseAt, MapState, insertion}
 use Rattle.papaya_seq.proofs.Alone.{map_answered, map_hasher, map_lawful, map_logged}
 use Rattle.papaya_seq.proofs.Ending.{left_of}
+use Rattle.papaya_seq.proofs.InsertingCopies.{inserting_copies, inserting_sized}
 use Rattle.papaya_seq.proofs.InsertingRun.{inserting_absent, inserting_alone, inserting_begin, inserting_cause, inserting_fit, inserting_left, inserting_more, inserting_nears, inserting_tables, IsInserting, left_in}
 use Rattle.papaya_seq.proofs.Turns.{IsOver}
 use Rattle.papaya_seq.proofs.seq.HashMap.insert_stepwise.Goals as goal
-use Rattle.papaya_seq.proofs.seq.HashMap.insert_stepwise.Goals.{After-new, After-perform_ask-answer, After-answer, After-value_left}
+use Rattle.papaya_seq.proofs.seq.HashMap.insert_stepwise.Goals.{After-new, After-perform_ask-answer, After-answer, After-copy_for_call, After-value_left}
 use Rattle.papaya_seq.proofs.seq.HashMap.insert_stepwise.Given.{Over}
 
 -- the hash of a key
@@ -58,7 +60,7 @@ replied g c =
 pub loop-reply-init : goal.loop-reply-init
 loop-reply-init g c =
     let view : MapState _ _ _ = record { store = c.self.inside.store; mode = c.self.inside.mode; initial = c.self.inside.initial } in
-    subst (λ (m : MapState _ _ _). IsInserting g.K.PartialEq.eq (hash g) m c.args.replace c.args.key c.args.value c.self.inside.store (record { machine = c.new.result; key = Own c.args.key; value = Some c.args.value; answers = None }) × (c.self.inside.mode ≡ m.mode) × (c.self.inside.initial ≡ m.initial)) c.self.view_is
+    subst (λ (m : MapState _ _ _). IsInserting g.K.PartialEq.eq (hash g) m c.args.replace c.args.key c.args.value c.self.inside.store (record { machine = c.new.result; key = Own c.args.key; value = Some (Own c.args.value); answers = None }) × (c.self.inside.mode ≡ m.mode) × (c.self.inside.initial ≡ m.initial)) c.self.view_is
     (inserting_begin g.K.PartialEq.eq (hash g) view c.args.replace c.args.key c.args.value c.new.result c.hash-hash.result c.copies_from-number.result c.new.ensures.value c.hash-hash.ensures.value c.new.ensures.standing, refl, refl)
 
 -- the machine after the answer
@@ -68,19 +70,38 @@ answered g c = sym (c.answer.ensures.after ∙ ap (λ (m : Machine). after m c.p
 pub answer-requires-clause-fit : goal.answer-requires-clause-fit
 answer-requires-clause-fit g c = inserting_fit g.K.PartialEq.eq (hash g) c.args.self.now c.args.replace c.args.key c.args.value (keys g c.args.self.now.store.hasher) (lawful g (goal.at.answer-requires-clause-fit g c).After-new) (fits g (goal.at.answer-requires-clause-fit g c).After-new) (said g) c.loop-reply.self-inside.store c.loop-reply.running c.perform_ask-answer.result c.perform_ask-answer.new.self c.perform_ask-answer.new.running c.ask-ask.result c.ask-ask.ensures.value (asks_on g (goal.at.answer-requires-clause-fit g c).After-perform_ask-answer) c.perform_ask-answer.ensures.performs c.perform_ask-answer.ensures.machine c.loop-reply.invariant.0 c.ask-ask.ensures.size
 
+-- the insertion after the answer
+went : (g : Over) (c : After-answer g) → IsInserting g.K.PartialEq.eq (hash g) c.args.self.now c.args.replace c.args.key c.args.value c.perform_ask-answer.new.self (record c.perform_ask-answer.new.running { machine = c.answer.new.self })
+went g c =
+    let n = (goal.at.After-answer g c).After-new in
+    subst (λ (m : Machine). IsInserting g.K.PartialEq.eq (hash g) c.args.self.now c.args.replace c.args.key c.args.value c.perform_ask-answer.new.self (record c.perform_ask-answer.new.running { machine = m })) (answered g c)
+    (inserting_more g.K.PartialEq.eq (hash g) c.args.self.now c.args.replace c.args.key c.args.value (keys g c.args.self.now.store.hasher) (lawful g n) (fits g n) (said g) c.loop-reply.self-inside.store c.loop-reply.running c.perform_ask-answer.result c.perform_ask-answer.new.self c.perform_ask-answer.new.running c.ask-ask.result c.ask-ask.ensures.value (asks_on g (goal.at.After-answer g c).After-perform_ask-answer) c.perform_ask-answer.ensures.performs c.perform_ask-answer.ensures.machine c.loop-reply.invariant.0
+    (subst IsStanding (sym (answered g c)) c.answer.ensures.standing))
+
+pub copy_for_call-requires-clause-sized : goal.copy_for_call-requires-clause-sized
+copy_for_call-requires-clause-sized g c =
+    let at = (goal.at.copy_for_call-requires-clause-sized g c).After-answer in
+    let n = (goal.at.copy_for_call-requires-clause-sized g c).After-new in
+    inserting_sized g.K.PartialEq.eq (hash g) c.args.self.now c.args.replace c.args.key c.args.value (keys g c.args.self.now.store.hasher) (lawful g n) (fits g n) c.perform_ask-answer.new.self (record c.perform_ask-answer.new.running { machine = c.answer.new.self }) (went g at)
+
+-- and after the slots that were copied
+copied : (g : Over) (c : After-copy_for_call g) → IsInserting g.K.PartialEq.eq (hash g) c.args.self.now c.args.replace c.args.key c.args.value c.copy_for_call.new.store (record c.perform_ask-answer.new.running { machine = c.copy_for_call.new.machine }) × (left_of c.copy_for_call.new.store c.copy_for_call.new.machine ≤ left_of c.perform_ask-answer.new.self c.answer.new.self)
+copied g c =
+    let n = (goal.at.After-copy_for_call g c).After-new in
+    let (told, led) = c.copy_for_call.ensures in
+    inserting_copies g.K.PartialEq.eq (hash g) c.args.self.now c.args.replace c.args.key c.args.value (keys g c.args.self.now.store.hasher) (lawful g n) (fits g n) told c.perform_ask-answer.new.self (record c.perform_ask-answer.new.running { machine = c.answer.new.self }) c.copy_for_call.new.store c.copy_for_call.new.machine led (went g (goal.at.After-copy_for_call g c).After-answer)
+
 pub loop-reply-smaller : goal.loop-reply-smaller
 loop-reply-smaller g c =
+    let n = (goal.at.loop-reply-smaller g c).After-new in
+    let near = (copied g (goal.at.loop-reply-smaller g c).After-copy_for_call).1 in
+    let nearer : left_of c.perform_ask-answer.new.self c.answer.new.self < left_of c.loop-reply.self-inside.store c.loop-reply.running.machine =
     subst (λ (m : Machine). left_of c.perform_ask-answer.new.self m < left_of c.loop-reply.self-inside.store c.loop-reply.running.machine) (answered g (goal.at.loop-reply-smaller g c).After-answer)
-    (inserting_nears g.K.PartialEq.eq (hash g) c.args.self.now c.args.replace c.args.key c.args.value (keys g c.args.self.now.store.hasher) (lawful g (goal.at.loop-reply-smaller g c).After-new) (fits g (goal.at.loop-reply-smaller g c).After-new) (said g) c.loop-reply.self-inside.store c.loop-reply.running c.perform_ask-answer.result c.perform_ask-answer.new.self c.perform_ask-answer.new.running c.ask-ask.result c.ask-ask.ensures.value (asks_on g (goal.at.loop-reply-smaller g c).After-perform_ask-answer) c.perform_ask-answer.ensures.performs c.perform_ask-answer.ensures.machine c.loop-reply.invariant.0)
+    (inserting_nears g.K.PartialEq.eq (hash g) c.args.self.now c.args.replace c.args.key c.args.value (keys g c.args.self.now.store.hasher) (lawful g n) (fits g n) (said g) c.loop-reply.self-inside.store c.loop-reply.running c.perform_ask-answer.result c.perform_ask-answer.new.self c.perform_ask-answer.new.running c.ask-ask.result c.ask-ask.ensures.value (asks_on g (goal.at.loop-reply-smaller g c).After-perform_ask-answer) c.perform_ask-answer.ensures.performs c.perform_ask-answer.ensures.machine c.loop-reply.invariant.0) in
+    omega (arith, near, nearer)
 
 pub loop-reply-preserved : goal.loop-reply-preserved
-loop-reply-preserved g c = (
-  subst (λ (m : Machine). IsInserting g.K.PartialEq.eq (hash g) c.args.self.now c.args.replace c.args.key c.args.value c.perform_ask-answer.new.self (record c.perform_ask-answer.new.running { machine = m })) (answered g (goal.at.loop-reply-preserved g c).After-answer)
-      (inserting_more g.K.PartialEq.eq (hash g) c.args.self.now c.args.replace c.args.key c.args.value (keys g c.args.self.now.store.hasher) (lawful g (goal.at.loop-reply-preserved g c).After-new) (fits g (goal.at.loop-reply-preserved g c).After-new) (said g) c.loop-reply.self-inside.store c.loop-reply.running c.perform_ask-answer.result c.perform_ask-answer.new.self c.perform_ask-answer.new.running c.ask-ask.result c.ask-ask.ensures.value (asks_on g (goal.at.loop-reply-preserved g c).After-perform_ask-answer) c.perform_ask-answer.ensures.performs c.perform_ask-answer.ensures.machine c.loop-reply.invariant.0
-      (subst IsStanding (sym (answered g (goal.at.loop-reply-preserved g c).After-answer)) c.answer.ensures.standing)),
-  c.loop-reply.invariant.1,
-  c.loop-reply.invariant.2,
-)
+loop-reply-preserved g c = ((copied g (goal.at.loop-reply-preserved g c).After-copy_for_call).0, c.loop-reply.invariant.1, c.loop-reply.invariant.2)
 
 -- the call was made alone
 alone : (g : Over) (c : After-value_left g) → IsLawfulMap g.K.PartialEq.eq (hash g c.args.self.now.store.hasher) c.args.self.now.store c.args.self.now.mode c.args.self.now.initial → hash g c.args.self.now.store.hasher c.args.key < 2 ^ 64 → IsOver g.K.PartialEq.eq (hash g) c.args.self.now (insertion c.args.replace c.args.key c.args.value) c.loop-reply.self-inside.store c.in-Call-Done.reply
@@ -115,7 +136,7 @@ returns-in-Call-Done-clause-absent g c = λ only refused e.
     (inserting_absent g.K.PartialEq.eq (hash g) c.args.self.now c.args.replace c.args.key c.args.value (keys g c.args.self.now.store.hasher) (lawful g (goal.at.returns-in-Call-Done-clause-absent g c).After-new) (fits g (goal.at.returns-in-Call-Done-clause-absent g c).After-new) c.loop-reply.self-inside.store c.loop-reply.running c.in-Call-Done.reply (replied g (goal.at.returns-in-Call-Done-clause-absent g c).After-value_left) c.loop-reply.invariant.0 only refused e)
 
 pub returns-in-Call-Done-clause-left : goal.returns-in-Call-Done-clause-left
-returns-in-Call-Done-clause-left g c = λ n e. c.value_left.ensures ∙ inserting_left g.K.PartialEq.eq (hash g) c.args.self.now c.args.replace c.args.key c.args.value (keys g c.args.self.now.store.hasher) (lawful g (goal.at.returns-in-Call-Done-clause-left g c).After-new) (fits g (goal.at.returns-in-Call-Done-clause-left g c).After-new) c.loop-reply.self-inside.store c.loop-reply.running c.in-Call-Done.reply (replied g (goal.at.returns-in-Call-Done-clause-left g c).After-value_left) c.loop-reply.invariant.0 n e
+returns-in-Call-Done-clause-left g c = λ n e. c.value_left.ensures ∙ ap value_left (inserting_left g.K.PartialEq.eq (hash g) c.args.self.now c.args.replace c.args.key c.args.value (keys g c.args.self.now.store.hasher) (lawful g (goal.at.returns-in-Call-Done-clause-left g c).After-new) (fits g (goal.at.returns-in-Call-Done-clause-left g c).After-new) c.loop-reply.self-inside.store c.loop-reply.running c.in-Call-Done.reply (replied g (goal.at.returns-in-Call-Done-clause-left g c).After-value_left) c.loop-reply.invariant.0 n e)
 
 pub returns-in-Call-Done-clause-alone : goal.returns-in-Call-Done-clause-alone
 returns-in-Call-Done-clause-alone g c =

@@ -1,4 +1,6 @@
-use Rattle.std.proofs.Common.{◌∙◌, ap, length, subst}
+use Rattle.std.proofs.Common.{◌≡◌, ◌≤◌, ◌∙◌, ℕ, Some, [], ap, arith, length, subst}
+use Rattle.papaya_keys.specs.Hashes.{hash_of}
+use Rattle.papaya_seq.proofs.Limits.{made_most}
 use Rattle.papaya_words.specs.Counter.{count_of}
 use Rattle.papaya_law.specs.Content.{AreApart}
 use Rattle.papaya_timeline.specs.Content.{content}
@@ -17,3 +19,10 @@ pub returns-clause-apart : goal.returns-clause-apart
 returns-clause-apart g c =
     subst (λ (s : MapState g.row.K.Denot g.row.V.Denot g.row.S.Denot). AreApart g.K.PartialEq.eq (λ p. p.key) (content g.K.PartialEq.eq s.store)) c.self.view_is
     (lawful_apart g.K.PartialEq.eq g.K.Hash.hash_input g.S.BuildHasher.build_hasher g.S.Hasher.Hasher.write g.S.Hasher.Hasher.finish g.met.K.Eq.laws g.met.K.Hash.respects_eq (core_of (record { store = c.self.inside.store; mode = c.self.inside.mode; initial = c.self.inside.initial })) c.self.invariant.lawful)
+
+pub returns-clause-limit : goal.returns-clause-limit
+returns-clause-limit g c =
+    subst (λ (s : MapState g.row.K.Denot g.row.V.Denot g.row.S.Denot). (n : ℕ) → s.mode.limit ≡ Some n → length s.store.pairs ≤ n) c.self.view_is (λ n is.
+    let each = c.self.invariant.numbered n is in
+    let most = made_most g.K.PartialEq.eq (hash_of g.K.Hash.hash_input g.S.BuildHasher.build_hasher g.S.Hasher.Hasher.write g.S.Hasher.Hasher.finish c.self.inside.store.hasher) [] c.self.inside.mode c.self.inside.store c.self.invariant.lawful n is in
+    omega (arith, each, most))

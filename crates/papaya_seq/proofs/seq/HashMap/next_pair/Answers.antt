@@ -40,7 +40,7 @@ module _ (g : Over) where
   pub record IsMoved (c : Else-next-eq0 g) : Type 0 where
     pub next_is : c.match-self.next ≡ word_at c.args.self.now.store.words (Next c.next_here-pair.new.at.table)
     pub some : word_at c.args.self.now.store.words (Next c.next_here-pair.new.at.table) ≡ 0 → ⊥
-    pub going : c.args.self.now.mode ≡ Blocking → ⊥
+    pub going : c.args.self.now.mode.resize ≡ Blocking → ⊥
     pub low : c.match-self.next < 2 ^ 64
 
   moved : (c : Else-next-eq0 g) → IsMoved c
@@ -52,7 +52,7 @@ module _ (g : Over) where
         record {
           next_is = is;
           some = λ none. c.if-next-eq0.false (is ∙ none);
-          going = λ blocks. let mode : Incremental w.in-Incremental.field-0 ≡ Blocking = sym w.in-Incremental.is ∙ ap (λ (y : Map). y.mode) c.self.view_is ∙ blocks in absurd cc;
+          going = λ blocks. let mode : Incremental w.in-Incremental.field-0 ≡ Blocking = sym w.in-Incremental.is ∙ ap (λ (y : Map). y.mode.resize) c.self.view_is ∙ blocks in absurd cc;
           low = omega (arith, fits, next_is);
         }
     | in-Blocking w ↦ absurd (c.if-next-eq0.false w.next-is)
@@ -69,7 +69,7 @@ returns-then-next-eq0-clause-next g c =
       | in-Incremental w ↦
           let last : word_at s.store.words (Next c.next_here-pair.new.at.table) ≡ 0 = sym (w.next-is ∙ w.word-next.ensures ∙ ap (λ (y : Map g). word_at y.store.words (Next c.next_here-pair.new.at.table)) c.self.view_is) ∙ c.if-next-eq0.true in
           over_last g.K.PartialEq.eq (key_hash g s.store.hasher) s (orderly g at).lawful (keys g s) c.next_here-pair.new.at (stands g at) (behind g at).1 last
-      | in-Blocking w ↦ over_blocking g.K.PartialEq.eq (key_hash g s.store.hasher) s (orderly g at).lawful (keys g s) c.next_here-pair.new.at (stands g at) (behind g at).1 (ap (λ (y : Map g). y.mode) (sym c.self.view_is) ∙ w.in-Blocking.is)
+      | in-Blocking w ↦ over_blocking g.K.PartialEq.eq (key_hash g s.store.hasher) s (orderly g at).lawful (keys g s) c.next_here-pair.new.at (stands g at) (behind g at).1 (ap (λ (y : Map g). y.mode.resize) (sym c.self.view_is) ∙ w.in-Blocking.is)
     ] in
     (c.loop-self.invariant.1 ∙ (behind g at).0 ∙ over, over)
 

@@ -28,8 +28,8 @@ done g c =
       hashes = λ k matched. ap (λ input. g.S.Hasher.Hasher.finish (fold g.S.Hasher.Hasher.write (g.S.BuildHasher.build_hasher view.store.hasher) input)) (sym (g.met.Q.Equivalent.hashes_as_key c.args.key.now k matched)) ∙ sym c.hash-hash.ensures.value;
       fits = c.hash-hash.ensures.fits;
     } in
-    let removed = c.in-Some.ensures.removed view.mode view.initial in
-    let now = leads_under_way g.F.FnMut g.K.PartialEq.eq (hashes g) matches c.hash-hash.result view c.args.agrees removed.answers view.store c.args.agrees (itself (started RemoveIf c.hash-hash.result view.mode view.initial)) c.remove_at_once.new.store c.remove_at_once.new.agrees removed.end removed.leads (under_way g.F.FnMut g.K.PartialEq.eq (hashes g) matches c.hash-hash.result view c.args.agrees 0) in
+    let removed = c.in-Some.ensures.removed view.mode.resize view.initial view.mode.limit in
+    let now = leads_under_way g.F.FnMut g.K.PartialEq.eq (hashes g) matches c.hash-hash.result view c.args.agrees removed.answers view.store c.args.agrees (itself (started RemoveIf c.hash-hash.result view.mode.resize view.initial view.mode.limit)) c.remove_at_once.new.store c.remove_at_once.new.agrees removed.end removed.leads (under_way g.F.FnMut g.K.PartialEq.eq (hashes g) matches c.hash-hash.result view c.args.agrees 0) in
     subst (λ (m : MapState g.row.K.Denot g.row.V.Denot g.row.S.Denot). RemovalDone g.F.FnMut g.K.PartialEq.eq (hashes g) matches m c.args.agrees c.in-Some.reply (record { store = c.remove_at_once.new.store; mode = c.self.inside.mode; initial = c.self.inside.initial })) c.self.view_is
     (removal_finished g.F.FnMut g.K.PartialEq.eq g.K.Hash.hash_input g.S.BuildHasher.build_hasher g.S.Hasher.Hasher.write g.S.Hasher.Hasher.finish g.met.K.Eq.laws g.met.K.Hash.respects_eq matches c.hash-hash.result view c.args.agrees query c.remove_at_once.new.store c.remove_at_once.new.agrees removed.end now c.in-Some.reply removed.replied)
 

@@ -1,7 +1,7 @@
-use Rattle.std.proofs.Common.{◌≡◌, ℕ, ◌<◌, fold, sym, ◌∙◌, ap, subst}
+use Rattle.std.proofs.Common.{◌≡◌, ℕ, ◌<◌, ◌≤◌, arith, fold, sym, ◌∙◌, ap, subst}
 use Rattle.papaya_ask.specs.declared.ask.Ask.TheVariants.{Done as Ask_done}
 use Rattle.papaya_chain.specs.declared.ask.Ask.TheVariants as asks
-use Rattle.papaya_chain.specs.Machine.{IsFitAsk, ask_of}
+use Rattle.papaya_chain.specs.Machine.{IsFitAsk, IsStanding, ask_of}
 use Rattle.papaya_keys.specs.Hashes.{hash_of}
 use Rattle.papaya_timeline.proofs.KeptCore.{keys_lawful}
 use Rattle.papaya_seq.specs.Map.{IsLawfulMap, MapState}
@@ -10,9 +10,10 @@ use Rattle.papaya_seq.proofs.Ending.{left_of}
 use Rattle.papaya_seq.proofs.RemovalDone.{RemovalDone, removal_finished}
 use Rattle.papaya_seq.proofs.RemovalWays.{IsQuery, IsUnderWay, asked_so, under_way, under_way_fit, under_way_more, under_way_nears}
 use Rattle.papaya_seq.proofs.Removing.{answered_call, answered_copy}
+use Rattle.papaya_seq.proofs.RemovingCopies.{removing_copies, removing_sized}
 use Rattle.papaya_seq.proofs.SeekTurns.{IsAnswered}
 use Rattle.papaya_seq.proofs.seq.HashMap.remove_stepwise.Goals as goal
-use Rattle.papaya_seq.proofs.seq.HashMap.remove_stepwise.Goals.{After-answer, After-drop-agrees, After-new-machine, in-Call+in_default, in-Copy}
+use Rattle.papaya_seq.proofs.seq.HashMap.remove_stepwise.Goals.{After-answer, After-copy_for_call, After-drop-agrees, After-new-machine, in-Call+in_default, in-Copy}
 use Rattle.papaya_seq.proofs.seq.HashMap.remove_stepwise.Given as given
 use Rattle.papaya_seq.proofs.seq.HashMap.remove_stepwise.Given.{Over}
 
@@ -94,23 +95,37 @@ answer-requires-clause-fit g c =
     c.loop-ask.self-inside.store c.loop-ask.agrees c.loop-ask.machine c.loop-ask.invariant.4 c.match-ask.answer c.match-ask.self-inside.store c.match-ask.agrees answered
     (query g (goal.at.answer-requires-clause-fit g c).After-new-machine) (subst IsFitAsk c.ask.ensures.value c.ask.ensures.size)
 
+-- the removal after the answer
+went : (g : Over) (c : After-answer g) → IsUnderWay g.F.FnMut g.K.PartialEq.eq (hashes g) (g.Q.Equivalent.matches c.args.key.now) c.hash-hash.result c.args.self.now c.args.agrees c.match-ask.self-inside.store c.match-ask.agrees c.answer.new.self
+went g c =
+    subst (IsUnderWay g.F.FnMut g.K.PartialEq.eq (hashes g) (g.Q.Equivalent.matches c.args.key.now) c.hash-hash.result c.args.self.now c.args.agrees c.match-ask.self-inside.store c.match-ask.agrees) (sym c.answer.ensures.after)
+    (under_way_more g.F.FnMut g.K.PartialEq.eq (hashes g) (g.Q.Equivalent.matches c.args.key.now) c.hash-hash.result c.args.self.now c.args.agrees c.loop-ask.self-inside.store c.loop-ask.agrees c.loop-ask.machine c.loop-ask.invariant.4 c.match-ask.answer c.match-ask.self-inside.store c.match-ask.agrees (told g c))
+
+pub copy_for_call-requires-clause-sized : goal.copy_for_call-requires-clause-sized
+copy_for_call-requires-clause-sized g c =
+    removing_sized g.F.FnMut g.K.PartialEq.eq (hashes g) (g.Q.Equivalent.matches c.args.key.now) c.hash-hash.result c.args.self.now c.args.agrees (query g (goal.at.copy_for_call-requires-clause-sized g c).After-new-machine) c.match-ask.self-inside.store c.match-ask.agrees c.answer.new.self (went g (goal.at.copy_for_call-requires-clause-sized g c).After-answer)
+
+-- and after the slots that were copied
+copied : (g : Over) (c : After-copy_for_call g) → IsUnderWay g.F.FnMut g.K.PartialEq.eq (hashes g) (g.Q.Equivalent.matches c.args.key.now) c.hash-hash.result c.args.self.now c.args.agrees c.copy_for_call.new.store c.match-ask.agrees c.copy_for_call.new.machine × IsStanding c.copy_for_call.new.machine × (left_of c.copy_for_call.new.store c.copy_for_call.new.machine ≤ left_of c.match-ask.self-inside.store c.answer.new.self)
+copied g c =
+    let (said, led) = c.copy_for_call.ensures in
+    removing_copies g.F.FnMut g.K.PartialEq.eq (hashes g) (g.Q.Equivalent.matches c.args.key.now) c.hash-hash.result c.args.self.now c.args.agrees (query g (goal.at.After-copy_for_call g c).After-new-machine) said c.match-ask.self-inside.store c.match-ask.agrees c.answer.new.self c.copy_for_call.new.store c.copy_for_call.new.machine led c.answer.ensures.standing (went g (goal.at.After-copy_for_call g c).After-answer)
+
 pub loop-ask-preserved : goal.loop-ask-preserved
 loop-ask-preserved g c =
-    let later = under_way_more g.F.FnMut g.K.PartialEq.eq (hashes g) (g.Q.Equivalent.matches c.args.key.now) c.hash-hash.result c.args.self.now c.args.agrees
-    c.loop-ask.self-inside.store c.loop-ask.agrees c.loop-ask.machine c.loop-ask.invariant.4 c.match-ask.answer c.match-ask.self-inside.store c.match-ask.agrees (told g c) in (
-      callable g c,
-      c.answer.ensures.standing,
-      (stays g c).0 ∙ c.loop-ask.invariant.2,
-      (stays g c).1 ∙ c.loop-ask.invariant.3,
-      subst (IsUnderWay g.F.FnMut g.K.PartialEq.eq (hashes g) (g.Q.Equivalent.matches c.args.key.now) c.hash-hash.result c.args.self.now c.args.agrees c.match-ask.self-inside.store c.match-ask.agrees) (sym c.answer.ensures.after) later,
-    )
+    let at = (goal.at.loop-ask-preserved g c).After-answer in
+    let (going, standing, near) = copied g (goal.at.loop-ask-preserved g c).After-copy_for_call in
+    (callable g at, standing, (stays g at).0 ∙ c.loop-ask.invariant.2, (stays g at).1 ∙ c.loop-ask.invariant.3, going)
 
 pub loop-ask-smaller : goal.loop-ask-smaller
 loop-ask-smaller g c =
-    let nearer = under_way_nears g.F.FnMut g.K.PartialEq.eq (hashes g) (g.Q.Equivalent.matches c.args.key.now) c.hash-hash.result c.args.self.now c.args.agrees
-    c.loop-ask.self-inside.store c.loop-ask.agrees c.loop-ask.machine c.loop-ask.invariant.4 c.match-ask.answer c.match-ask.self-inside.store c.match-ask.agrees (told g c)
-    (query g (goal.at.loop-ask-smaller g c).After-new-machine) in
-    subst (λ m. left_of c.match-ask.self-inside.store m < left_of c.loop-ask.self-inside.store c.loop-ask.machine) (sym c.answer.ensures.after) nearer
+    let at = (goal.at.loop-ask-smaller g c).After-answer in
+    let near = (copied g (goal.at.loop-ask-smaller g c).After-copy_for_call).2 in
+    let nearer : left_of c.match-ask.self-inside.store c.answer.new.self < left_of c.loop-ask.self-inside.store c.loop-ask.machine =
+    subst (λ m. left_of c.match-ask.self-inside.store m < left_of c.loop-ask.self-inside.store c.loop-ask.machine) (sym c.answer.ensures.after)
+    (under_way_nears g.F.FnMut g.K.PartialEq.eq (hashes g) (g.Q.Equivalent.matches c.args.key.now) c.hash-hash.result c.args.self.now c.args.agrees c.loop-ask.self-inside.store c.loop-ask.agrees c.loop-ask.machine c.loop-ask.invariant.4 c.match-ask.answer c.match-ask.self-inside.store c.match-ask.agrees (told g at)
+    (query g (goal.at.loop-ask-smaller g c).After-new-machine)) in
+    omega (arith, near, nearer)
 
 -- the machine has replied
 replied : (g : Over) (c : After-drop-agrees g) → ask_of c.loop-ask.machine ≡ asks.Call (Ask_done c.in-Done.reply)

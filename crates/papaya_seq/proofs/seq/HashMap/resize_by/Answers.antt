@@ -1,4 +1,4 @@
-use Rattle.std.proofs.Common.{◌≡◌, ℕ, ◌<◌, FitsSigned, None, Some, refl, sym, ◌∙◌, ap, subst}
+use Rattle.std.proofs.Common.{◌≡◌, ℕ, ◌<◌, ◌≤◌, arith, FitsSigned, None, Some, refl, sym, ◌∙◌, ap, subst}
 use Rattle.std.specs.Int.{w64}
 use Rattle.papaya_ask.specs.declared.call.Reply.TheVariants.{Done as Reply_done, Refused as Reply_refused}
 use Rattle.papaya_words.specs.declared.probe.Refused.{Refused}
@@ -11,8 +11,9 @@ use Rattle.papaya_seq.specs.Map.{IsLawfulMap, Keeps, MapState}
 use Rattle.papaya_seq.specs.Resizes.{IsPastLimit, IsResizeRefusal}
 use Rattle.papaya_seq.proofs.ResizerRun.{IsResizingTo, resized_done, resized_keeps, resized_lawful, resized_past, resized_refused, resized_replied, resized_unchanged, resizing_begun, resizing_fit, resizing_more, resizing_nears, unrefused_done}
 use Rattle.papaya_seq.proofs.ResizerSteps.{resizer_left}
+use Rattle.papaya_seq.proofs.ResizingCopies.{resizing_copies, resizing_sized}
 use Rattle.papaya_seq.proofs.seq.HashMap.resize_by.Goals as goal
-use Rattle.papaya_seq.proofs.seq.HashMap.resize_by.Goals.{After-answer, After-new-resizer, In_default}
+use Rattle.papaya_seq.proofs.seq.HashMap.resize_by.Goals.{After-answer, After-copy_for_resizer, After-new-resizer, In_default}
 use Rattle.papaya_seq.proofs.seq.HashMap.resize_by.Given.{Over}
 
 -- the hash of a key
@@ -42,22 +43,37 @@ answer-requires-clause-fit g c =
 answered : (g : Over) (c : After-answer g) → after c.loop-ask.resizer c.perform_copy-answer.result ≡ c.answer.new.self
 answered g c = sym c.answer.ensures.after
 
+-- the call after the answer
+went : (g : Over) (c : After-answer g) → IsResizingTo g.K.PartialEq.eq (hash g) c.args.self.now c.args.resize c.perform_copy-answer.new.self c.answer.new.self
+went g c =
+    let n = (goal.at.After-answer g c).After-new-resizer in
+    subst (IsResizingTo g.K.PartialEq.eq (hash g) c.args.self.now c.args.resize c.perform_copy-answer.new.self) (answered g c)
+    (resizing_more g.K.PartialEq.eq g.K.Hash.hash_input g.S.BuildHasher.build_hasher g.S.Hasher.Hasher.write g.S.Hasher.Hasher.finish g.met.K.Eq.laws g.met.K.Hash.respects_eq c.args.self.now c.args.resize (lawful g n) (fits g n) c.loop-ask.self-inside.store c.loop-ask.resizer c.in-Some.ask c.perform_copy-answer.result c.perform_copy-answer.new.self (sym c.ask.ensures ∙ c.in-Some.is) c.perform_copy-answer.ensures c.loop-ask.invariant.0
+    (subst IsStandingResizer (sym (answered g c)) c.answer.ensures.standing))
+
+pub copy_for_resizer-requires-clause-sized : goal.copy_for_resizer-requires-clause-sized
+copy_for_resizer-requires-clause-sized g c =
+    let n = (goal.at.copy_for_resizer-requires-clause-sized g c).After-new-resizer in
+    resizing_sized g.K.PartialEq.eq g.K.Hash.hash_input g.S.BuildHasher.build_hasher g.S.Hasher.Hasher.write g.S.Hasher.Hasher.finish g.met.K.Eq.laws g.met.K.Hash.respects_eq c.args.self.now c.args.resize (lawful g n) (fits g n) c.perform_copy-answer.new.self c.answer.new.self (went g (goal.at.copy_for_resizer-requires-clause-sized g c).After-answer)
+
+-- and after the slots that were copied
+copied : (g : Over) (c : After-copy_for_resizer g) → IsResizingTo g.K.PartialEq.eq (hash g) c.args.self.now c.args.resize c.copy_for_resizer.new.store c.copy_for_resizer.new.resizer × (resizer_left c.copy_for_resizer.new.store c.copy_for_resizer.new.resizer ≤ resizer_left c.perform_copy-answer.new.self c.answer.new.self)
+copied g c =
+    let n = (goal.at.After-copy_for_resizer g c).After-new-resizer in
+    let (told, led) = c.copy_for_resizer.ensures in
+    resizing_copies g.K.PartialEq.eq g.K.Hash.hash_input g.S.BuildHasher.build_hasher g.S.Hasher.Hasher.write g.S.Hasher.Hasher.finish g.met.K.Eq.laws g.met.K.Hash.respects_eq c.args.self.now c.args.resize (lawful g n) (fits g n) told c.perform_copy-answer.new.self c.answer.new.self c.copy_for_resizer.new.store c.copy_for_resizer.new.resizer led (went g (goal.at.After-copy_for_resizer g c).After-answer)
+
 pub loop-ask-smaller : goal.loop-ask-smaller
 loop-ask-smaller g c =
     let n = (goal.at.loop-ask-smaller g c).After-new-resizer in
+    let near = (copied g (goal.at.loop-ask-smaller g c).After-copy_for_resizer).1 in
+    let nearer : resizer_left c.perform_copy-answer.new.self c.answer.new.self < resizer_left c.loop-ask.self-inside.store c.loop-ask.resizer =
     subst (λ (z : Resizer). resizer_left c.perform_copy-answer.new.self z < resizer_left c.loop-ask.self-inside.store c.loop-ask.resizer) (answered g (goal.at.loop-ask-smaller g c).After-answer)
-    (resizing_nears g.K.PartialEq.eq g.K.Hash.hash_input g.S.BuildHasher.build_hasher g.S.Hasher.Hasher.write g.S.Hasher.Hasher.finish g.met.K.Eq.laws g.met.K.Hash.respects_eq c.args.self.now c.args.resize (lawful g n) (fits g n) c.loop-ask.self-inside.store c.loop-ask.resizer c.in-Some.ask c.perform_copy-answer.result c.perform_copy-answer.new.self (sym c.ask.ensures ∙ c.in-Some.is) c.perform_copy-answer.ensures c.loop-ask.invariant.0)
+    (resizing_nears g.K.PartialEq.eq g.K.Hash.hash_input g.S.BuildHasher.build_hasher g.S.Hasher.Hasher.write g.S.Hasher.Hasher.finish g.met.K.Eq.laws g.met.K.Hash.respects_eq c.args.self.now c.args.resize (lawful g n) (fits g n) c.loop-ask.self-inside.store c.loop-ask.resizer c.in-Some.ask c.perform_copy-answer.result c.perform_copy-answer.new.self (sym c.ask.ensures ∙ c.in-Some.is) c.perform_copy-answer.ensures c.loop-ask.invariant.0) in
+    omega (arith, near, nearer)
 
 pub loop-ask-preserved : goal.loop-ask-preserved
-loop-ask-preserved g c =
-    let n = (goal.at.loop-ask-preserved g c).After-new-resizer in
-    let is = answered g (goal.at.loop-ask-preserved g c).After-answer in (
-      subst (IsResizingTo g.K.PartialEq.eq (hash g) c.args.self.now c.args.resize c.perform_copy-answer.new.self) is
-          (resizing_more g.K.PartialEq.eq g.K.Hash.hash_input g.S.BuildHasher.build_hasher g.S.Hasher.Hasher.write g.S.Hasher.Hasher.finish g.met.K.Eq.laws g.met.K.Hash.respects_eq c.args.self.now c.args.resize (lawful g n) (fits g n) c.loop-ask.self-inside.store c.loop-ask.resizer c.in-Some.ask c.perform_copy-answer.result c.perform_copy-answer.new.self (sym c.ask.ensures ∙ c.in-Some.is) c.perform_copy-answer.ensures c.loop-ask.invariant.0
-          (subst IsStandingResizer (sym is) c.answer.ensures.standing)),
-      c.loop-ask.invariant.1,
-      c.loop-ask.invariant.2,
-    )
+loop-ask-preserved g c = ((copied g (goal.at.loop-ask-preserved g c).After-copy_for_resizer).0, c.loop-ask.invariant.1, c.loop-ask.invariant.2)
 
 pub invariant_of-self : goal.invariant_of-self
 invariant_of-self g c =

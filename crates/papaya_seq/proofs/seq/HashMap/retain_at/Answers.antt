@@ -13,7 +13,8 @@ use Rattle.papaya_timeline.proofs.KeptSettings.{IsLawfulKeys}
 use Rattle.papaya_seq.specs.Map.{IsLawfulMap, MapState, next_of, slots_of}
 use Rattle.papaya_seq.specs.Retains.{Answers, IsRetaining}
 use Rattle.papaya_seq.proofs.RetainLaw.{buried_at, buried_lawful, live_logged, root_word}
-use Rattle.papaya_seq.proofs.RetainSteps.{IsVisited, exchange_made, shown_answers, visited_more}
+use Rattle.papaya_seq.proofs.Exchanging.{exchange_done}
+use Rattle.papaya_seq.proofs.RetainSteps.{IsVisited, shown_answers, visited_more}
 use Rattle.papaya_seq.proofs.seq.HashMap.retain_at.Goals as goal
 use Rattle.papaya_seq.proofs.seq.HashMap.retain_at.Goals.{After-add_to_shard, After-show}
 use Rattle.papaya_seq.proofs.seq.HashMap.retain_at.Given.{Over}
@@ -61,7 +62,7 @@ module _ (g : Over) where
       let s = c.self.inside.store in
       let shown = (goal.at.After-add_to_shard g c).After-show in
       let grave : c.buried-grave.result.0 ≡ buried_word (number_of (root_word s c.args.slot)) = c.buried-grave.ensures ∙ ap buried_word (c.pair-2.ensures ∙ ap number_of (word_is shown)) in
-      let made : c.exchange.new.self ≡ record s { words = put s.words (Slot c.args.table c.args.slot) c.buried-grave.result.0 } = exchange_made s c.exchange.new.self (Slot c.args.table c.args.slot) c.word.result c.buried-grave.result.0 c.exchange.result (sym c.word.ensures) c.exchange.ensures in
+      let made : c.exchange.new.self ≡ record s { words = put s.words (Slot c.args.table c.args.slot) c.buried-grave.result.0 } = exchange_done s (Slot c.args.table c.args.slot) c.word.result c.buried-grave.result.0 (sym c.word.ensures) c.exchange.new.self c.exchange.result c.exchange.ensures in
       c.add_to_shard.ensures
       ∙ ap (λ (y : StoreState g.row.K.Denot g.row.V.Denot g.row.S.Denot). record y { count = added y.count 0 (negsuc 0) }) made
       ∙ ap (λ n. record s { words = put s.words (Slot c.args.table c.args.slot) n; count = added s.count 0 (negsuc 0) }) grave

@@ -1,4 +1,6 @@
-use Rattle.std.proofs.Common.{[], refl}
+use Rattle.std.proofs.Common.{[], ◌≤◌, length, refl, sym, subst, arith, rules}
+use Rattle.papaya_call.specs.Made.{IsLimit}
+use Rattle.papaya_store.specs.declared.mode.Mode.{Mode}
 use Rattle.papaya_timeline.specs.Core.{IsCore}
 use Rattle.papaya_timeline.specs.Counted.{IsCounted}
 use Rattle.papaya_timeline.proofs.CoreLemmas.{new-core}
@@ -17,14 +19,17 @@ new_counted g c = counted_new c.in_ok-store.store c.in_ok-store.ensures.ok.1.pai
 pub invariant_of-result : goal.invariant_of-result
 invariant_of-result g c =
     let ok = c.in_ok-store.ensures.ok in
-    let core : IsCore {A = Unit {0}} c.in_ok-store.store [] c.args.mode = new-core c.in_ok-store.store [] c.args.mode c.args.capacity c.in_ok-store.initial ok.0.0 ok.1.initial.0 ok.2 ok.1.words refl in
+    let mode : Mode = record { resize = c.args.mode; limit = c.args.limit } in
+    let limits : IsLimit c.args.limit = search rules in
+    let core : IsCore {A = Unit {0}} c.in_ok-store.store [] mode = new-core c.in_ok-store.store [] mode c.args.capacity c.in_ok-store.initial ok.0.0 limits ok.1.initial.0 ok.2 ok.1.words refl in
     record {
       lawful = new_lawful g.K.PartialEq.eq g.K.Hash.hash_input g.S.BuildHasher.build_hasher g.S.Hasher.Hasher.write g.S.Hasher.Hasher.finish g.met.K.Eq.laws g.met.K.Hash.respects_eq
-          c.args.mode c.args.capacity c.in_ok-store.initial c.in_ok-store.store [] core ok.1.words ok.1.pairs refl;
+          mode c.args.capacity c.in_ok-store.initial c.in_ok-store.store [] core ok.1.words ok.1.pairs refl;
       counted = new_counted g c;
       power = ok.1.initial.0;
       most = ok.2;
       long = new_long c.args.capacity c.in_ok-store.initial c.in_ok-store.store.words ok.1.initial ok.1.words;
+      numbered = λ most limit. subst (λ l. length l ≤ c.in_ok-store.store.words.made) (sym ok.1.pairs) (omega arith);
     }
 
 pub returns-clause-empty : goal.returns-clause-empty

@@ -1,5 +1,5 @@
 -- `contains` answers what it is told, and hands over what shows the log. Assumes `Logic`.
-use Rattle.std.proofs.Common.{◌≡◌, List, [], ◌∷◌, refl}
+use Rattle.std.proofs.Common.{◌≡◌, [], ◌∷◌, refl}
 use Rattle.std.specs.Prelude.{IfOk, Err, is_ok, true}
 use mathlib.Core.List.{IsPrefix}
 use mir.Syntax.{a_type, dcons, dnil, named}
@@ -20,7 +20,7 @@ use Rattle.papaya_words.specs.declared.probe.Refused.TheVariants.{WrongGuard}
 use Rattle.papaya_map.specs.Plain.{unpinned, IsSince, rule_of}
 use Rattle.papaya_set.specs.Shared.{IsContainedBetween}
 use Rattle.papaya_map.proofs.Earlier.{done_of, found}
-use Rattle.papaya_map.proofs.Telling.{bool_laws, held_good, one_of, one_ref}
+use Rattle.papaya_map.proofs.Telling.{bool_laws, held_good, one_ref}
 use Rattle.papaya_map.proofs.ToldWalks.{walk_rrr}
 use Rattle.papaya_map.proofs.Handed.{meets, Answer, six_facts, handed_2}
 use Rattle.papaya_set.specs.contracts.set.HashSet as Owner

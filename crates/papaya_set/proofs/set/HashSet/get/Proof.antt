@@ -1,5 +1,5 @@
 -- `get` answers what it is told, and hands over what shows the log. Assumes `Logic`.
-use Rattle.std.proofs.Common.{◌≡◌, List, [], ◌∷◌, refl}
+use Rattle.std.proofs.Common.{◌≡◌, [], ◌∷◌, refl}
 use Rattle.std.specs.Prelude.{IfOk, Err, is_ok, true}
 use mathlib.Core.List.{IsPrefix}
 use mir.Syntax.{a_type, dcons, dnil, named}
@@ -22,7 +22,7 @@ use Rattle.papaya_map.specs.Plain.{unpinned, IsSince, rule_of}
 use Rattle.std.specs.contracts.option.Option as Option
 use Rattle.papaya_set.specs.Shared.{IsKeyFoundBetween}
 use Rattle.papaya_map.proofs.Earlier.{done_of, found}
-use Rattle.papaya_map.proofs.Telling.{held_good, one_of, one_ref, ref_laws, ref_row}
+use Rattle.papaya_map.proofs.Telling.{held_good, one_ref, ref_laws, ref_row}
 use Rattle.papaya_map.proofs.ToldWalks.{walk_rrr}
 use Rattle.papaya_map.proofs.Handed.{meets, Answer, six_facts, handed_2}
 use Rattle.papaya_set.specs.contracts.set.HashSet as Owner

@@ -1,5 +1,5 @@
 -- `insert` answers what it is told, and hands over what shows the log. Assumes `Logic`.
-use Rattle.std.proofs.Common.{◌≡◌, List, [], ◌∷◌, refl}
+use Rattle.std.proofs.Common.{◌≡◌, [], ◌∷◌, refl}
 use Rattle.std.specs.Prelude.{IfErr, IfOk}
 use mathlib.Core.List.{IsPrefix}
 use mir.Syntax.{a_type, dcons, dnil, named}
@@ -17,7 +17,7 @@ use Rattle.papaya_book.specs.contracts.rule.entry.Named as naming
 use Rattle.papaya_book.specs.contracts.rule.law.Law as law
 use Rattle.papaya_book.specs.contracts.rule.law.LawRuleEventNamed.TheImpl as LawRule
 use Rattle.papaya_lookup.specs.History.{IsLegalHistory, history_of, key_of}
-use Rattle.papaya_change.specs.Writing.{IsMemoryOrCapacity}
+use Rattle.papaya_map.specs.Limited.{IsPlainRefusal}
 use Rattle.papaya_set.specs.Shared.{IsInsertedBetween}
 use Rattle.papaya_map.proofs.Earlier.{ok_of, put}
 use Rattle.papaya_map.specs.Plain.{IsSince, rule_of}
@@ -39,7 +39,7 @@ insert_spec 𝓤 𝓛 𝓜 𝓡 wired K S S-Hasher R LK LS LH LR K-Hash K-Hash-d
     let E = event.the_row (param 0 K) unit-field.row (param 1 S) in let N = naming.the_row (param 0 K) unit-field.row in let P = law.the_row (param 0 K) unit-field.row (param 1 S) in let g = LawRule.ghosts (param 0 K) unit-field.row (param 1 S) (param 2 S-Hasher) K-Hash LawRule.no_dict K-Eq LawRule.no_dict K-PartialEq LawRule.no_dict S-BuildHasher LawRule.no_dict S-Hasher-Hasher LawRule.no_dict LawRule.no_dict in
     let Ends = ended K S S-Hasher R K-Hash K-Hash-dict K-Eq K-Eq-dict K-PartialEq K-PartialEq-dict S-BuildHasher S-BuildHasher-dict S-Hasher-Hasher S-Hasher-Hasher-dict K-Destruct-dict S-Hasher-Destruct-dict R-Wait R-Wait-dict in
     meets E N P g Ends 𝓛 𝓜 𝓡 (clauses K S S-Hasher R K-Hash K-Hash-dict K-Eq K-Eq-dict K-PartialEq K-PartialEq-dict S-BuildHasher S-BuildHasher-dict S-Hasher-Hasher S-Hasher-Hasher-dict K-Destruct-dict S-Hasher-Destruct-dict R-Wait R-Wait-dict 𝓛 𝓜.mem 𝓡.returns) (callee.clauses K S S-Hasher R K-Hash K-Hash-dict K-Eq K-Eq-dict K-PartialEq K-PartialEq-dict S-BuildHasher S-BuildHasher-dict S-Hasher-Hasher S-Hasher-Hasher-dict K-Destruct-dict S-Hasher-Destruct-dict R-Wait R-Wait-dict 𝓛 𝓜.mem 𝓡.returns)
-    (λ κs a r. (r.book ≡ a.0.now.map.book) × IsLegalHistory K-PartialEq.eq key_of (history_of r.log) × IsPrefix a.0.now.seen (history_of r.log) × IfOk r.answer (IsInsertedBetween K-PartialEq.eq a.1.1.0 a.0.now.seen (history_of r.log)) × IfErr r.answer IsMemoryOrCapacity)
+    (λ κs a r. (r.book ≡ a.0.now.map.book) × IsLegalHistory K-PartialEq.eq key_of (history_of r.log) × IsPrefix a.0.now.seen (history_of r.log) × IfOk r.answer (IsInsertedBetween K-PartialEq.eq a.1.1.0 a.0.now.seen (history_of r.log)) × IfErr r.answer (IsPlainRefusal a.0.now.map.begun.limit))
     (λ κs a u. (tt, id⊢ 𝓤 _)) (λ κs a u r ws. five_facts 𝓤)
     (λ κs a u r ws f. handed_2 𝓛 E.coded.code (rule_of g) r.names r.log (λ log. IsSince a.0.now K-PartialEq.eq (λ h. IfOk r.answer (IsInsertedBetween K-PartialEq.eq a.1.1.0 a.0.now.seen h)) (history_of log)) f.0 (f.1, f.2, f.3)
     (ok_of K-PartialEq.eq f.1 (λ h is_new. IsInsertedBetween K-PartialEq.eq a.1.1.0 [] h is_new) (λ is_new is. (is.0, is.1, put a.0.now.seen (history_of r.log) K-PartialEq.eq a.1.1.0 tt is.0 is.2)) r.answer f.3)

@@ -1,4 +1,4 @@
-use Rattle.std.proofs.Common.{◌≡◌, rules, sym}
+use Rattle.std.proofs.Common.{rules, sym}
 use Rattle.papaya_set.proofs.Kept.{callable}
 use Rattle.papaya_set.proofs.KeptShared.{kept_since}
 use Rattle.papaya_set.proofs.set.HashSetRef.retain_told.Goals as goal

@@ -14,7 +14,6 @@ returns-clause-ok g c =
       record {
         initial = initial.1;
         words = c.in_ok-open.ensures.ok.0;
-        keys = ap (λ s. s.keys) store ∙ ap (λ s. s.keys) made;
         pairs = ap (λ s. s.pairs) store ∙ ap (λ s. s.pairs) made;
         count = subst (IsNextPowerOfTwo c.args.shards) (sym (ap (λ s. s.count.shards) store ∙ ap (λ s. s.count.shards) made)) c.in_ok-counter.ensures.shards;
         sum = ap (λ s. s.count.sum) store ∙ ap (λ s. s.count.sum) made ∙ c.in_ok-counter.ensures.sum;

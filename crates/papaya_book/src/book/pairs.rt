@@ -1,0 +1,226 @@
+//! Pairs in the log of pairs: what they hold, and logging what callers put into a map.
+ghost use Rattle.papaya_book.specs.Books.{IsIn};
+ghost use Rattle.std.specs.Prelude.{◌≡◌, None, Some, IfErr, IfOk, [], ◌∷◌};
+ghost use Rattle.boxcar.specs.Table.{Shows, id_at};
+ghost use Rattle.papaya_book.specs.Brought.{IsBrought, pair_held};
+ghost use Rattle.papaya_book.specs.PairParts.{IsKeyPartIn, IsValuePartIn, key_in, value_in};
+ghost use Rattle.papaya_book.specs.Pairs.{IsKeyIn, IsValueIn};
+ghost use Rattle.papaya_book.specs.declared.rule.entry.Named.TheVariants.{Pair as PairNamed};
+ghost use Rattle.papaya_book.specs.declared.rule.own.Given.TheVariants as given;
+
+use crate::book::Book;
+use crate::rule::entry::Stored;
+use crate::rule::own::{Given, Own};
+use crate::rule::pair::{Held, Pair, Shown, first_of, shown_of};
+use papaya_log::token::Pushed;
+use std::hash::{BuildHasher, Hash};
+use std::sync::Wait;
+
+/// A key of a pair that is to be logged: brought with the pair, or that of a logged pair.
+#[derive(Drop)]
+pub enum KeyPart<K, V> {
+    Own(K),
+    Of(Stored<K, V>),
+}
+
+/// A value of a pair that is to be logged: brought with the pair, or that of a logged pair.
+#[derive(Drop)]
+pub enum ValuePart<K, V> {
+    Own(V),
+    Of(Stored<K, V>),
+}
+
+impl<K: Hash + Eq, V, S: BuildHasher> Book<K, V, S> {
+    /// The pair that a token shows.
+    pub fn pair<'a>(&'a self, stored: &Stored<K, V>) -> &'a Pair<K, V>
+        requires { IsIn self.now (PairNamed stored.now) }
+        ensures { result.now ≡ stored.now.value }
+    {
+        self.parts.pairs.value(stored)
+    }
+
+    /// Its key and its value. The first two kinds, of a fresh pair and of one that took another's
+    /// place, are told apart by a test each, and the rare ones out of line.
+    #[inline(always)]
+    pub fn entry<'a>(&'a self, pair: &'a Pair<K, V>) -> (&'a K, &'a V)
+        requires key { IsKeyIn self.now.parts.pairs pair.now.key }
+        requires value { IsValueIn self.now.parts.pairs pair.now }
+        ensures key { result.0.now ≡ pair.now.key.value }
+        ensures value { result.1.now ≡ pair.now.value }
+    {
+        match &pair.held {
+            Held::Own(key, value) => (key, value),
+            Held::Keyed(first, value) => (self.key_of_first(first), value),
+            _ => (self.key_apart(pair), self.value_apart(pair)),
+        }
+    }
+
+    /// Its key.
+    #[inline(always)]
+    pub fn key<'a>(&'a self, pair: &'a Pair<K, V>) -> &'a K
+        requires { IsKeyIn self.now.parts.pairs pair.now.key }
+        ensures { result.now ≡ pair.now.key.value }
+    {
+        match &pair.held {
+            Held::Own(key, _) => key,
+            Held::Keyed(first, _) => self.key_of_first(first),
+            _ => self.key_apart(pair),
+        }
+    }
+
+    /// Its value.
+    #[inline(always)]
+    pub fn value<'a>(&'a self, pair: &'a Pair<K, V>) -> &'a V
+        requires { IsValueIn self.now.parts.pairs pair.now }
+        ensures { result.now ≡ pair.now.value }
+    {
+        match &pair.held {
+            Held::Own(_, value) => value,
+            Held::Keyed(_, value) => value,
+            _ => self.value_apart(pair),
+        }
+    }
+
+    /// The key of the pair that brought it.
+    #[inline(always)]
+    fn key_of_first<'a>(&'a self, first: &'a Pushed<Shown<K, V>>) -> &'a K
+        requires in_log { first.now.row ≡ id_at self.now.parts.pairs.buckets first.now.bucket }
+        requires brought { first.now.value.key.at ≡ None }
+        ensures { result.now ≡ first.now.value.key.value }
+    {
+        self.parts.pairs.value(&first_of(first)).brought_key()
+    }
+
+    /// Its key, whatever kind of pair it is.
+    #[cold]
+    #[inline(never)]
+    fn key_apart<'a>(&'a self, pair: &'a Pair<K, V>) -> &'a K
+        requires { IsKeyIn self.now.parts.pairs pair.now.key }
+        ensures { result.now ≡ pair.now.key.value }
+    {
+        match &pair.held {
+            Held::Own(key, _) => key,
+            Held::Lent(key, _) => key,
+            Held::Keyed(first, _) => self.key_of_first(first),
+            Held::Both(first, _) => self.key_of_first(first),
+        }
+    }
+
+    /// Its value, whatever kind of pair it is.
+    #[cold]
+    #[inline(never)]
+    fn value_apart<'a>(&'a self, pair: &'a Pair<K, V>) -> &'a V
+        requires { IsValueIn self.now.parts.pairs pair.now }
+        ensures { result.now ≡ pair.now.value }
+    {
+        match &pair.held {
+            Held::Own(_, value) => value,
+            Held::Keyed(_, value) => value,
+            Held::Lent(_, first) => self.parts.pairs.value(&first_of(first)).brought_value(),
+            Held::Both(_, first) => self.parts.pairs.value(&first_of(first)).brought_value(),
+        }
+    }
+
+    /// What tells that the log of pairs gave this number.
+    pub fn gave_pair(&self, stored: &Stored<K, V>) -> Own<Given>
+        requires { IsIn self.now (PairNamed stored.now) }
+        ensures { result.done ≡ given.Pair stored.now.index ∷ [] }
+    {
+        let number = Given::Pair(stored.index());
+        Own::only(&number)
+    }
+
+    /// The pair that brought the key of a logged pair.
+    fn key_first(&self, stored: &Stored<K, V>) -> Pushed<Shown<K, V>>
+        requires shown { Shows self.now.parts.pairs stored.now }
+        requires key { IsKeyIn self.now.parts.pairs stored.now.value.key }
+        ensures shown { Shows self.now.parts.pairs result }
+        ensures brought { result.value.key.at ≡ None }
+        ensures key { result.value.key.value ≡ stored.now.value.key.value }
+    {
+        match &self.parts.pairs.value(stored).held {
+            Held::Own(_, _) => shown_of(stored),
+            Held::Lent(_, _) => shown_of(stored),
+            Held::Keyed(first, _) => first.again(),
+            Held::Both(first, _) => first.again(),
+        }
+    }
+
+    /// The pair that brought the value of a logged pair.
+    fn value_first(&self, stored: &Stored<K, V>) -> Pushed<Shown<K, V>>
+        requires shown { Shows self.now.parts.pairs stored.now }
+        requires value { IsValueIn self.now.parts.pairs stored.now.value }
+        ensures shown { Shows self.now.parts.pairs result }
+        ensures brought { result.value.value_at ≡ None }
+        ensures value { result.value.value ≡ stored.now.value.value }
+    {
+        match &self.parts.pairs.value(stored).held {
+            Held::Own(_, _) => shown_of(stored),
+            Held::Keyed(_, _) => shown_of(stored),
+            Held::Lent(_, first) => first.again(),
+            Held::Both(_, first) => first.again(),
+        }
+    }
+}
+
+impl<K: Hash + Eq + Drop, V: Drop, S: BuildHasher> Book<K, V, S> {
+    /// What is held, logged. It comes back where there is no memory.
+    #[inline(always)]
+    fn log<R: Wait>(&self, rt: &R, held: Held<K, V>) -> Result<Stored<K, V>, Pair<K, V>>
+        requires brought { IsBrought held }
+        ensures ok { IfOk result (λ p. Shows self.now.parts.pairs p × (p.value ≡ pair_held held)) }
+        ensures err { IfErr result (λ back. back ≡ pair_held held) }
+    {
+        self.parts.pairs.push_shown(rt, Pair { held })
+    }
+
+    /// The pair of this key and this value, logged. Both come back where there is no memory.
+    #[inline]
+    pub fn log_pair<R: Wait>(
+        &self,
+        rt: &R,
+        key: KeyPart<K, V>,
+        value: ValuePart<K, V>,
+    ) -> Result<Stored<K, V>, (KeyPart<K, V>, ValuePart<K, V>)>
+        requires key { IsKeyPartIn self.now key }
+        requires value { IsValuePartIn self.now value }
+        ensures placed { IfOk result (λ p. IsIn self.now (PairNamed p)) }
+        ensures key { IfOk result (λ p. p.value.key.value ≡ key_in key) }
+        ensures value { IfOk result (λ p. p.value.value ≡ value_in value) }
+        ensures err { IfErr result (λ back. (back.0 ≡ key) × (back.1 ≡ value)) }
+    {
+        match (key, value) {
+            (KeyPart::Own(key), ValuePart::Own(value)) => match self.log(
+                rt,
+                Held::Own(key, value),
+            ) {
+                Ok(pair) => Ok(pair),
+                Err(back) => {
+                    let (key, value) = back.into_both();
+                    Err((KeyPart::Own(key), ValuePart::Own(value)))
+                }
+            },
+            (KeyPart::Of(by), ValuePart::Own(value)) => {
+                let first = self.key_first(&by);
+                match self.log(rt, Held::Keyed(first, value)) {
+                    Ok(pair) => Ok(pair),
+                    Err(back) => Err((KeyPart::Of(by), ValuePart::Own(back.into_value()))),
+                }
+            }
+            (KeyPart::Own(key), ValuePart::Of(of)) => {
+                let first = self.value_first(&of);
+                match self.log(rt, Held::Lent(key, first)) {
+                    Ok(pair) => Ok(pair),
+                    Err(back) => Err((KeyPart::Own(back.into_key()), ValuePart::Of(of))),
+                }
+            }
+            (KeyPart::Of(by), ValuePart::Of(of)) => {
+                let (first, second) = (self.key_first(&by), self.value_first(&of));
+                match self.log(rt, Held::Both(first, second)) {
+                    Ok(pair) => Ok(pair),
+                    Err(_) => Err((KeyPart::Of(by), ValuePart::Of(of))),
+                }
+            }
+        }
+    }
+}

@@ -1,0 +1,417 @@
+//! Slots of a chunk that are copied one after another, as long as no other caller is met. The
+//! machine stands in the proof.
+ghost use Rattle.std.specs.Prelude.{◌≡◌, List, None};
+ghost use mathlib.Core.List.{IsPrefix};
+ghost use Rattle.papaya_ask.specs.Search.{IsWithin};
+ghost use Rattle.papaya_chain.specs.Machine.{IsFit};
+ghost use Rattle.papaya_copy.specs.Copying.{IsStandingCopying};
+ghost use Rattle.papaya_copy.specs.Settle.{copied_as, marked_as};
+ghost use Rattle.papaya_copy.specs.Step.{IsStandingChunk};
+ghost use Rattle.papaya_copy.specs.declared.carry.Carry.TheVariants as carries;
+ghost use Rattle.papaya_copy.specs.declared.settle.Settle.TheVariants as settles;
+ghost use Rattle.papaya_words.specs.Word.{live_word, pair_of};
+ghost use Rattle.papaya_book.specs.declared.rule.entry.Event.{Event};
+ghost use Rattle.papaya_book.specs.Windows.{IsTable, Sees};
+ghost use Rattle.papaya_change.specs.Settling.{at_slot};
+ghost use Rattle.papaya_change.specs.Settles.{CanLead, CanLeadAt, Ends, IsPlacedAt, Leaves, LeavesFrom, LooksOn, WaitsAt, stop_in, stop_seen};
+
+use crate::copier::{Copier, load_hint_at, size_at, write_hint_at};
+use papaya_ask::ask::{Answer as CallAnswer, At, StepKind};
+use papaya_ask::search::{Place, Search, Seen};
+use papaya_book::table::Table;
+use papaya_book::window::Window;
+use papaya_chain::ask::Answer;
+use papaya_copy::carry::Carry;
+use papaya_copy::copying::{Aim, Copying};
+use papaya_copy::settle::Settle;
+use papaya_copy::step::{Chunk, Step};
+use papaya_words::probe::ResizeMode;
+use papaya_words::word::{Kind, SHUT, Word, hint};
+use std::hash::{BuildHasher, Hash};
+
+/// Where the copy of a slot was left, with the answer to what it asked there.
+#[derive(Drop)]
+pub struct Halt {
+    pub settle: Settle,
+    pub answer: Answer,
+}
+
+/// Where a look at a place of the next table leads.
+#[derive(Drop)]
+pub enum Look {
+    /// This place is looked at next.
+    Next(Place),
+    /// The slot is settled, or its copy was left.
+    Left(Option<Halt>),
+}
+
+/// A slot that is copied, with the table that it is in.
+#[derive(Drop)]
+pub struct Site<'a, K: Hash + Eq, V, S: BuildHasher> {
+    pub table: &'a Table<K, V, S>,
+    pub aim: Aim,
+    pub chunk: Chunk,
+    pub mode: ResizeMode,
+}
+
+/// This word, with its pair marked.
+#[inline(always)]
+fn with_mark(word: u64) -> u64
+    ensures { result ≡ marked_as word }
+{
+    Word::marked(Word(word).pair()).0
+}
+
+/// This word, which is marked, with its pair copied.
+#[inline(always)]
+fn with_copy(marked: u64) -> u64
+    ensures { result ≡ copied_as marked }
+{
+    Word::copied(Word(marked).pair()).0
+}
+
+/// The word of the pair that this one names, as it is put into the next table.
+#[inline(always)]
+fn with_life(marked: u64) -> u64
+    ensures { result ≡ live_word (pair_of marked) }
+{
+    Word::live(Word(marked).pair()).0
+}
+
+impl<K: Hash + Eq, V, S: BuildHasher> Copier<K, V, S> {
+    /// The pair was put into a table that takes it, so the slot's word is to say so. Where another
+    /// word stands there, it says so by now.
+    #[inline(always)]
+    fn finish<'a>(
+        &mut self,
+        site: &Site<'a, K, V, S>,
+        marked: u64,
+        window: &mut Window<'a, K, V, S>,
+    ) -> Option<Halt>
+        requires placed { IsPlacedAt window.old site.now }
+        requires can { CanLeadAt window.old site.now (settles.Finishing marked) self.old }
+        ensures sees { Sees window.old window.new }
+        ensures own { window.new.own ≡ window.old.own }
+        ensures leaves { Leaves window.old site.now (settles.Finishing marked) self.old window.new
+            self.new result }
+    {
+        let kind = Some(StepKind::Finish);
+        let copied = with_copy(marked);
+        let words = (marked, copied);
+        self.exchange_slot(
+            site.table,
+            site.chunk.scan.from,
+            site.chunk.at,
+            kind,
+            words,
+            window,
+        );
+        None
+    }
+
+    /// Puts the pair that is carried into this place, which is empty, its hint last.
+    #[inline(always)]
+    fn fill<'a>(
+        &mut self,
+        site: &Site<'a, K, V, S>,
+        to: &'a Table<K, V, S>,
+        marked: u64,
+        hash: u64,
+        place: Place,
+        window: &mut Window<'a, K, V, S>,
+    ) -> Option<Halt>
+        requires placed { IsPlacedAt window.old site.now }
+        requires within { IsWithin place }
+        requires table { IsTable window.old place.table to.now }
+        requires can { CanLeadAt window.old site.now
+            (settles.Carrying marked (carries.Placing hash place)) self.old }
+        ensures sees { Sees window.old window.new }
+        ensures own { window.new.own ≡ window.old.own }
+        ensures leaves { Leaves window.old site.now
+            (settles.Carrying marked (carries.Placing hash place)) self.old window.new self.new
+            result }
+    {
+        let kind = Some(StepKind::Place);
+        let live = with_life(marked);
+        let words = (0, live);
+        let found = self.exchange_slot(to, place.table, place.probe.i, kind, words, window);
+        if found != 0 {
+            return Some(Halt {
+                settle: Settle::Carrying(marked, Carry::Placing { hash, place }),
+                answer: Answer::Call(CallAnswer::Found(found)),
+            });
+        }
+        let byte = hint(hash);
+        write_hint_at(to, place.table, place.probe.i, byte, window);
+        match site.mode {
+            ResizeMode::Incremental(_) => self.finish(site, marked, window),
+            ResizeMode::Blocking => None,
+        }
+    }
+
+    /// Puts the pair that is carried into this place, if it is empty.
+    #[inline(always)]
+    fn put<'a>(
+        &mut self,
+        site: &Site<'a, K, V, S>,
+        to: &'a Table<K, V, S>,
+        marked: u64,
+        hash: u64,
+        place: Place,
+        window: &mut Window<'a, K, V, S>,
+    ) -> Option<Halt>
+        requires placed { IsPlacedAt window.old site.now }
+        requires within { IsWithin place }
+        requires table { IsTable window.old place.table to.now }
+        requires can { CanLeadAt window.old site.now
+            (settles.Carrying marked (carries.Reading hash place)) self.old }
+        ensures sees { Sees window.old window.new }
+        ensures own { window.new.own ≡ window.old.own }
+        ensures leaves { Leaves window.old site.now
+            (settles.Carrying marked (carries.Reading hash place)) self.old window.new self.new
+            result }
+    {
+        let word = self.load_slot(to, place.table, place.probe.i, window);
+        if word != 0 {
+            return Some(Halt {
+                settle: Settle::Carrying(marked, Carry::Reading { hash, place }),
+                answer: Answer::Call(CallAnswer::Word(word)),
+            });
+        }
+        self.fill(site, to, marked, hash, place, window)
+    }
+
+    /// Looks at one place of the next table for the pair that is carried.
+    #[inline(always)]
+    fn look<'a>(
+        &mut self,
+        site: &Site<'a, K, V, S>,
+        to: &'a Table<K, V, S>,
+        marked: u64,
+        hash: u64,
+        place: Place,
+        window: &mut Window<'a, K, V, S>,
+    ) -> Look
+        requires placed { IsPlacedAt window.old site.now }
+        requires within { IsWithin place }
+        requires table { IsTable window.old place.table to.now }
+        requires can { CanLeadAt window.old site.now
+            (settles.Carrying marked (carries.Looking hash place)) self.old }
+        ensures sees { Sees window.old window.new }
+        ensures own { window.new.own ≡ window.old.own }
+        ensures looks { LooksOn window.old site.now to.now marked hash place self.old window.new self.new
+            result }
+    {
+        let found = load_hint_at(to, place.table, place.probe.i, window);
+        match place.hinted(hash, found) {
+            Seen::On(Search::Looking(next)) => Look::Next(next),
+            Seen::On(Search::Reading(_)) => {
+                let left = self.put(site, to, marked, hash, place, window);
+                Look::Left(left)
+            }
+            _ => Look::Left(Some(Halt {
+                settle: Settle::Carrying(marked, Carry::Looking { hash, place }),
+                answer: Answer::Call(CallAnswer::Word(found)),
+            })),
+        }
+    }
+
+    /// Looks for an empty place in the next table for the pair that is carried, from this one on.
+    #[inline(always)]
+    fn seek<'a>(
+        &mut self,
+        site: &Site<'a, K, V, S>,
+        to: &'a Table<K, V, S>,
+        marked: u64,
+        hash: u64,
+        first: Place,
+        window: &mut Window<'a, K, V, S>,
+    ) -> Option<Halt>
+        requires placed { IsPlacedAt window.old site.now }
+        requires within { IsWithin first }
+        requires table { IsTable window.old first.table to.now }
+        requires can { CanLeadAt window.old site.now
+            (settles.Carrying marked (carries.Looking hash first)) self.old }
+        ensures sees { Sees window.old window.new }
+        ensures own { window.new.own ≡ window.old.own }
+        ensures leaves { Leaves window.old site.now
+            (settles.Carrying marked (carries.Looking hash first)) self.old window.new self.new
+            result }
+    {
+        let mut place = first;
+        loop {
+            match self.look(site, to, marked, hash, place, window) {
+                Look::Next(next) => place = next,
+                Look::Left(left) => return left,
+            }
+        }
+    }
+
+    /// Carries the pair of the slot, which is marked, to the next table.
+    #[inline(always)]
+    fn transfer<'a>(
+        &mut self,
+        site: &Site<'a, K, V, S>,
+        marked: u64,
+        window: &mut Window<'a, K, V, S>,
+    ) -> Option<Halt>
+        requires placed { IsPlacedAt window.old site.now }
+        requires can { CanLeadAt window.old site.now
+            (settles.Carrying marked (carries.Hashing site.now.chunk.scan.to)) self.old }
+        ensures sees { Sees window.old window.new }
+        ensures own { window.new.own ≡ window.old.own }
+        ensures leaves { Leaves window.old site.now
+            (settles.Carrying marked (carries.Hashing site.now.chunk.scan.to)) self.old window.new
+            self.new result }
+    {
+        let hash = self.carry(window);
+        let to = window.table(site.chunk.scan.to);
+        let (len, limit) = size_at(to, site.chunk.scan.to, window);
+        let first = Place::first(hash, site.chunk.scan.to, len, limit);
+        self.seek(site, to, marked, hash, first, window)
+    }
+
+    /// Marks the pair of the slot, which this word names, and carries it to the next table.
+    #[inline(always)]
+    fn mark<'a>(
+        &mut self,
+        site: &Site<'a, K, V, S>,
+        word: u64,
+        window: &mut Window<'a, K, V, S>,
+    ) -> Option<Halt>
+        requires placed { IsPlacedAt window.old site.now }
+        requires can { CanLeadAt window.old site.now (settles.Marking word) self.old }
+        ensures sees { Sees window.old window.new }
+        ensures own { window.new.own ≡ window.old.own }
+        ensures leaves { Leaves window.old site.now (settles.Marking word) self.old window.new
+            self.new result }
+    {
+        let kind = Some(StepKind::Mark);
+        let marked = with_mark(word);
+        let words = (word, marked);
+        let found = self.exchange_slot(
+            site.table,
+            site.chunk.scan.from,
+            site.chunk.at,
+            kind,
+            words,
+            window,
+        );
+        if found != word {
+            return Some(Halt {
+                settle: Settle::Marking(word),
+                answer: Answer::Call(CallAnswer::Found(found)),
+            });
+        }
+        self.transfer(site, marked, window)
+    }
+
+    /// Shuts the slot, which is empty, its hint last.
+    #[inline(always)]
+    fn close<'a>(
+        &mut self,
+        site: &Site<'a, K, V, S>,
+        window: &mut Window<'a, K, V, S>,
+    ) -> Option<Halt>
+        requires placed { IsPlacedAt window.old site.now }
+        requires can { CanLeadAt window.old site.now settles.Closing self.old }
+        ensures sees { Sees window.old window.new }
+        ensures own { window.new.own ≡ window.old.own }
+        ensures leaves { Leaves window.old site.now settles.Closing self.old window.new self.new
+            result }
+    {
+        let kind = Some(StepKind::Close);
+        let words = (0, Word::CLOSED.0);
+        let found = self.exchange_slot(
+            site.table,
+            site.chunk.scan.from,
+            site.chunk.at,
+            kind,
+            words,
+            window,
+        );
+        if found != 0 {
+            return Some(Halt {
+                settle: Settle::Closing,
+                answer: Answer::Call(CallAnswer::Found(found)),
+            });
+        }
+        write_hint_at(
+            site.table,
+            site.chunk.scan.from,
+            site.chunk.at,
+            SHUT,
+            window,
+        );
+        None
+    }
+
+    /// Copies a slot. It may have been seen before that its copy stands here.
+    #[inline(always)]
+    fn settle<'a>(
+        &mut self,
+        site: &Site<'a, K, V, S>,
+        window: &mut Window<'a, K, V, S>,
+    ) -> Option<Halt>
+        requires placed { IsPlacedAt window.old site.now }
+        requires waits { WaitsAt window.old site.now self.old }
+        ensures sees { Sees window.old window.new }
+        ensures own { window.new.own ≡ window.old.own }
+        ensures leaves { (seen : List (Event _ _ _)) → IsPrefix seen window.old.sight.log
+            → LeavesFrom (stop_seen seen site.now self.old) window.new site.now self.new result }
+    {
+        let word = self.load_slot(site.table, site.chunk.scan.from, site.chunk.at, window);
+        match Word(word).kind() {
+            Kind::Empty => self.close(site, window),
+            Kind::Live => self.mark(site, word, window),
+            Kind::Marked => Some(Halt {
+                settle: Settle::Looking,
+                answer: Answer::Call(CallAnswer::Word(word)),
+            }),
+            _ => None,
+        }
+    }
+
+    /// Copies the slots of a chunk from this one on, as long as no other caller is met and the pairs
+    /// find a place in the next table: where the copy stands then, and what it was answered there.
+    pub(crate) fn copy_slots<'a>(
+        &mut self,
+        aim: Aim,
+        chunk: Chunk,
+        mode: ResizeMode,
+        window: &mut Window<'a, K, V, S>,
+    ) -> (Copying, Answer)
+        requires standing { IsStandingChunk chunk }
+        requires can { CanLead window.old mode
+            (stop_in window.old (at_slot aim chunk settles.Looking) self.old) }
+        ensures sees { Sees window.old window.new }
+        ensures own { window.new.own ≡ window.old.own }
+        ensures standing { IsStandingCopying result.0 }
+        ensures fit { IsFit result.1 }
+        ensures ends { Ends window.old mode (at_slot aim chunk settles.Looking) self.old window.new
+            self.new result }
+    {
+        let table = window.table(chunk.scan.from);
+        let mut site = Site {
+            table,
+            aim,
+            chunk,
+            mode,
+        };
+        loop {
+            if let Some(halt) = self.settle(&site, window) {
+                let step = Step::Settling(site.chunk, halt.settle);
+                return (Copying::Stepping(site.aim, step), halt.answer);
+            }
+            site.chunk.at += 1;
+            if site.chunk.at >= site.chunk.end {
+                let at = At::Done(site.chunk.scan.to, site.chunk.scan.at);
+                let answer = self.exchange(at, Some(StepKind::Advance), (0, 1), window);
+                return (
+                    Copying::Stepping(site.aim, Step::Advancing(site.chunk.scan)),
+                    answer,
+                );
+            }
+        }
+    }
+}

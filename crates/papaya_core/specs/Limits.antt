@@ -1,0 +1,33 @@
+-- The numbers for pairs that a limit leaves.
+use Rattle.std.specs.Prelude.{◌≡◌, ◌≤◌, ℕ, Some, MatchOption}
+use Rattle.papaya_ask.specs.declared.ask.Ask.{Ask as Call_ask}
+use Rattle.papaya_ask.specs.declared.ask.Ask.TheVariants.{Load, Exchange}
+use Rattle.papaya_ask.specs.declared.ask.At.TheVariants.{Made}
+use Rattle.papaya_chain.specs.declared.ask.Ask.{Ask}
+use Rattle.papaya_chain.specs.declared.ask.Ask.TheVariants as asks
+use Rattle.papaya_chain.specs.Machine.{ask_of}
+use Rattle.papaya_store.specs.declared.pairs.Running.{Running}
+use Rattle.papaya_timeline.specs.Core.{CoreState, call_of}
+
+-- as many numbers were taken as the limit says
+abbrev pub IsSpent : {K V S A : Type 0} → CoreState K V S A → Type 0
+IsSpent s = s.mode.limit ≡ Some s.store.words.made
+
+-- no more were taken, where there is a limit
+abbrev pub IsWithin : {K V S A : Type 0} → CoreState K V S A → Type 0
+IsWithin s = MatchOption s.mode.limit (Unit {0}) (λ most. s.store.words.made ≤ most)
+
+-- how many numbers were taken is loaded, or exchanged for one more
+abbrev pub AsksNumber : Call_ask → Type 0
+AsksNumber (Load Made) = Unit {0}
+AsksNumber (Exchange Made old new) = Unit {0}
+AsksNumber _ = ⊥
+
+abbrev pub AsksForNumber : Ask → Type 0
+AsksForNumber (asks.Call ask) = AsksNumber ask
+AsksForNumber (asks.Copy ask) = ⊥
+
+-- the call that a caller has under way needs a number for its next pair
+abbrev pub NeedsNumber : {K V S A : Type 0} → CoreState K V S A → ℕ → Type 0
+NeedsNumber {K = K} {V = V} {A = A} s caller = (r : Running K V A) × (call_of s caller ≡ Some r)
+    × AsksForNumber (ask_of r.machine)

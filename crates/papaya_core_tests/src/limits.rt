@@ -1,0 +1,226 @@
+// A map with a limit on its pairs: just as many are logged as it says, a call that needs one more is
+// refused there, and no memory is wanted for it.
+use crate::expect::{is, is_at};
+use crate::plain::{
+    Asked, MODES, Numbers, WHOLE, begin, by_value, compute, removal, replies, reply_to, times,
+    value, value_of,
+};
+use papaya_ask::ask::StepKind;
+use papaya_ask::call::{Call, Reply};
+use papaya_call::answers::Operation;
+use papaya_core::schedule::Core;
+use papaya_core::trace::{Event, Trace, Turn};
+use papaya_hashers::times::APART;
+use papaya_words::probe::{Refused, ResizeMode};
+use std::alloc::Global;
+use std::process::Abort;
+use std::test::Fail;
+
+/// No number is left for a pair.
+const LIMIT: Reply = Reply::Refused(Refused::Limit);
+
+/// There is no memory.
+const MEMORY: Reply = Reply::Refused(Refused::Memory);
+
+/// So many callers insert at once, of whose pairs so many may be logged.
+const CALLERS: usize = 8;
+
+const MOST: u64 = 5;
+
+/// More steps than an insertion into a new map makes.
+const STEPS_OF_INSERT: usize = 16;
+
+/// A new map with this limit, which is made for so many pairs.
+fn limited(alloc: Global, mode: ResizeMode, capacity: usize, most: u64) -> Result<Numbers, Fail> {
+    Ok(Core::with_pair_limit(alloc, mode, capacity, 16, APART, most)?)
+}
+
+/// How many pairs were logged.
+fn logged(core: &Numbers) -> u64 {
+    let mut count = 0u64;
+    for number in 0..20 {
+        if value_of(core, number).is_some() {
+            count = count.wrapping_add(1);
+        }
+    }
+    count
+}
+
+/// A map with a limit of three has two keys and has replaced the value of one.
+fn three_pairs(rt: &impl Abort, alloc: Global, mode: ResizeMode) -> Result<Numbers, Fail> {
+    let mut core = limited(alloc, mode, 0, 3)?;
+    let replaced = Reply::Replaced { old: 10, new: 11 };
+    for (call, reply) in [
+        (Call::Insert(7, 10), Reply::Inserted(10)),
+        (Call::Insert(2, 20), Reply::Inserted(20)),
+        (Call::Insert(7, 11), replaced),
+    ] {
+        replies(rt, alloc, &mut core, (0, 0), call, reply)?;
+    }
+    Ok(core)
+}
+
+/// At the limit nothing is stored, and all else is as ever.
+fn stores_no_more(rt: &impl Abort, alloc: Global, core: &mut Numbers) -> Result<(), Fail> {
+    let fills = compute(alloc, vec![in alloc; Operation::Insert(12)]?);
+    let leaves = compute(alloc, vec![in alloc; Operation::Abort(3)]?);
+    for (case, call, reply) in [
+        (0, Call::Insert(3, 30), LIMIT),
+        (1, Call::Get(3), Reply::Absent),
+        (2, Call::Insert(7, 5), LIMIT),
+        (3, Call::TryInsert(7, 5), Reply::Occupied(11)),
+        (4, fills, LIMIT),
+        (5, leaves, Reply::Aborted(3)),
+        (6, removal(alloc, 7, true)?, Reply::Removed(11)),
+        (7, Call::TryInsert(7, 5), LIMIT),
+        (8, Call::Get(7), Reply::Absent),
+        (9, Call::Get(2), Reply::Found(20)),
+    ] {
+        replies(rt, alloc, core, (case, 1), call, reply)?;
+    }
+    is(rt, logged(core), 3);
+    Ok(())
+}
+
+#[test]
+fn calls_at_a_limit(rt: HostRuntime) -> Result<(), Fail> {
+    for mode in MODES {
+        let mut core = three_pairs(&rt, rt.alloc(), mode)?;
+        stores_no_more(&rt, rt.alloc(), &mut core)?;
+    }
+    Ok(())
+}
+
+/// Each caller begins an insertion and is stopped after so many steps. Then all go on.
+fn together(
+    alloc: Global,
+    core: &mut Numbers,
+    steps: usize,
+    is_one_key: bool,
+) -> Result<Trace, Fail> {
+    let mut turns = Vec::new(alloc);
+    for caller in 0..CALLERS {
+        let key = if is_one_key { 7 } else { caller as u64 };
+        turns.push(Turn::Begin(caller, Call::Insert(key, value(caller as u64))))?;
+        turns.push(Turn::Finish(caller, steps))?;
+    }
+    for caller in 0..CALLERS {
+        turns.push(Turn::Finish(caller, WHOLE))?;
+    }
+    Ok(core.run(turns)?)
+}
+
+/// How many callers were refused for the limit, and how many were not refused.
+fn ends(trace: &Trace) -> (usize, usize) {
+    let (mut refused, mut stored) = (0usize, 0usize);
+    for entry in &trace.entries {
+        match entry.event {
+            Event::Replied(reply) if reply == LIMIT => refused = refused.wrapping_add(1),
+            Event::Replied(Reply::Inserted(_) | Reply::Replaced { .. }) => {
+                stored = stored.wrapping_add(1);
+            }
+            _ => {}
+        }
+    }
+    (refused, stored)
+}
+
+/// Eight callers, of different keys or of one, leave just as many pairs as the limit says. Of
+/// different keys each pair that is logged is stored.
+fn just_so_many(
+    rt: &impl Abort,
+    alloc: Global,
+    mode: ResizeMode,
+    steps: usize,
+    is_one_key: bool,
+) -> Result<(), Fail> {
+    let mut core = limited(alloc, mode, 0, MOST)?;
+    let trace = together(alloc, &mut core, steps, is_one_key)?;
+    let (refused, stored) = ends(&trace);
+    is_at(rt, steps, logged(&core), MOST);
+    is_at(rt, steps, times(&trace, StepKind::Take), MOST as usize);
+    is_at(rt, steps, refused.wrapping_add(stored), CALLERS);
+    is_at(rt, steps, is_one_key || stored == MOST as usize, true);
+    Ok(())
+}
+
+#[test]
+fn callers_that_are_stopped_at_a_limit(rt: HostRuntime) -> Result<(), Fail> {
+    for steps in 0..STEPS_OF_INSERT {
+        for mode in MODES {
+            just_so_many(&rt, rt.alloc(), mode, steps, false)?;
+            just_so_many(&rt, rt.alloc(), mode, steps, true)?;
+        }
+    }
+    Ok(())
+}
+
+/// A caller makes a call, no step of which has memory, and it replies so.
+fn without_memory(
+    rt: &impl Abort,
+    alloc: Global,
+    core: &mut Numbers,
+    call: Asked,
+    reply: Reply,
+) -> Result<Trace, Fail> {
+    let mut turns = vec![in alloc; Turn::Begin(0, call)]?;
+    for _ in 0..STEPS_OF_INSERT {
+        turns.push(Turn::Step(0, true))?;
+    }
+    let trace = core.run(turns)?;
+    is(rt, by_value(core, reply_to(&trace, 0)), Some(reply));
+    Ok(trace)
+}
+
+/// There are tables already. At the limit no memory is wanted. Below it the number stays taken, though
+/// there is no memory for its pair.
+#[test]
+fn no_memory_at_a_limit(rt: HostRuntime) -> Result<(), Fail> {
+    let alloc = rt.alloc();
+    for mode in MODES {
+        let mut none = limited(alloc, mode, 6, 0)?;
+        let trace = without_memory(&rt, alloc, &mut none, Call::Insert(7, 1), LIMIT)?;
+        is(&rt, times(&trace, StepKind::Take), 0);
+        let mut one = limited(alloc, mode, 6, 1)?;
+        let trace = without_memory(&rt, alloc, &mut one, Call::Insert(7, 1), MEMORY)?;
+        is(&rt, times(&trace, StepKind::Take), 1);
+        replies(&rt, alloc, &mut one, (1, 0), Call::Insert(7, 1), LIMIT)?;
+        is(&rt, logged(&one), 0);
+    }
+    Ok(())
+}
+
+/// A map without a table that may log no pair. An insertion makes the table first, and is refused for
+/// want of memory where there is none for that. A compute shows that there is no pair, and makes no
+/// table.
+#[test]
+fn limit_of_no_pairs(rt: HostRuntime) -> Result<(), Fail> {
+    let alloc = rt.alloc();
+    for mode in MODES {
+        let mut core = limited(alloc, mode, 0, 0)?;
+        let fills = compute(alloc, vec![in alloc; Operation::Insert(10)]?);
+        let trace = begin(alloc, &mut core, 0, fills, WHOLE)?;
+        is(
+            &rt,
+            (reply_to(&trace, 0), times(&trace, StepKind::Open)),
+            (Some(LIMIT), 0),
+        );
+        let _ = without_memory(&rt, alloc, &mut core, Call::Insert(7, 1), MEMORY)?;
+        let trace = begin(alloc, &mut core, 0, Call::Insert(7, 1), WHOLE)?;
+        is(
+            &rt,
+            (reply_to(&trace, 0), times(&trace, StepKind::Open)),
+            (Some(LIMIT), 1),
+        );
+        replies(
+            &rt,
+            alloc,
+            &mut core,
+            (0, 0),
+            removal(alloc, 7, true)?,
+            Reply::Absent,
+        )?;
+        is(&rt, logged(&core), 0);
+    }
+    Ok(())
+}

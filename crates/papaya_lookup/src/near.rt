@@ -1,0 +1,234 @@
+//! The search that most lookups make: a loop over the places of the root alone. Where a copier was
+//! there, or the limit is reached, it gives up, and the whole search is made.
+ghost use Rattle.std.specs.Prelude.{◌≡◌, MatchOption, map};
+ghost use Rattle.papaya_words.specs.Word.{may_hold};
+ghost use Rattle.papaya_ask.specs.Search.{IsWithin};
+ghost use Rattle.papaya_call.specs.declared.machine.State.TheVariants.{Searching};
+ghost use Rattle.papaya_ask.specs.declared.search.Search.TheVariants.{Looking, Reading};
+ghost use Rattle.papaya_book.specs.Sheets.{word_named};
+ghost use Rattle.papaya_book.specs.Windows.{IsHint, IsLawful, IsSlotWord, Sees};
+ghost use Rattle.papaya_lookup.specs.Answers.{IsAnsweredBetween};
+ghost use Rattle.papaya_lookup.specs.Drivers.{IsNear, IsReadingAt, IsSlotAt, past};
+ghost use Rattle.papaya_lookup.specs.declared.near.Near.TheVariants.{On};
+
+use crate::lookup::{Met, hash};
+use papaya_ask::ask::At;
+use papaya_ask::search::Place;
+use papaya_book::book::gains::named_pair;
+use papaya_book::keyed::Asked;
+use papaya_book::rule::steps::Sought;
+use papaya_book::rule::trade::{Sight, Trade};
+use papaya_book::slot::Slot;
+use papaya_book::table::Table;
+use papaya_book::window::Window;
+use papaya_keys::guard::Equivalent;
+use papaya_words::word::{Kind, Word, hint, may_hold};
+use std::hash::{BuildHasher, Hash};
+
+/// The slots of a table: a loop over them keeps where they lie.
+#[inline(always)]
+fn slots_of<K: Hash + Eq, V, S: BuildHasher>(table: &Table<K, V, S>) -> &[Slot<K, V, S>]
+    ensures { result.now ≡ map (word_named table.now.book) table.now.slots }
+{
+    table.slots.as_slice()
+}
+
+/// One atomic load of the hint of a slot, as [`Window::hint`] does it.
+#[inline(always)]
+fn hint_of<K: Hash + Eq, V, S: BuildHasher>(
+    window: &mut Window<'_, K, V, S>,
+    slot: &Slot<K, V, S>,
+    number: u64,
+    place: usize,
+) -> u64
+    requires slot { IsSlotAt window.old number place slot.now }
+    ensures sees { Sees window.old window.new }
+    ensures hint { IsHint window.old window.new number place result }
+    ensures own { window.new.own ≡ window.old.own }
+{
+    window.sight.learn(&window.book.begun);
+    let hint = slot.hint().load(&mut window.sight);
+    window.sight.learn(&window.book.begun);
+    hint
+}
+
+/// One atomic load of the word of a slot, as [`Window::slot_word`] does it.
+#[inline(always)]
+fn word_of<K: Hash + Eq, V, S: BuildHasher>(
+    window: &mut Window<'_, K, V, S>,
+    slot: &Slot<K, V, S>,
+    number: u64,
+    place: usize,
+) -> (u64, Trade<K, V, S>)
+    requires slot { IsSlotAt window.old number place slot.now }
+    ensures sees { Sees window.old window.new }
+    ensures slot { IsSlotWord window.old window.new number place result.0 result.1.state }
+    ensures own { window.new.own ≡ window.old.own }
+{
+    window.sight.learn(&window.book.begun);
+    let sought = Sought {
+        at: At::Slot(number, place),
+    };
+    window.book.read(slot.word(), &sought, &mut window.sight)
+}
+
+/// Where one place leads a search of the root.
+#[derive(Drop)]
+pub(crate) enum Near<M, E> {
+    /// The key is not there.
+    On,
+    /// This pair has a matching key: where it was met, and its key and its value.
+    Found(M, E),
+    /// No pair has a matching key.
+    Absent,
+    /// A copier was there, so the whole search is to be made.
+    Aside,
+}
+
+/// Whether the word beside this hint is to be loaded, as [`may_hold`] says. Most searches that find
+/// their pair end with the first question.
+#[inline(always)]
+fn holds(found: u64, hash: u64) -> bool
+    ensures { result ≡ may_hold found hash }
+{
+    found == u64::from(hint(hash)) || may_hold(found, hash)
+}
+
+/// Loads the word of a slot, and compares the key of the pair that it names, if one lives there.
+#[inline(always)]
+fn read_slot<'a, K: Hash + Eq, V, S: BuildHasher, Q: Equivalent<K>>(
+    window: &mut Window<'a, K, V, S>,
+    key: &Q,
+    hash: u64,
+    began: &Sight<K, V, S>,
+    table: &Table<K, V, S>,
+    slot: &Slot<K, V, S>,
+    at: Place,
+) -> Near<Met<K, V>, (&'a K, &'a V)>
+    requires within { IsWithin at }
+    requires slot { IsSlotAt window.old at.table at.probe.i slot.now }
+    requires reading { IsReadingAt (⟦<S as Asked<K, Q>>⟧.query key.now) began.now.log window.old
+        hash (Searching (Reading at)) table.now }
+    ensures sees { Sees window.old window.new }
+    ensures own { window.new.own ≡ window.old.own }
+    ensures near { IsNear (⟦<S as Asked<K, Q>>⟧.query key.now) began.now.log window.new hash
+        table.now at result }
+{
+    let _ = began;
+    let _ = hash;
+    let _ = table;
+    let (word, trade) = word_of(window, slot, at.table, at.probe.i);
+    match Word(word).kind() {
+        Kind::Live => {
+            let book = window.book;
+            let stored = named_pair(word, trade);
+            let pair = book.pair(&stored);
+            let entry = book.entry(pair);
+            if !key.equivalent(entry.0) {
+                return Near::On;
+            }
+            let met = Met {
+                place: at,
+                word,
+                stored,
+            };
+            Near::Found(met, entry)
+        }
+        Kind::Empty => Near::Absent,
+        Kind::Buried | Kind::Closed => Near::On,
+        Kind::Marked | Kind::Copied => Near::Aside,
+    }
+}
+
+/// Looks at one slot: loads its hint, and its word where the hint says nothing or is the key's.
+#[inline(always)]
+fn look_at_slot<'a, K: Hash + Eq, V, S: BuildHasher, Q: Equivalent<K>>(
+    window: &mut Window<'a, K, V, S>,
+    key: &Q,
+    hash: u64,
+    began: &Sight<K, V, S>,
+    table: &Table<K, V, S>,
+    slot: &Slot<K, V, S>,
+    at: Place,
+) -> Near<Met<K, V>, (&'a K, &'a V)>
+    requires within { IsWithin at }
+    requires slot { IsSlotAt window.old at.table at.probe.i slot.now }
+    requires reading { IsReadingAt (⟦<S as Asked<K, Q>>⟧.query key.now) began.now.log window.old
+        hash (Searching (Looking at)) table.now }
+    ensures sees { Sees window.old window.new }
+    ensures own { window.new.own ≡ window.old.own }
+    ensures near { IsNear (⟦<S as Asked<K, Q>>⟧.query key.now) began.now.log window.new hash
+        table.now at result }
+{
+    let found = hint_of(window, slot, at.table, at.probe.i);
+    if !holds(found, hash) {
+        return Near::On;
+    }
+    read_slot(window, key, hash, began, table, slot, at)
+}
+
+/// Searches a table from this place on, as long as no copier was there and the limit is not reached.
+#[inline(always)]
+fn search_slots<'a, K: Hash + Eq, V, S: BuildHasher, Q: Equivalent<K>>(
+    window: &mut Window<'a, K, V, S>,
+    key: &Q,
+    hash: u64,
+    began: &Sight<K, V, S>,
+    table: &Table<K, V, S>,
+    at: Place,
+) -> Near<Met<K, V>, (&'a K, &'a V)>
+    requires within { IsWithin at }
+    requires limit { at.limit ≡ table.now.limit }
+    requires reading { IsReadingAt (⟦<S as Asked<K, Q>>⟧.query key.now) began.now.log window.old
+        hash (Searching (Looking at)) table.now }
+    ensures sees { Sees window.old window.new }
+    ensures own { window.new.own ≡ window.old.own }
+    ensures ends { result ≡ On → ⊥ }
+    ensures near { (last : _) × IsNear (⟦<S as Asked<K, Q>>⟧.query key.now) began.now.log
+        window.new hash table.now last result }
+{
+    let slots = slots_of(table);
+    let mut place = at;
+    loop {
+        let slot = &slots[place.probe.i];
+        match look_at_slot(window, key, hash, began, table, slot, place) {
+            Near::On => {}
+            turned => return turned,
+        }
+        if place.probe.len >= table.limit() {
+            return Near::Aside;
+        }
+        place.probe.next(place.len - 1);
+    }
+}
+
+/// What a lookup answers by the root alone, or None where the whole search is to be made.
+#[inline(always)]
+pub(crate) fn search_near<'a, K: Hash + Eq, V, S: BuildHasher, Q: Equivalent<K>>(
+    window: &mut Window<'a, K, V, S>,
+    key: &Q,
+) -> Option<Option<&'a V>>
+    ensures sees { Sees window.old window.new }
+    ensures own { window.new.own ≡ window.old.own }
+    ensures lawful { IsLawful window.new }
+    ensures answered { MatchOption result (Unit {0}) (IsAnsweredBetween K.eq (Q.matches key.now)
+        (past window.old) (past window.new)) }
+{
+    window.learn();
+    let began = window.sight.again();
+    let hash = hash(&window.book.parts.hasher, key);
+    let (number, held) = window.root();
+    let Some(table) = held else {
+        return None;
+    };
+    let (len, limit) = table.size();
+    let first = Place::first(hash, number, len, limit);
+    match search_slots(window, key, hash, &began, table, first) {
+        Near::Found(_met, entry) => Some(Some(entry.1)),
+        Near::Absent => Some(None),
+        _ => {
+            window.learn();
+            None
+        }
+    }
+}

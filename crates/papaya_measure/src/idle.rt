@@ -1,0 +1,61 @@
+//! The loop of the workloads alone: what it takes is no map's.
+use crate::collections::Collection;
+use crate::steps::{Target, Work};
+use papaya_shell::failure::Failure;
+use std::alloc::Global;
+use std::sync::Wait;
+use std::sync::atomic::{AtomicU64, Ordering};
+
+/// What stands where a map would, and keeps nothing.
+#[derive(Drop)]
+pub(crate) struct Idle {
+    /// It stays 0.
+    zero: AtomicU64,
+}
+
+impl Idle {
+    /// Stands where a call would: one load, without which the loop would be left out.
+    #[inline(always)]
+    fn pass_on(&self, key: u64) -> u64 {
+        key.wrapping_add(self.zero.load(Ordering::SeqCst))
+    }
+}
+
+impl Target for Idle {
+    #[inline(always)]
+    fn look_up<R: Wait>(&mut self, _rt: &R, key: u64) -> u64 {
+        self.pass_on(key)
+    }
+
+    #[inline(always)]
+    fn put_in<R: Wait>(&mut self, _rt: &R, key: u64, _value: u64) -> Result<u64, Failure> {
+        Ok(self.pass_on(key))
+    }
+
+    #[inline(always)]
+    fn take_out<R: Wait>(&mut self, _rt: &R, key: u64) -> Result<u64, Failure> {
+        Ok(self.pass_on(key))
+    }
+
+    #[inline(always)]
+    fn count_up<R: Wait>(&mut self, _rt: &R, key: u64) -> Result<u64, Failure> {
+        Ok(self.pass_on(key))
+    }
+
+    #[inline(always)]
+    fn work_out<R: Wait>(&mut self, _rt: &R, key: u64) -> Result<u64, Failure> {
+        Ok(self.pass_on(key))
+    }
+}
+
+impl Collection for Idle {
+    fn empty<R: Wait>(_rt: &R, _alloc: Global, _capacity: usize) -> Result<Idle, Failure> {
+        Ok(Idle {
+            zero: AtomicU64::new(0),
+        })
+    }
+
+    fn alone<R: Wait>(&mut self, rt: &R, work: Work) -> Result<u64, Failure> {
+        work.at(rt, self)
+    }
+}

@@ -1,0 +1,101 @@
+// The key that is stored stays where its value is replaced. The keys here are equal where their numbers
+// are, so that a label tells which of them is stored.
+ghost use Rattle.std.specs.Prelude.{◌≡◌, ◌==◌};
+ghost use Rattle.std.proofs.Common.{ap};
+ghost use Rattle.std.specs.Cmp.{nat_eq_equiv, on_equiv, partial_equiv_from_equiv, unsigned_Decides};
+ghost use Rattle.std.specs.Hash as fed;
+
+use crate::expect::is;
+use papaya_call::answers::Operation;
+use papaya_keys::compute::Compute;
+use papaya_seq::seq::HashMap;
+use papaya_words::probe::Refused;
+use std::hash::{Hash, Hasher};
+use std::process::Abort;
+use std::test::Fail;
+
+/// A number with a label that no comparison looks at.
+#[derive(Clone, Copy)]
+struct Labelled {
+    number: u64,
+    label: char,
+}
+
+impl PartialEq for Labelled {
+    ghost eq = { λ x y. x.number == y.number };
+
+    ghost laws = { partial_equiv_from_equiv (on_equiv (λ key. key.number) nat_eq_equiv) };
+
+    fn eq(&self, other: &Labelled) -> bool {
+        self.number == other.number
+    }
+}
+
+impl Eq for Labelled {
+    ghost laws = { on_equiv (λ key. key.number) nat_eq_equiv };
+}
+
+impl Hash for Labelled {
+    ghost hash_input = { λ key. fed.u64 key.number };
+
+    ghost respects_eq = { λ x y same. ap fed.u64 ((unsigned_Decides x.number y.number).0 same) };
+
+    fn hash<H: Hasher>(&self, state: &mut H) {
+        self.number.hash(state);
+    }
+}
+
+type Keys = HashMap<Labelled, u64>;
+
+/// Key 7 with this label.
+fn seven(label: char) -> Labelled {
+    Labelled { number: 7, label }
+}
+
+/// Which key is stored, by its label, and its value.
+fn stored(map: &Keys) -> Option<(char, u64)> {
+    match map.get_key_value(&seven('?')) {
+        Some((key, value)) => Some((key.label, *value)),
+        None => None,
+    }
+}
+
+/// Key 7 with this label is stored, and this is there then.
+fn stores(rt: &impl Abort, map: &mut Keys, label: char, value: u64, wanted: (char, u64)) {
+    is(rt, map.put(seven(label), value).is_ok(), true);
+    is(rt, stored(map), Some(wanted));
+}
+
+/// The labels and values of what a compute has updated.
+fn updated(
+    computed: Result<Compute<'_, Labelled, u64, ()>, Refused>,
+) -> Option<((char, u64), (char, u64))> {
+    match computed {
+        Ok(Compute::Updated { old, new }) => {
+            Some(((old.0.label, *old.1), (new.0.label, *new.1)))
+        }
+        _ => None,
+    }
+}
+
+#[test]
+fn stored_key_stays(rt: HostRuntime) -> Result<(), Fail> {
+    let mut map: Keys = HashMap::new(rt.alloc())?;
+    stores(&rt, &mut map, 'x', 1, ('x', 1));
+    stores(&rt, &mut map, 'y', 2, ('x', 2));
+    is(&rt, map.remove(&seven('y')), Ok(Some(&2)));
+    stores(&rt, &mut map, 'y', 3, ('y', 3));
+    Ok(())
+}
+
+#[test]
+fn stored_key_stays_in_a_compute(rt: HostRuntime) -> Result<(), Fail> {
+    let mut map: Keys = HashMap::new(rt.alloc())?;
+    stores(&rt, &mut map, 'x', 1, ('x', 1));
+    let computed = map.compute(seven('y'), |shown| match shown {
+        Some((_, value)) => Operation::Insert(value.wrapping_add(1)),
+        None => Operation::<u64, ()>::Remove,
+    });
+    is(&rt, updated(computed), Some((('x', 1), ('x', 2))));
+    Ok(())
+}

@@ -1,0 +1,9 @@
+//! What a map was built for.
+use papaya_words::probe::ResizeMode;
+
+/// How a map resizes, and how many pairs it may log, if there is a limit.
+#[derive(Clone, Copy)]
+pub struct Mode {
+    pub resize: ResizeMode,
+    pub limit: Option<u64>,
+}
