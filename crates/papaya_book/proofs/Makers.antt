@@ -169,7 +169,7 @@ module _ {K V S : Type 0} (eq : K → K → Bool) (hash : S → K → ℕ) where
         (omega arith)
         (λ k at x. old k (not_maker cs log h at k x) (h.counted at k x).0)
         (λ k l. let m = h.many in ap (λ (c : Cell). c.1) (cell_left made k (omega arith)) ∙ home_still cs 1 k new within (h.homes k l))
-        (λ k three home. ⊎_elim (λ past. inr (ap (λ (c : Cell). c.0) (cell_past made k (omega arith)))) (λ l. inl (old k (λ i. absurd (omega arith)) l)) (leb_tells (length cs) k))
+        (λ k three home. ⊎_elim (λ past. inr (ap (λ (c : Cell). c.0) (cell_past made k (omega arith)))) (λ l. inl (old k (λ i. absurd (omega arith)) l.1)) (leb_tells (length cs) k))
 
     -- the words that were dealt are the next ones of the row
     pub words_dealt : (seal count : ℕ) → 3 + row_len ≤ seal → dealt log + count ≤ row_len → AreDealt (3 + dealt log) count seal (log ++ Dealt seal count ∷ [])

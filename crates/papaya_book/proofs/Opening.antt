@@ -1,5 +1,5 @@
 -- The first log and words of a book keep the rule.
-use Rattle.std.proofs.Common.{◌≡◌, ◌⊎◌, inl, inr, ℕ, ◌<◌, zero, suc, ◌≤◌, true, None, Some, List, [], ◌∷◌, length, replicate, refl, sym, ap, ◌∙◌, subst, ⊎_elim, Bool, false, ◌+◌, ◌^◌, arith}
+use Rattle.std.proofs.Common.{◌≡◌, ◌⊎◌, inl, inr, ℕ, ◌<◌, zero, suc, ◌≤◌, true, None, Some, List, [], ◌∷◌, length, replicate, refl, sym, ap, ◌∙◌, subst, ⊎_elim, Bool, false, ◌+◌, arith}
 use Rattle.std.proofs.lemmas.List.{get_or-replicate, length-replicate}
 use Rattle.logbook.specs.Pages.{Cell, cell}
 use Rattle.papaya_ask.specs.declared.ask.At.{At}
@@ -85,6 +85,6 @@ pub stands_keyless : (R : RattleType) (w : Where R.Denot) → Keyless (stands R 
 stands_keyless R w = λ x. (tt, tt)
 
 -- the row has so many words, as code writes it
-pub row_is : row_len ≡ 2 ^ 62
+pub row_is : row_len ≡ 4611686018427387904
 unfolding row_len
 row_is = refl
