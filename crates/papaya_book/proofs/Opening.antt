@@ -67,15 +67,15 @@ module _ {K V S : Type 0} (eq : K → K → Bool) (hash : S → K → ℕ) (b : 
 
   -- a book that is opened with the words of the map and a row keeps the rule
   pub opens_kept : (n : ℕ) → n ≡ 3 + row_len → IsKept eq hash (replicate n (0, true)) (Begin b ∷ [])
-  opens_kept n is = let long : length (replicate n (0, true)) ≡ n = length-replicate n (0, true) in record {
+  opens_kept n is = let long = sym (length-replicate n (0, true)) in record {
     begun = b;
     lawful = first_lawful;
-    many = omega arith;
+    many = let all : 3 + row_len ≤ n = omega arith in subst (λ (m : ℕ). 3 + row_len ≤ m) long all;
     homes = λ k l. ap (λ (c : Cell). c.1) (first_home n k (omega arith));
     maker = first_home n 1 (omega arith);
     room = omega arith;
     coded = λ at k x. first_coded n (omega arith) at k (first_key K V at k x);
-    counted = λ at k x. let r = first_of_map K V at k x in let l = r.1 in (omega arith, inl r.0);
+    counted = λ at k x. let r = first_of_map K V at k x in let low = r.1 in let all : k < n = omega arith in (subst (λ (m : ℕ). k < m) long all, inl r.0);
     owned = λ at k x. inl (first_of_map K V at k x).0;
     fresh = λ k three home out. first_zero n k;
   }
