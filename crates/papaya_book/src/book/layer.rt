@@ -102,8 +102,12 @@ impl<K: Hash + Eq, V, S: BuildHasher> Book<K, V, S> {
         let slots = Vec::with_capacity(alloc, len).ok()?;
         let (aborted, seal, mut row) = self.deal(rt, count as u64, sight)?;
         let next = Self::word(&mut row);
-        let done = Self::words(done, chunks, &mut row).ok()?;
-        let slots = Self::slots(slots, len, &mut row, sight).ok()?;
+        let Ok(done) = Self::words(done, chunks, &mut row) else {
+            return None;
+        };
+        let Ok(slots) = Self::slots(slots, len, &mut row, sight) else {
+            return None;
+        };
         let table = Table {
             limit,
             next,
