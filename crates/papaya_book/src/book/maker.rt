@@ -95,13 +95,9 @@ impl<K: Hash + Eq, V, S: BuildHasher> Book<K, V, S> {
             }
             let mut draw = trade::drawing(sight, old + 2, count);
             let mut pen = sight.no_pen();
-            let found = self.maker.compare_exchange::<Deal, Drawn>(
-                old,
-                old + count,
-                sight,
-                &mut draw,
-                &mut pen,
-            );
+            let found = self
+                .maker
+                .compare_exchange::<Deal, Drawn>(old, old + count, sight, &mut draw, &mut pen);
             if found == old {
                 let seal = Word::tracked(0, &mut pen);
                 return Some((seal, pen, drawn(draw.into_gain())));
