@@ -45,11 +45,12 @@ value_left None = None
 
 -- An insertion by a key that these match comes to this state, whatever the map's settings are, when
 -- each of its asks is answered by what stands in the tables.
-abbrev pub IsLedTo : {K V S : Type 0} → (matches : K → Bool) → StoreState K V S → (hashed : ℕ) → Bool
-    → State → Type 0
+abbrev pub IsLedTo : {K V S : Type 0} → (matches : K → Bool) → StoreState K V S → (hashed : ℕ)
+    → Bool → State → Type 0
 IsLedTo matches store hashed replace state = (mode : ResizeMode) (initial : ℕ) (limit : Option ℕ)
-    → (answers : List Call_answer) × Comes matches store (started (Insert replace) hashed mode initial limit)
-    answers (record (started (Insert replace) hashed mode initial limit) { state = state })
+    → (answers : List Call_answer)
+    × Comes matches store (started (Insert replace) hashed mode initial limit) answers
+    (record (started (Insert replace) hashed mode initial limit) { state = state })
 
 module _ {K V S : Type 0} (eq : K → K → Bool) (hash : S → K → ℕ) where
   -- one ask was answered by the store
