@@ -22,6 +22,7 @@ pub mod Seeking
 pub mod Claiming
 pub mod Replacing
 pub mod Logged
+pub mod Onward
 -- what closures are shown
 pub mod Showings
 -- removals

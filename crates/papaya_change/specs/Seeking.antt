@@ -7,9 +7,10 @@ use Rattle.papaya_ask.specs.declared.call.Task.TheVariants.{Insert}
 use Rattle.papaya_ask.specs.declared.search.Place.{Place}
 use Rattle.papaya_ask.specs.declared.search.Search.TheVariants.{Looking}
 use Rattle.papaya_ask.specs.declared.search.Seen.{Seen}
-use Rattle.papaya_ask.specs.declared.search.Seen.TheVariants.{On, Empty as Seen_empty}
+use Rattle.papaya_ask.specs.declared.search.Seen.TheVariants.{On, Empty as Seen_empty, Over as Seen_over}
 use Rattle.papaya_call.specs.declared.machine.State.{State}
-use Rattle.papaya_call.specs.declared.machine.State.TheVariants.{Searching, Writing}
+use Rattle.papaya_call.specs.declared.machine.State.TheVariants.{Growing, Searching, Writing}
+use Rattle.papaya_call.specs.declared.need.Need.TheVariants.{Room}
 use Rattle.papaya_call.specs.declared.made.Made.{Made}
 use Rattle.papaya_call.specs.Made.{nothing_made}
 use Rattle.papaya_call.specs.Machine.{started}
@@ -21,7 +22,7 @@ use Rattle.papaya_book.specs.Logs.{Stored}
 use Rattle.papaya_book.specs.Sheets.{Sheet}
 use Rattle.papaya_change.specs.Changing.{IsCalling}
 use Rattle.papaya_change.specs.declared.at_once.Turn.{Turn}
-use Rattle.papaya_change.specs.declared.at_once.Turn.TheVariants.{Next, Empty, Met, Else}
+use Rattle.papaya_change.specs.declared.at_once.Turn.TheVariants.{Next, Empty, Met, Over, Else}
 
 -- the machine of an insertion that has made this and stands here, of a map of this initial capacity
 abbrev pub insertion_at : (hash : ℕ) → ResizeMode → (initial : ℕ) → Made → State → Machine
@@ -36,13 +37,15 @@ insertion_at hash mode initial made state = record {
 abbrev pub turn_of : {K V : Type 0} → Seen → Turn K V
 turn_of (On (Looking at)) = Next at
 turn_of (Seen_empty at) = Empty at
+turn_of (Seen_over table) = Over table
 turn_of _ = Else
 
--- where a turn leads the insertion's machine, where it leads to a place
+-- where a turn leads the insertion's machine, where it leads to a place or past the table
 abbrev pub led_to : {K V : Type 0} → Turn K V → Option State
 led_to (Next at) = Some (Searching (Looking at))
 led_to (Empty at) = Some (Writing (record { place = at; old = 0 }))
 led_to (Met met) = Some (Writing (record { place = met.place; old = met.word }))
+led_to (Over table) = Some (Growing (Room table))
 led_to Else = None
 
 -- the pair that it met
