@@ -43,6 +43,7 @@ PARTS = {
     "bury": "delete",
     "buries": "deletes",
     "burying": "deleting",
+    "unburied": "undeleted",
     "burial": "deletion",
     "burials": "deletions",
     "visit": "scan",
@@ -102,8 +103,33 @@ NAMES = {
     "RestsSeen": "ReliesProbed",
 }
 
+# Specs of papaya_change that say the same of what a window shows stand in a folder, under their twins' names.
+WINDOW = {
+    "Copiers": "Copier",
+    "Drivers": "Driver",
+    "Goings": "Going",
+    "Insertions": "Inserting",
+    "Removals": "Removing",
+    "Resizes": "Resizing",
+    "Seeks": "Seeking",
+    "Settles": "Settling",
+    "Steps": "Steps",
+    "Writers": "Writing",
+}
+
 # Words in names that are sentences, as those of edits and tests, and in comments and documents.
 PROSE = [
+    (r"\bscans the words of its chunks\b", "goes over the words of its chunks"),
+    (r"\bin (the same|one) scan\b", r"with \1 cursor"),
+    (r"\bone scan a chunk\b", "one cursor a chunk"),
+    (r"\bA scan of chunk words\b", "A cursor over chunk words"),
+    (r"\bA scan begins at chunk\b", "A cursor begins at chunk"),
+    (r"\b(the|where a) scan begins\b", r"\1 cursor begins"),
+    (r"\bplaces visit every slot\b", "places come to every slot"),
+    (r"\ba search visits\b", "a search looks at"),
+    (r"\bvisit a place twice\b", "come to a place twice"),
+    (r"\bfacts about a visit\b", "facts about a place"),
+    (r"\bA slot that is buried\b", "A slot with a tombstone"),
     (r"\bA log of pairs\b", "An arena of pairs"),
     (r"\ba log of pairs\b", "an arena of pairs"),
     (r"\blog of pairs\b", "arena of pairs"),
@@ -132,6 +158,12 @@ PROSE = [
     (r"\b([Bb])uries\b", lambda m: "Deletes" if m[1] == "B" else "deletes"),
     (r"\b([Bb])urying\b", lambda m: "Deleting" if m[1] == "B" else "deleting"),
     (r"\b([Bb])urial(s?)\b", lambda m: ("Deletion" if m[1] == "B" else "deletion") + m[2]),
+    (r"\bthe hands of a call that has made this pair\b", "the pairs of a call that has made this one"),
+    (r"\bwith more pairs in its hands\b", "with more pairs loaded"),
+    (r"\bone more pair in the call's hands\b", "one more pair of the call's"),
+    (r"\bwhatever its hands were told of last\b", "whatever it was told of last"),
+    (r"\bthe hands of the call\b", "the pairs that the call has loaded"),
+    (r"\b([Tt])he trade gains\b", r"\1he offer gains"),
     (r"\btale\b", "trace"),
     (r"\btales\b", "traces"),
 ]
@@ -208,6 +240,8 @@ class Place:
 
 def renamed(name, place, before="", after=""):
     """A name of code, with what stands before and behind it in its line."""
+    if name in WINDOW and re.search(r"\bpapaya_change\.specs\.$", before):
+        return f"Window.{WINDOW[name]}"
     if name in ("stays", "stay", "Stays"):
         return renamed_stays(name, place, before, after)
     if name == "Seen" and place.has_search and not re.search(r"logbook[.\w:]*(\.|::)$", before):
@@ -280,12 +314,14 @@ def is_name(it):
 def prose(text, place):
     """Plain words, with names in backticks or that no plain word looks like."""
     done = []
+    if place.path.endswith((".rt", ".antt")):
+        text = re.sub(r"\bscan\b", "cursor", text)
     for at, part in enumerate(re.split(r"(`[^`]*`)", text)):
         if at % 2:
             done.append(code(part, place))
             continue
         # (paths too, as papaya_rests/src/rests.rt)
-        pieces = re.split(r"([\w/{},.*-]*/[\w/{},.*-]+|\b\w*(?:_\w+|[a-z][A-Z]\w*)\b)", part)
+        pieces = re.split(r"([\w/{},.*-]*/[\w/{},.*-]+|\b\w+\.(?:antt|rt)\b|\b\w*(?:_\w+|[a-z][A-Z]\w*)\b)", part)
         done.append("".join(code(it, place) if odd % 2 else words(it) for odd, it in enumerate(pieces)))
     return "".join(done)
 
@@ -340,6 +376,8 @@ def renamed_path(path, place):
         parts[1] = CRATES.get(parts[1], parts[1])
         if parts[2] in ("src", "specs", "proofs"):
             old = parts[:]
+            if place.crate == "papaya_change" and parts[2] == "specs" and parts[3].removesuffix(".antt") in WINDOW:
+                return f"crates/papaya_change/specs/Window/{WINDOW[parts[3].removesuffix('.antt')]}.antt"
             for at in range(3, len(parts)):
                 stem, dot, kind = old[at].partition(".")
                 before = "".join(f"{it}." for it in old[3:at])
@@ -393,7 +431,65 @@ def document(text, place):
             done.append(source(line, Place(place.path + ".antt" if "--" in line else place.path + ".rt", "")) if fenced else prose(line, place))
         else:
             done.append(prose(line, place))
-    return "\n".join(done)
+    done = [of_documents(old, new) for old, new in zip(text.split("\n"), done)]
+    return glossary("\n".join(done)) if place.path.endswith("GLOSSARY.md") else "\n".join(done)
+
+
+def of_documents(old, new):
+    """What a line of a document says of names that only its words tell apart, and its columns."""
+    if "`names`" in old or old.startswith("| `stays`"):
+        new = new.replace("`stays`", "`stable`")
+    new = re.sub(r"`Given(`|::)", r"`CapacityCause\1", new)
+    new = new.replace("a list without bytes (`Own`)", "a list without bytes (`OwnSteps`)")
+    in_window = "|".join(WINDOW)
+    new = re.sub(rf"papaya_change/specs/({in_window})\.antt", lambda m: f"papaya_change/specs/Window/{WINDOW[m[1]]}.antt", new)
+    new = re.sub(r"`specs/(Seeks|Settles)\.antt", lambda m: f"`specs/Window/{WINDOW[m[1]]}.antt", new)
+    new = new.replace("papaya_change/specs/{Showings,Removing,Removals}.antt", "papaya_change/specs/{Showings,Removing,Window/Removing}.antt")
+    if old != new and re.match(r"    \S+ .* {2,}\S", old):
+        starts = [m.end() for m in re.finditer(r" {2,}", old)]
+        line = ""
+        for at, cell in zip(starts, re.split(r" {2,}", new.strip())):
+            line = line + " " * max(at - len(line), 2 if line else 4) + cell
+        new = line
+    return new
+
+
+# Rows of the glossary, by their old first cells; and those that it has besides.
+ROWS = {
+    "buried": "| tombstone | a slot's word after its pair was removed. It is never filled again |",
+    "burial, claim, replacement": "| claim, deletion, replacement | the three kinds of exchange that change the map: a slot takes a pair, gives its pair up and keeps a tombstone, takes another pair |",
+    "rests": "| relies, stable, guarantee | a machine relies on facts; they are stable: they stay true whatever others exchange; and it guarantees that each exchange that it asks for is allowed |",
+    "scan": "| cursor | the words of a table's chunks, loaded from one of them on and once around; a copier copies the first chunk whose word is 0 |",
+    "sight": "| seen | `logbook`'s record that the log was at least this (`Seen`); a pass holds one |",
+    "further key, further table": "| further key | a key of another type that a lookup goes by |",
+}
+MORE_ROWS = [
+    "| arena of pairs | where the pairs of a map lie: rows that only grow, each slot written once |",
+    "| call trace | of a call under way: the exchanges when it began, those since then, and the pairs that its machine was told of |",
+    "| fast path, slow path | plain code, where the machine stands in the proof alone; a loop that runs the machine |",
+    "| loaded pairs | the pairs that a machine was told of: the one that the word last loaded names, and those that it made |",
+    "| next table | the table behind a full one |",
+    "| offer | an update of a book by one of its clients, with what it gives to the book |",
+    "| scan, scanner | a call that goes over each slot of a table: `clear`, `retain` or a walk; its machine |",
+]
+
+
+def glossary(text):
+    """The rows of the glossary, in order, with those of the new words."""
+    lines = text.split("\n")
+    first = next((at for at, it in enumerate(lines) if re.match(r"\|[ :-]+\|", it)), None)
+    if first is None:
+        return text
+    end = first + 1
+    while end < len(lines) and lines[end].startswith("|"):
+        end += 1
+    rows = lines[first + 1 : end]
+    for old, new in ROWS.items():
+        olds = {words(old), old}
+        rows = [new if it.split(" | ")[0].strip("| ") in olds else it for it in rows]
+    have = {it.split(" | ")[0] for it in rows}
+    rows += [it for it in MORE_ROWS if it.split(" | ")[0] not in have]
+    return "\n".join(lines[: first + 1] + sorted(rows, key=str.lower) + lines[end:])
 
 
 def script(text, place):
@@ -495,26 +591,32 @@ def broken(old, new):
 
 
 def place_of_break(line, indent, most):
-    """Where a line of a clause may be broken: before the last operator that stands least deep, not too early."""
-    if re.match(r"\s*(let|if|else|for|while|match|return|\}|\.|self\.|fn|pub fn|use|#)", line):
+    """Where a line of a clause may be broken: not too early, before an operator or an argument that stands least deep."""
+    if re.match(r"\s*(?:(?:let|if|else|for|while|match|return|fn|pub fn|use)\b|\}|\.|self\.|#)", line):
         return None
-    depth, found = 0, []
-    for at, it in enumerate(line):
+    equals = re.match(r"\s*[^{}λ]*? =(?= )", line)
+    if equals and equals.end() <= most and len(line) - equals.end() + indent + 4 <= COLUMNS and line.rstrip()[-1] not in "{":
+        if not re.search(r"[→×⊎]", line) or equals.end() > 60:
+            return equals.end()
+    if re.search(r"record \{.*; ", line):
+        cuts = [m.end() - 1 for m in re.finditer(r"; ", line) if m.end() - 1 <= most]
+        if cuts:
+            return cuts[-1]
+    depth, operators, spaces = 0, [], []
+    for at, it in enumerate(line[: most + 1]):
         if it in "({[":
             depth += 1
         elif it in ")}]":
             depth -= 1
-        elif it == " " and at > indent and line[at + 1 : at + 2] in OPERATORS and at <= most:
-            found.append((depth, at))
-        elif it == " " and at > indent and at <= most and depth <= 1 and line[at - 1] == "=" and line[at - 2] == " ":
-            found.append((depth + 1, at))
-    late = [it for it in found if it[1] > indent + 30]
-    if not late:
-        late = [(0, line.rfind(" ", indent + 1, most + 1))]
-        if late[0][1] < 0 or not re.search(r"[→×⊎≡]", line):
-            return None
-    least = min(it[0] for it in late)
-    return max(it[1] for it in late if it[0] <= least + 1)
+        elif it == " " and at > indent + 30 and line[at + 1 : at + 2] not in (":", "}", "=", "{"):
+            spaces.append((depth, at))
+            if line[at + 1 : at + 2] in OPERATORS:
+                operators.append((depth, at))
+    found = operators or (spaces if re.search(r"[→×⊎≡]|^\s*(pub )?record |^\s*(pub )?\w+ : |^\s*\(|\b(ensures|requires)\b", line) else [])
+    if not found:
+        return None
+    least = min(it[0] for it in found)
+    return max(it[1] for it in found if it[0] <= least + (1 if operators else 0))
 
 
 def wrapped(path, old, new):
@@ -591,10 +693,23 @@ def special(path, text):
         text = text.replace("pub type Seen<K, V, S> = Seen<", "pub type Seen<K, V, S> = logbook::Seen<")
         text = text.replace("pub type Offer<K, V, S> = Offer<", "pub type Offer<K, V, S> = logbook::Offer<")
         text = re.sub(r"^    Offer \{", "    logbook::Offer {", text, flags=re.M)
+    if path == "crates/papaya_timeline/specs/Kept.antt":
+        text = text.replace("\n-- hands\n", "\n-- pairs loaded\n")
+    if path == "crates/papaya_change/specs/Lib.antt":
+        lines = [it for it in text.split("\n") if it.removeprefix("pub mod ") not in WINDOW]
+        text = "\n".join(lines).replace("-- the same by what is seen of the map", "-- the same by what a window shows of the map\npub mod Window")
     if path == "crates/papaya_book/src/book/maker.rt":
         text = text.replace("use logbook::{Pen, Seen, Word};", "use logbook::{Pen, Word};")
         text = text.replace("= Seen::open_row", "= logbook::Seen::open_row")
     return text
+
+
+def new_files(made):
+    """The node of the specs that stand in a folder of their own."""
+    folder = "crates/papaya_change/specs/Window"
+    inner = sorted(it.split("/")[-1].removesuffix(".antt") for it in made if it.startswith(f"{folder}/"))
+    head = "-- What a call that changes the shared map holds and is told, by what a window shows of the map.\n"
+    return {f"{folder}.antt": head + "".join(f"pub mod {it}\n" for it in inner)} if inner else {}
 
 
 def lay_out(top, paths):
@@ -666,6 +781,10 @@ def main(argv):
         if to != path or new != text:
             with open(f"{top}/{to}", "w", encoding="utf-8", newline="") as file:
                 file.write(new)
+    for path, text in new_files(made).items():
+        made[path] = text
+        with open(f"{top}/{path}", "w", encoding="utf-8", newline="") as file:
+            file.write(text)
     for path in sorted({os.path.dirname(it) for it in tree}, key=len, reverse=True):
         while path and os.path.isdir(f"{top}/{path}") and not os.listdir(f"{top}/{path}"):
             os.rmdir(f"{top}/{path}")
