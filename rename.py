@@ -169,15 +169,14 @@ PROSE = [
 ]
 
 # Of two names that become one in a file: these were looked at, and mean no clash.
-MEANT = {
+MEANT = [
     # (a field of the library's, or its function, beside a variable or a module of ours)
-    *((f"crates/papaya_book/proofs/book/Book/{it}/Answers.antt", "offer") for it in "bring copy exchange put read table".split()),
-    *((f"crates/papaya_book/proofs/rule/trade/{it}/Proof.antt", "offer") for it in "bare with_pair with_table".split()),
-    # (see `special`)
-    ("crates/papaya_book/src/book/maker.rt", "Seen"),
-    ("crates/papaya_book/src/rule/trade.rt", "Seen"),
-    ("crates/papaya_book/src/rule/trade.rt", "Offer"),
-}
+    (r"crates/papaya_book/proofs/book/Book/\w+/Answers\.antt", "offer"),
+    (r"crates/papaya_book/proofs/rule/trade/\w+/Proof\.antt", "offer"),
+]
+
+# A name that goes from a list of imports: it is written with its crate.
+GONE = "gone_from_here_"
 
 IDENT = re.compile(r"[A-Za-z_][A-Za-z0-9_]*")
 SNAKE = re.compile(r"^_*[a-z0-9_]+$")
@@ -235,7 +234,12 @@ class Place:
         self.has_own = path == "crates/papaya_book/src/rule/own.rt" or bool(
             re.search(r"rule\.own\.Own\b|rule::own::(Own\b|\{[^}]*\bOwn\b)", text)
         )
-        self.is_sentence = bool(re.search(r"_tests/src/", path))
+        # (names of the library's that a file brings, where ours get them too)
+        self.theirs = {
+            new
+            for new, old in (("Seen", "Sight"), ("Offer", "Trade"))
+            if path.endswith(".rt") and re.search(rf"use logbook::(\{{[^}}]*\b{new}\b|{new}\b)", text) and re.search(rf"\b{old}\b", text)
+        }
 
 
 def renamed(name, place, before="", after=""):
@@ -244,6 +248,8 @@ def renamed(name, place, before="", after=""):
         return f"Window.{WINDOW[name]}"
     if name in ("stays", "stay", "Stays"):
         return renamed_stays(name, place, before, after)
+    if name in place.theirs and not before.endswith("logbook::"):
+        return f"{GONE}{name}" if re.search(r"\buse logbook::\{[^}]*$", before) else f"logbook::{name}"
     if name == "Seen" and place.has_search and not re.search(r"logbook[.\w:]*(\.|::)$", before):
         return "Probed"
     if name == "IsSeen":
@@ -660,7 +666,7 @@ def clashes(tree):
             for new in news:
                 olds[new].add(old)
         for new, of in olds.items():
-            if len(of) > 1 and (path, new) not in MEANT and new not in MEANT:
+            if len(of) > 1 and not any(re.fullmatch(it, path) and re.fullmatch(name, new) for it, name in MEANT):
                 told.append(f"{path}: {', '.join(sorted(of))} would be {new}")
     told += [f"{', '.join(it)} would be {new}" for new, it in paths.items() if len(it) > 1]
     return told
@@ -687,20 +693,15 @@ def read(top):
 
 
 def special(path, text):
-    """Where a name of a library has the new name too, that one is written with its crate."""
-    if path == "crates/papaya_book/src/rule/trade.rt":
-        text = text.replace("use logbook::{Gained, Offer, Plain, Seen, Start};", "use logbook::{Gained, Plain, Start};")
-        text = text.replace("pub type Seen<K, V, S> = Seen<", "pub type Seen<K, V, S> = logbook::Seen<")
-        text = text.replace("pub type Offer<K, V, S> = Offer<", "pub type Offer<K, V, S> = logbook::Offer<")
-        text = re.sub(r"^    Offer \{", "    logbook::Offer {", text, flags=re.M)
+    """What is left: names of imports that are written with their crate, and lines of some files."""
+    text = re.sub(rf"{GONE}\w+, |, {GONE}\w+", "", text)
     if path == "crates/papaya_timeline/specs/Kept.antt":
         text = text.replace("\n-- hands\n", "\n-- pairs loaded\n")
     if path == "crates/papaya_change/specs/Lib.antt":
         lines = [it for it in text.split("\n") if it.removeprefix("pub mod ") not in WINDOW]
         text = "\n".join(lines).replace("-- the same by what is seen of the map", "-- the same by what a window shows of the map\npub mod Window")
-    if path == "crates/papaya_book/src/book/maker.rt":
-        text = text.replace("use logbook::{Pen, Seen, Word};", "use logbook::{Pen, Word};")
-        text = text.replace("= Seen::open_row", "= logbook::Seen::open_row")
+        if "pub mod Window" not in text:
+            text = text.rstrip("\n") + "\n-- the same by what a window shows of the map\npub mod Window\n"
     return text
 
 
