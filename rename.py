@@ -395,7 +395,7 @@ def renamed_path(path, place):
 
 def sentence(name):
     """A name that is a short sentence."""
-    return words(name.replace("_", " ")).replace(" ", "_")
+    return words(re.sub(r"\bscan\b", "cursor", name.replace("_", " "))).replace(" ", "_")
 
 
 def edit(text, place, tree):
