@@ -21,6 +21,7 @@ pub mod InsertingHelped
 pub mod Seeking
 pub mod Claiming
 pub mod Replacing
+pub mod Trading
 pub mod Logged
 -- what closures are shown
 pub mod Showings

@@ -1,6 +1,6 @@
 //! Calls that store a value where their rule says so. Each is a compute whose rule is a type in the
 //! place of a closure, and no pair is removed by it.
-ghost use Rattle.std.specs.Prelude.{◌≡◌, None, Some, Option, Err, IfErr};
+ghost use Rattle.std.specs.Prelude.{◌≡◌, false, None, Some, Option, Err, IfErr};
 ghost use Rattle.std.specs.Int.{IsPowerOfTwo};
 ghost use Rattle.papaya_ask.specs.declared.ask.Ask.TheVariants.{Done};
 ghost use Rattle.papaya_ask.specs.declared.call.Reply.TheVariants.{Refused as ReplyRefused};
@@ -9,21 +9,27 @@ ghost use Rattle.papaya_chain.specs.Machine.{IsStanding, ask_of};
 ghost use Rattle.papaya_book.specs.Books.{IsIn};
 ghost use Rattle.papaya_book.specs.Limits.{HasNoRoom, IsSpent, tables_of};
 ghost use Rattle.papaya_book.specs.Logs.{pair_named};
-ghost use Rattle.papaya_book.specs.Windows.{IsLawful, Sees};
+ghost use Rattle.papaya_book.specs.Windows.{Does, IsLawful, Sees};
 ghost use Rattle.papaya_lookup.specs.Drivers.{own, past};
 ghost use Rattle.papaya_lookup.specs.History.{Makes};
 ghost use Rattle.papaya_change.specs.Doing.{has_changed};
 ghost use Rattle.papaya_compute.specs.Computes.{CanDecide, Decides};
 ghost use Rattle.papaya_compute.specs.Deciding.{IsDecided, Wishes, puts};
+ghost use Rattle.papaya_compute.specs.Resuming.{IfOn, IfOver, IsAhead, IsOnItsWay};
+ghost use Rattle.papaya_compute.specs.declared.computing.First.TheVariants.{Over};
 
-use crate::computing::{Computing, Turn};
+use crate::computing::{Computing, First, Turn as Next};
 use papaya_book::book::Book;
 use papaya_book::count::Shard;
 use papaya_book::rule::entry::Stored;
 use papaya_book::rule::own::{Given, Own};
 use papaya_book::window::Window;
 use papaya_call::answers::Operation;
+use papaya_change::at_once::{Tried, Turn, claim, find_place, replace};
+use papaya_change::means::Means;
+use papaya_change::removal::entry;
 use papaya_keys::compute::Compute;
+use papaya_lookup::lookup::hash;
 use papaya_words::probe::Refused;
 use std::alloc::Global;
 use std::hash::{BuildHasher, Hash};
@@ -116,6 +122,81 @@ fn decided<'a, K: Hash + Eq + Drop, V: Drop, S: BuildHasher>(
     }
 }
 
+/// Looks for the key in the root, and stores at once what the rule answers where the search ends at an
+/// empty place or at a live pair. Else, and where another call was first, the machine goes on.
+#[inline(always)]
+fn decide_at_once<'a, R: Wait, K: Hash + Eq + Drop, V: Drop, S: BuildHasher, D: Rule<V>>(
+    means: &Means<'_, '_, R>,
+    window: &mut Window<'a, K, V, S>,
+    given: &mut Own<Given>,
+    key: K,
+    rule: &mut D,
+) -> First<Computing<'a, K, V, S, ()>, Result<Outcome<'a, V>, Refused>>
+    requires callable { D.callable rule.old }
+    requires initial { IsPowerOfTwo means.now.initial }
+    requires lawful { IsLawful window.old }
+    ensures callable { D.callable rule.new }
+    ensures sees { Sees window.old window.new }
+    ensures lawful { IsLawful window.new }
+    ensures made { IfOver result (λ answer. Makes (puts answer) (own window.old) (own window.new)
+        (past window.new)) }
+    ensures crowded { result ≡ Over (Err Refused.Capacity) → HasNoRoom means.now.initial
+        (tables_of window.new.sight.log) given.new.done }
+    ensures spent { result ≡ Over (Err Refused.Limit) → IsSpent window.new.book.now.parts.limit
+        window.new.sight.log }
+    ensures decided { IfOver result (λ answer. IsDecided K.eq key (past window.old)
+        (past window.new) D.decides rule.old rule.new answer) }
+    ensures ahead { IfOn result (λ x. IsAhead means.now.initial x
+        × Does false window.old window.new) }
+    ensures goes { IfOn result (IsOnItsWay window.old window.new key (Wishes D.decides) rule.old
+        rule.new) }
+{
+    let book = window.book;
+    let hash = hash(&book.parts.hasher, &key);
+    // Where there is a limit, each pair needs a number, which its machine takes.
+    if book.parts.limit.is_some() {
+        return First::On(Computing::new(window, means.initial, key));
+    }
+    let Some(spot) = find_place(window, &key, hash) else {
+        return First::On(Computing::new(window, means.initial, key));
+    };
+    let table = spot.table;
+    match spot.turn {
+        Turn::Empty(at) => {
+            let Some(value) = rule.absent() else {
+                return First::Over(Ok(Outcome::Left {
+                    current: None,
+                    spare: None,
+                }));
+            };
+            match claim(means, window, given, key, value, hash, table, at) {
+                Ok(Tried::Put(pair)) => First::Over(Ok(Outcome::Put(entry(book, &pair).1))),
+                Ok(Tried::Lost(pair)) => {
+                    First::On(Computing::filled(window, means.initial, hash, pair))
+                }
+                Err(refused) => First::Over(Err(refused)),
+            }
+        }
+        Turn::Met(met) => {
+            let (_, current) = entry(book, &met.stored);
+            let Some(value) = rule.present(current) else {
+                return First::Over(Ok(Outcome::Left {
+                    current: Some(current),
+                    spare: None,
+                }));
+            };
+            match replace(means, window, given, value, table, &met) {
+                Ok(Tried::Put(pair)) => First::Over(Ok(Outcome::Replaced(entry(book, &pair).1))),
+                Ok(Tried::Lost(pair)) => {
+                    First::On(Computing::replaced(window, means.initial, key, hash, met, pair))
+                }
+                Err(refused) => First::Over(Err(refused)),
+            }
+        }
+        _ => First::On(Computing::new(window, means.initial, key)),
+    }
+}
+
 /// Stores for a key what the rule answers. Where it is refused for want of room, `given` tells the
 /// number that a full log gave, or the sum of the count that makes a further table too long.
 pub fn decide<'a, R: Wait, K: Hash + Eq + Drop, V: Drop, S: BuildHasher, D: Rule<V>>(
@@ -142,16 +223,25 @@ pub fn decide<'a, R: Wait, K: Hash + Eq + Drop, V: Drop, S: BuildHasher, D: Rule
 {
     window.learn();
     let book = window.book;
-    let mut computing: Computing<'a, K, V, S, ()> = Computing::new(window, initial, key);
+    let means = Means {
+        rt,
+        alloc,
+        initial,
+        shard,
+    };
+    let mut computing = match decide_at_once(&means, window, given, key, rule) {
+        First::Over(answer) => return answer,
+        First::On(computing) => computing,
+    };
     for _ in rt.forever() {
         match computing.turn(rt, alloc, shard, window) {
-            Turn::Answered(answer) => computing.tell(rt, alloc, shard, answer, window),
-            Turn::Shows(shown) => {
+            Next::Answered(answer) => computing.tell(rt, alloc, shard, answer, window),
+            Next::Shows(shown) => {
                 let operation = wish(book, &shown, rule);
                 let answer = computing.hear(shown, operation);
                 computing.tell(rt, alloc, shard, answer, window);
             }
-            Turn::Replied => {
+            Next::Replied => {
                 *given = computing.writer.call.given.again();
                 return decided(&mut computing, window);
             }
