@@ -1,5 +1,5 @@
 -- What an insertion has put in that put its pair in the place of what a search met.
-use Rattle.std.proofs.Common.{◌≡◌, Bool, true, MatchOption, Option, None, Some, List, refl, sym, ap, ◌∙◌}
+use Rattle.std.proofs.Common.{◌≡◌, Bool, true, MatchOption, Option, None, Some, List, refl, sym, ap, ◌∙◌, subst}
 use Rattle.std.specs.Cmp.{IsEquivalence}
 use denote.Bor.{Bor}
 use Rattle.papaya_book.specs.Logs.{Stored}
@@ -7,6 +7,15 @@ use Rattle.papaya_lookup.specs.History.{Change, key_of}
 use Rattle.papaya_change.specs.Changes.{IsChangeOf, IsPut, key_kept}
 use Rattle.papaya_change.specs.Showings.{IsSamePair}
 use Rattle.papaya_change.specs.Tries.{AreSame}
+
+module _ {K V : Type 0} where
+  pub met_none : (taken : Option (Stored K V)) → AreSame None taken → taken ≡ None
+  met_none None same = refl
+  met_none (Some p) same = let e = same.1 in absurd (cc e)
+
+  pub met_some : (met : Stored K V) (taken : Option (Stored K V)) → AreSame (Some met) taken → (z : Stored K V) × (taken ≡ Some z) × IsSamePair met z
+  met_some met None same = let e = same in absurd (cc e)
+  met_some met (Some p) same = let e = same.1 in let one : met ≡ same.0 = cc e in (p, refl, subst (λ (z : Stored K V). IsSamePair z p) (sym one) same.2)
 
 module _ {K V : Type 0} (eq : K → K → Bool) (classes : IsEquivalence eq) (key : K) (value : V) (old new : List (Change K (Stored K V))) (q : Stored K V) (value_is : q.value.value ≡ value) where
   -- it was put in where none was
@@ -20,10 +29,6 @@ module _ {K V : Type 0} (eq : K → K → Bool) (classes : IsEquivalence eq) (ke
     put_is = (q, c.put_is, key_is ∙ ap (λ (o : Option (Stored K V)). key_kept o key) (sym (c.taken_is ∙ none)), value_is);
     taken_is = c.taken_is ∙ none;
   }
-
-  met_none : (taken : Option (Stored K V)) → AreSame None taken → taken ≡ None
-  met_none None same = refl
-  met_none (Some p) same = let e = same.1 in absurd (cc e)
 
   pub traded_none : key_of q ≡ key → (taken : Option (Stored K V)) → AreSame None taken → IsChangeOf (eq key) old new taken (Some q) → IsPut eq key value old new None
   traded_none key_is taken same c = put_none taken (met_none taken same) key_is c

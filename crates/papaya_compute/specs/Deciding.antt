@@ -9,7 +9,11 @@ use Rattle.papaya_lookup.specs.History.{Change, key_of}
 use Rattle.papaya_change.specs.Changes.{IsChangeOf}
 use Rattle.papaya_change.specs.Showings.{AllShown, HasSaid, IsNoneOnce, WasHeld, WasLast}
 use Rattle.papaya_change.specs.Writing.{IsMemoryCapacityOrLimit}
+use Rattle.papaya_keys.specs.declared.compute.Compute.{Compute as Computed}
+use Rattle.papaya_keys.specs.declared.compute.Compute.TheVariants.{Inserted, Updated, Removed, Aborted}
 use Rattle.papaya_compute.specs.ComputeAnswers.{WasOperated}
+use Rattle.papaya_compute.specs.declared.at_once.First.{First}
+use Rattle.papaya_compute.specs.declared.at_once.First.TheVariants.{Over, On}
 use Rattle.papaya_compute.specs.Computing.{value_in}
 use Rattle.papaya_compute.specs.declared.deciding.Outcome.{Outcome}
 use Rattle.papaya_compute.specs.declared.deciding.Outcome.TheVariants.{Put, Replaced, Left}
@@ -20,6 +24,20 @@ puts (Ok (Put v)) = true
 puts (Ok (Replaced v)) = true
 puts (Ok (Left current spare)) = false
 puts (Err refused) = false
+
+-- what a call that stores answers, by what its compute does that removes nothing; the key had this value
+abbrev pub outcome_of : {K V : Type 0} → Result (Computed K V (Unit {0})) Refused → Option (Bor V)
+    → Result (Outcome V) Refused
+outcome_of (Ok (Inserted k v)) current = Ok (Put v)
+outcome_of (Ok (Updated before after)) current = Ok (Replaced after.1)
+outcome_of (Ok (Removed k v)) current = Ok (Left current None)
+outcome_of (Ok (Aborted t)) current = Ok (Left current None)
+outcome_of (Err refused) current = Err refused
+
+abbrev pub outcomes : {C K V : Type 0} → First C (Result (Computed K V (Unit {0})) Refused)
+    → Option (Bor V) → First C (Result (Outcome V) Refused)
+outcomes (Over answer) current = Over (outcome_of answer current)
+outcomes (On x) current = On x
 
 module _ {K V : Type 0} where
   -- The rule is shown this, and answers what is stored then, or that all is left as it is.

@@ -71,15 +71,6 @@ pub enum Turn<K, V> {
     Replied,
 }
 
-/// What a first look at the root has come to.
-#[derive(Drop)]
-pub(crate) enum First<C, A> {
-    /// The call is over, and answers this.
-    Over(A),
-    /// Its machine goes on.
-    On(C),
-}
-
 /// The pair of which it was answered that it is to go, or the one of before.
 fn chosen_after<K, V, T>(
     shown: &Option<Stored<K, V>>,
@@ -202,7 +193,8 @@ impl<'a, K: Hash + Eq + Drop, V: Drop, S: BuildHasher, T: Drop> Computing<'a, K,
         ensures calling { result.writer.call.machine.phase ≡ Calling }
         ensures initial { result.writer.call.machine.call.initial ≡ initial }
         ensures unchanged { has_changed result.writer.call.machine ≡ false }
-        ensures resumes { IsResumed window.now (key_of pair) None pair result }
+        ensures resumes { IsResumed window.now (key_of pair) None
+            (Operation.Insert pair.value.value) result }
     {
         let remembered = Remembered {
             fill: Some(pair.index() as u64),
@@ -245,7 +237,8 @@ impl<'a, K: Hash + Eq + Drop, V: Drop, S: BuildHasher, T: Drop> Computing<'a, K,
         ensures calling { result.writer.call.machine.phase ≡ Calling }
         ensures initial { result.writer.call.machine.call.initial ≡ initial }
         ensures unchanged { has_changed result.writer.call.machine ≡ false }
-        ensures resumes { IsResumed window.now key (Some met.stored) pair result }
+        ensures resumes { IsResumed window.now key (Some met.stored)
+            (Operation.Insert pair.value.value) result }
     {
         let Met {
             place,
@@ -271,6 +264,42 @@ impl<'a, K: Hash + Eq + Drop, V: Drop, S: BuildHasher, T: Drop> Computing<'a, K,
             fill: None,
             chosen: Some(stored),
             made: Some(pair),
+            aborted: None,
+        }
+    }
+
+    /// One that goes on to remove the pair that its closure was shown.
+    pub(crate) fn removing(
+        window: &Window<'a, K, V, S>,
+        initial: usize,
+        key: K,
+        hash: u64,
+        shown: Stored<K, V>,
+    ) -> Computing<'a, K, V, S, T>
+        requires lawful { IsLawful window.now }
+        requires initial { IsPowerOfTwo initial }
+        requires hashed { hash ≡ ⟦<S as Hashed<K>>⟧.hash window.now.book.now.parts.hasher key }
+        requires shown { IsInWindow window.now (PairNamed shown) }
+        ensures standing { IsStanding result.writer.call.machine }
+        ensures calling { result.writer.call.machine.phase ≡ Calling }
+        ensures initial { result.writer.call.machine.call.initial ≡ initial }
+        ensures unchanged { has_changed result.writer.call.machine ≡ false }
+        ensures resumes { IsResumed window.now key (Some shown) Operation.Remove result }
+    {
+        let remembered = Remembered {
+            fill: None,
+            choice: Some(Choice::Remove(shown.index() as u64)),
+        };
+        Computing {
+            writer: Writer {
+                call: resume(window.book, initial, hash, remembered),
+                key: Some(KeyPart::Own(key)),
+                value: None,
+            },
+            shown: Some(shown.again()),
+            fill: None,
+            chosen: Some(shown),
+            made: None,
             aborted: None,
         }
     }
@@ -591,7 +620,7 @@ impl<'a, K: Hash + Eq + Drop, V: Drop, S: BuildHasher, T: Drop> Computing<'a, K,
 }
 
 /// The value of a pair, if there is one.
-fn value_in<'a, K: Hash + Eq, V, S: BuildHasher>(
+pub(crate) fn value_in<'a, K: Hash + Eq, V, S: BuildHasher>(
     book: &'a Book<K, V, S>,
     pair: &Option<Stored<K, V>>,
 ) -> Option<&'a V>

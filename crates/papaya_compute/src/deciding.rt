@@ -1,6 +1,6 @@
 //! Calls that store a value where their rule says so. Each is a compute whose rule is a type in the
 //! place of a closure, and no pair is removed by it.
-ghost use Rattle.std.specs.Prelude.{◌≡◌, false, None, Some, Option, Err, IfErr};
+ghost use Rattle.std.specs.Prelude.{◌≡◌, false, None, Some, Option, Ok, Err, IfErr};
 ghost use Rattle.std.specs.Int.{IsPowerOfTwo};
 ghost use Rattle.papaya_ask.specs.declared.ask.Ask.TheVariants.{Done};
 ghost use Rattle.papaya_ask.specs.declared.call.Reply.TheVariants.{Refused as ReplyRefused};
@@ -14,20 +14,20 @@ ghost use Rattle.papaya_lookup.specs.Drivers.{own, past};
 ghost use Rattle.papaya_lookup.specs.History.{Makes};
 ghost use Rattle.papaya_change.specs.Doing.{has_changed};
 ghost use Rattle.papaya_compute.specs.Computes.{CanDecide, Decides};
-ghost use Rattle.papaya_compute.specs.Deciding.{IsDecided, Wishes, puts};
-ghost use Rattle.papaya_compute.specs.Resuming.{IfOn, IfOver, IsAhead, IsOnItsWay};
-ghost use Rattle.papaya_compute.specs.declared.computing.First.TheVariants.{Over};
+ghost use Rattle.papaya_compute.specs.Deciding.{IsDecided, Wishes, outcomes, puts};
+ghost use Rattle.papaya_compute.specs.AtOnce.{IfOn, IfOver, IsAhead, IsOnItsWay};
+ghost use Rattle.papaya_compute.specs.declared.at_once.First.TheVariants.{Over};
 
-use crate::computing::{Computing, First, Turn as Next};
+use crate::at_once::{First, fill, look, renew};
+use crate::computing::{Computing, Turn as Next, value_in};
 use papaya_book::book::Book;
 use papaya_book::count::Shard;
 use papaya_book::rule::entry::Stored;
 use papaya_book::rule::own::{Given, Own};
 use papaya_book::window::Window;
 use papaya_call::answers::Operation;
-use papaya_change::at_once::{Tried, Turn, claim, find_place, replace};
+use papaya_change::at_once::Turn;
 use papaya_change::means::Means;
-use papaya_change::removal::entry;
 use papaya_keys::compute::Compute;
 use papaya_lookup::lookup::hash;
 use papaya_words::probe::Refused;
@@ -122,6 +122,34 @@ fn decided<'a, K: Hash + Eq + Drop, V: Drop, S: BuildHasher>(
     }
 }
 
+/// What the call did, by what its compute did that was tried at once, where the key had this value.
+fn outcome<'a, C: Drop, K, V>(
+    first: First<C, Result<Compute<'a, K, V, ()>, Refused>>,
+    current: Option<&'a V>,
+) -> First<C, Result<Outcome<'a, V>, Refused>>
+    requires unremoved { (k : _) (v : _) → first ≡ Over (Ok (Compute.Removed k v)) → ⊥ }
+    ensures { result ≡ outcomes first current }
+{
+    First::Over(match first {
+        First::Over(Ok(Compute::Inserted(_, value))) => Ok(Outcome::Put(value)),
+        First::Over(
+            Ok(
+                Compute::Updated {
+                    new: (_, value),
+                    ..
+                },
+            ),
+        ) => Ok(Outcome::Replaced(value)),
+        First::Over(Ok(Compute::Removed(_, _))) => unreachable!(),
+        First::Over(Ok(Compute::Aborted(()))) => Ok(Outcome::Left {
+            current,
+            spare: None,
+        }),
+        First::Over(Err(refused)) => Err(refused),
+        First::On(computing) => return First::On(computing),
+    })
+}
+
 /// Looks for the key in the root, and stores at once what the rule answers where the search ends at an
 /// empty place or at a live pair. Else, and where another call was first, the machine goes on.
 #[inline(always)]
@@ -153,45 +181,20 @@ fn decide_at_once<'a, R: Wait, K: Hash + Eq + Drop, V: Drop, S: BuildHasher, D: 
 {
     let book = window.book;
     let hash = hash(&book.parts.hasher, &key);
-    // Where there is a limit, each pair needs a number, which its machine takes.
-    if book.parts.limit.is_some() {
-        return First::On(Computing::new(window, means.initial, key));
-    }
-    let Some(spot) = find_place(window, &key, hash) else {
+    let Some(spot) = look(window, &key, hash) else {
         return First::On(Computing::new(window, means.initial, key));
     };
-    let table = spot.table;
     match spot.turn {
         Turn::Empty(at) => {
-            let Some(value) = rule.absent() else {
-                return First::Over(Ok(Outcome::Left {
-                    current: None,
-                    spare: None,
-                }));
-            };
-            match claim(means, window, given, key, value, hash, table, at) {
-                Ok(Tried::Put(pair)) => First::Over(Ok(Outcome::Put(entry(book, &pair).1))),
-                Ok(Tried::Lost(pair)) => {
-                    First::On(Computing::filled(window, means.initial, hash, pair))
-                }
-                Err(refused) => First::Over(Err(refused)),
-            }
+            let wished = wish(book, &None, rule);
+            let filled = fill(means, window, given, key, hash, spot.table, at, wished);
+            outcome(filled, None)
         }
         Turn::Met(met) => {
-            let (_, current) = entry(book, &met.stored);
-            let Some(value) = rule.present(current) else {
-                return First::Over(Ok(Outcome::Left {
-                    current: Some(current),
-                    spare: None,
-                }));
-            };
-            match replace(means, window, given, value, table, &met) {
-                Ok(Tried::Put(pair)) => First::Over(Ok(Outcome::Replaced(entry(book, &pair).1))),
-                Ok(Tried::Lost(pair)) => {
-                    First::On(Computing::replaced(window, means.initial, key, hash, met, pair))
-                }
-                Err(refused) => First::Over(Err(refused)),
-            }
+            let shown = Some(met.stored.again());
+            let wished = wish(book, &shown, rule);
+            let renewed = renew(means, window, given, key, hash, spot.table, met, wished);
+            outcome(renewed, value_in(book, &shown))
         }
         _ => First::On(Computing::new(window, means.initial, key)),
     }

@@ -6,6 +6,7 @@
 //! has the calls whose closure is a rule of a type of its own, with their loop, and [`rules`] these rules.
 #![tactic(auto)]
 
+mod at_once;
 pub mod computing;
 pub mod deciding;
 pub mod lending;

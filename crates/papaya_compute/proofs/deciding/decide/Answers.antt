@@ -23,9 +23,9 @@ use Rattle.papaya_lookup.proofs.Histories.{history_since}
 use Rattle.papaya_book.proofs.Logs.{prefix_trans}
 use Rattle.papaya_book.proofs.Windows.{sees_trans}
 use Rattle.papaya_compute.specs.Deciding.{IsDecided, Wishes, puts}
-use Rattle.papaya_compute.specs.Resuming.{IfOn, IfOver, IsAhead, IsOnItsWay}
-use Rattle.papaya_compute.specs.declared.computing.First.{First}
-use Rattle.papaya_compute.specs.declared.computing.First.TheVariants.{Over}
+use Rattle.papaya_compute.specs.AtOnce.{IfOn, IfOver, IsAhead, IsOnItsWay}
+use Rattle.papaya_compute.specs.declared.at_once.First.{First}
+use Rattle.papaya_compute.specs.declared.at_once.First.TheVariants.{Over}
 use Rattle.papaya_compute.proofs.DoneBy.{done_since, none_removed}
 use Rattle.papaya_compute.proofs.deciding.decide.Goals as goal
 
