@@ -1,5 +1,5 @@
 -- What a compute answers that was made at once: its closure was shown once what there is, or its rule was.
-use Rattle.std.proofs.Common.{◌≡◌, inl, inr, ⊎_elim, Bool, Option, None, Some, Result, Ok, Err, List, [], ◌∷◌, option_map, refl, sym, ap, ◌∙◌}
+use Rattle.std.proofs.Common.{◌≡◌, inl, inr, ⊎_elim, Bool, false, Option, None, Some, Result, Ok, Err, List, [], ◌∷◌, ◌++◌, option_map, refl, sym, ap, ◌∙◌, subst}
 use denote.Bor.{Bor}
 use Rattle.papaya_words.specs.declared.probe.Refused.{Refused as Cause}
 use Rattle.papaya_words.specs.declared.probe.Refused.TheVariants.{RemoveNothing}
@@ -7,7 +7,11 @@ use Rattle.papaya_call.specs.declared.answers.Operation.{Operation}
 use Rattle.papaya_call.specs.declared.answers.Operation.TheVariants as operation
 use Rattle.papaya_keys.specs.declared.compute.Compute.{Compute as Computed}
 use Rattle.papaya_keys.specs.declared.compute.Compute.TheVariants.{Inserted, Updated, Removed, Aborted}
-use Rattle.papaya_book.specs.Logs.{Stored}
+use Rattle.papaya_book.specs.declared.keyed.Keyed as keyed
+use Rattle.papaya_book.specs.declared.window.Window.{Window}
+use Rattle.papaya_book.specs.Logs.{Stored, steps_of}
+use Rattle.papaya_book.specs.Own.{last_if}
+use Rattle.papaya_book.specs.Windows.{Does}
 use Rattle.papaya_lookup.specs.History.{Change, key_of}
 use Rattle.papaya_change.specs.Changes.{IsChangeOf}
 use Rattle.papaya_change.specs.Showings.{AreOf, HasSaid, IsNoneOnce, IsSamePair, WasHeld}
@@ -21,6 +25,10 @@ use Rattle.papaya_compute.specs.declared.at_once.First.TheVariants.{Over, On}
 use Rattle.papaya_compute.specs.declared.deciding.Outcome.{Outcome}
 use Rattle.papaya_compute.specs.declared.deciding.Outcome.TheVariants.{Left, Put, Replaced}
 use Rattle.papaya_compute.proofs.DoneBy.{done_put, done_refused, done_removed, done_replaced, none_removed}
+
+-- nothing was done since before what was seen with nothing done
+pub does_since : {K V S H : Type 0} {d : keyed.Ghosts S K H} (a w w' : Window K V S H d) → w.own ≡ a.own → Does false w w' → Does false a w'
+does_since a w w' same does = subst (λ (o : _). w'.own.done ≡ o.done ++ last_if false (steps_of w'.sight.log)) same does
 
 once : {P A : Type 0} (held : Option P) (answer : A) → IsNoneOnce ((held, answer) ∷ [])
 once None answer = tt

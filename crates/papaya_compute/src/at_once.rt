@@ -12,6 +12,7 @@ ghost use Rattle.papaya_change.specs.Seeks.{IsFoundFor};
 ghost use Rattle.papaya_change.specs.declared.at_once.Turn.TheVariants.{Empty, Met as MetPair};
 ghost use Rattle.papaya_compute.specs.ComputeAnswers.{changes};
 ghost use Rattle.papaya_compute.specs.AtOnce.{GoesOnce, IfOn, IfOver, IsAhead, IsFoundAt, RepliesOnce};
+ghost use Rattle.papaya_compute.specs.Computes.{IsBegun};
 ghost use Rattle.papaya_compute.specs.declared.at_once.First.TheVariants.{Over};
 
 use crate::computing::Computing;
@@ -51,7 +52,6 @@ pub(crate) fn look<'a, K: Hash + Eq, V, S: BuildHasher>(
     requires hashed { hash ≡ ⟦<S as Hashed<K>>⟧.hash window.old.book.now.parts.hasher key.now }
     ensures sees { Sees window.old window.new }
     ensures own { window.new.own ≡ window.old.own }
-    ensures lawful { IsLawful window.new }
     ensures limit { (spot : _) → result ≡ Some spot → window.new.book.now.parts.limit ≡ None }
     ensures found { (spot : _) → result ≡ Some spot → IsFoundFor window.old window.new key.now
         spot.table.now spot.turn }
@@ -62,6 +62,23 @@ pub(crate) fn look<'a, K: Hash + Eq, V, S: BuildHasher>(
         return None;
     }
     find_place(window, key, hash)
+}
+
+/// A compute whose machine begins.
+pub(crate) fn begin<'a, K: Hash + Eq + Drop, V: Drop, S: BuildHasher, T: Drop>(
+    window: &mut Window<'a, K, V, S>,
+    initial: usize,
+    key: K,
+) -> Computing<'a, K, V, S, T>
+    requires initial { IsPowerOfTwo initial }
+    ensures sees { Sees window.old window.new }
+    ensures own { window.new.own ≡ window.old.own }
+    ensures lawful { IsLawful window.new }
+    ensures ahead { IsAhead initial result }
+    ensures begins { IsBegun window.new key result }
+{
+    window.learn();
+    Computing::new(window, initial, key)
 }
 
 /// Does what the closure answered that was shown that there is none, at the empty place that a search has
@@ -80,7 +97,6 @@ pub(crate) fn fill<'a, R: Wait, K: Hash + Eq + Drop, V: Drop, S: BuildHasher, T:
     requires initial { IsPowerOfTwo means.now.initial }
     requires hashed { hash ≡ ⟦<S as Hashed<K>>⟧.hash window.old.book.now.parts.hasher key }
     requires limit { window.old.book.now.parts.limit ≡ None }
-    requires lawful { IsLawful window.old }
     requires found { (begun : _) × IsFoundAt window.old key begun table.now (Empty at) }
     ensures sees { Sees window.old window.new }
     ensures lawful { IsLawful window.new }
@@ -128,7 +144,6 @@ pub(crate) fn renew<'a, R: Wait, K: Hash + Eq + Drop, V: Drop, S: BuildHasher, T
     requires initial { IsPowerOfTwo means.now.initial }
     requires hashed { hash ≡ ⟦<S as Hashed<K>>⟧.hash window.old.book.now.parts.hasher key }
     requires limit { window.old.book.now.parts.limit ≡ None }
-    requires lawful { IsLawful window.old }
     requires found { (begun : _) × IsFoundAt window.old key begun table.now (MetPair met) }
     requires live { kind_of met.word ≡ Live }
     ensures sees { Sees window.old window.new }

@@ -14,11 +14,11 @@ ghost use Rattle.papaya_lookup.specs.Drivers.{own, past};
 ghost use Rattle.papaya_lookup.specs.History.{Makes};
 ghost use Rattle.papaya_change.specs.Doing.{has_changed};
 ghost use Rattle.papaya_compute.specs.Computes.{CanDecide, Decides};
-ghost use Rattle.papaya_compute.specs.Deciding.{IsDecided, Wishes, outcomes, puts};
+ghost use Rattle.papaya_compute.specs.Deciding.{IsDecided, Wishes, outcome_of, outcomes, puts};
 ghost use Rattle.papaya_compute.specs.AtOnce.{IfOn, IfOver, IsAhead, IsOnItsWay};
 ghost use Rattle.papaya_compute.specs.declared.at_once.First.TheVariants.{Over};
 
-use crate::at_once::{First, fill, look, renew};
+use crate::at_once::{First, begin, fill, look, renew};
 use crate::computing::{Computing, Turn as Next, value_in};
 use papaya_book::book::Book;
 use papaya_book::count::Shard;
@@ -122,32 +122,43 @@ fn decided<'a, K: Hash + Eq + Drop, V: Drop, S: BuildHasher>(
     }
 }
 
-/// What the call did, by what its compute did that was tried at once, where the key had this value.
-fn outcome<'a, C: Drop, K, V>(
-    first: First<C, Result<Compute<'a, K, V, ()>, Refused>>,
+/// What the call did, by what its compute did, where the key had this value.
+fn outcome<'a, K, V>(
+    answer: Result<Compute<'a, K, V, ()>, Refused>,
     current: Option<&'a V>,
-) -> First<C, Result<Outcome<'a, V>, Refused>>
-    requires unremoved { (k : _) (v : _) → first ≡ Over (Ok (Compute.Removed k v)) → ⊥ }
-    ensures { result ≡ outcomes first current }
+) -> Result<Outcome<'a, V>, Refused>
+    requires { (k : _) (v : _) → answer ≡ Ok (Compute.Removed k v) → ⊥ }
+    ensures { result ≡ outcome_of answer current }
 {
-    First::Over(match first {
-        First::Over(Ok(Compute::Inserted(_, value))) => Ok(Outcome::Put(value)),
-        First::Over(
-            Ok(
-                Compute::Updated {
-                    new: (_, value),
-                    ..
-                },
-            ),
+    match answer {
+        Ok(Compute::Inserted(_, value)) => Ok(Outcome::Put(value)),
+        Ok(
+            Compute::Updated {
+                new: (_, value),
+                ..
+            },
         ) => Ok(Outcome::Replaced(value)),
-        First::Over(Ok(Compute::Removed(_, _))) => unreachable!(),
-        First::Over(Ok(Compute::Aborted(()))) => Ok(Outcome::Left {
+        Ok(Compute::Removed(_, _)) => unreachable!(),
+        Ok(Compute::Aborted(())) => Ok(Outcome::Left {
             current,
             spare: None,
         }),
-        First::Over(Err(refused)) => Err(refused),
-        First::On(computing) => return First::On(computing),
-    })
+        Err(refused) => Err(refused),
+    }
+}
+
+/// The same of a compute that was tried at once.
+fn settle<'a, C: Drop, K, V>(
+    first: First<C, Result<Compute<'a, K, V, ()>, Refused>>,
+    current: Option<&'a V>,
+) -> First<C, Result<Outcome<'a, V>, Refused>>
+    requires { (k : _) (v : _) → first ≡ Over (Ok (Compute.Removed k v)) → ⊥ }
+    ensures { result ≡ outcomes first current }
+{
+    match first {
+        First::Over(answer) => First::Over(outcome(answer, current)),
+        First::On(computing) => First::On(computing),
+    }
 }
 
 /// Looks for the key in the root, and stores at once what the rule answers where the search ends at an
@@ -182,21 +193,21 @@ fn decide_at_once<'a, R: Wait, K: Hash + Eq + Drop, V: Drop, S: BuildHasher, D: 
     let book = window.book;
     let hash = hash(&book.parts.hasher, &key);
     let Some(spot) = look(window, &key, hash) else {
-        return First::On(Computing::new(window, means.initial, key));
+        return First::On(begin(window, means.initial, key));
     };
     match spot.turn {
         Turn::Empty(at) => {
             let wished = wish(book, &None, rule);
             let filled = fill(means, window, given, key, hash, spot.table, at, wished);
-            outcome(filled, None)
+            settle(filled, None)
         }
         Turn::Met(met) => {
             let shown = Some(met.stored.again());
-            let wished = wish(book, &shown, rule);
-            let renewed = renew(means, window, given, key, hash, spot.table, met, wished);
-            outcome(renewed, value_in(book, &shown))
+            let again = wish(book, &shown, rule);
+            let renewed = renew(means, window, given, key, hash, spot.table, met, again);
+            settle(renewed, value_in(book, &shown))
         }
-        _ => First::On(Computing::new(window, means.initial, key)),
+        _ => First::On(begin(window, means.initial, key)),
     }
 }
 

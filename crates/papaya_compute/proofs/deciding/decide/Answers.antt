@@ -1,4 +1,4 @@
-use Rattle.std.proofs.Common.{◌≡◌, Bool, false, Some, ◌∷◌, ◌++◌, sym, ap, ◌∙◌, subst}
+use Rattle.std.proofs.Common.{◌≡◌, Bool, false, Some, ◌∷◌, sym, ap, ◌∙◌, subst}
 use Rattle.std.specs.Prelude.{IfErr}
 use Rattle.papaya_ask.specs.declared.ask.Ask.TheVariants.{Done}
 use Rattle.papaya_ask.specs.declared.call.Reply.TheVariants.{Refused}
@@ -7,10 +7,6 @@ use Rattle.papaya_chain.specs.declared.machine.Machine.{Machine}
 use Rattle.papaya_chain.specs.declared.ask.Answer.TheVariants as answers
 use Rattle.papaya_chain.specs.Machine.{after, ask_of}
 use Rattle.papaya_book.specs.Limits.{HasNoRoom, tables_of}
-use Rattle.papaya_book.specs.declared.keyed.Keyed as keyed
-use Rattle.papaya_book.specs.declared.window.Window.{Window}
-use Rattle.papaya_book.specs.Logs.{steps_of}
-use Rattle.papaya_book.specs.Own.{last_if}
 use Rattle.papaya_book.specs.Windows.{Does}
 use Rattle.papaya_change.specs.Doing.{has_changed}
 use Rattle.papaya_change.proofs.Doing.{does_on, does_still, idles, makes}
@@ -26,12 +22,9 @@ use Rattle.papaya_compute.specs.Deciding.{IsDecided, Wishes, puts}
 use Rattle.papaya_compute.specs.AtOnce.{IfOn, IfOver, IsAhead, IsOnItsWay}
 use Rattle.papaya_compute.specs.declared.at_once.First.{First}
 use Rattle.papaya_compute.specs.declared.at_once.First.TheVariants.{Over}
+use Rattle.papaya_compute.proofs.AtOnce.{does_since}
 use Rattle.papaya_compute.proofs.DoneBy.{done_since, none_removed}
 use Rattle.papaya_compute.proofs.deciding.decide.Goals as goal
-
--- nothing was done since before it was seen what there is
-since_learnt : {K V S H : Type 0} {d : keyed.Ghosts S K H} (a w w' : Window K V S H d) → w.own ≡ a.own → Does false w w' → Does false a w'
-since_learnt a w w' same does = subst (λ (o : _). w'.own.done ≡ o.done ++ last_if false (steps_of w'.sight.log)) same does
 
 pub loop-init : goal.loop-init
 loop-init g c =
@@ -44,7 +37,7 @@ loop-init g c =
       ahead.0.initial_is,
       sees_trans _ _ _ c.learn.ensures.sees at.ensures.sees,
       at.ensures.callable,
-      subst (λ (changed : Bool). Does changed c.args.window.now then) (sym ahead.0.unchanged) (since_learnt c.args.window.now first then c.learn.ensures.own ahead.1),
+      subst (λ (changed : Bool). Does changed c.args.window.now then) (sym ahead.0.unchanged) (does_since c.args.window.now first then c.learn.ensures.own ahead.1),
     )
 
 pub returns-in-Over-clause-made : goal.returns-in-Over-clause-made
