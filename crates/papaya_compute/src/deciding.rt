@@ -123,12 +123,12 @@ fn decided<'a, K: Hash + Eq + Drop, V: Drop, S: BuildHasher>(
 }
 
 /// What the call did, by what its compute did, where the key had this value.
-fn outcome<'a, K, V>(
+fn decision<'a, K, V>(
     answer: Result<Compute<'a, K, V, ()>, Refused>,
     current: Option<&'a V>,
 ) -> Result<Outcome<'a, V>, Refused>
     requires { (k : _) (v : _) → answer ≡ Ok (Compute.Removed k v) → ⊥ }
-    ensures { result ≡ outcome_of answer current }
+    ensures { result ≡ outcome_of answer.entry current.entry }
 {
     match answer {
         Ok(Compute::Inserted(_, value)) => Ok(Outcome::Put(value)),
@@ -153,10 +153,10 @@ fn settle<'a, C: Drop, K, V>(
     current: Option<&'a V>,
 ) -> First<C, Result<Outcome<'a, V>, Refused>>
     requires { (k : _) (v : _) → first ≡ Over (Ok (Compute.Removed k v)) → ⊥ }
-    ensures { result ≡ outcomes first current }
+    ensures { result ≡ outcomes first.entry current.entry }
 {
     match first {
-        First::Over(answer) => First::Over(outcome(answer, current)),
+        First::Over(answer) => First::Over(decision(answer, current)),
         First::On(computing) => First::On(computing),
     }
 }
@@ -195,16 +195,17 @@ fn decide_at_once<'a, R: Wait, K: Hash + Eq + Drop, V: Drop, S: BuildHasher, D: 
     let Some(spot) = look(window, &key, hash) else {
         return First::On(begin(window, means.initial, key));
     };
+    let table = spot.table;
     match spot.turn {
         Turn::Empty(at) => {
             let wished = wish(book, &None, rule);
-            let filled = fill(means, window, given, key, hash, spot.table, at, wished);
+            let filled = fill(means, window, given, key, hash, table, at, wished);
             settle(filled, None)
         }
         Turn::Met(met) => {
             let shown = Some(met.stored.again());
             let again = wish(book, &shown, rule);
-            let renewed = renew(means, window, given, key, hash, spot.table, met, again);
+            let renewed = renew(means, window, given, key, hash, table, met, again);
             settle(renewed, value_in(book, &shown))
         }
         _ => First::On(begin(window, means.initial, key)),

@@ -98,15 +98,16 @@ fn lend_at_once<
     let Some(spot) = look(window, &key, hash) else {
         return First::On(begin(window, means.initial, key));
     };
+    let table = spot.table;
     match spot.turn {
         Turn::Empty(at) => {
             let operation = operate(book, &None, f);
-            fill(means, window, given, key, hash, spot.table, at, operation)
+            fill(means, window, given, key, hash, table, at, operation)
         }
         Turn::Met(met) => {
             let shown = Some(met.stored.again());
             let again = operate(book, &shown, f);
-            renew(means, window, given, key, hash, spot.table, met, again)
+            renew(means, window, given, key, hash, table, met, again)
         }
         _ => First::On(begin(window, means.initial, key)),
     }

@@ -87,6 +87,9 @@ replaced-requires-clause-number g c =
     let l = subst (λ (z : Result (Tried _ _) _). IfOk z (λ t. IsLoggedAs c.replace.new.window (key_of p) value (pair_in t))) is c.replace.ensures.logged in
     l.number
 
+pub replaced-requires-clause-hashed : goal.replaced-requires-clause-hashed
+replaced-requires-clause-hashed g c = rw c.replace.ensures.sees.book c.requires.hashed
+
 pub replaced-requires-clause-kept : goal.replaced-requires-clause-kept
 replaced-requires-clause-kept g c =
     let w = c.args.window.now in let log = w.sight.log in let key = c.args.key in let b = begun_of w.book.now.parts in let name = w.book.now.begun.book in let hash = (hash_of g.K.Hash.hash_input g.S.BuildHasher.build_hasher g.S.Hasher.Hasher.write g.S.Hasher.Hasher.finish) in

@@ -14,6 +14,9 @@ use Rattle.papaya_compute.specs.Resuming.{resumed_at}
 use Rattle.papaya_compute.proofs.Resumed.{resumes_filled}
 use Rattle.papaya_compute.proofs.computing.Computing.filled.Goals as goal
 
+pub resume-requires-clause-remembered : goal.resume-requires-clause-remembered
+resume-requires-clause-remembered g c = record { fill = rw c.index.ensures c.requires.number; choice = tt }
+
 pub returns-clause-calling : goal.returns-clause-calling
 returns-clause-calling g c = ap (λ (m : Machine). m.phase) c.resume.ensures.machine
 

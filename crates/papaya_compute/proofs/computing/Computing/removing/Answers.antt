@@ -9,6 +9,9 @@ use Rattle.papaya_compute.specs.Resuming.{resumed_at}
 use Rattle.papaya_compute.proofs.Resumed.{resumes_removing}
 use Rattle.papaya_compute.proofs.computing.Computing.removing.Goals as goal
 
+pub resume-requires-clause-remembered : goal.resume-requires-clause-remembered
+resume-requires-clause-remembered g c = record { fill = tt; choice = tt }
+
 pub returns-clause-calling : goal.returns-clause-calling
 returns-clause-calling g c = ap (λ (m : Machine). m.phase) c.resume.ensures.machine
 

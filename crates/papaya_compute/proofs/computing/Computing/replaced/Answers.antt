@@ -1,4 +1,4 @@
-use Rattle.std.proofs.Common.{◌≡◌, None, Some, refl, sym, ap, ◌∙◌, subst}
+use Rattle.std.proofs.Common.{◌≡◌, ◌<◌, ◌^◌, None, Some, refl, sym, ap, ◌∙◌, subst}
 use Rattle.papaya_call.specs.declared.compute.Choice.TheVariants.{Replace as To_replace}
 use Rattle.papaya_call.specs.declared.compute.Remembered.{Remembered}
 use Rattle.papaya_call.specs.declared.made.Of.{Of}
@@ -16,6 +16,12 @@ use Rattle.papaya_change.specs.Writing.{HasValue, held_value}
 use Rattle.papaya_compute.specs.Resuming.{resumed_at}
 use Rattle.papaya_compute.proofs.Resumed.{resumes_replaced}
 use Rattle.papaya_compute.proofs.computing.Computing.replaced.Goals as goal
+
+pub resume-requires-clause-remembered : goal.resume-requires-clause-remembered
+resume-requires-clause-remembered g c =
+    let met = c.args.met in
+    let of_is : c.of.result ≡ record { pair = c.args.pair.index; table = met.place.table; index = met.place.probe.i } = c.of.ensures ∙ ap (made_of (record { place = met.place; old = met.word })) c.index-2.ensures in
+    record { fill = tt; choice = subst (λ (o : Of). o.pair < 2 ^ 48) (sym of_is) c.requires.number }
 
 pub returns-clause-calling : goal.returns-clause-calling
 returns-clause-calling g c = ap (λ (m : Machine). m.phase) c.resume.ensures.machine

@@ -1,6 +1,6 @@
 use Rattle.std.proofs.Common.{Ok, sym, ap, ◌∙◌}
 use Rattle.papaya_compute.specs.Deciding.{outcome_of}
-use Rattle.papaya_compute.proofs.deciding.outcome.Goals as goal
+use Rattle.papaya_compute.proofs.deciding.decision.Goals as goal
 
 pub unreachable-requires : goal.unreachable-requires
 unreachable-requires g c = let at = c.in-Ok-Removed in c.requires at.field-0-0 at.field-0-1 (at.is ∙ ap (λ z. Ok z) at.field-0-is)
