@@ -1,4 +1,5 @@
 use Rattle.std.proofs.Common.{◌≡◌, Result, Ok, Err, IfOk, Some, sym, ap, ◌∙◌, subst}
+use Rattle.papaya_words.specs.declared.probe.Refused.TheVariants.{Capacity}
 use Rattle.papaya_call.specs.declared.machine.State.{State}
 use Rattle.papaya_call.specs.declared.machine.State.TheVariants.{Writing}
 use Rattle.papaya_book.specs.Hashes.{hash_of}
@@ -35,7 +36,7 @@ insert_met-requires-clause-met g c =
     let at = c.in-Ok-Lost in let is = at.is ∙ ap (λ z. Ok z) at.field-0-is in
     let l = subst (λ (z : Result (Tried _ _) _). IfOk z (λ t. IsLoggedAs c.replace.new.window (key_of c.args.met.stored) c.args.value (pair_in t))) is c.replace.ensures.logged in
     subst (HasKeyAt mid met.place.table met.place.probe.i) (sym l.key_is)
-    (key_at_stays g.K.PartialEq.eq g.K.Hash.hash_input g.S.BuildHasher.build_hasher g.S.Hasher.Hasher.write g.S.Hasher.Hasher.finish g.met.K.Eq.laws g.met.K.Hash.respects_eq b log mid (rw c.replace.ensures.sees.book c.replace.ensures.lawful) c.replace.ensures.sees.log met.place.table met.place.probe.i (key_of p) there)
+    (key_at_stays g.K.PartialEq.eq g.K.Hash.hash_input g.S.BuildHasher.build_hasher g.S.Hasher.Hasher.write g.S.Hasher.Hasher.finish g.met.K.Eq.laws g.met.K.Hash.respects_eq b log mid (rw (sym c.replace.ensures.sees.book) c.replace.ensures.lawful) c.replace.ensures.sees.log met.place.table met.place.probe.i (key_of p) there)
 
 pub insert_met-requires-clause-same : goal.insert_met-requires-clause-same
 insert_met-requires-clause-same g c =
@@ -62,3 +63,6 @@ returns-in-Ok-Lost-clause-put g c =
     if_ok _ _ c.insert_met.result c.insert_met.ensures.put (λ a h begun state led r.
     put_since g.K.PartialEq.eq c.args.key c.args.value begun mid c.insert_met.new.window.sight.log a (prefix_trans begun log mid r.4.seen c.replace.ensures.sees.log)
     (subst (λ z. IsPut g.K.PartialEq.eq c.args.key z (past c.replace.new.window) (past c.insert_met.new.window) a) l.value_is h))
+
+pub returns-clause-crowded : goal.returns-clause-crowded
+returns-clause-crowded g c = λ e. let same : c.in-Err.refused ≡ Capacity = cc e in c.replace.ensures.crowded (c.in-Err.is ∙ ap (λ z. Err z) same)

@@ -116,7 +116,7 @@ replaced-requires-clause-there g c =
     let l = subst (λ (z : Result (Tried _ _) _). IfOk z (λ t. IsLoggedAs c.replace.new.window (key_of p) value (pair_in t))) is c.replace.ensures.logged in
     let then = c.replace.new.window in
     subst (HasKeyAt then.sight.log met.place.table met.place.probe.i) (sym l.key_is)
-    (key_at_stays g.K.PartialEq.eq g.K.Hash.hash_input g.S.BuildHasher.build_hasher g.S.Hasher.Hasher.write g.S.Hasher.Hasher.finish g.met.K.Eq.laws g.met.K.Hash.respects_eq b log then.sight.log (rw c.replace.ensures.sees.book c.replace.ensures.lawful) c.replace.ensures.sees.log met.place.table met.place.probe.i (key_of p) (met_key_there g.K.PartialEq.eq g.K.Hash.hash_input g.S.BuildHasher.build_hasher g.S.Hasher.Hasher.write g.S.Hasher.Hasher.finish g.met.K.Eq.laws g.met.K.Hash.respects_eq b name key begun log met.place met.word full p c.args.table.now writes))
+    (key_at_stays g.K.PartialEq.eq g.K.Hash.hash_input g.S.BuildHasher.build_hasher g.S.Hasher.Hasher.write g.S.Hasher.Hasher.finish g.met.K.Eq.laws g.met.K.Hash.respects_eq b log then.sight.log (rw (sym c.replace.ensures.sees.book) c.replace.ensures.lawful) c.replace.ensures.sees.log met.place.table met.place.probe.i (key_of p) (met_key_there g.K.PartialEq.eq g.K.Hash.hash_input g.S.BuildHasher.build_hasher g.S.Hasher.Hasher.write g.S.Hasher.Hasher.finish g.met.K.Eq.laws g.met.K.Hash.respects_eq b name key begun log met.place met.word full p c.args.table.now writes))
 
 pub returns-in-Ok-Lost-clause-ahead : goal.returns-in-Ok-Lost-clause-ahead
 returns-in-Ok-Lost-clause-ahead g c =
