@@ -68,14 +68,14 @@ module _ {K V T : Type 0} (eq : K → K → Bool) (key : K) (old new : List (Cha
   refuses cause is = replies (Err cause) (inl (inl is))
 
 -- a call that stores where its rule says so ends as its compute does
-module _ {C K V : Type 0} (current : Option (Bor V)) where
-  abbrev Tried : Type 0
-  Tried = First C (Result (Computed K V (Unit {0})) Cause)
+abbrev Tried : (C K V : Type 0) → Type 0
+Tried C K V = First C (Result (Computed K V (Unit {0})) Cause)
 
-  abbrev Unremoved : Tried → Type 0
+module _ {K V : Type 0} (current : Option (Bor V)) where
+  abbrev Unremoved : {C : Type 0} → Tried C K V → Type 0
   Unremoved x = (k : Bor K) (v : Bor V) → x ≡ Over (Ok (Removed k v)) → ⊥
 
-  pub on_still : (P : C → Type 0) (x : Tried) → IfOn x P → IfOn (outcomes x current) P
+  pub on_still : {C : Type 0} (P : C → Type 0) (x : Tried C K V) → IfOn x P → IfOn (outcomes x current) P
   on_still P (Over (Ok (Inserted k v))) h = tt
   on_still P (Over (Ok (Updated before after))) h = tt
   on_still P (Over (Ok (Removed k v))) h = tt
@@ -83,7 +83,7 @@ module _ {C K V : Type 0} (current : Option (Bor V)) where
   on_still P (Over (Err cause)) h = tt
   on_still P (On x) h = h
 
-  pub made_still : (M : Bool → Type 0) (x : Tried) → Unremoved x → IfOver x (λ a. M (changes a)) → IfOver (outcomes x current) (λ a. M (puts a))
+  pub made_still : {C : Type 0} (M : Bool → Type 0) (x : Tried C K V) → Unremoved x → IfOver x (λ a. M (changes a)) → IfOver (outcomes x current) (λ a. M (puts a))
   made_still M (Over (Ok (Inserted k v))) none h = h
   made_still M (Over (Ok (Updated before after))) none h = h
   made_still M (Over (Ok (Removed k v))) none h = absurd (none k v refl)
@@ -91,7 +91,7 @@ module _ {C K V : Type 0} (current : Option (Bor V)) where
   made_still M (Over (Err cause)) none h = h
   made_still M (On x) none h = tt
 
-  pub refused_still : (x : Tried) (cause : Cause) → outcomes x current ≡ Over (Err cause) → x ≡ Over (Err cause)
+  pub refused_still : {C : Type 0} (x : Tried C K V) (cause : Cause) → outcomes x current ≡ Over (Err cause) → x ≡ Over (Err cause)
   refused_still (Over (Ok (Inserted k v))) cause e = absurd (cc e)
   refused_still (Over (Ok (Updated before after))) cause e = absurd (cc e)
   refused_still (Over (Ok (Removed k v))) cause e = absurd (cc e)
@@ -112,7 +112,7 @@ module _ {C K V : Type 0} (current : Option (Bor V)) where
     abbrev Replies_so : Result (Computed K V (Unit {0})) Cause → Type 0
     Replies_so answer = IsReplied eq key old new heard answer
 
-    pub unremoved : (x : Tried) → IfOver x Replies_so → Unremoved x
+    pub unremoved : {C : Type 0} (x : Tried C K V) → IfOver x Replies_so → Unremoved x
     unremoved (Over answer) r k v e = let is : answer ≡ Ok (Removed k v) = cc e in done_removed eq key old new heard removes answer r k v is
     unremoved (On x) r k v e = absurd (cc e)
 
@@ -122,7 +122,7 @@ module _ {C K V : Type 0} (current : Option (Bor V)) where
     abbrev Decides : Result (Outcome V) Cause → Type 0
     Decides answer = IsDecided eq key old new decides first left answer
 
-    pub decided_once : option_map (λ v. v.now) current ≡ value_in held → (x : Tried) → IfOver x Replies_so → IfOver (outcomes x current) Decides
+    pub decided_once : option_map (λ v. v.now) current ≡ value_in held → {C : Type 0} (x : Tried C K V) → IfOver x Replies_so → IfOver (outcomes x current) Decides
     decided_once is (Over (Ok (Inserted k v))) r = decided_by (Ok (Put v)) (done_put eq key old new heard removes (Ok (Inserted k v)) r k v refl)
     decided_once is (Over (Ok (Updated before after))) r = decided_by (Ok (Replaced after.1)) (done_replaced eq key old new heard removes (Ok (Updated before after)) r before after refl)
     decided_once is (Over (Ok (Removed k v))) r = absurd (done_removed eq key old new heard removes (Ok (Removed k v)) r k v refl)

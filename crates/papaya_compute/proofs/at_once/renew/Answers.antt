@@ -29,17 +29,17 @@ pub replace-requires-clause-stands : goal.replace-requires-clause-stands
 replace-requires-clause-stands g c =
     let w = c.args.window.now in let log = w.sight.log in let key = c.args.key in let b = begun_of w.book.now.parts in let name = w.book.now.begun.book in let hash = (hash_of g.K.Hash.hash_input g.S.BuildHasher.build_hasher g.S.Hasher.Hasher.write g.S.Hasher.Hasher.finish) in
     let met = c.args.met in let p = met.stored in let write = Writing (record { place = met.place; old = met.word }) in
-    let found = c.requires.found in (key, write, refl, (found.0, found.1 Inserts write refl))
+    let found = c.requires.found in (key, (write, refl, (found.0, found.1 Inserts write refl)))
 
-pub entry-requires : goal.entry-requires
-entry-requires g c =
+pub entry-old-requires : goal.entry-old-requires
+entry-old-requires g c =
     let w = c.args.window.now in let log = w.sight.log in let key = c.args.key in let b = begun_of w.book.now.parts in let name = w.book.now.begun.book in let hash = (hash_of g.K.Hash.hash_input g.S.BuildHasher.build_hasher g.S.Hasher.Hasher.write g.S.Hasher.Hasher.finish) in
     let met = c.args.met in let p = met.stored in let write = Writing (record { place = met.place; old = met.word }) in
     let found = c.requires.found in
     rw c.replace.ensures.sees.book (pair_placed g.K.PartialEq.eq g.K.Hash.hash_input g.S.BuildHasher.build_hasher g.S.Hasher.Hasher.write g.S.Hasher.Hasher.finish g.met.K.Eq.laws g.met.K.Hash.respects_eq b name key found.0 log c.args.table.now met.place met.word p (found.1 Computes (Showing (record { place = met.place; word = met.word })) refl))
 
-pub entry-requires-2 : goal.entry-requires-2
-entry-requires-2 g c =
+pub entry-new-requires : goal.entry-new-requires
+entry-new-requires g c =
     let w = c.args.window.now in let log = w.sight.log in let key = c.args.key in let b = begun_of w.book.now.parts in let name = w.book.now.begun.book in let hash = (hash_of g.K.Hash.hash_input g.S.BuildHasher.build_hasher g.S.Hasher.Hasher.write g.S.Hasher.Hasher.finish) in
     let met = c.args.met in let p = met.stored in let write = Writing (record { place = met.place; old = met.word }) in
     let value = c.in-Insert.value in let done = c.in-Ok-Put in let is = done.is ∙ ap (λ z. Ok z) done.field-0-is in let q = done.pair in
@@ -57,7 +57,7 @@ returns-in-Ok-Put-clause-replies g c = λ begun found.
     let op : c.args.operation ≡ operation.Insert q.value.value = c.in-Insert.is ∙ ap (λ v. operation.Insert v) (sym l.value_is) in
     let t = c.replace.ensures.put q is key begun write refl (found Inserts write refl) in let z = met_some p t.0 t.1 in
     let change = subst (λ (o : Option (Stored _ _)). IsChangeOf (g.K.PartialEq.eq key) (history_of begun) (past then) o (Some q)) z.1 t.2 in
-    updates g.K.PartialEq.eq key _ _ (Some p) later c.args.operation p z.0 q refl op z.2 change c.entry.result c.entry-2.result c.entry.ensures c.entry-2.ensures
+    updates g.K.PartialEq.eq key _ _ (Some p) later c.args.operation p z.0 q refl op z.2 change c.entry-old.result c.entry-new.result c.entry-old.ensures c.entry-new.ensures
 
 pub returns-in-Ok-Put-clause-made : goal.returns-in-Ok-Put-clause-made
 returns-in-Ok-Put-clause-made g c =
@@ -135,8 +135,8 @@ returns-in-Ok-Lost-clause-goes g c = λ begun found.
     let x = c.replaced.result in
     subst (λ (o : Operation _ _). IsComputing g.K.PartialEq.eq hash (begun_of then.book.now.parts) then.book.now.begun.book key begun then.sight.log x ((Some p, o) ∷ [])) (sym op) (c.replaced.ensures.resumes begun (prefix_trans begun log then.sight.log there.4.seen c.replace.ensures.sees.log) later)
 
-pub returns-in-Err-clause-replies : goal.returns-in-Err-clause-replies
-returns-in-Err-clause-replies g c = λ begun found.
+pub returns-in-Insert-clause-replies : goal.returns-in-Insert-clause-replies
+returns-in-Insert-clause-replies g c = λ begun found.
     let w = c.args.window.now in let log = w.sight.log in let key = c.args.key in let b = begun_of w.book.now.parts in let name = w.book.now.begun.book in let hash = (hash_of g.K.Hash.hash_input g.S.BuildHasher.build_hasher g.S.Hasher.Hasher.write g.S.Hasher.Hasher.finish) in
     let met = c.args.met in let p = met.stored in let write = Writing (record { place = met.place; old = met.word }) in
     let there = found Computes (Showing (record { place = met.place; word = met.word })) refl in let was = pair_found g.K.PartialEq.eq g.K.Hash.hash_input g.S.BuildHasher.build_hasher g.S.Hasher.Hasher.write g.S.Hasher.Hasher.finish g.met.K.Eq.laws g.met.K.Hash.respects_eq b name key begun log c.args.table.now met.place met.word p there in
@@ -145,13 +145,13 @@ returns-in-Err-clause-replies g c = λ begun found.
     let none = subst (λ (z : Result (Tried _ _) _). IfErr z IsMemoryOrCapacity) c.in-Err.is c.replace.ensures.refused in
     refuses g.K.PartialEq.eq key _ _ (Some p) later c.args.operation cause none
 
-pub returns-in-Err-clause-made : goal.returns-in-Err-clause-made
-returns-in-Err-clause-made g c =
+pub returns-in-Insert-clause-made : goal.returns-in-Insert-clause-made
+returns-in-Insert-clause-made g c =
     let w = c.args.window.now in let then = c.replace.new.window in let done = c.in-Err in let is = done.is in
     subst (λ (z : Result (Tried _ _) _). Makes (is_put z) (own w) (own then) (past then)) is c.replace.ensures.made
 
-pub returns-in-Err-clause-crowded : goal.returns-in-Err-clause-crowded
-returns-in-Err-clause-crowded g c = λ e. let same : c.in-Err.refused ≡ Capacity = cc e in c.replace.ensures.crowded (c.in-Err.is ∙ ap (λ z. Err z) same)
+pub returns-in-Insert-clause-crowded : goal.returns-in-Insert-clause-crowded
+returns-in-Insert-clause-crowded g c = λ e. let same : c.in-Err.refused ≡ Capacity = cc e in c.replace.ensures.crowded (c.in-Err.is ∙ ap (λ z. Err z) same)
 
 pub removing-requires-clause-lawful : goal.removing-requires-clause-lawful
 removing-requires-clause-lawful g c =
@@ -185,15 +185,15 @@ returns-in-Remove-clause-ahead g c =
     let w = c.args.window.now in
     (record { standing = c.removing.ensures.standing; calling = c.removing.ensures.calling; initial_is = c.removing.ensures.initial; unchanged = c.removing.ensures.unchanged }, sym (append-nil w.own.done))
 
-pub returns-in-Abort-clause-replies : goal.returns-in-Abort-clause-replies
-returns-in-Abort-clause-replies g c = λ begun found.
+pub returns-clause-replies : goal.returns-clause-replies
+returns-clause-replies g c = λ begun found.
     let w = c.args.window.now in let log = w.sight.log in let key = c.args.key in let b = begun_of w.book.now.parts in let name = w.book.now.begun.book in let hash = (hash_of g.K.Hash.hash_input g.S.BuildHasher.build_hasher g.S.Hasher.Hasher.write g.S.Hasher.Hasher.finish) in
     let met = c.args.met in let p = met.stored in let write = Writing (record { place = met.place; old = met.word }) in
     let there = found Computes (Showing (record { place = met.place; word = met.word })) refl in let was = pair_found g.K.PartialEq.eq g.K.Hash.hash_input g.S.BuildHasher.build_hasher g.S.Hasher.Hasher.write g.S.Hasher.Hasher.finish g.met.K.Eq.laws g.met.K.Hash.respects_eq b name key begun log c.args.table.now met.place met.word p there in
     aborts g.K.PartialEq.eq key _ _ (Some p) was c.args.operation c.in-Abort.with c.in-Abort.is
 
-pub returns-in-Abort-clause-lawful : goal.returns-in-Abort-clause-lawful
-returns-in-Abort-clause-lawful g c =
+pub returns-clause-lawful : goal.returns-clause-lawful
+returns-clause-lawful g c =
     let w = c.args.window.now in let log = w.sight.log in let key = c.args.key in let b = begun_of w.book.now.parts in let name = w.book.now.begun.book in let hash = (hash_of g.K.Hash.hash_input g.S.BuildHasher.build_hasher g.S.Hasher.Hasher.write g.S.Hasher.Hasher.finish) in
     let met = c.args.met in let p = met.stored in let write = Writing (record { place = met.place; old = met.word }) in
     let found = c.requires.found in (found.1 Inserts write refl).4.lawful

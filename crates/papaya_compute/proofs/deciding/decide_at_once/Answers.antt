@@ -101,8 +101,8 @@ renew-renewed-requires-clause-limit g c = c.look.ensures.limit c.in-Some.spot c.
 pub renew-renewed-requires-clause-hashed : goal.renew-renewed-requires-clause-hashed
 renew-renewed-requires-clause-hashed g c = rw c.look.ensures.sees.book c.hash-hash.ensures
 
-pub settle-in-Met-requires : goal.settle-in-Met-requires
-settle-in-Met-requires g c =
+pub settle-requires-in-Met : goal.settle-requires-in-Met
+settle-requires-in-Met g c =
     let w = c.args.window.now in let log = w.sight.log in let key = c.args.key in let mid = c.look.new.window in let spot = c.in-Some.spot in
     let found : IsFoundAt mid key log spot.table.now (MetPair c.in-Met.met) = λ who state. subst (λ (z : Turn _ _). leads who z ≡ Some state → IsSeekingAt who mid key log state (met_by z) spot.table.now) c.in-Met.is (c.look.ensures.found spot c.in-Some.is who state) in
     let tried = c.renew-renewed in let then = tried.new.window in let done = c.wish-again.result in let wished = subst (λ (z : Stored _ _). Wishes g.D.Rule.decides c.args.rule.now (Some z) c.wish-again.result c.wish-again.new.rule) c.again.ensures c.wish-again.ensures.wishes in
