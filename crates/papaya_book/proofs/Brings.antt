@@ -21,20 +21,21 @@ use Rattle.papaya_book.specs.declared.rule.entry.Named.TheVariants as names
 use Rattle.papaya_book.specs.declared.rule.entry.Step.{Step}
 use Rattle.papaya_book.specs.declared.rule.entry.Step.TheVariants as steps
 use Rattle.papaya_book.specs.declared.rule.entry.Event.{Event}
-use Rattle.papaya_book.specs.declared.rule.entry.Event.TheVariants.{Begin, Home, Stepped}
+use Rattle.papaya_book.specs.declared.rule.entry.Event.TheVariants.{Begin, Stepped}
 use Rattle.papaya_book.specs.Sheets.{Sheet}
-use Rattle.papaya_book.specs.Logs.{Stored, Member, brought, coding_of, comes, entries_of, entry_of, exchange_of, exchanges_of, key_at, kind_of, made_of, name_in, number_of, or_else, owner, place_of, places_of, plan_of, seals_of, setting_of, setting_with, slots_of, state_of, steps_of, table_in, word_names}
+use Rattle.papaya_book.specs.Logs.{Stored, brought, coding_of, comes, dealt, entries_of, entry_of, exchange_of, exchanges_of, key_at, kind_of, made_of, name_in, number_of, or_else, owner, place_of, places_of, plan_of, seals_of, setting_of, setting_with, slots_of, state_of, steps_of, table_in, word_names}
 use Rattle.papaya_book.specs.Makers.{Brings, CanBring, IsMade, key_of, table_of}
+use Rattle.papaya_book.specs.Rows.{row_len}
 use Rattle.papaya_book.specs.Rule.{IsBlank, IsKept, IsLawfulLog, IsOfMap, IsPlaced, flag, seal_at, word_in}
-use Rattle.papaya_book.specs.Trade.{Answered, Moved}
+use Rattle.papaya_book.specs.Trade.{Answered, LeavesRow, Moved}
 use Rattle.papaya_book.specs.Sheets.{Sheet}
 use Rattle.papaya_book.proofs.Cells.{cell_other, cell_same, home_still, same_or_not}
 use Rattle.papaya_book.proofs.Comes.{IsNew, blank_zero, get_within, no_seal, no_shared, old_or_new, root_or_not, seal_later, table_then, table_there, word_sizes}
-use Rattle.papaya_book.proofs.Exchanges.{begun_is, found_old}
+use Rattle.papaya_book.proofs.Exchanges.{begun_is, found_old, row_stepped}
 use Rattle.papaya_book.proofs.Grown.{blank_stays, keyless, sized_more}
 use Rattle.papaya_book.proofs.Joining.{brings_more}
-use Rattle.papaya_book.proofs.Loads.{key_since, same_cells, shows}
-use Rattle.papaya_book.proofs.Logs.{answered_left, entered_last, entries-append, key_later, member_last_not, member_left, name-append, name_since, or_nothing, owner_later, prefix_trans, seals-append, state_more, steps-append}
+use Rattle.papaya_book.proofs.Loads.{key_since, row_still, same_cells, shows}
+use Rattle.papaya_book.proofs.Logs.{answered_left, entered_last, entries-append, key_later, name-append, name_since, or_nothing, owner_later, prefix_trans, seals-append, state_more, steps-append}
 use Rattle.papaya_book.proofs.Makers.{map_key, sealed_or_map}
 use Rattle.papaya_book.proofs.Names.{word_answer}
 
@@ -79,8 +80,8 @@ made_since sheet v log pre m =
     (record {
       some_slot = m.some_slot;
       past = m.past;
-      owned = λ at k x. owner_later v pre.0 k sheet.seal (m.owned at k x);
-      home = λ at k x. ⊎_elim (λ i. inl i) (λ i. inr (member_left (Home k) v pre.0 i)) (m.home at k x);
+      sealed = m.sealed;
+      owned = λ at k x. ⊎_elim (λ i. inl i) (λ i. inr (owner_later v pre.0 k sheet.seal i)) (m.owned at k x);
       apart = m.apart;
     })
 
@@ -133,15 +134,16 @@ module _ {K V S : Type 0} (eq : K → K → Bool) (hash : S → K → ℕ) (plan
   old_there : (a : At) (j : ℕ) → key_at es a ≡ Some j → key_at (steps_of log') a ≡ Some j
   old_there a j x = ap (λ (l : List (Step K V)). key_at l a) steps' ∙ key_later es (e ∷ []) a j x
 
-  -- the words of the table are no words of another
-  unshared : (a a' : At) (j : ℕ) → key_at es a ≡ Some j → key_of w.value a' ≡ Some j → ⊥
-  unshared a a' j x y = no_shared eq hash cs log h w.value.seal away a j x (made.past a' j y) (made.owned a' j y)
-
   home_of : (a : At) (j : ℕ) → key_at es a ≡ Some j → (cell cs j).1 ≡ true
   home_of a j x = ap (λ (z : Cell). z.1) (h.coded a j x)
 
   not_seal : (j : ℕ) → (cell cs j).1 ≡ true → j ≢ w.value.seal
   not_seal j home i = let z = ap (λ (n : ℕ). (cell cs n).1) i in cc (z, home, away)
+
+  -- the words of the table are no words of another
+  unshared : (a a' : At) (j : ℕ) → key_at es a ≡ Some j → key_of w.value a' ≡ Some j → ⊥
+  unshared a a' j x y =
+      ⊎_elim (λ i. absurd (not_seal j (home_of a j x) i)) (λ o. no_shared eq hash cs log h w.value.seal away a j x (made.past a' j y) o) (made.owned a' j y)
 
   allowed' : AllAllowed (setting_of eq (hash b.hasher) b.mode b.limit log') start (exchanges_of log')
   allowed' =
@@ -196,6 +198,10 @@ module _ {K V S : Type 0} (eq : K → K → Bool) (hash : S → K → ℕ) (plan
   not_maker : (a : At) (j : ℕ) → key_at es a ≡ Some j → 1 ≢ j
   not_maker a j x i = ⊎_elim (λ r. (map_key es a j r x).0 (sym i)) (λ t. absurd (omega arith)) (h.counted a j x).1
 
+  -- a word that was dealt is one of the row
+  of_row : (j : ℕ) → owner j log ≡ Some w.value.seal → j < 3 + row_len
+  of_row j o = let l : j - 3 < length (seals_of log) = get_within (seals_of log) (j - 3) w.value.seal o in let m = h.room in omega arith
+
   at_k : k < length cs
   at_k = (h.counted at k key).0
 
@@ -231,11 +237,11 @@ module _ {K V S : Type 0} (eq : K → K → Bool) (hash : S → K → ℕ) (plan
       ⊎_elim
       (λ is. absurd (i is))
       (λ m.
-      let home = (h.homes j m).1 in
+      let home = h.homes j (of_row j m) in
       let blank : (cell cs j).0 ≡ 0 = h.fresh j (made.past a j n.key) home (λ a' x. unshared a' a j x n.key) in
       let not_k : j ≢ k = λ same. unshared at a j (key ∙ ap (λ (m : ℕ). Some m) (sym same)) n.key in
       cell_other (slice_set cs k (new, true)) w.value.seal j (0, true) i ∙ (cell_other cs k j (new, true) not_k ∙ ((λ i. (blank i, home i)) ∙ value)))
-      (made.home a j n.key))
+      (made.owned a j n.key))
       (same_or_not j w.value.seal (j == w.value.seal) refl)
 
   pub kept_brought : IsKept eq hash cs' log'
@@ -244,28 +250,38 @@ module _ {K V S : Type 0} (eq : K → K → Bool) (hash : S → K → ℕ) (plan
       let many = h.many in record {
         begun = b;
         lawful = lawful_brought;
-        many = long ∙ (h.many ∙ ap (λ (z : List ℕ). 3 + length z) (sym seals'));
-        maker = cell_other (slice_set cs k (new, true)) w.value.seal 1 (0, true) (not_seal 1 (ap (λ (z : Cell). z.1) h.maker)) ∙ (cell_other cs k 1 (new, true) (not_maker at k key) ∙ (h.maker ∙ ap (λ (o : Option Book). (flag o, true)) (sym name')));
+        many = omega arith;
+        homes = λ j l. home_still (slice_set cs k (new, true)) w.value.seal j 0 past_seal (home_still cs k j new at_k (h.homes j l));
+        maker = cell_other (slice_set cs k (new, true)) w.value.seal 1 (0, true) (not_seal 1 (ap (λ (z : Cell). z.1) h.maker)) ∙ (cell_other cs k 1 (new, true) (not_maker at k key) ∙ (h.maker ∙ (λ i. (flag (sym name' i) + length (sym seals' i), true))));
+        room = subst (λ (z : List ℕ). length z ≤ row_len) (sym seals') h.room;
         coded = λ a j x. ⊎_elim (λ i. coded_old a j i) (λ n. coded_new a j n) (cases a j x);
         counted = λ a j x.
             ⊎_elim
             (λ i. let z = h.counted a j i in (let y = z.0 in omega arith, z.1))
-            (λ n. let l : j - 3 < length (seals_of log) = get_within (seals_of log) (j - 3) w.value.seal (made.owned a j n.key) in let p = made.past a j n.key in (omega arith, inr p))
+            (λ n. let p = made.past a j n.key in (⊎_elim (λ i. let l : w.value.seal < length cs' = omega arith in subst (λ (m : ℕ). m < length cs') (sym i) l) (λ o. let l = of_row j o in omega arith) (made.owned a j n.key), inr p))
             (cases a j x);
         owned = λ a j x.
             ⊎_elim
             (λ i.
             ⊎_elim
             (λ r. inl r)
+            (λ u.
+            ⊎_elim
+            (λ s. inr (inl (ap (λ (l : List (Step K V)). seal_at l a) steps' ∙ seal_later es e w with_it a j s.0, s.1)))
             (λ o.
             ⊎_elim
             (λ r. inl r)
-            (λ s. inr (owner_later log (Stepped e ∷ []) j s.0 (o ∙ s.1) ∙ sym (ap (λ (l : List (Step K V)). seal_at l a) steps' ∙ seal_later es e w with_it a s.0 s.1)))
+            (λ s. inr (inr (owner_later log (Stepped e ∷ []) j s.0 (o ∙ s.1) ∙ sym (ap (λ (l : List (Step K V)). seal_at l a) steps' ∙ seal_later es e w with_it a s.0 s.1))))
             (sealed_or_map es a j i))
+            u)
             (h.owned a j i))
-            (λ n. inr (owner_later log (Stepped e ∷ []) j w.value.seal (made.owned a j n.key) ∙ sym (ap (λ (l : List (Step K V)). seal_at l a) steps' ∙ n.seal)))
+            (λ n.
+            let seal : seal_at (steps_of log') a ≡ Some w.value.seal = ap (λ (l : List (Step K V)). seal_at l a) steps' ∙ n.seal in
+            ⊎_elim
+            (λ i. inr (inl (seal ∙ ap (λ (m : ℕ). Some m) (sym i), subst (λ (m : ℕ). 3 + row_len ≤ m) (sym i) made.sealed)))
+            (λ o. inr (inr (owner_later log (Stepped e ∷ []) j w.value.seal o ∙ sym seal)))
+            (made.owned a j n.key))
             (cases a j x);
-        homes = λ j m. let z = h.homes j (member_last_not (Home j) log (Stepped e) m (λ i. cc i)) in (let y = z.0 in omega arith, home_still (slice_set cs k (new, true)) w.value.seal j 0 past_seal (home_still cs k j new at_k z.1));
         fresh = λ j two home out.
             let not_k : j ≢ k = λ i. out at (old_there at j (key ∙ ap (λ (m : ℕ). Some m) (sym i))) in
             let seal_there : key_at (steps_of log') (Aborted (number_of w)) ≡ Some w.value.seal = ap (λ (l : List (Step K V)). key_at l (Aborted (number_of w))) steps' ∙ ap (Rattle.papaya_book.specs.Logs.in_table (λ s. Some s.seal)) (table_there es e w with_it none) in
@@ -275,7 +291,7 @@ module _ {K V S : Type 0} (eq : K → K → Bool) (hash : S → K → ℕ) (plan
       }
 
 module _ {K V S : Type 0} (eq : K → K → Bool) (hash : S → K → ℕ) (plans : (mode : ResizeMode) (most : Option ℕ) (s : S) → IsLawfulPlan (plan_of {V = V} eq (hash s) mode most))
-    (b : Begun K V S) (v : List (Event K V S)) (ask : Event K V S) (w : Where Sheet) (k old new : ℕ) (key : key_at (steps_of v) (place_of ask) ≡ Some k) (began : IsPrefix (Begin b ∷ []) v)
+    (b : Begun K V S) (v : List (Event K V S)) (ask : Event K V S) (w : Where Sheet) (k old new : ℕ) (leaves : LeavesRow ask) (key : key_at (steps_of v) (place_of ask) ≡ Some k) (began : IsPrefix (Begin b ∷ []) v)
     (with_it : brought ask ≡ names.Table w) (some : new ≢ 0) (name : Book) (named : name_in v ≡ Some name) (placed : IsPlaced b (Some name) (names.Table w)) (made : IsMade w.value v)
     (can : CanBring eq hash b (place_of ask) (kind_of ask) old new (made_of ask) w v) where
   brings_goes : (cs : List Cell) (log : List (Event K V S)) (h : IsKept eq hash cs log) → IsPrefix v log → h.begun ≡ b → w.value.seal < length cs → (cell cs w.value.seal).1 ≡ false → (t : Bool) → ((cell cs k).0 == old) ≡ t
@@ -298,7 +314,7 @@ module _ {K V S : Type 0} (eq : K → K → Bool) (hash : S → K → ℕ) (plan
         Some names_it,
         refl,
         rw is more,
-        inr (names_it, refl, refl, (inr (Stepped e, m.0.meant.with_it ∙ sym with_it, refl), answered_left names_it log (Stepped e ∷ []) told)),
+        inr (names_it, refl, refl, (inr (Stepped e, m.0.meant.with_it ∙ sym with_it, refl), answered_left names_it log (Stepped e ∷ []) told, row_stepped ask log e leaves)),
         (
           record {
             before = log;
@@ -326,7 +342,7 @@ module _ {K V S : Type 0} (eq : K → K → Bool) (hash : S → K → ℕ) (plan
         Some names_it,
         tt,
         rw is (subst (λ (z : List Cell × List (Event K V S)). IsKept eq hash z.0 z.1) (λ i. (sym (same_cells cs k home) i, sym nil i)) h),
-        inr (names_it, refl, refl, (inl nil, subst (λ (l : List (Event K V S)). Answered l names_it) (sym nil) told)),
+        inr (names_it, refl, refl, (inl nil, subst (λ (l : List (Event K V S)). Answered l names_it) (sym nil) told, row_still ask log leaves)),
         (
           record {
             before = log;

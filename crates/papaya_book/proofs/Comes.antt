@@ -1,5 +1,5 @@
 -- A table that comes: its words' keys are new, and its words are blank.
-use Rattle.std.proofs.Common.{◌≡◌, ◌⊎◌, inl, inr, ⊎_elim, ℕ, zero, suc, ◌<◌, ◌≤◌, ◌==◌, Bool, true, false, cond, Option, None, Some, List, [], ◌∷◌, ◌++◌, length, slice_get, refl, sym, ap, ◌∙◌, subst, arith, eqb-true, eq-eqb}
+use Rattle.std.proofs.Common.{◌≡◌, ◌⊎◌, inl, inr, ⊎_elim, ℕ, zero, suc, ◌-◌, ◌<◌, ◌≤◌, ◌==◌, Bool, true, false, cond, Option, None, Some, List, [], ◌∷◌, ◌++◌, length, slice_get, refl, sym, ap, ◌∙◌, subst, arith, eqb-true, eq-eqb}
 use Rattle.std.proofs.lemmas.Bool.{cases_Bool, cond-true, cond-false}
 use Rattle.boxcar.specs.Table.{Where}
 use Rattle.logbook.specs.Pages.{Cell, cell}
@@ -14,7 +14,7 @@ use Rattle.papaya_book.specs.declared.rule.entry.Named.{Named}
 use Rattle.papaya_book.specs.declared.rule.entry.Named.TheVariants as names
 use Rattle.papaya_book.specs.declared.rule.entry.Step.{Step}
 use Rattle.papaya_book.specs.declared.rule.entry.Event.{Event}
-use Rattle.papaya_book.specs.Logs.{comes, in_table, key_at, number_of, or_else, owner, steps_of, table_if, table_in}
+use Rattle.papaya_book.specs.Logs.{comes, in_table, key_at, number_of, or_else, owner, seals_of, steps_of, table_if, table_in}
 use Rattle.papaya_book.specs.Makers.{key_of, table_of}
 use Rattle.papaya_book.specs.Rule.{IsBlank, IsKept, IsOfMap, seal_at}
 use Rattle.papaya_book.proofs.Logs.{get_left, owner_later, table_append, table_later}
@@ -139,17 +139,20 @@ seal_key es (Aborted t) seal x = x
 seal_key es (Done t d) seal x = x
 seal_key es (Slot t i) seal x = x
 
--- No word of a table that has come is one that was made for a table whose seal is away.
+-- No word of a table that has come is one that was dealt for a table whose seal is away.
 pub no_shared : {K V S : Type 0} (eq : K → K → Bool) (hash : S → K → ℕ) (cs : List Cell) (log : List (Event K V S)) (h : IsKept eq hash cs log) (seal : ℕ) → (cell cs seal).1 ≡ false → (at : At) (j : ℕ) → key_at (steps_of log) at ≡ Some j → 3 ≤ j → owner j log ≡ Some seal → ⊥
 no_shared eq hash cs log h seal away at j key past own =
     let of_map : IsOfMap at → ⊥ = λ r. let z = (map_key (steps_of log) at j r key).1 in absurd (omega arith) in
     ⊎_elim
     of_map
     (λ i. ⊎_elim
+    (λ s. let l = get_within (seals_of log) (j - 3) seal own in let m = h.room in let behind = s.1 in absurd (omega arith))
+    (λ o. ⊎_elim
     of_map
-    (λ s. let same : s.0 ≡ seal = cc (own, i, s.1) in
+    (λ s. let same : s.0 ≡ seal = cc (own, o, s.1) in
     let there : key_at (steps_of log) (Aborted (table_of at)) ≡ Some s.0 = seal_key (steps_of log) at s.0 s.1 in
     let home : (cell cs s.0).1 ≡ true = ap (λ (c : Cell). c.1) (h.coded (Aborted (table_of at)) s.0 there) in
     let home' : (cell cs seal).1 ≡ true = subst (λ (n : ℕ). (cell cs n).1 ≡ true) same home in cc (home', away))
     (sealed_or_map (steps_of log) at j key))
+    i)
     (h.owned at j key)

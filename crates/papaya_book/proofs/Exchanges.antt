@@ -1,5 +1,5 @@
 -- An exchange of a word keeps the rule, whatever its kind, and tells what was exchanged.
-use Rattle.std.proofs.Common.{◌≡◌, ◌≢◌, inl, inr, ⊎_elim, ℕ, ◌+◌, ◌<◌, ◌==◌, Bool, true, false, Option, None, Some, List, [], ◌∷◌, ◌++◌, length, slice_set, refl, sym, ap, ◌∙◌, subst, arith, length-set}
+use Rattle.std.proofs.Common.{◌≡◌, ◌≢◌, inl, inr, ⊎_elim, ℕ, ◌+◌, ◌<◌, ◌≤◌, ◌==◌, Bool, true, false, Option, None, Some, List, [], ◌∷◌, ◌++◌, length, slice_set, refl, sym, ap, ◌∙◌, subst, arith, length-set}
 use Rattle.std.proofs.lemmas.List.{append-nil}
 use Rattle.std.proofs.lemmas.Bool.Decides.{nat_tests}
 use mathlib.Core.List.{IsPrefix}
@@ -15,17 +15,23 @@ use Rattle.papaya_book.specs.declared.rule.entry.Begun.{Begun}
 use Rattle.papaya_book.specs.declared.rule.entry.Named.{Named}
 use Rattle.papaya_book.specs.declared.rule.entry.Step.{Step}
 use Rattle.papaya_book.specs.declared.rule.entry.Event.{Event}
-use Rattle.papaya_book.specs.declared.rule.entry.Event.TheVariants.{Begin, Home, Stepped}
-use Rattle.papaya_book.specs.Logs.{Stored, brought, coding_of, comes, exchange_of, key_at, kind_of, made_of, name_in, place_of, plan_of, setting_of, state_of, steps_of, word_names}
+use Rattle.papaya_book.specs.declared.rule.entry.Event.TheVariants.{Begin, Stepped}
+use Rattle.papaya_book.specs.Logs.{Stored, brought, coding_of, comes, dealt, exchange_of, key_at, kind_of, made_of, name_in, place_of, plan_of, seals_of, setting_of, state_of, steps_of, word_names}
+use Rattle.papaya_book.specs.Rows.{row_len}
 use Rattle.papaya_book.specs.Rule.{IsKept, IsLawfulLog, IsPlaced, flag, seal_at, word_in}
-use Rattle.papaya_book.specs.Trade.{Answered, Moved}
+use Rattle.papaya_book.specs.Trade.{Answered, LeavesRow, MovesRow, Moved}
 use Rattle.papaya_book.specs.Plays.{CanExchange, MayStep, Tries}
 use Rattle.papaya_book.proofs.Cells.{cell_other, cell_same, home_still, same_or_not}
-use Rattle.papaya_book.proofs.Logs.{IsQuiet, member_last_not, name_later, answered_left, same_seal, steps-append, with_quiet}
+use Rattle.papaya_book.proofs.Logs.{IsQuiet, name-append, name_later, or_nothing, seals-append, answered_left, same_seal, steps-append, with_quiet}
 use Rattle.papaya_book.proofs.Grown.{lawful_more, same_keys, same_name, same_seals, word_more}
-use Rattle.papaya_book.proofs.Loads.{key_since, same_cells, shows}
+use Rattle.papaya_book.proofs.Loads.{key_since, row_left, row_still, same_cells, shows}
 use Rattle.papaya_book.proofs.Makers.{map_key}
 use Rattle.papaya_book.proofs.Names.{word_answer}
+
+-- an exchange leaves the row
+pub row_stepped : {K V S : Type 0} (ask : Event K V S) (log : List (Event K V S)) (e : Step K V) → LeavesRow ask → MovesRow ask log (log ++ Stepped e ∷ [])
+row_stepped ask log e l =
+    row_left ask log (log ++ Stepped e ∷ []) l (name-append log (Stepped e ∷ []) ∙ or_nothing (name_in log)) (ap (λ (z : List ℕ). length z) (seals-append log (Stepped e ∷ []) ∙ append-nil (seals_of log)))
 
 pub found_old : (n old : ℕ) → (n == old) ≡ true → n ≡ old
 found_old n old e = grind (arith, nat_tests)
@@ -76,12 +82,21 @@ module _ {K V S : Type 0} (eq : K → K → Bool) (hash : S → K → ℕ) (plan
         let name = same_name eq hash plans h.begun log h.lawful e quiet at k new key may written placed in record {
           begun = h.begun;
           lawful = lawful_more eq hash plans h.begun log h.lawful e quiet at k new key may written placed;
-          many = long ∙ (h.many ∙ ap (λ (z : List ℕ). 3 + length z) (sym seals));
-          maker = cell_other cs k 1 (new, true) not_maker ∙ (h.maker ∙ ap (λ (o : Option Book). (flag o, true)) (sym name));
+          many = let m = h.many in omega arith;
+          homes = λ j l. home_still cs k j new within (h.homes j l);
+          maker = cell_other cs k 1 (new, true) not_maker ∙ (h.maker ∙ (λ i. (flag (sym name i) + length (sym seals i), true)));
+          room = subst (λ (z : List ℕ). length z ≤ row_len) (sym seals) h.room;
           coded = coded_more;
           counted = λ at' j x. let z = h.counted at' j (old_key at' j x) in (let y = z.0 in omega arith, z.1);
-          owned = λ at' j x. ⊎_elim (λ i. inl i) (λ i. inr (ap (λ (z : List ℕ). Rattle.std.specs.Prelude.slice_get z (Rattle.std.specs.Prelude.◌-◌ j 3)) seals ∙ (i ∙ sym (ap (λ (l : List (Step K V)). seal_at l at') (steps-append log (Stepped e ∷ [])) ∙ same_seal (steps_of log) e at' quiet)))) (h.owned at' j (old_key at' j x));
-          homes = λ j m. let z = h.homes j (member_last_not (Home j) log (Stepped e) m (λ i. cc i)) in (let y = z.0 in omega arith, home_still cs k j new within z.1);
+          owned = λ at' j x.
+              let seal : seal_at (steps_of log') at' ≡ seal_at (steps_of log) at' = ap (λ (l : List (Step K V)). seal_at l at') (steps-append log (Stepped e ∷ [])) ∙ same_seal (steps_of log) e at' quiet in
+              ⊎_elim
+              (λ i. inl i)
+              (λ i. ⊎_elim
+              (λ s. inr (inl (seal ∙ s.0, s.1)))
+              (λ o. inr (inr (ap (λ (z : List ℕ). Rattle.std.specs.Prelude.slice_get z (Rattle.std.specs.Prelude.◌-◌ j 3)) seals ∙ (o ∙ sym seal))))
+              i)
+              (h.owned at' j (old_key at' j x));
           fresh = λ j two home out.
               let n : j ≢ k = λ i. out at (new_key at j (key ∙ ap (λ (m : ℕ). Some m) (sym i))) in
               let same : cell cs' j ≡ cell cs j = cell_other cs k j (new, true) n in
@@ -92,7 +107,7 @@ module _ {K V S : Type 0} (eq : K → K → Bool) (hash : S → K → ℕ) (plan
   pub begun_is : (b b' : Begun K V S) (log : List (Event K V S)) → IsPrefix (Begin b ∷ []) log → IsLawfulLog eq hash b' log → b' ≡ b
   begun_is b b' log pre l = let both : Begin b ∷ ([] ++ pre.0) ≡ Begin b' ∷ l.rest = pre.1 ∙ l.is in sym (cc both)
 
-  module _ (b : Begun K V S) (v : List (Event K V S)) (ask : Event K V S) (k old new : ℕ) (key : key_at (steps_of v) (place_of ask) ≡ Some k) (began : IsPrefix (Begin b ∷ []) v)
+  module _ (b : Begun K V S) (v : List (Event K V S)) (ask : Event K V S) (k old new : ℕ) (leaves : LeavesRow ask) (key : key_at (steps_of v) (place_of ask) ≡ Some k) (began : IsPrefix (Begin b ∷ []) v)
       (quiet : IsQuiet (brought ask)) (name : Book) (named : name_in v ≡ Some name) (placed : IsPlaced b (Some name) (brought ask))
       (can : CanExchange eq hash b (place_of ask) (kind_of ask) old new (made_of ask) (brought ask) v) where
     tries_goes : (cs : List Cell) (log : List (Event K V S)) (h : IsKept eq hash cs log) → IsPrefix v log → h.begun ≡ b → (t : Bool) → ((cell cs k).0 == old) ≡ t
@@ -116,7 +131,7 @@ module _ {K V S : Type 0} (eq : K → K → Bool) (hash : S → K → ℕ) (plan
           Some names,
           tt,
           rw is more,
-          inr (names, refl, refl, (inr (Stepped e, m.meant.with_it, refl), answered_left names log (Stepped e ∷ []) told)),
+          inr (names, refl, refl, (inr (Stepped e, m.meant.with_it, refl), answered_left names log (Stepped e ∷ []) told, row_stepped ask log e leaves)),
           record {
             before = log;
             since = pre;
@@ -141,7 +156,7 @@ module _ {K V S : Type 0} (eq : K → K → Bool) (hash : S → K → ℕ) (plan
           Some names,
           tt,
           rw is (subst (λ (z : List Cell × List (Event K V S)). IsKept eq hash z.0 z.1) (λ i. (sym (same_cells cs k home) i, sym nil i)) h),
-          inr (names, refl, refl, (inl nil, subst (λ (l : List (Event K V S)). Answered l names) (sym nil) told)),
+          inr (names, refl, refl, (inl nil, subst (λ (l : List (Event K V S)). Answered l names) (sym nil) told, row_still ask log leaves)),
           record {
             before = log;
             since = pre;

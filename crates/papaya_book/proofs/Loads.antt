@@ -5,9 +5,10 @@ use mathlib.Core.List.{IsPrefix}
 use Rattle.logbook.specs.Pages.{Cell, cell, keeps, no_nib, step, Moves}
 use Rattle.papaya_ask.specs.declared.ask.At.{At}
 use Rattle.papaya_book.specs.declared.rule.entry.Event.{Event}
-use Rattle.papaya_book.specs.Logs.{key_at, place_of, setting_of, state_of, steps_of, word_names}
+use Rattle.papaya_book.specs.declared.rule.entry.Event.TheVariants.{Begin, Called, Dealt, Draw, Stepped, Wish}
+use Rattle.papaya_book.specs.Logs.{dealt, key_at, name_in, place_of, setting_of, state_of, steps_of, word_names}
 use Rattle.papaya_book.specs.Rule.{IsKept, word_in}
-use Rattle.papaya_book.specs.Trade.{Answered, Moved}
+use Rattle.papaya_book.specs.Trade.{Answered, LeavesRow, MovesRow, Moved}
 use Rattle.papaya_book.specs.Plays.{Looked, Looks}
 use Rattle.papaya_book.proofs.Logs.{key_later, steps-append}
 use Rattle.papaya_book.proofs.Names.{word_answer}
@@ -21,6 +22,19 @@ pub same_cells : (cs : List Cell) (k : ℕ) → (cell cs k).1 ≡ true → slice
 same_cells cs k home = let c : ((cell cs k).0, true) ≡ cell cs k = λ i. ((cell cs k).0, sym home i) in ap (λ (z : Cell). slice_set cs k z) c ∙ set-get_or cs k (0, false)
 
 module _ {K V S : Type 0} where
+  -- an update that has nothing to do with the row leaves it
+  pub row_left : (ask : Event K V S) (xs ys : List (Event K V S)) → LeavesRow ask → name_in ys ≡ name_in xs → dealt ys ≡ dealt xs → MovesRow ask xs ys
+  row_left (Wish at kind made n) xs ys l e f = (e, f)
+  row_left (Draw book first count) xs ys l e f = absurd l
+  row_left (Begin b) xs ys l e f = (e, f)
+  row_left (Called b) xs ys l e f = absurd l
+  row_left (Dealt seal count) xs ys l e f = (e, f)
+  row_left (Stepped e) xs ys l f g = (f, g)
+
+  -- where nothing is added it stays
+  pub row_still : (ask : Event K V S) (log : List (Event K V S)) → LeavesRow ask → MovesRow ask log (log ++ [])
+  row_still ask log l = row_left ask log (log ++ []) l (ap name_in (append-nil log)) (ap dealt (append-nil log))
+
   -- a key that was seen is the key in each longer log
   pub key_since : (v log : List (Event K V S)) (at : At) (k : ℕ) → IsPrefix v log → key_at (steps_of v) at ≡ Some k → key_at (steps_of log) at ≡ Some k
   key_since v log at k pre e =
@@ -28,9 +42,9 @@ module _ {K V S : Type 0} where
       ∙ (ap (λ l. key_at l at) (steps-append v pre.0) ∙ key_later (steps_of v) (steps_of pre.0) at k e)
 
   module _ (eq : K → K → Bool) (hash : S → K → ℕ) where
-    pub looks_moves : (v : List (Event K V S)) (ask : Event K V S) (k : ℕ) → key_at (steps_of v) (place_of ask) ≡ Some k
+    pub looks_moves : (v : List (Event K V S)) (ask : Event K V S) (k : ℕ) → LeavesRow ask → key_at (steps_of v) (place_of ask) ≡ Some k
         → Moves (IsKept eq hash) shows (Moved ask) k (v, (no_nib, None)) (λ n. n) (Looks eq hash (step k 0 0 ask) (v, (no_nib, None)))
-    looks_moves v ask k at_k cs log h pre away =
+    looks_moves v ask k leaves at_k cs log h pre away =
         let at = place_of ask in
         let named = word_names (steps_of log) (state_of log) at in
         let key : key_at (steps_of log) at ≡ Some k = key_since v log at k pre at_k in
@@ -46,7 +60,7 @@ module _ {K V S : Type 0} where
             Some named,
             tt,
             subst (λ (z : List Cell × List (Event K V S)). IsKept eq hash z.0 z.1) (λ i. (sym (same_cells cs k home) i, sym nil i)) h,
-            inr (named, refl, refl, (inl nil, subst (λ (l : List (Event K V S)). Answered l named) (sym nil) told)),
+            inr (named, refl, refl, (inl nil, subst (λ (l : List (Event K V S)). Answered l named) (sym nil) told, row_still ask log leaves)),
             subst (λ (l : List (Event K V S)). Looked eq hash at (cell cs k).0 l (Some named)) (sym nil) (record { begun = h.begun; lawful = h.lawful; is = sym (ap (λ (z : Cell). z.0) stands); state_is = refl }),
           ),
         )

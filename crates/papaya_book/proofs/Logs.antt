@@ -1,5 +1,5 @@
 -- Longer logs: what they say of exchanges, tables, keys and names.
-use Rattle.std.proofs.Common.{◌≡◌, ◌⊎◌, inl, inr, ⊎_elim, ℕ, zero, suc, ◌-◌, ◌==◌, Bool, false, cond, Option, None, Some, List, [], ◌∷◌, ◌++◌, length, map, slice_get, refl, sym, ap, ◌∙◌, append_assoc, eqb-true}
+use Rattle.std.proofs.Common.{◌≡◌, ◌⊎◌, inl, inr, ⊎_elim, ℕ, zero, suc, ◌+◌, ◌-◌, ◌==◌, Bool, false, cond, Option, None, Some, List, [], ◌∷◌, ◌++◌, length, map, slice_get, refl, sym, ap, ◌∙◌, append_assoc, arith, eqb-true}
 use Rattle.std.proofs.lemmas.Bool.{cases_Bool, cond-true, cond-false}
 use Rattle.std.proofs.lemmas.List.{append-nil, map-append}
 use mathlib.Core.Path.{fun_ext}
@@ -17,8 +17,8 @@ use Rattle.papaya_book.specs.declared.rule.entry.Named.TheVariants as names
 use Rattle.papaya_book.specs.declared.rule.entry.Step.{Step}
 use Rattle.papaya_book.specs.declared.rule.entry.Step.TheVariants as steps
 use Rattle.papaya_book.specs.declared.rule.entry.Event.{Event}
-use Rattle.papaya_book.specs.declared.rule.entry.Event.TheVariants.{Wish, Begin, Called, Born, Home, Stepped}
-use Rattle.papaya_book.specs.Logs.{Stored, Entered, Member, brought, comes, entries_of, entry_of, exchange_of, exchanges_of, in_table, key_at, name_in, name_of, number_of, or_else, owner, plan_of, seal_of, seals_of, setting_of, setting_with, state_of, step_of, steps_of, table_if, table_in}
+use Rattle.papaya_book.specs.declared.rule.entry.Event.TheVariants.{Wish, Begin, Called, Draw, Dealt, Stepped}
+use Rattle.papaya_book.specs.Logs.{Stored, Entered, brought, comes, entries_of, entry_of, exchange_of, exchanges_of, in_table, key_at, name_in, name_of, number_of, or_else, owner, plan_of, seal_of, seals_of, setting_of, setting_with, state_of, step_of, steps_of, table_if, table_in}
 use Rattle.papaya_book.specs.Rule.{seal_at}
 use Rattle.papaya_book.specs.Trade.{Answered}
 
@@ -39,9 +39,10 @@ get_left [] ys k x e = absurd (cc e)
 get_left (y ∷ xs) ys zero x e = e
 get_left (y ∷ xs) ys (suc k) x e = get_left xs ys k x e
 
-pub get_last : {X : Type 0} (xs : List X) (x : X) → slice_get (xs ++ x ∷ []) (length xs) ≡ Some x
-get_last [] x = refl
-get_last (y ∷ xs) x = get_last xs x
+-- what comes after the end of a list
+pub get_right : {X : Type 0} (xs ys : List X) (i : ℕ) → slice_get (xs ++ ys) (length xs + i) ≡ slice_get ys i
+get_right [] ys i = let e : 0 + i ≡ i = omega arith in ap (slice_get ys) e
+get_right (x ∷ xs) ys i = let e : length (x ∷ xs) + i ≡ suc (length xs + i) = omega arith in ap (slice_get (x ∷ (xs ++ ys))) e ∙ get_right xs ys i
 
 key_in_later : {X : Type 0} (f : Sheet → Option X) (o o' : Option (Where Sheet)) → ((w : Where Sheet) → o ≡ Some w → o' ≡ Some w) → (k : X) → in_table f o ≡ Some k → in_table f o' ≡ Some k
 key_in_later f None o' h k e = absurd (cc e)
@@ -55,28 +56,9 @@ pub either_table : (x y : Option (Where Sheet)) (w : Where Sheet) → or_else x 
 either_table None y w e = inr e
 either_table (Some x) y w e = inl e
 
-pub member_left : {X : Type 0} (x : X) (xs ys : List X) → Member x xs → Member x (xs ++ ys)
-member_left x [] ys m = absurd m
-member_left x (y ∷ xs) ys (inl e) = inl e
-member_left x (y ∷ xs) ys (inr m) = inr (member_left x xs ys m)
-
 exchanges-append : {P : Type 0} (es fs : List (Entry P)) → exchanges (es ++ fs) ≡ exchanges es ++ exchanges fs
 exchanges-append [] fs = refl
 exchanges-append (e ∷ es) fs = ap (λ (l : List (Exchange _)). e.by ∷ l) (exchanges-append es fs)
-
-pub member_snoc : {X : Type 0} (x : X) (xs : List X) (y : X) → Member x (xs ++ y ∷ []) → Member x xs ⊎ (x ≡ y)
-member_snoc x [] y (inl e) = inr e
-member_snoc x [] y (inr m) = absurd m
-member_snoc x (z ∷ xs) y (inl e) = inl (inl e)
-member_snoc x (z ∷ xs) y (inr m) = ⊎_elim (λ h. inl (inr h)) (λ e. inr e) (member_snoc x xs y m)
-
-pub member_last : {X : Type 0} (x : X) (xs : List X) → Member x (xs ++ x ∷ [])
-member_last x [] = inl refl
-member_last x (y ∷ xs) = inr (member_last x xs)
-
--- a member of a longer list that is not the last was one before
-pub member_last_not : {X : Type 0} (x : X) (xs : List X) (y : X) → Member x (xs ++ y ∷ []) → (x ≡ y → ⊥) → Member x xs
-member_last_not x xs y m n = ⊎_elim (λ h. h) (λ e. absurd (n e)) (member_snoc x xs y m)
 
 -- no table comes
 abbrev pub IsQuiet : {K V : Type 0} → Named K V → Type 0
@@ -227,8 +209,8 @@ module _ {K V S : Type 0} where
   came_entered n (Wish at kind made m ∷ log) h = inr (came_entered n log h)
   came_entered n (Begin b ∷ log) h = inr (came_entered n log h)
   came_entered n (Called b ∷ log) h = inr (came_entered n log h)
-  came_entered n (Born seal ∷ log) h = inr (came_entered n log h)
-  came_entered n (Home k ∷ log) h = inr (came_entered n log h)
+  came_entered n (Draw b first count ∷ log) h = inr (came_entered n log h)
+  came_entered n (Dealt seal count ∷ log) h = inr (came_entered n log h)
   came_entered n (Stepped e ∷ log) (inl h) = inl h
   came_entered n (Stepped e ∷ log) (inr h) = inr (came_entered n log h)
 

@@ -1,9 +1,10 @@
--- Steps on the makers' word keep the rule: a word is added or comes home, or the book is told its name.
-use Rattle.std.proofs.Common.{◌≡◌, ◌≢◌, ◌⊎◌, inl, inr, ⊎_elim, ℕ, ◌+◌, ◌-◌, ◌<◌, ◌≤◌, ◌==◌, Bool, true, false, Option, None, Some, List, [], ◌∷◌, ◌++◌, length, map, slice_set, slice_get, refl, sym, ap, ◌∙◌, subst, arith, length-append, length-set}
-use Rattle.std.proofs.lemmas.List.{append-nil}
+-- Steps on the makers' word keep the rule: a seal is added and words are dealt for it, or the book is told its name.
+use Rattle.std.proofs.Common.{◌≡◌, ◌≢◌, ◌⊎◌, inl, inr, ⊎_elim, ℕ, ◌+◌, ◌-◌, ◌<◌, ◌≤◌, ◌==◌, Bool, true, false, Option, None, Some, List, [], ◌∷◌, ◌++◌, length, map, replicate, slice_set, slice_get, zero, suc, refl, sym, ap, ◌∙◌, subst, arith, length-append, length-set}
+use Rattle.std.proofs.lemmas.List.{append-nil, length-replicate}
+use mathlib.Core.List.{IsPrefix}
 use Rattle.std.proofs.lemmas.Bool.Decides.{leb_tells, nat_tests}
 use prog.Atomic.{either}
-use Rattle.logbook.specs.Pages.{Book, Cell, adds, cell, gives, keeps, may_write, nib, no_nib, step, Goes, Moves}
+use Rattle.logbook.specs.Pages.{Book, Cell, adds, cell, keeps, no_nib, step, Goes, Moves}
 use Rattle.papaya_ask.specs.declared.ask.At.{At}
 use Rattle.papaya_ask.specs.declared.ask.At.TheVariants.{Root, Next, Aborted, Done, Slot, Made}
 use Rattle.papaya_law.specs.Allows.{AllAllowed}
@@ -16,14 +17,15 @@ use Rattle.papaya_book.specs.declared.rule.entry.Named.{Named}
 use Rattle.papaya_book.specs.declared.rule.entry.Named.TheVariants as names
 use Rattle.papaya_book.specs.declared.rule.entry.Step.{Step}
 use Rattle.papaya_book.specs.declared.rule.entry.Event.{Event}
-use Rattle.papaya_book.specs.declared.rule.entry.Event.TheVariants.{Born, Called, Home}
-use Rattle.papaya_book.specs.Logs.{Stored, Entered, Member, brought, entry_of, in_table, key_at, name_in, name_of, or_else, owner, plan_of, seal_of, seals_of, state_of, step_of, steps_of, table_in}
-use Rattle.papaya_book.specs.Makers.{Adds, Calls, Homes, IsAdded, Seals}
-use Rattle.papaya_book.specs.Rule.{IsBlank, IsKept, IsLawfulLog, IsOfMap, IsPlaced, flag, seal_at, word_in}
-use Rattle.papaya_book.specs.Trade.{Moved}
+use Rattle.papaya_book.specs.declared.rule.entry.Event.TheVariants.{Called, Dealt, Draw}
+use Rattle.papaya_book.specs.Logs.{Stored, Entered, brought, dealt, entry_of, in_table, key_at, name_in, name_of, or_else, owner, plan_of, seals_of, step_of, steps_of, table_in}
+use Rattle.papaya_book.specs.Makers.{AreDealt, Calls, Deals}
+use Rattle.papaya_book.specs.Rows.{row_len}
+use Rattle.papaya_book.specs.Rule.{IsBlank, IsKept, IsLawfulLog, IsOfMap, IsPlaced, IsSealOf, flag, seal_at, word_in}
+use Rattle.papaya_book.specs.Trade.{MovesRow, Moved}
 use Rattle.papaya_book.proofs.Cells.{cell_left, cell_other, cell_past, cell_same, home_still, same_or_not}
 use Rattle.papaya_book.proofs.Loads.{same_cells, shows}
-use Rattle.papaya_book.proofs.Logs.{entered_last, get_last, member_last, member_last_not, member_snoc, name-append, name_later, owner_later, seals-append, steps_same}
+use Rattle.papaya_book.proofs.Logs.{entered_last, get_right, name-append, name_later, name_since, or_nothing, owner_later, seals-append, steps_same}
 
 -- a word of a table has the table's seal
 with_seal : (f : Sheet → Option ℕ) (o : Option (Where Sheet)) (k : ℕ) → in_table f o ≡ Some k → (seal : ℕ) × (in_table (λ s. Some s.seal) o ≡ Some seal)
@@ -54,18 +56,16 @@ placed_named b o o' h names.Nothing p = tt
 placed_named b o o' h (names.Pair q) p = p
 placed_named b o o' h (names.Table w) p = (p.0, p.1, h w.value.book p.2)
 
--- an exchange of a word for itself changes nothing
-pub stays : (n old : ℕ) → either (n == old) old n ≡ n
-stays n old = go (n == old) refl
-  where
-    go : (b : Bool) → (n == old) ≡ b → either (n == old) old n ≡ n
-    go true e = let z : n ≡ old = grind (arith, nat_tests) in rw e (sym z)
-    go false e = rw e refl
-
 -- the makers' word is 0 while the book has no name
-no_flag : (o : Option Book) → flag o ≡ 0 → o ≡ None
-no_flag None e = refl
-no_flag (Some b) e = absurd (omega arith)
+no_flag : (o : Option Book) (n : ℕ) → flag o + n ≡ 0 → (o ≡ None) × (n ≡ 0)
+no_flag None n e = (refl, omega arith)
+no_flag (Some b) n e = absurd (omega arith)
+
+-- each of a list of one number
+each_same : (n x i : ℕ) → i < n → slice_get (replicate n x) i ≡ Some x
+each_same zero x i l = absurd (omega arith)
+each_same (suc n) x zero l = refl
+each_same (suc n) x (suc i) l = each_same n x i (omega arith)
 
 module _ {K V S : Type 0} (eq : K → K → Bool) (hash : S → K → ℕ) where
   -- an entry that is no exchange and brings nothing keeps the log lawful
@@ -102,31 +102,35 @@ module _ {K V S : Type 0} (eq : K → K → Bool) (hash : S → K → ℕ) where
         let plan = plan_of {V = V} eq (hash h.begun.hasher) h.begun.mode h.begun.limit in
         ap (λ (es : List (Step K V)). Rattle.papaya_rests.specs.Told.word_of (setting_in plan (map entry_of es)) (Rattle.papaya_book.specs.Logs.coding_of (hash h.begun.hasher)) (Rattle.papaya_law.specs.Exchange.run (exchanges (map entry_of es)) start) at) same_steps
 
-    owned_still : (at : At) (k : ℕ) → key_at (steps_of log) at ≡ Some k → IsOfMap at ⊎ (owner k log' ≡ seal_at (steps_of log') at)
+    owned_still : (at : At) (k : ℕ) → key_at (steps_of log) at ≡ Some k → IsOfMap at ⊎ (IsSealOf k (seal_at (steps_of log') at) ⊎ (owner k log' ≡ seal_at (steps_of log') at))
     owned_still at k x =
         ⊎_elim
         (λ i. inl i)
         (λ i. ⊎_elim
+        (λ s. inr (inl (ap (λ (es : List (Step K V)). seal_at es at) same_steps ∙ s.0, s.1)))
+        (λ o. ⊎_elim
         (λ j. inl j)
-        (λ j. inr (owner_later log (e ∷ []) k j.0 (i ∙ j.1) ∙ sym (ap (λ (es : List (Step K V)). seal_at es at) same_steps ∙ j.1)))
+        (λ j. inr (inr (owner_later log (e ∷ []) k j.0 (o ∙ j.1) ∙ sym (ap (λ (es : List (Step K V)). seal_at es at) same_steps ∙ j.1))))
         (sealed_or_map (steps_of log) at k x))
+        i)
         (h.owned at k x)
 
     -- the rule is kept where the words that have a key stay
-    pub kept_still : length cs ≤ length cs' → length cs' ≡ 3 + length (seals_of log') → cell cs' 1 ≡ (flag (name_in log'), true)
+    pub kept_still : length cs ≤ length cs' → cell cs' 1 ≡ (flag (name_in log') + dealt log', true) → dealt log' ≤ row_len
         → ((k : ℕ) (at : At) → key_at (steps_of log) at ≡ Some k → cell cs' k ≡ cell cs k)
-        → ((k : ℕ) → Member (Home k) log' → (k < length cs') × ((cell cs' k).1 ≡ true))
+        → ((k : ℕ) → k < 3 + row_len → (cell cs' k).1 ≡ true)
         → ((k : ℕ) → 3 ≤ k → (cell cs' k).1 ≡ true → (cell cs' k ≡ cell cs k) ⊎ ((cell cs' k).0 ≡ 0))
         → IsKept eq hash cs' log'
-    kept_still long many maker same homes fresh = record {
+    kept_still long maker room same homes fresh = record {
       begun = h.begun;
       lawful = lawful_still h.begun log e no_step nothing h.lawful;
-      many = many;
+      many = let m = h.many in omega arith;
+      homes = homes;
       maker = maker;
+      room = room;
       coded = λ at k x. same k at (old_key at k x) ∙ (h.coded at k (old_key at k x) ∙ ap (λ (n : ℕ). (n, true)) (sym (same_word at)));
       counted = λ at k x. let z = h.counted at k (old_key at k x) in (let y = z.0 in omega arith, z.1);
       owned = λ at k x. owned_still at k (old_key at k x);
-      homes = homes;
       fresh = λ k two home out.
           ⊎_elim
           (λ i. ap (λ (c : Cell). c.0) i ∙ h.fresh k two (sym (ap (λ (c : Cell). c.1) i) ∙ home) (λ at x. out at (ap (λ (es : List (Step K V)). key_at es at) same_steps ∙ x)))
@@ -143,113 +147,99 @@ module _ {K V S : Type 0} (eq : K → K → Bool) (hash : S → K → ℕ) where
     at_least_three : 3 ≤ length cs
     at_least_three = let m = h.many in omega arith
 
-    -- a cell is added for a seal
-    pub kept_born : (seal : ℕ) → IsKept eq hash (cs ++ (0, false) ∷ []) (log ++ Born seal ∷ [])
-    kept_born seal =
-        let cs' = cs ++ (0, false) ∷ [] in let log' = log ++ Born seal ∷ [] in
-        let longer : length cs' ≡ length cs + 1 = length-append cs ((0, false) ∷ []) in
-        let seals : length (seals_of log') ≡ length (seals_of log) + 1 = ap (λ (l : List ℕ). length l) (seals-append log (Born seal ∷ [])) ∙ length-append (seals_of log) (seal ∷ []) in
-        let many = h.many in
-        let name : name_in log ≡ name_in log' = sym (name-append log (Born seal ∷ []) ∙ Rattle.papaya_book.proofs.Logs.or_nothing (name_in log)) in
-        kept_still cs cs' log h (Born seal) refl refl (omega arith) (omega arith)
-        (cell_left cs 1 (let l = at_least_three in omega arith) ∙ (h.maker ∙ ap (λ (o : Option Book). (flag o, true)) name))
-        (λ k at x. cell_left cs k (h.counted at k x).0)
-        (λ k m. let z = h.homes k (member_last_not (Home k) log (Born seal) m (λ i. cc i)) in (let y = z.0 in omega arith, ap (λ (c : Cell). c.1) (cell_left cs k z.0) ∙ z.1))
-        (λ k two home. ⊎_elim (λ past. inr (ap (λ (c : Cell). c.0) (cell_past cs k past.1))) (λ within. inl (cell_left cs k within.1)) (leb_tells (length cs) k))
+    -- how many words were dealt after this many more
+    dealt_more : (seal count : ℕ) → dealt (log ++ Dealt seal count ∷ []) ≡ dealt log + count
+    dealt_more seal count =
+        let one : replicate count seal ++ [] ≡ replicate count seal = append-nil (replicate count seal) in
+        ap (λ (l : List ℕ). length l) (seals-append log (Dealt seal count ∷ [])) ∙ (length-append (seals_of log) (replicate count seal ++ []) ∙ ap (λ (n : ℕ). dealt log + n) (ap (λ (l : List ℕ). length l) one ∙ length-replicate count seal))
 
-    -- a word comes home
-    pub kept_home : (k : ℕ) → k < length cs → (cell cs k).1 ≡ false → IsKept eq hash (slice_set cs k (0, true)) (log ++ Home k ∷ [])
-    kept_home k within away =
-        let cs' = slice_set cs k (0, true) in let log' = log ++ Home k ∷ [] in
-        let long : length cs' ≡ length cs = length-set cs k (0, true) in
-        let seals : seals_of log' ≡ seals_of log = seals-append log (Home k ∷ []) ∙ append-nil (seals_of log) in
-        let name : name_in log ≡ name_in log' = sym (name-append log (Home k ∷ []) ∙ Rattle.papaya_book.proofs.Logs.or_nothing (name_in log)) in
-        let other : (j : ℕ) → (cell cs j).1 ≡ true → j ≢ k = λ j home i. let z = ap (λ (m : ℕ). (cell cs m).1) i in cc (z, home, away) in
-        kept_still cs cs' log h (Home k) refl refl (omega arith) (long ∙ (h.many ∙ ap (λ (l : List ℕ). 3 + length l) (sym seals)))
-        (cell_other cs k 1 (0, true) (other 1 (ap (λ (c : Cell). c.1) h.maker)) ∙ (h.maker ∙ ap (λ (o : Option Book). (flag o, true)) name))
-        (λ j at x. cell_other cs k j (0, true) (other j (ap (λ (c : Cell). c.1) (h.coded at j x))))
-        (λ j m.
-        ⊎_elim
-        (λ i. let z = h.homes j i in (let y = z.0 in omega arith, home_still cs k j 0 within z.1))
-        (λ i. let same : j ≡ k = cc i in (subst (λ (n : ℕ). n < length cs') (sym same) (omega arith), ap (λ (n : ℕ). (cell cs' n).1) same ∙ ap (λ (c : Cell). c.1) (cell_same cs k (0, true) within)))
-        (member_snoc (Home j) log (Home k) m))
-        (λ j two home. ⊎_elim (λ i. inr (ap (λ (n : ℕ). (cell cs' n).0) i ∙ ap (λ (c : Cell). c.0) (cell_same cs k (0, true) within))) (λ n. inl (cell_other cs k j (0, true) n)) (same_or_not j k (j == k) refl))
+    -- a seal is added, and words are dealt for it
+    pub kept_dealt : (seal count new : ℕ) → new ≡ flag (name_in log) + (dealt log + count) → dealt log + count ≤ row_len → IsKept eq hash (slice_set cs 1 (new, true) ++ (0, false) ∷ []) (log ++ Dealt seal count ∷ [])
+    kept_dealt seal count new is room =
+        let made = slice_set cs 1 (new, true) in let cs' = made ++ (0, false) ∷ [] in let log' = log ++ Dealt seal count ∷ [] in
+        let within : 1 < length cs = let l = at_least_three in omega arith in
+        let same_long : length made ≡ length cs = length-set cs 1 (new, true) in
+        let longer : length cs' ≡ length made + 1 = length-append made ((0, false) ∷ []) in
+        let more : dealt log' ≡ dealt log + count = dealt_more seal count in
+        let name : name_in log' ≡ name_in log = name-append log (Dealt seal count ∷ []) ∙ or_nothing (name_in log) in
+        let word : new ≡ flag (name_in log') + dealt log' = is ∙ (λ i. flag (sym name i) + sym more i) in
+        let old : (k : ℕ) → k ≢ 1 → k < length cs → cell cs' k ≡ cell cs k = λ k n l. cell_left made k (omega arith) ∙ cell_other cs 1 k (new, true) n in
+        kept_still cs cs' log h (Dealt seal count) refl refl (omega arith)
+        (cell_left made 1 (omega arith) ∙ (cell_same cs 1 (new, true) within ∙ ap (λ (n : ℕ). (n, true)) word))
+        (omega arith)
+        (λ k at x. old k (not_maker cs log h at k x) (h.counted at k x).0)
+        (λ k l. let m = h.many in ap (λ (c : Cell). c.1) (cell_left made k (omega arith)) ∙ home_still cs 1 k new within (h.homes k l))
+        (λ k three home. ⊎_elim (λ past. inr (ap (λ (c : Cell). c.0) (cell_past made k (omega arith)))) (λ l. inl (old k (λ i. absurd (omega arith)) l.1)) (leb_tells (length cs) k))
+
+    -- the words that were dealt are the next ones of the row
+    pub words_dealt : (seal count : ℕ) → 3 + row_len ≤ seal → dealt log + count ≤ row_len → AreDealt (3 + dealt log) count seal (log ++ Dealt seal count ∷ [])
+    words_dealt seal count sealed room = record {
+      past = omega arith;
+      within = omega arith;
+      sealed = sealed;
+      owned = λ i l.
+          let place : 3 + dealt log + i - 3 ≡ dealt log + i = omega arith in
+          let last : seals_of (log ++ Dealt seal count ∷ []) ≡ seals_of log ++ replicate count seal = seals-append log (Dealt seal count ∷ []) ∙ ap (λ (z : List ℕ). seals_of log ++ z) (append-nil (replicate count seal)) in
+          (λ j. slice_get (last j) (place j)) ∙ (get_right (seals_of log) (replicate count seal) i ∙ each_same count seal i l);
+    }
 
     -- the book is told its name
-    pub kept_called : (name : Book) → (cell cs 1).0 ≡ 0 → IsKept eq hash (slice_set cs 1 (1, true)) (log ++ Called name ∷ []) × (name_in (log ++ Called name ∷ []) ≡ Some name)
+    pub kept_called : (name : Book) → (cell cs 1).0 ≡ 0 → IsKept eq hash (slice_set cs 1 (1, true)) (log ++ Called name ∷ []) × (name_in (log ++ Called name ∷ []) ≡ Some name) × (dealt (log ++ Called name ∷ []) ≡ 0)
     kept_called name none =
         let cs' = slice_set cs 1 (1, true) in let log' = log ++ Called name ∷ [] in
         let within : 1 < length cs = let l = at_least_three in omega arith in
         let long : length cs' ≡ length cs = length-set cs 1 (1, true) in
         let seals : seals_of log' ≡ seals_of log = seals-append log (Called name ∷ []) ∙ append-nil (seals_of log) in
-        let unnamed : name_in log ≡ None = no_flag (name_in log) (sym (ap (λ (c : Cell). c.0) h.maker) ∙ none) in
-        let named : name_in log' ≡ Some name = name-append log (Called name ∷ []) ∙ ap (λ (o : Option Book). or_else o (Some name)) unnamed in (
-          kept_still cs cs' log h (Called name) refl refl (omega arith) (long ∙ (h.many ∙ ap (λ (l : List ℕ). 3 + length l) (sym seals)))
-              (cell_same cs 1 (1, true) within ∙ ap (λ (o : Option Book). (flag o, true)) (sym named))
+        let first = no_flag (name_in log) (dealt log) (sym (ap (λ (c : Cell). c.0) h.maker) ∙ none) in
+        let named : name_in log' ≡ Some name = name-append log (Called name ∷ []) ∙ ap (λ (o : Option Book). or_else o (Some name)) first.0 in
+        let undealt : dealt log' ≡ 0 = ap (λ (l : List ℕ). length l) seals ∙ first.1 in
+        let word : 1 ≡ flag (name_in log') + dealt log' = λ i. flag (sym named i) + sym undealt i in (
+          kept_still cs cs' log h (Called name) refl refl (omega arith)
+              (cell_same cs 1 (1, true) within ∙ ap (λ (n : ℕ). (n, true)) word)
+              (omega arith)
               (λ j at x. cell_other cs 1 j (1, true) (not_maker cs log h at j x))
-              (λ j m. let z = h.homes j (member_last_not (Home j) log (Called name) m (λ i. cc i)) in (let y = z.0 in omega arith, home_still cs 1 j 1 within z.1))
-              (λ j two home. inl (cell_other cs 1 j (1, true) (λ i. absurd (omega arith)))),
+              (λ j l. home_still cs 1 j 1 within (h.homes j l))
+              (λ j three home. inl (cell_other cs 1 j (1, true) (λ i. absurd (omega arith)))),
           named,
+          undealt,
         )
-
-  -- the makers' word stays as it is where it is exchanged for itself
-  maker_same : (cs : List Cell) (log : List (Event K V S)) → IsKept eq hash cs log → (old : ℕ) → slice_set cs 1 (either ((cell cs 1).0 == old) old (cell cs 1).0, true) ≡ cs
-  maker_same cs log h old = ap (λ (n : ℕ). slice_set cs 1 (n, true)) (stays (cell cs 1).0 old) ∙ same_cells cs 1 (ap (λ (c : Cell). c.1) h.maker)
 
   maker_home : (cs : List Cell) (log : List (Event K V S)) → IsKept eq hash cs log → (1 < length cs) × ((cell cs 1).1 ≡ true)
   maker_home cs log h = (let l = at_least_three cs log h in omega arith, ap (λ (c : Cell). c.1) h.maker)
 
-  -- an update that brings nothing, of which an entry is added
-  moved_by : (ask e : Event K V S) (log : List (Event K V S)) → brought e ≡ brought ask → Moved ask log (log ++ e ∷ []) names.Nothing
-  moved_by ask e log same = (inr (e, same, refl), tt)
+  -- the book as it is where the makers' word is another
+  left_so : (cs : List Cell) (log : List (Event K V S)) → IsKept eq hash cs log → IsKept eq hash (slice_set cs 1 ((cell cs 1).0, true)) (log ++ [])
+  left_so cs log h = subst (λ (z : List Cell × List (Event K V S)). IsKept eq hash z.0 z.1) (λ i. (sym (same_cells cs 1 (ap (λ (c : Cell). c.1) h.maker)) i, sym (append-nil log) i)) h
 
-  pub adds_moves : (v : List (Event K V S)) (seal : ℕ) → Moves (IsKept eq hash) shows (Moved (Born seal)) 1 (v, (no_nib, None)) (λ n. either (n == 1) 1 n) (Adds (step 1 1 1 (Born seal)) (v, (no_nib, None)))
-  adds_moves v seal cs log h pre away =
-      let m = maker_home cs log h in (
-        m.0,
-        m.1,
-        (
+  -- what is asked for where words are drawn, and how the makers' word goes on
+  module _ (v : List (Event K V S)) (name : Book) (named : name_in v ≡ Some name) (old count : ℕ) (room : old + count ≤ 1 + row_len) where
+    abbrev ask : Event K V S
+    ask = Draw name (old + 2) count
+
+    deals_goes : (cs : List Cell) (log : List (Event K V S)) → IsKept eq hash cs log → IsPrefix v log → (t : Bool) → ((cell cs 1).0 == old) ≡ t
+        → Goes (IsKept eq hash) shows (Moved ask) 1 (v, (no_nib, None)) (λ n. either (n == old) (old + count) n) (Deals (step 1 old (old + count) ask) (v, (no_nib, None))) cs log
+    deals_goes cs log h pre true is =
+        let seal = length cs in
+        let found : (cell cs 1).0 ≡ old = grind (arith, nat_tests) in
+        let called : name_in log ≡ Some name = name_since v log name pre named in
+        let word : old ≡ 1 + dealt log = sym found ∙ (ap (λ (c : Cell). c.0) h.maker ∙ ap (λ (o : Option Book). flag o + dealt log) called) in
+        let first : old + 2 ≡ 3 + dealt log = omega arith in
+        let fits : dealt log + count ≤ row_len = omega arith in
+        let new : old + count ≡ flag (name_in log) + (dealt log + count) = (let z : old + count ≡ 1 + (dealt log + count) = omega arith in z) ∙ ap (λ (o : Option Book). flag o + (dealt log + count)) (sym called) in
+        let called' : name_in (log ++ Dealt seal count ∷ []) ≡ Some name = name_later log (Dealt seal count ∷ []) name called in (
           adds,
-          Born seal ∷ [],
+          Dealt seal count ∷ [],
           Some names.Nothing,
           tt,
-          subst (λ (z : List Cell). IsKept eq hash (z ++ (0, false) ∷ []) (log ++ Born seal ∷ [])) (sym (maker_same cs log h 1)) (kept_born cs log h seal),
-          inr (names.Nothing, refl, refl, moved_by (Born seal) (Born seal) log refl),
-          (seal, refl, (length cs, refl, record { before = log; since = pre; is = refl; key_is = h.many })),
-        ),
-      )
+          rw is (kept_dealt cs log h seal count (old + count) new fits),
+          inr (names.Nothing, refl, refl, (inr (Dealt seal count, refl, refl), tt, (called, first, fits, called', dealt_more cs log h seal count))),
+          rw is (seal, refl, refl, subst (λ (n : ℕ). AreDealt n count seal (log ++ Dealt seal count ∷ [])) (sym first) (words_dealt cs log h seal count h.many fits)),
+        )
+    deals_goes cs log h pre false is =
+        (keeps, [], None, tt, rw is (left_so cs log h), inl (refl, append-nil log), rw is tt)
 
-  pub seals_moves : (v : List (Event K V S)) (ask : Event K V S) → brought ask ≡ names.Nothing → Moves (IsKept eq hash) shows (Moved ask) 1 (v, (no_nib, None)) (λ n. either (n == 1) 1 n) (Seals (step 1 1 1 ask) (v, (no_nib, None)))
-  seals_moves v ask nothing cs log h pre away =
-      let m = maker_home cs log h in (
-        m.0,
-        m.1,
-        (
-          adds,
-          Born (length cs) ∷ [],
-          Some names.Nothing,
-          tt,
-          subst (λ (z : List Cell). IsKept eq hash (z ++ (0, false) ∷ []) (log ++ Born (length cs) ∷ [])) (sym (maker_same cs log h 1)) (kept_born cs log h (length cs)),
-          inr (names.Nothing, refl, refl, moved_by ask (Born (length cs)) log (sym nothing)),
-          (length cs, refl, record { before = log; since = pre; is = refl; key_is = h.many }),
-        ),
-      )
-
-  pub homes_moves : (v : List (Event K V S)) (k : ℕ) → Moves (IsKept eq hash) shows (Moved (Home k)) 1 (v, (nib may_write k 0, None)) (λ n. either (n == 1) 1 n) (Homes (step 1 1 1 (Home k)) (v, (nib may_write k 0, None)))
-  homes_moves v k cs log h pre away =
-      let m = maker_home cs log h in let a = away refl in (
-        m.0,
-        m.1,
-        (
-          gives,
-          Home k ∷ [],
-          Some names.Nothing,
-          refl,
-          subst (λ (z : List Cell). IsKept eq hash (slice_set z k (0, true)) (log ++ Home k ∷ [])) (sym (maker_same cs log h 1)) (kept_home cs log h k a.0 a.1),
-          inr (names.Nothing, refl, refl, moved_by (Home k) (Home k) log refl),
-          (refl, member_last (Home k) log),
-        ),
-      )
+    pub deals_moves : Moves (IsKept eq hash) shows (Moved ask) 1 (v, (no_nib, None)) (λ n. either (n == old) (old + count) n) (Deals (step 1 old (old + count) ask) (v, (no_nib, None)))
+    deals_moves cs log h pre away = let m = maker_home cs log h in (m.0, m.1, deals_goes cs log h pre ((cell cs 1).0 == old) refl)
 
   calls_goes : (v : List (Event K V S)) (name : Book) (cs : List Cell) (log : List (Event K V S)) → IsKept eq hash cs log → (t : Bool) → ((cell cs 1).0 == 0) ≡ t
       → Goes (IsKept eq hash) shows (Moved (Called name)) 1 (v, (no_nib, None)) (λ n. either (n == 0) 1 n) (Calls (step 1 0 1 (Called name)) (v, (no_nib, None))) cs log
@@ -260,34 +250,11 @@ module _ {K V S : Type 0} (eq : K → K → Bool) (hash : S → K → ℕ) where
         Some names.Nothing,
         tt,
         rw is called.0,
-        inr (names.Nothing, refl, refl, moved_by (Called name) (Called name) log refl),
+        inr (names.Nothing, refl, refl, (inr (Called name, refl, refl), tt, (called.1, called.2))),
         rw is called.1,
       )
   calls_goes v name cs log h false is =
-      let nil : log ++ [] ≡ log = append-nil log in (
-        keeps,
-        [],
-        Some names.Nothing,
-        tt,
-        rw is (subst (λ (z : List Cell × List (Event K V S)). IsKept eq hash z.0 z.1) (λ i. (sym (same_cells cs 1 (ap (λ (c : Cell). c.1) h.maker)) i, sym nil i)) h),
-        inr (names.Nothing, refl, refl, (inl nil, tt)),
-        rw is tt,
-      )
+      (keeps, [], None, tt, rw is (left_so cs log h), inl (refl, append-nil log), rw is tt)
 
   pub calls_moves : (v : List (Event K V S)) (name : Book) → Moves (IsKept eq hash) shows (Moved (Called name)) 1 (v, (no_nib, None)) (λ n. either (n == 0) 1 n) (Calls (step 1 0 1 (Called name)) (v, (no_nib, None)))
   calls_moves v name cs log h pre away = let m = maker_home cs log h in (m.0, m.1, calls_goes v name cs log h ((cell cs 1).0 == 0) refl)
-
--- the word that was added is for the seal
-pub added_owner : {K V S : Type 0} (seal : ℕ) (seen log : List (Event K V S)) (key : ℕ) → IsAdded seal seen log key → owner key log ≡ Some seal
-added_owner seal seen log key a =
-    let place : key - 3 ≡ length (seals_of a.before) = let k = a.key_is in omega arith in
-    ap (owner key) a.is
-    ∙ (ap (λ (l : List ℕ). slice_get l (key - 3)) (seals-append a.before (Born seal ∷ []))
-    ∙ (ap (slice_get (seals_of a.before ++ seal ∷ [])) place ∙ get_last (seals_of a.before) seal))
-
--- and its key is greater than those that were seen
-pub added_after : {K V S : Type 0} (seal : ℕ) (seen log : List (Event K V S)) (key : ℕ) → IsAdded seal seen log key → 3 + length (seals_of seen) ≤ key
-added_after seal seen log key a =
-    let all : length (seals_of a.before) ≡ length (seals_of seen) + length (seals_of a.since.0) =
-    ap (λ (l : List (Event _ _ _)). length (seals_of l)) (sym a.since.1) ∙ (ap (λ (l : List ℕ). length l) (seals-append seen a.since.0) ∙ length-append (seals_of seen) (seals_of a.since.0)) in
-    let k = a.key_is in omega arith

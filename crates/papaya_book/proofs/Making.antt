@@ -1,5 +1,5 @@
--- A table that is made word by word, and opened.
-use Rattle.std.proofs.Common.{◌≡◌, ◌⊎◌, inl, inr, ℕ, zero, suc, ◌+◌, ◌-◌, ◌<◌, ◌≤◌, Bool, Option, Some, List, [], ◌∷◌, ◌++◌, length, slice_get, refl, sym, ap, ◌∙◌, subst, arith, length-append}
+-- A table that is made of words of the row, and opened.
+use Rattle.std.proofs.Common.{◌≡◌, ◌⊎◌, inl, inr, ℕ, zero, suc, ◌+◌, ◌-◌, ◌<◌, ◌≤◌, Bool, Option, Some, List, [], ◌∷◌, ◌++◌, length, slice_get, refl, sym, ap, ◌∙◌, subst, arith}
 use mathlib.Core.List.{IsPrefix}
 use Rattle.boxcar.specs.Table.{Where}
 use Rattle.logbook.specs.Pages.{Book, Named}
@@ -12,17 +12,11 @@ use Rattle.papaya_rests.specs.Told.{word_of}
 use Rattle.papaya_book.specs.Sheets.{AllOf, Sheet, word_named}
 use Rattle.papaya_book.specs.declared.rule.entry.Begun.{Begun}
 use Rattle.papaya_book.specs.declared.rule.entry.Event.{Event}
-use Rattle.papaya_book.specs.declared.rule.entry.Event.TheVariants.{Home}
 use Rattle.papaya_book.specs.declared.rule.entry.Step.TheVariants as steps
-use Rattle.papaya_book.specs.Logs.{Member, Stored, coding_of, number_of, owner, seals_of, setting_of, state_of}
-use Rattle.papaya_book.specs.Makers.{AreMade, CanBring, IsMade, key_of, table_of}
+use Rattle.papaya_book.specs.Logs.{Stored, coding_of, number_of, owner, setting_of, state_of}
+use Rattle.papaya_book.specs.Makers.{AreDealt, AreFrom, CanBring, IsMade, key_of, table_of}
 use Rattle.papaya_book.proofs.Comes.{get_within}
-use Rattle.papaya_book.proofs.Logs.{get_left, member_left, owner_later, seals-append}
-
--- what comes after the end of a list
-get_right : {X : Type 0} (xs ys : List X) (i : ℕ) → slice_get (xs ++ ys) (length xs + i) ≡ slice_get ys i
-get_right [] ys i = let e : 0 + i ≡ i = omega arith in ap (slice_get ys) e
-get_right (x ∷ xs) ys i = let e : length (x ∷ xs) + i ≡ suc (length xs + i) = omega arith in ap (slice_get (x ∷ (xs ++ ys))) e ∙ get_right xs ys i
+use Rattle.papaya_book.proofs.Logs.{get_left, get_right, owner_later}
 
 -- an opening changes the root alone
 others_stay : {K P : Type 0} (g : Setting K P) (c : Coding K P) (s : State P) (t : ℕ) (at : At) → (at ≡ Root → ⊥) → word_of g c (after s (Open t)) at ≡ word_of g c s at
@@ -45,56 +39,32 @@ can_open eq hash b made w v log pre l is = (
   l.unopened is (number_of w),
 )
 
+-- one more word
+pub from_more : (ks : List ℕ) (first k : ℕ) → AreFrom ks first → k ≡ first + length ks → AreFrom (ks ++ k ∷ []) first
+from_more [] first k f e = (omega arith, tt)
+from_more (j ∷ ks) first k f e = (f.0, from_more ks (first + 1) k f.1 (omega arith))
+
+-- words after words
+pub from_append : (ks js : List ℕ) (first : ℕ) → AreFrom ks first → AreFrom js (first + length ks) → AreFrom (ks ++ js) first
+from_append [] js first f g = let e : first + 0 ≡ first = omega arith in subst (AreFrom js) e g
+from_append (k ∷ ks) js first f g = let e : first + length (k ∷ ks) ≡ first + 1 + length ks = omega arith in (f.0, from_append ks js (first + 1) f.1 (subst (AreFrom js) e g))
+
+-- each of them
+from_at : (ks : List ℕ) (first x k : ℕ) → AreFrom ks first → slice_get ks x ≡ Some k → k ≡ first + x
+from_at [] first x k f e = absurd (cc e)
+from_at (j ∷ ks) first zero k f e = let i : j ≡ k = cc e in let h = f.0 in omega arith
+from_at (j ∷ ks) first (suc x) k f e = let r = from_at ks (first + 1) x k f.1 e in omega arith
+
 module _ {K V S : Type 0} where
-  pub owner_since : (v log : List (Event K V S)) (k seal : ℕ) → IsPrefix v log → owner k v ≡ Some seal → owner k log ≡ Some seal
-  owner_since v log k seal pre e = subst (λ (l : List (Event K V S)). owner k l ≡ Some seal) pre.1 (owner_later v pre.0 k seal e)
-
-  pub home_since : (v log : List (Event K V S)) (k : ℕ) → IsPrefix v log → Member (Home k) v → Member (Home k) log
-  home_since v log k pre m = subst (λ (l : List (Event K V S)). Member (Home k) l) pre.1 (member_left (Home k) v pre.0 m)
-
-  pub seals_grow : (v log : List (Event K V S)) → IsPrefix v log → length (seals_of v) ≤ length (seals_of log)
-  seals_grow v log pre =
-      let all : length (seals_of log) ≡ length (seals_of v) + length (seals_of pre.0) = ap (λ (l : List (Event K V S)). length (seals_of l)) (sym pre.1) ∙ (ap (λ (l : List ℕ). length l) (seals-append v pre.0) ∙ length-append (seals_of v) (seals_of pre.0)) in
-      omega arith
-
   -- they stay so
-  pub made_later : (v log : List (Event K V S)) → IsPrefix v log → (ks : List ℕ) (least seal : ℕ) → AreMade ks least seal v → AreMade ks least seal log
-  made_later v log pre [] least seal m = tt
-  made_later v log pre (k ∷ ks) least seal m = (m.0, owner_since v log k seal pre m.1, home_since v log k pre m.2, made_later v log pre ks k seal m.3)
+  pub dealt_later : (v log : List (Event K V S)) → IsPrefix v log → (first count seal : ℕ) → AreDealt first count seal v → AreDealt first count seal log
+  dealt_later v log pre first count seal d =
+      subst (AreDealt first count seal) pre.1
+      (record { past = d.past; within = d.within; sealed = d.sealed; owned = λ i l. owner_later v pre.0 (first + i) seal (d.owned i l) })
 
-  pub below : (log : List (Event K V S)) (k seal : ℕ) → owner k log ≡ Some seal → k < 3 + length (seals_of log)
-  below log k seal e = let l = get_within (seals_of log) (k - 3) seal e in omega arith
-
-  -- one more
-  pub made_more : (v log : List (Event K V S)) → IsPrefix v log → (ks : List ℕ) (least seal k : ℕ) → least < 3 + length (seals_of v) → AreMade ks least seal v → 3 + length (seals_of v) ≤ k → owner k log ≡ Some seal → Member (Home k) log → AreMade (ks ++ k ∷ []) least seal log
-  made_more v log pre [] least seal k low m after own home = (omega arith, own, home, tt)
-  made_more v log pre (j ∷ ks) least seal k low m after own home =
-      (m.0, owner_since v log j seal pre m.1, home_since v log j pre m.2, made_more v log pre ks j seal k (below v j seal m.1) m.3 after own home)
-
-  -- each of them
-  made_at : (log : List (Event K V S)) (ks : List ℕ) (least seal x k : ℕ) → AreMade ks least seal log → slice_get ks x ≡ Some k → (least < k) × (owner k log ≡ Some seal) × Member (Home k) log
-  made_at log [] least seal x k m e = absurd (cc e)
-  made_at log (j ∷ ks) least seal zero k m e = let i : j ≡ k = cc e in subst (λ (n : ℕ). (least < n) × (owner n log ≡ Some seal) × Member (Home n) log) i (m.0, m.1, m.2)
-  made_at log (j ∷ ks) least seal (suc x) k m e = let r = made_at log ks j seal x k m.3 e in (let a = m.0 in let b = r.0 in omega arith, r.1, r.2)
-
-  one_place : (log : List (Event K V S)) (ks : List ℕ) (least seal x y k : ℕ) → AreMade ks least seal log → slice_get ks x ≡ Some k → slice_get ks y ≡ Some k → x ≡ y
-  one_place log [] least seal x y k m e f = absurd (cc e)
-  one_place log (j ∷ ks) least seal zero zero k m e f = refl
-  one_place log (j ∷ ks) least seal zero (suc y) k m e f = let i : j ≡ k = cc e in let r = made_at log ks j seal y k m.3 f in let l = r.0 in absurd (omega arith)
-  one_place log (j ∷ ks) least seal (suc x) zero k m e f = let i : j ≡ k = cc f in let r = made_at log ks j seal x k m.3 e in let l = r.0 in absurd (omega arith)
-  one_place log (j ∷ ks) least seal (suc x) (suc y) k m e f = ap suc (one_place log ks j seal x y k m.3 e f)
-
-  -- words that were made after those of a log follow on them
-  pub made_append : (v log : List (Event K V S)) → IsPrefix v log → (ks js : List ℕ) (least seal : ℕ) → least < 3 + length (seals_of v) → AreMade ks least seal v → ((m : ℕ) → m < 3 + length (seals_of v) → AreMade js m seal log) → AreMade (ks ++ js) least seal log
-  made_append v log pre [] js least seal low m more = more least low
-  made_append v log pre (k ∷ ks) js least seal low m more = (m.0, owner_since v log k seal pre m.1, home_since v log k pre m.2, made_append v log pre ks js k seal (below v k seal m.1) m.3 more)
-
-  module _ (sheet : Sheet) (log : List (Event K V S)) (some : 0 < length sheet.slots) (past : 3 ≤ sheet.seal) (own : owner sheet.seal log ≡ Some sheet.seal) (made : AreMade (sheet.next ∷ (sheet.done ++ sheet.slots)) sheet.seal sheet.seal log) where
+  module _ (sheet : Sheet) (log : List (Event K V S)) (some : 0 < length sheet.slots) (from : AreFrom (sheet.next ∷ (sheet.done ++ sheet.slots)) sheet.next) (dealt : AreDealt sheet.next (length (sheet.next ∷ (sheet.done ++ sheet.slots))) sheet.seal log) where
     abbrev row : List ℕ
     row = sheet.done ++ sheet.slots
-
-    row_made : AreMade row sheet.next sheet.seal log
-    row_made = made.3
 
     done_in : (c k : ℕ) → slice_get sheet.done c ≡ Some k → slice_get row c ≡ Some k
     done_in c k e = get_left sheet.done sheet.slots c k e
@@ -102,26 +72,36 @@ module _ {K V S : Type 0} where
     slot_in : (x k : ℕ) → slice_get sheet.slots x ≡ Some k → slice_get row (length sheet.done + x) ≡ Some k
     slot_in x k e = get_right sheet.done sheet.slots x ∙ e
 
-    row_at : (i k : ℕ) → slice_get row i ≡ Some k → (sheet.next < k) × (owner k log ≡ Some sheet.seal) × Member (Home k) log
-    row_at i k e = made_at log row sheet.next sheet.seal i k row_made e
+    row_at : (i k : ℕ) → slice_get row i ≡ Some k → (k ≡ sheet.next + (i + 1)) × (i + 1 < length (sheet.next ∷ row))
+    row_at i k e = let at = from_at row (sheet.next + 1) i k from.1 e in let l = get_within row i k e in (omega arith, omega arith)
 
     one_index : (i j k : ℕ) → slice_get row i ≡ Some k → slice_get row j ≡ Some k → i ≡ j
-    one_index i j k e f = one_place log row sheet.next sheet.seal i j k row_made e f
+    one_index i j k e f = let a = (row_at i k e).0 in let b = (row_at j k f).0 in omega arith
 
-    each : (at : At) (k : ℕ) → key_of sheet at ≡ Some k → (sheet.seal ≤ k) × (owner k log ≡ Some sheet.seal) × ((k ≡ sheet.seal) ⊎ Member (Home k) log)
+    -- a word of the row is for the table
+    in_row : (i k : ℕ) → k ≡ sheet.next + i → i < length (sheet.next ∷ row) → (3 ≤ k) × (k < sheet.seal) × (owner k log ≡ Some sheet.seal)
+    in_row i k is l = let p = dealt.past in let w = dealt.within in let s = dealt.sealed in (omega arith, omega arith, ap (λ (n : ℕ). owner n log) is ∙ dealt.owned i l)
+
+    of_next : (k : ℕ) → sheet.next ≡ k → (3 ≤ k) × (k < sheet.seal) × (owner k log ≡ Some sheet.seal)
+    of_next k e = in_row 0 k (omega arith) (omega arith)
+
+    of_row : (i k : ℕ) → slice_get row i ≡ Some k → (3 ≤ k) × (k < sheet.seal) × (owner k log ≡ Some sheet.seal)
+    of_row i k e = let r = row_at i k e in in_row (i + 1) k r.0 r.1
+
+    each : (at : At) (k : ℕ) → key_of sheet at ≡ Some k → (3 ≤ k) × ((k ≡ sheet.seal) ⊎ (owner k log ≡ Some sheet.seal))
     each Root k e = absurd (cc e)
     each Made k e = absurd (cc e)
-    each (Next t) k e = let i : sheet.next ≡ k = cc e in subst (λ (n : ℕ). (sheet.seal ≤ n) × (owner n log ≡ Some sheet.seal) × ((n ≡ sheet.seal) ⊎ Member (Home n) log)) i (let l = made.0 in omega arith, made.1, inr made.2)
-    each (Aborted t) k e = let i : sheet.seal ≡ k = cc e in subst (λ (n : ℕ). (sheet.seal ≤ n) × (owner n log ≡ Some sheet.seal) × ((n ≡ sheet.seal) ⊎ Member (Home n) log)) i (omega arith, own, inl refl)
-    each (Done t c) k e = let r = row_at c k (done_in c k e) in (let l = made.0 in let a = r.0 in omega arith, r.1, inr r.2)
-    each (Slot t x) k e = let r = row_at (length sheet.done + x) k (slot_in x k e) in (let l = made.0 in let a = r.0 in omega arith, r.1, inr r.2)
+    each (Next t) k e = let r = of_next k (cc e) in (r.0, inr r.2)
+    each (Aborted t) k e = let i : sheet.seal ≡ k = cc e in let s = dealt.sealed in (omega arith, inl (sym i))
+    each (Done t c) k e = let r = of_row c k (done_in c k e) in (r.0, inr r.2)
+    each (Slot t x) k e = let r = of_row (length sheet.done + x) k (slot_in x k e) in (r.0, inr r.2)
 
     -- a word of the row is not one of those before it
     not_next : (i k : ℕ) → sheet.next ≡ k → slice_get row i ≡ Some k → ⊥
-    not_next i k is e = let r = row_at i k e in let a = r.0 in omega arith
+    not_next i k is e = let a = (row_at i k e).0 in omega arith
 
     not_seal : (i k : ℕ) → sheet.seal ≡ k → slice_get row i ≡ Some k → ⊥
-    not_seal i k is e = let r = row_at i k e in let a = r.0 in let l = made.0 in omega arith
+    not_seal i k is e = let a = (of_row i k e).1 in omega arith
 
     not_both : (c x k : ℕ) → slice_get sheet.done c ≡ Some k → slice_get sheet.slots x ≡ Some k → ⊥
     not_both c x k e f =
@@ -135,12 +115,12 @@ module _ {K V S : Type 0} where
     other (Next t) Root k u e f = absurd (cc f)
     other (Next t) Made k u e f = absurd (cc f)
     other (Next t) (Next t') k u e f = ap Next u
-    other (Next t) (Aborted t') k u e f = let i : sheet.next ≡ k = cc e in let j : sheet.seal ≡ k = cc f in let m = made.0 in absurd (omega arith)
+    other (Next t) (Aborted t') k u e f = let j : sheet.seal ≡ k = cc f in let m = (of_next k (cc e)).1 in absurd (omega arith)
     other (Next t) (Done t' c) k u e f = absurd (not_next c k (cc e) (done_in c k f))
     other (Next t) (Slot t' x) k u e f = absurd (not_next (length sheet.done + x) k (cc e) (slot_in x k f))
     other (Aborted t) Root k u e f = absurd (cc f)
     other (Aborted t) Made k u e f = absurd (cc f)
-    other (Aborted t) (Next t') k u e f = let i : sheet.seal ≡ k = cc e in let j : sheet.next ≡ k = cc f in let m = made.0 in absurd (omega arith)
+    other (Aborted t) (Next t') k u e f = let i : sheet.seal ≡ k = cc e in let m = (of_next k (cc f)).1 in absurd (omega arith)
     other (Aborted t) (Aborted t') k u e f = ap Aborted u
     other (Aborted t) (Done t' c) k u e f = absurd (not_seal c k (cc e) (done_in c k f))
     other (Aborted t) (Slot t' x) k u e f = absurd (not_seal (length sheet.done + x) k (cc e) (slot_in x k f))
@@ -163,9 +143,9 @@ module _ {K V S : Type 0} where
     pub table_made : IsMade sheet log
     table_made = record {
       some_slot = some;
-      past = λ at k e. let l = (each at k e).0 in omega arith;
+      past = λ at k e. (each at k e).0;
+      sealed = dealt.sealed;
       owned = λ at k e. (each at k e).1;
-      home = λ at k e. (each at k e).2;
       apart = other;
     }
 

@@ -1,11 +1,13 @@
 -- The first log and words of a book keep the rule.
-use Rattle.std.proofs.Common.{◌≡◌, ◌⊎◌, inl, inr, ℕ, ◌<◌, zero, suc, ◌≤◌, true, None, Some, List, [], ◌∷◌, refl, sym, ap, ◌∙◌, subst, ⊎_elim, Bool, arith}
+use Rattle.std.proofs.Common.{◌≡◌, ◌⊎◌, inl, inr, ℕ, ◌<◌, zero, suc, ◌≤◌, true, None, Some, List, [], ◌∷◌, length, replicate, refl, sym, ap, ◌∙◌, subst, ⊎_elim, Bool, false, ◌+◌, arith}
+use Rattle.std.proofs.lemmas.List.{get_or-replicate, length-replicate}
 use Rattle.logbook.specs.Pages.{Cell, cell}
 use Rattle.papaya_ask.specs.declared.ask.At.{At}
 use Rattle.papaya_ask.specs.declared.ask.At.TheVariants.{Root, Next, Aborted, Done, Slot, Made}
 use Rattle.papaya_book.specs.declared.rule.entry.Begun.{Begun}
 use Rattle.papaya_book.specs.declared.rule.entry.Event.TheVariants.{Begin}
 use Rattle.papaya_book.specs.Logs.{key_at}
+use Rattle.papaya_book.specs.Rows.{row_len}
 use Rattle.papaya_book.specs.Rule.{IsKept, IsLawfulLog, IsOfMap, IsPlaced, word_in}
 use Rattle.papaya_book.specs.Tokens.{stands}
 use base.Shift.{Keyless}
@@ -37,14 +39,14 @@ first_of_map K V (Aborted t) k e = absurd (cc e)
 first_of_map K V (Done t c) k e = absurd (cc e)
 first_of_map K V (Slot t x) k e = absurd (cc e)
 
-abbrev first_cells : List Cell
-first_cells = (0, true) ∷ (0, true) ∷ (0, true) ∷ []
+-- the words of the map and of the row
+first_home : (n k : ℕ) → k < n → cell (replicate n (0, true)) k ≡ (0, true)
+first_home n k l = get_or-replicate n k (0, true) (0, false) l
 
-no_more : (k : ℕ) → 3 ≤ k → (cell first_cells k).1 ≡ true → (cell first_cells k).0 ≡ 0
-no_more zero three home = absurd (omega arith)
-no_more (suc zero) three home = absurd (omega arith)
-no_more (suc (suc zero)) three home = absurd (omega arith)
-no_more (suc (suc (suc k))) three home = refl
+first_zero : (n k : ℕ) → (cell (replicate n (0, true)) k).0 ≡ 0
+first_zero zero k = refl
+first_zero (suc n) zero = refl
+first_zero (suc n) (suc k) = first_zero n k
 
 module _ {K V S : Type 0} (eq : K → K → Bool) (hash : S → K → ℕ) (b : Begun K V S) where
   first_lawful : IsLawfulLog eq hash b (Begin b ∷ [])
@@ -59,24 +61,30 @@ module _ {K V S : Type 0} (eq : K → K → Bool) (hash : S → K → ℕ) (b : 
     apart = first_apart K V;
   }
 
-  first_coded : (at : At) (k : ℕ) → ((at ≡ Root) × (k ≡ 0)) ⊎ ((at ≡ Made) × (k ≡ 2)) → cell first_cells k ≡ (word_in eq hash b (Begin b ∷ []) at, true)
-  first_coded at k (inl r) = ap (cell first_cells) r.1 ∙ ap (λ (a : At). (word_in eq hash b (Begin b ∷ []) a, true)) (sym r.0)
-  first_coded at k (inr r) = ap (cell first_cells) r.1 ∙ ap (λ (a : At). (word_in eq hash b (Begin b ∷ []) a, true)) (sym r.0)
+  first_coded : (n : ℕ) → 3 ≤ n → (at : At) (k : ℕ) → ((at ≡ Root) × (k ≡ 0)) ⊎ ((at ≡ Made) × (k ≡ 2)) → cell (replicate n (0, true)) k ≡ (word_in eq hash b (Begin b ∷ []) at, true)
+  first_coded n three at k (inl r) = ap (cell (replicate n (0, true))) r.1 ∙ (first_home n 0 (omega arith) ∙ ap (λ (a : At). (word_in eq hash b (Begin b ∷ []) a, true)) (sym r.0))
+  first_coded n three at k (inr r) = ap (cell (replicate n (0, true))) r.1 ∙ (first_home n 2 (omega arith) ∙ ap (λ (a : At). (word_in eq hash b (Begin b ∷ []) a, true)) (sym r.0))
 
-  -- a book that is opened keeps the rule
-  pub opens_kept : IsKept eq hash first_cells (Begin b ∷ [])
-  opens_kept = record {
+  -- a book that is opened with the words of the map and a row keeps the rule
+  pub opens_kept : (n : ℕ) → n ≡ 3 + row_len → IsKept eq hash (replicate n (0, true)) (Begin b ∷ [])
+  opens_kept n is = let long = sym (length-replicate n (0, true)) in record {
     begun = b;
     lawful = first_lawful;
-    many = refl;
-    maker = refl;
-    coded = λ at k x. first_coded at k (first_key K V at k x);
-    counted = λ at k x. let r = first_of_map K V at k x in (r.1, inl r.0);
+    many = let all : 3 + row_len ≤ n = omega arith in subst (λ (m : ℕ). 3 + row_len ≤ m) long all;
+    homes = λ k l. ap (λ (c : Cell). c.1) (first_home n k (omega arith));
+    maker = first_home n 1 (omega arith);
+    room = omega arith;
+    coded = λ at k x. first_coded n (omega arith) at k (first_key K V at k x);
+    counted = λ at k x. let r = first_of_map K V at k x in let low = r.1 in let all : k < n = omega arith in (subst (λ (m : ℕ). k < m) long all, inl r.0);
     owned = λ at k x. inl (first_of_map K V at k x).0;
-    homes = λ k m. ⊎_elim (λ i. absurd (cc i)) (λ i. absurd i) m;
-    fresh = λ k three home out. no_more k three home;
+    fresh = λ k three home out. first_zero n k;
   }
 
 -- what shows a token names no token of one thread
 pub stands_keyless : (R : RattleType) (w : Where R.Denot) → Keyless (stands R w)
 stands_keyless R w = λ x. (tt, tt)
+
+-- the row has so many words, as code writes it
+pub row_is : row_len ≡ 4611686018427387904
+unfolding row_len
+row_is = refl

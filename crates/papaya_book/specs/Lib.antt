@@ -8,6 +8,8 @@ pub mod Hashes
 pub mod Keys
 -- the log, the rule of the book, and what the book keeps beside the log
 pub mod Logs
+-- the row of words that tables are made of
+pub mod Rows
 pub mod Rule
 -- what the rule says of hints
 pub mod Hinted

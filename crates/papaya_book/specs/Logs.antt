@@ -1,6 +1,6 @@
 -- What a log says: its exchanges, with the setting that they make; the tables that came, with their
--- words' keys; and the words that were added.
-use Rattle.std.specs.Prelude.{◌≡◌, ◌⊎◌, ℕ, ◌+◌, ◌-◌, ◌==◌, Bool, true, false, cond, Option, None, Some, List, [], ◌∷◌, ◌++◌, length, map, slice_get}
+-- words' keys; and for which tables words of the row were dealt.
+use Rattle.std.specs.Prelude.{◌≡◌, ◌⊎◌, ℕ, ◌+◌, ◌-◌, ◌==◌, Bool, true, false, cond, Option, None, Some, List, [], ◌∷◌, ◌++◌, length, map, replicate, slice_get}
 use Rattle.boxcar.specs.Table.{Where}
 use Rattle.logbook.specs.Pages.{Book}
 use Rattle.papaya_words.specs.Chunks.{chunk_len, chunk_of}
@@ -22,7 +22,7 @@ use Rattle.papaya_book.specs.declared.rule.entry.Named.TheVariants as names
 use Rattle.papaya_book.specs.declared.rule.entry.Step.{Step}
 use Rattle.papaya_book.specs.declared.rule.entry.Step.TheVariants as steps
 use Rattle.papaya_book.specs.declared.rule.entry.Event.{Event}
-use Rattle.papaya_book.specs.declared.rule.entry.Event.TheVariants.{Wish, Called, Born, Stepped}
+use Rattle.papaya_book.specs.declared.rule.entry.Event.TheVariants.{Wish, Called, Dealt, Stepped}
 
 -- a pair as the law's words name it
 abbrev pub Stored : Type 0 → Type 0 → Type 0
@@ -218,16 +218,20 @@ module _ {K V S : Type 0} where
   name_in [] = None
   name_in (e ∷ es) = or_else (name_of e) (name_in es)
 
-  -- the seals of the words that were added, in their order
+  -- the seals of the tables for which words of the row were dealt, word by word
   abbrev pub seal_of : Event K V S → List ℕ
-  seal_of (Born seal) = seal ∷ []
+  seal_of (Dealt seal count) = replicate count seal
   seal_of _ = []
 
   abbrev pub seals_of : List (Event K V S) → List ℕ
   seals_of [] = []
   seals_of (e ∷ es) = seal_of e ++ seals_of es
 
-  -- the seal of the table that the word of this key is for
+  -- how many words of the row were dealt
+  abbrev pub dealt : List (Event K V S) → ℕ
+  dealt log = length (seals_of log)
+
+  -- the seal of the table that this word of the row is for; the row's keys begin at 3
   abbrev pub owner : ℕ → List (Event K V S) → Option ℕ
   owner k log = slice_get (seals_of log) (k - 3)
 

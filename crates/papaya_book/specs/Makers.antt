@@ -1,6 +1,6 @@
--- What the steps of makers of tables tell: a word is added, comes home, and joins a table; the book
--- is told its name.
-use Rattle.std.specs.Prelude.{◌≡◌, ◌⊎◌, ℕ, ◌+◌, ◌<◌, ◌≤◌, ◌==◌, Bool, MatchBool, Option, None, Some, List, [], ◌∷◌, ◌++◌, length, slice_get}
+-- What the steps of makers of tables tell: a seal is added and words are dealt for it; the table comes;
+-- the book is told its name.
+use Rattle.std.specs.Prelude.{◌≡◌, ◌⊎◌, ℕ, ◌+◌, ◌<◌, ◌≤◌, ◌==◌, Bool, MatchBool, Option, None, Some, List, [], ◌∷◌, length, slice_get}
 use mathlib.Core.List.{IsPrefix}
 use Rattle.logbook.specs.Pages.{View, Step as Book_step, nib, no_nib, may_make}
 use Rattle.papaya_ask.specs.declared.ask.At.{At}
@@ -12,35 +12,36 @@ use Rattle.papaya_book.specs.declared.rule.entry.Begun.{Begun}
 use Rattle.papaya_book.specs.declared.rule.entry.Named.{Named}
 use Rattle.papaya_book.specs.declared.rule.entry.Named.TheVariants as names
 use Rattle.papaya_book.specs.declared.rule.entry.Event.{Event}
-use Rattle.papaya_book.specs.declared.rule.entry.Event.TheVariants.{Born, Home}
-use Rattle.papaya_book.specs.Logs.{Member, Stored, brought, kind_of, made_of, name_in, name_of, number_of, owner, place_of, seals_of, steps_of, table_in}
+use Rattle.papaya_book.specs.declared.rule.entry.Event.TheVariants.{Draw}
+use Rattle.papaya_book.specs.Logs.{Stored, brought, kind_of, made_of, name_in, name_of, number_of, owner, place_of, steps_of, table_in}
+use Rattle.papaya_book.specs.Rows.{row_len}
 use Rattle.papaya_book.specs.Plays.{MayStep, Tried}
 use Rattle.papaya_book.specs.Rule.{IsLawfulLog, word_in}
 
 module _ {K V S : Type 0} where
-  -- A word was added, with the number of words as its key: for the table that will have this seal,
-  -- and with it the pen to make it.
-  pub record IsAdded (seal : ℕ) (seen log : List (Event K V S)) (key : ℕ) : Type 0 where
-    pub before : List (Event K V S)
-    pub since : IsPrefix seen before
-    pub is : log ≡ before ++ Born seal ∷ []
-    pub key_is : key ≡ 3 + length (seals_of before)
+  -- The words of the row from `first` on, so many, are for the table with this seal, which lies behind
+  -- the row.
+  pub record AreDealt (first count seal : ℕ) (log : List (Event K V S)) : Type 0 where
+    pub past : 3 ≤ first
+    pub within : first + count ≤ 3 + row_len
+    pub sealed : 3 + row_len ≤ seal
+    pub owned : (i : ℕ) → i < count → owner (first + i) log ≡ Some seal
 
-  -- a seal: the word is for the table of this very word
-  abbrev pub Seals : Book_step (Event K V S) → View (Event K V S) (Named K V) → ℕ
-      → View (Event K V S) (Named K V) → Type 0
-  Seals s v found w = (k : ℕ) × (w.1.0 ≡ nib may_make k 0) × IsAdded k v.0 w.0 k
+  -- the first of the words that a maker asks for, and how many
+  abbrev pub first_of : Event K V S → ℕ
+  first_of (Draw book first count) = first
+  first_of _ = 0
 
-  -- another word of a table, whose seal was asked for
-  abbrev pub Adds : Book_step (Event K V S) → View (Event K V S) (Named K V) → ℕ
-      → View (Event K V S) (Named K V) → Type 0
-  Adds s v found w = (seal : ℕ) × (s.ask ≡ Born seal)
-      × ((k : ℕ) × (w.1.0 ≡ nib may_make k 0) × IsAdded seal v.0 w.0 k)
+  abbrev pub count_of : Event K V S → ℕ
+  count_of (Draw book first count) = count
+  count_of _ = 0
 
-  -- the pen's word came home
-  abbrev pub Homes : Book_step (Event K V S) → View (Event K V S) (Named K V) → ℕ
+  -- the words were dealt, and a seal was added, with the pen to make it; or another word was found
+  abbrev pub Deals : Book_step (Event K V S) → View (Event K V S) (Named K V) → ℕ
       → View (Event K V S) (Named K V) → Type 0
-  Homes s v found w = (w.1.0 ≡ no_nib) × Member (Home v.1.0.key) w.0
+  Deals s v found w = MatchBool (found == s.old) ((seal : ℕ) × (w.1.0 ≡ nib may_make seal 0)
+      × (w.1.1 ≡ Some names.Nothing) × AreDealt (first_of s.ask) (count_of s.ask) seal w.0)
+      (Unit {0})
 
   -- the book has the name, if it had none
   abbrev pub Calls : Book_step (Event K V S) → View (Event K V S) (Named K V) → ℕ
@@ -65,21 +66,20 @@ table_of (Done t c) = t
 table_of (Slot t x) = t
 table_of Made = 0
 
--- A table whose words were made for it and have come home, all but the seal; each is another word.
+-- A table whose words were dealt for its seal, which lies behind the row; each is another word.
 pub record IsMade {K V S : Type 0} (sheet : Sheet) (log : List (Event K V S)) : Type 0 where
   pub some_slot : 0 < length sheet.slots
   pub past : (at : At) (k : ℕ) → key_of sheet at ≡ Some k → 3 ≤ k
-  pub owned : (at : At) (k : ℕ) → key_of sheet at ≡ Some k → owner k log ≡ Some sheet.seal
-  pub home : (at : At) (k : ℕ) → key_of sheet at ≡ Some k → (k ≡ sheet.seal) ⊎ Member (Home k) log
+  pub sealed : 3 + row_len ≤ sheet.seal
+  pub owned : (at : At) (k : ℕ) → key_of sheet at ≡ Some k
+      → (k ≡ sheet.seal) ⊎ (owner k log ≡ Some sheet.seal)
   pub apart : (at at' : At) (k : ℕ) → table_of at ≡ table_of at' → key_of sheet at ≡ Some k
       → key_of sheet at' ≡ Some k → at ≡ at'
 
-module _ {K V S : Type 0} where
-  -- words that were made one after the other for one table, each with a greater key
-  abbrev pub AreMade : List ℕ → (least seal : ℕ) → List (Event K V S) → Type 0
-  AreMade [] least seal log = Unit {0}
-  AreMade (k ∷ ks) least seal log = (least < k) × (owner k log ≡ Some seal) × Member (Home k) log
-      × AreMade ks k seal log
+-- the keys are the numbers from `first` on
+abbrev pub AreFrom : List ℕ → (first : ℕ) → Type 0
+AreFrom [] first = Unit {0}
+AreFrom (k ∷ ks) first = (k ≡ first) × AreFrom ks (first + 1)
 
 -- An exchange with which the table w comes, that may be made at any time when its old word stands
 -- there: its number is no other table's.

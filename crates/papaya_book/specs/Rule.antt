@@ -13,9 +13,10 @@ use Rattle.papaya_book.specs.declared.rule.entry.Named.TheVariants as names
 use Rattle.papaya_book.specs.declared.rule.entry.Begun.{Begun}
 use Rattle.papaya_book.specs.declared.rule.entry.Step.{Step}
 use Rattle.papaya_book.specs.declared.rule.entry.Event.{Event}
-use Rattle.papaya_book.specs.declared.rule.entry.Event.TheVariants.{Begin, Home}
+use Rattle.papaya_book.specs.declared.rule.entry.Event.TheVariants.{Begin}
 use Rattle.papaya_book.specs.Pairs.{IsKeyIn, IsValueIn}
-use Rattle.papaya_book.specs.Logs.{Entered, Member, coding_of, entries_of, exchanges_of, in_table, key_at, name_in, owner, seals_of, setting_of, state_of, steps_of, table_in}
+use Rattle.papaya_book.specs.Logs.{Entered, coding_of, dealt, entries_of, exchanges_of, in_table, key_at, name_in, owner, setting_of, state_of, steps_of, table_in}
+use Rattle.papaya_book.specs.Rows.{row_len}
 
 -- the words of a table of which nothing is said yet
 pub record IsBlank {P : Type 0} (s : State P) (t : ℕ) : Type 0 where
@@ -39,10 +40,14 @@ IsOfMap Root = Unit {0}
 IsOfMap Made = Unit {0}
 IsOfMap _ = ⊥
 
--- what the word that only makers use holds: 1 once the book has its name
+-- what the name adds to the word that only makers use
 abbrev pub flag : Option Book → ℕ
 flag None = 0
 flag (Some b) = 1
+
+-- the word is the seal, which lies behind the row
+abbrev pub IsSealOf : (k : ℕ) → (seal : Option ℕ) → Type 0
+IsSealOf k seal = (seal ≡ Some k) × (3 + row_len ≤ k)
 
 module _ {K V S : Type 0} where
   -- What has come is in the logs that the book was opened with. The words of a table are of the
@@ -80,16 +85,20 @@ module _ {K V S : Type 0} where
     pub record IsKept (cells : List Cell) (log : List (Event K V S)) : Type 0 where
       pub begun : Begun K V S
       pub lawful : IsLawfulLog begun log
-      pub many : length cells ≡ 3 + length (seals_of log)
-      pub maker : cell cells 1 ≡ (flag (name_in log), true)
+      -- the words of the map and the row are home
+      pub many : 3 + row_len ≤ length cells
+      pub homes : (k : ℕ) → k < 3 + row_len → (cell cells k).1 ≡ true
+      -- the word that only makers use counts the words of the row that were dealt, and the name
+      pub maker : cell cells 1 ≡ (flag (name_in log) + dealt log, true)
+      pub room : dealt log ≤ row_len
       pub coded : (at : At) (k : ℕ) → key_at (steps_of log) at ≡ Some k
           → cell cells k ≡ (word_in begun log at, true)
       pub counted : (at : At) (k : ℕ) → key_at (steps_of log) at ≡ Some k
           → (k < length cells) × (IsOfMap at ⊎ (3 ≤ k))
-      -- a table's words were added for its seal
+      -- a table's words were dealt for its seal, which is no word of the row
       pub owned : (at : At) (k : ℕ) → key_at (steps_of log) at ≡ Some k
-          → IsOfMap at ⊎ (owner k log ≡ seal_at (steps_of log) at)
-      -- words that came home stay there, and hold 0 while they are in no table
-      pub homes : (k : ℕ) → Member (Home k) log → (k < length cells) × ((cell cells k).1 ≡ true)
+          → IsOfMap at ⊎ (IsSealOf k (seal_at (steps_of log) at)
+          ⊎ (owner k log ≡ seal_at (steps_of log) at))
+      -- words that are home hold 0 while they are in no table
       pub fresh : (k : ℕ) → 3 ≤ k → (cell cells k).1 ≡ true
           → ((at : At) → key_at (steps_of log) at ≡ Some k → ⊥) → (cell cells k).0 ≡ 0

@@ -23,6 +23,7 @@ pub mod Claiming
 pub mod Replacing
 pub mod Trading
 pub mod Logged
+pub mod Onward
 -- what closures are shown
 pub mod Showings
 -- removals

@@ -42,7 +42,7 @@ use Rattle.papaya_lookup.proofs.Readings.{IsQuery}
 use Rattle.papaya_lookup.proofs.Turning.{compared_look, read_hinted}
 use Rattle.papaya_change.specs.Changing.{IsCalling}
 use Rattle.papaya_change.specs.Seeking.{IsSeekingAt, Seeker, Inserts, Computes, at_live, leads, left_at, left_to, met_by, seeker_at, task_of, turn_of}
-use Rattle.papaya_change.specs.declared.at_once.Turn.TheVariants.{Empty, Next}
+use Rattle.papaya_change.specs.declared.at_once.Turn.TheVariants.{Empty, Next, Over as OverTable}
 use Rattle.papaya_change.proofs.Changing.{begins, compared, hint_table, hinted as hint_loaded, loads, sized, slot_table}
 use Rattle.papaya_change.proofs.Written.{own_query}
 
@@ -111,6 +111,32 @@ module _ (K V : Type 0) where
   within_next (On goes) is next e = within_on goes is next e
   within_next seen is next e = absurd (cc e)
 
+  -- a place that is looked at next is of the same table
+  abbrev StaysIn : Place → Seen → Type 0
+  StaysIn at seen = (next : Place) → turn_of {K = K} {V = V} seen ≡ Next next → next ≡ record at { probe = next.probe }
+
+  stays_on : (at : Place) → StaysIn at (go_on at)
+  stays_on at = chosen (StaysIn at) (nat_lt at.probe.len at.limit) (On (Looking (next_place at))) (Over at.table) (λ _ next e. let is : next_place at ≡ next = cc e in subst (λ (z : Place). z ≡ record at { probe = z.probe }) is refl) (λ _ next e. absurd (cc e))
+
+  pub stays_hinted : (at : Place) (hash hint : ℕ) → StaysIn at (hinted at hash hint)
+  stays_hinted at hash hint = chosen (StaysIn at) (may_hold hint hash) (On (Reading at)) (go_on at) (λ _ next e. absurd (cc e)) (λ _. stays_on at)
+
+  stays_at : (kind : Kind) (at : Place) (word : ℕ) → StaysIn at (look_at kind at word)
+  stays_at kinds.Buried at word = stays_on at
+  stays_at kinds.Closed at word = stays_on at
+  stays_at kind at word = λ next e. absurd (cc e)
+
+  pub stays_look : (at : Place) (word : ℕ) → StaysIn at (look at word)
+  stays_look at word = stays_at (kind_of word) at word
+
+  stays_match : (kind : Kind) (at : Place) (word : ℕ) → StaysIn at (match_at kind at word)
+  stays_match kinds.Copied at word = λ next e. absurd (cc e)
+  stays_match kind at word = λ next e. absurd (cc e)
+
+  pub stays_yes : (at : Place) (word : ℕ) (same : Bool) → StaysIn at (at_yes (Comparing at word) same)
+  stays_yes at word true = stays_match (kind_of word) at word
+  stays_yes at word false = stays_on at
+
   -- where a turn leads that met no pair, the search leads the machine
   led_on : (who : Seeker) (mode : ResizeMode) (goes : Search) (state : State) → leads who (turn_of {K = K} {V = V} (On goes)) ≡ Some state → led_by who mode (On goes) ≡ state
   led_on who mode (Looking at) state e = cc e
@@ -120,9 +146,14 @@ module _ (K V : Type 0) where
   led_empty Inserts mode at state e = cc e
   led_empty Computes mode at state e = cc e
 
+  led_over : (who : Seeker) (mode : ResizeMode) (table : ℕ) (state : State) → leads {K = K} {V = V} who (OverTable table) ≡ Some state → led_by who mode (Over table) ≡ state
+  led_over Inserts mode table state e = cc e
+  led_over Computes mode table state e = absurd (cc e)
+
   pub led_so : (who : Seeker) (mode : ResizeMode) (seen : Seen) (state : State) → leads who (turn_of {K = K} {V = V} seen) ≡ Some state → led_by who mode seen ≡ state
   led_so who mode (On goes) state e = led_on who mode goes state e
   led_so who mode (Seen_empty at) state e = led_empty who mode at state e
+  led_so who mode (Over table) state e = led_over who mode table state e
   led_so who mode seen state e = absurd (cc e)
 
   none_on : (goes : Search) → met_by (turn_of {K = K} {V = V} (On goes)) ≡ None

@@ -9,10 +9,11 @@ use Rattle.papaya_ask.specs.declared.call.Task.TheVariants.{Insert, Compute}
 use Rattle.papaya_ask.specs.declared.search.Place.{Place}
 use Rattle.papaya_ask.specs.declared.search.Search.TheVariants.{Looking}
 use Rattle.papaya_ask.specs.declared.search.Seen.{Seen}
-use Rattle.papaya_ask.specs.declared.search.Seen.TheVariants.{On, Empty as Seen_empty}
+use Rattle.papaya_ask.specs.declared.search.Seen.TheVariants.{On, Empty as Seen_empty, Over as Seen_over}
 use Rattle.papaya_call.specs.declared.compute.Gap.TheVariants.{At as At_place}
 use Rattle.papaya_call.specs.declared.machine.State.{State}
-use Rattle.papaya_call.specs.declared.machine.State.TheVariants.{Offering, Searching, Showing, Writing}
+use Rattle.papaya_call.specs.declared.machine.State.TheVariants.{Growing, Offering, Searching, Showing, Writing}
+use Rattle.papaya_call.specs.declared.need.Need.TheVariants.{Room}
 use Rattle.papaya_call.specs.declared.made.Made.{Made}
 use Rattle.papaya_call.specs.Made.{nothing_made}
 use Rattle.papaya_call.specs.Machine.{started}
@@ -24,7 +25,7 @@ use Rattle.papaya_book.specs.Logs.{Stored}
 use Rattle.papaya_book.specs.Sheets.{Sheet}
 use Rattle.papaya_change.specs.Changing.{IsCalling}
 use Rattle.papaya_change.specs.declared.at_once.Turn.{Turn}
-use Rattle.papaya_change.specs.declared.at_once.Turn.TheVariants.{Next, Empty, Met, Else}
+use Rattle.papaya_change.specs.declared.at_once.Turn.TheVariants.{Next, Empty, Met, Over, Else}
 
 -- the calls that such a search serves
 pub data Seeker : Type 0 where
@@ -51,6 +52,7 @@ insertion_at hash mode initial made state = seeker_at Inserts hash mode initial 
 abbrev pub turn_of : {K V : Type 0} → Seen → Turn K V
 turn_of (On (Looking at)) = Next at
 turn_of (Seen_empty at) = Empty at
+turn_of (Seen_over table) = Over table
 turn_of _ = Else
 
 -- where a call goes on at an empty place, and where it has met a live pair of the key
@@ -62,11 +64,17 @@ abbrev pub at_live : Seeker → Place → (word : ℕ) → State
 at_live Inserts at word = Writing (record { place = at; old = word })
 at_live Computes at word = Showing (record { place = at; word = word })
 
--- where a turn leads a call's machine, where it leads to a place
+-- where an insertion goes on that found no place in a table: it asks for a further one
+abbrev pub at_over : Seeker → (table : ℕ) → Option State
+at_over Inserts table = Some (Growing (Room table))
+at_over Computes table = None
+
+-- where a turn leads a call's machine, where it leads to a place or asks for a table
 abbrev pub leads : {K V : Type 0} → Seeker → Turn K V → Option State
 leads who (Next at) = Some (Searching (Looking at))
 leads who (Empty at) = Some (at_empty who at)
 leads who (Met met) = Some (at_live who met.place met.word)
+leads who (Over table) = at_over who table
 leads who Else = None
 
 abbrev pub led_to : {K V : Type 0} → Turn K V → Option State

@@ -19,7 +19,7 @@ ghost use Rattle.papaya_change.specs.declared.at_once.Tried.TheVariants.{Put};
 ghost use Rattle.papaya_change.specs.declared.at_once.Turn.TheVariants.{Empty, Met as MetPair, Next};
 ghost use Rattle.papaya_change.specs.Writing.{IsMemoryCapacityOrLimit, IsMemoryOrCapacity};
 
-use crate::insertion::{insert_logged, insert_met, insert_stepwise};
+use crate::insertion::{insert_logged, insert_met, insert_onward, insert_stepwise};
 use crate::means::Means;
 use crate::removal::entry;
 use papaya_ask::ask::StepKind;
@@ -50,7 +50,9 @@ pub enum Turn<K, V> {
     Empty(Place),
     /// A live pair has the key.
     Met(Met<K, V>),
-    /// The pair of the key is being moved, or the table has no place for it.
+    /// The table of this number has no place for the key.
+    Over(u64),
+    /// The pair of the key is being moved.
     Else,
 }
 
@@ -62,6 +64,7 @@ fn without<K, V>(seen: Seen) -> Turn<K, V>
     match seen {
         Seen::On(Search::Looking(at)) => Turn::Next(at),
         Seen::Empty(at) => Turn::Empty(at),
+        Seen::Over(table) => Turn::Over(table),
         _ => Turn::Else,
     }
 }
@@ -81,6 +84,7 @@ fn read_at<K: Hash + Eq, V, S: BuildHasher>(
     ensures own { window.new.own ≡ window.old.own }
     ensures turns { Turns window.old window.new key.now table.now (Searching (Reading at)) result }
     ensures next { (next : _) → result ≡ Next next → IsWithin next }
+    ensures stays { (next : _) → result ≡ Next next → next ≡ record at { probe = next.probe } }
     ensures live { (met : _) → result ≡ MetPair met → kind_of met.word ≡ Live }
     ensures fewer { left_to result < left_at at }
 {
@@ -123,6 +127,7 @@ fn look_at<K: Hash + Eq, V, S: BuildHasher>(
     ensures own { window.new.own ≡ window.old.own }
     ensures turns { Turns window.old window.new key.now table.now (Searching (Looking at)) result }
     ensures next { (next : _) → result ≡ Next next → IsWithin next }
+    ensures stays { (next : _) → result ≡ Next next → next ≡ record at { probe = next.probe } }
     ensures live { (met : _) → result ≡ MetPair met → kind_of met.word ≡ Live }
     ensures fewer { left_to result < left_at at }
 {
@@ -155,7 +160,7 @@ fn seek<K: Hash + Eq, V, S: BuildHasher>(
     let mut place = at;
     loop {
         match look_at(window, key, hash, table, place) {
-            Turn::Next(next) => place = next,
+            Turn::Next(next) => place.probe = next.probe,
             turned => return turned,
         }
     }
@@ -417,6 +422,7 @@ pub fn insert<'a, R: Wait, K: Hash + Eq + Drop, V: Drop, S: BuildHasher>(
     match spot.turn {
         Turn::Empty(at) => claim_at(&means, window, given, key, value, hash, table, at),
         Turn::Met(met) => replace_at(&means, window, given, key, value, hash, table, met),
+        Turn::Over(number) => insert_onward(&means, window, given, key, value, hash, table, number),
         _ => insert_stepwise(&means, window, given, key, value),
     }
 }

@@ -1,5 +1,5 @@
 //! A changing call under way, whatever its task: what it holds, and its loads.
-ghost use Rattle.std.specs.Prelude.{◌≡◌, [], None};
+ghost use Rattle.std.specs.Prelude.{◌≡◌, [], None, Some};
 ghost use Rattle.std.specs.Int.{IsPowerOfTwo};
 ghost use Rattle.papaya_words.specs.Mode.{IsChunked};
 ghost use Rattle.papaya_call.specs.Machine.{IsFit as IsCallFit};
@@ -20,6 +20,7 @@ use papaya_book::rule::entry::Stored;
 use papaya_book::rule::own::{Given, Own};
 use papaya_book::table::Table;
 use papaya_book::window::Window;
+use papaya_call::machine::State;
 use papaya_chain::ask::Answer;
 use papaya_chain::machine::Machine;
 use papaya_words::probe::ResizeMode;
@@ -70,6 +71,22 @@ impl<'a, K: Hash + Eq, V, S: BuildHasher> Driver<'a, K, V, S> {
             fresh: None,
             given: Own::nothing(),
         }
+    }
+
+    /// Has the call stand here, and hold this table.
+    #[inline(always)]
+    pub fn stand(&mut self, state: State, table: &'a Table<K, V, S>)
+        ensures { self.new ≡ record self.old {
+          machine = record self.old.machine {
+            call = record self.old.machine.call { state = state };
+          };
+          table = Some table.entry;
+        } }
+    {
+        let mut machine = self.machine;
+        machine.call.state = state;
+        self.machine = machine;
+        self.table = Some(table);
     }
 
     /// Goes on after an answer to what the call asked for itself.

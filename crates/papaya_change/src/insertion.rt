@@ -16,6 +16,8 @@ ghost use Rattle.papaya_ask.specs.declared.ask.Ask.TheVariants.{Done, Exchange, 
 ghost use Rattle.papaya_ask.specs.declared.ask.At.TheVariants.{Slot};
 ghost use Rattle.papaya_ask.specs.declared.call.Reply.TheVariants.{Refused as ReplyRefused};
 ghost use Rattle.papaya_change.specs.Changes.{IsPut};
+ghost use Rattle.papaya_change.specs.Seeks.{HasWritten, StandsBy};
+ghost use Rattle.papaya_change.specs.declared.at_once.Turn.TheVariants.{Over};
 ghost use Rattle.papaya_change.specs.Writing.{HasKeyAt, IsMemoryCapacityOrLimit};
 
 use crate::driver::Driver;
@@ -28,8 +30,11 @@ use papaya_book::count::Shard;
 use papaya_book::keyed::Hashed;
 use papaya_book::rule::entry::Stored;
 use papaya_book::rule::own::{Given, Own};
+use papaya_book::table::Table;
 use papaya_book::window::Window;
+use papaya_call::machine::State;
 use papaya_call::made::Made;
+use papaya_call::need::Need;
 use papaya_call::write::Write;
 use papaya_chain::ask::Ask;
 use papaya_lookup::lookup::hash;
@@ -255,6 +260,48 @@ pub(crate) fn insert_stepwise<'a, R: Wait, K: Hash + Eq + Drop, V: Drop, S: Buil
     let insertion = Insertion {
         writer: Writer {
             call: Driver::new(task, hash, book.parts.mode, means.initial, book.parts.limit),
+            key: Some(KeyPart::Own(key)),
+            value: Some(ValuePart::Own(value)),
+        },
+        own: None,
+        of: None,
+    };
+    drive(means, window, given, insertion)
+}
+
+/// Inserts a pair by its machine, whose search of this table has found no place for the key: the value
+/// that its key had.
+pub(crate) fn insert_onward<'a, R: Wait, K: Hash + Eq + Drop, V: Drop, S: BuildHasher>(
+    means: &Means<'_, '_, R>,
+    window: &mut Window<'a, K, V, S>,
+    given: &mut Own<Given>,
+    key: K,
+    value: V,
+    hash: u64,
+    table: &'a Table<K, V, S>,
+    number: u64,
+) -> Result<Option<&'a V>, Refused>
+    requires initial { IsPowerOfTwo means.now.initial }
+    requires hashed { hash ≡ ⟦<S as Hashed<K>>⟧.hash window.old.book.now.parts.hasher key }
+    requires stands { StandsBy window.old key table.now (Over number) }
+    ensures sees { Sees window.old window.new }
+    ensures lawful { IsLawful window.new }
+    ensures put { IfOk result (λ answer. HasWritten window.old window.new key value
+        table.now (Over number) answer) }
+    ensures refused { IfErr result (λ refused. IsMemoryCapacityOrLimit refused) }
+    ensures crowded { result ≡ Err Refused.Capacity → HasNoRoom means.now.initial
+        (tables_of window.new.sight.log) given.new.done }
+    ensures spent { result ≡ Err Refused.Limit → IsSpent window.new.book.now.parts.limit
+        window.new.sight.log }
+    ensures made { Makes (is_ok result) (own window.old) (own window.new) (past window.new) }
+{
+    let book = window.book;
+    let task = Task::Insert { replace: true };
+    let mut call = Driver::new(task, hash, book.parts.mode, means.initial, book.parts.limit);
+    call.stand(State::Growing(Need::Room(number)), table);
+    let insertion = Insertion {
+        writer: Writer {
+            call,
             key: Some(KeyPart::Own(key)),
             value: Some(ValuePart::Own(value)),
         },

@@ -25,18 +25,22 @@ puts (Ok (Replaced v)) = true
 puts (Ok (Left current spare)) = false
 puts (Err refused) = false
 
--- what a call that stores answers, by what its compute does that removes nothing; the key had this value
-abbrev pub outcome_of : {K V : Type 0} → Result (Computed K V (Unit {0})) Refused → Option (Bor V)
+-- what a call that stores did, by what its compute did that removed nothing; the key had this value
+abbrev pub outcome_of : {K V : Type 0} → Computed K V (Unit {0}) → Option (Bor V) → Outcome V
+outcome_of (Inserted k v) current = Put v
+outcome_of (Updated before after) current = Replaced after.1
+outcome_of (Removed k v) current = Left current None
+outcome_of (Aborted t) current = Left current None
+
+-- what it answers
+abbrev pub answer_of : {K V : Type 0} → Result (Computed K V (Unit {0})) Refused → Option (Bor V)
     → Result (Outcome V) Refused
-outcome_of (Ok (Inserted k v)) current = Ok (Put v)
-outcome_of (Ok (Updated before after)) current = Ok (Replaced after.1)
-outcome_of (Ok (Removed k v)) current = Ok (Left current None)
-outcome_of (Ok (Aborted t)) current = Ok (Left current None)
-outcome_of (Err refused) current = Err refused
+answer_of (Ok done) current = Ok (outcome_of done current)
+answer_of (Err refused) current = Err refused
 
 abbrev pub outcomes : {C K V : Type 0} → First C (Result (Computed K V (Unit {0})) Refused)
     → Option (Bor V) → First C (Result (Outcome V) Refused)
-outcomes (Over answer) current = Over (outcome_of answer current)
+outcomes (Over answer) current = Over (answer_of answer current)
 outcomes (On x) current = On x
 
 module _ {K V : Type 0} where

@@ -14,7 +14,7 @@ ghost use Rattle.papaya_lookup.specs.Drivers.{own, past};
 ghost use Rattle.papaya_lookup.specs.History.{Makes};
 ghost use Rattle.papaya_change.specs.Doing.{has_changed};
 ghost use Rattle.papaya_compute.specs.Computes.{CanDecide, Decides};
-ghost use Rattle.papaya_compute.specs.Deciding.{IsDecided, Wishes, outcome_of, outcomes, puts};
+ghost use Rattle.papaya_compute.specs.Deciding.{IsDecided, Wishes, answer_of, outcome_of, outcomes, puts};
 ghost use Rattle.papaya_compute.specs.AtOnce.{IfOn, IfOver, IsAhead, IsOnItsWay};
 ghost use Rattle.papaya_compute.specs.declared.at_once.First.TheVariants.{Over};
 
@@ -123,31 +123,39 @@ fn decided<'a, K: Hash + Eq + Drop, V: Drop, S: BuildHasher>(
 }
 
 /// What the call did, by what its compute did, where the key had this value.
+#[inline(always)]
+fn outcome_by<'a, K, V>(done: Compute<'a, K, V, ()>, current: Option<&'a V>) -> Outcome<'a, V>
+    requires { (k : _) (v : _) → done ≡ Compute.Removed k v → ⊥ }
+    ensures { result ≡ outcome_of done.entry current.entry }
+{
+    match done {
+        Compute::Inserted(_, value) => Outcome::Put(value),
+        Compute::Updated { new, .. } => Outcome::Replaced(new.1),
+        Compute::Removed(_, _) => unreachable!(),
+        Compute::Aborted(()) => Outcome::Left {
+            current,
+            spare: None,
+        },
+    }
+}
+
+/// What the call answers, by what its compute answered.
+#[inline(always)]
 fn decision<'a, K, V>(
     answer: Result<Compute<'a, K, V, ()>, Refused>,
     current: Option<&'a V>,
 ) -> Result<Outcome<'a, V>, Refused>
     requires { (k : _) (v : _) → answer ≡ Ok (Compute.Removed k v) → ⊥ }
-    ensures { result ≡ outcome_of answer.entry current.entry }
+    ensures { result ≡ answer_of answer.entry current.entry }
 {
     match answer {
-        Ok(Compute::Inserted(_, value)) => Ok(Outcome::Put(value)),
-        Ok(
-            Compute::Updated {
-                new: (_, value),
-                ..
-            },
-        ) => Ok(Outcome::Replaced(value)),
-        Ok(Compute::Removed(_, _)) => unreachable!(),
-        Ok(Compute::Aborted(())) => Ok(Outcome::Left {
-            current,
-            spare: None,
-        }),
+        Ok(done) => Ok(outcome_by(done, current)),
         Err(refused) => Err(refused),
     }
 }
 
 /// The same of a compute that was tried at once.
+#[inline(always)]
 fn settle<'a, C: Drop, K, V>(
     first: First<C, Result<Compute<'a, K, V, ()>, Refused>>,
     current: Option<&'a V>,

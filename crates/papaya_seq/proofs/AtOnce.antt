@@ -48,7 +48,7 @@ use Rattle.papaya_seq.specs.Searches.{IsRootTurn, seen_by}
 use Rattle.papaya_seq.specs.Writes.{IsWritten, claiming, slot_of, storing}
 use Rattle.papaya_seq.specs.declared.search.Turn.{Turn}
 use Rattle.papaya_seq.specs.declared.search.Turn.TheVariants as turns
-use Rattle.papaya_seq.proofs.Driving.{calling, goes_itself}
+use Rattle.papaya_seq.proofs.Driving.{calling, calling_by, goes_itself}
 use Rattle.papaya_seq.proofs.Exchanging.{exchange_made}
 use Rattle.papaya_seq.proofs.Logs.{placed_serves}
 
@@ -57,9 +57,13 @@ abbrev pub call_answers : List Answer → List Chain_answer
 call_answers [] = []
 call_answers (answer ∷ rest) = answers.Call answer ∷ call_answers rest
 
--- a call that goes on for itself, with this of its key and its value
+-- a call that goes on for itself, with this number, and this of its key and its value
+abbrev pub under_way_by : {K V : Type 0} → ℕ → Machine → Part K → Option (Part V) → Running K V (Unit {0})
+under_way_by n m key value = record { machine = calling_by n m; key = key; value = value; answers = None }
+
+-- one with number 0
 abbrev pub under_way : {K V : Type 0} → Machine → Part K → Option (Part V) → Running K V (Unit {0})
-under_way m key value = record { machine = calling m; key = key; value = value; answers = None }
+under_way m key value = under_way_by 0 m key value
 
 module _ {K V S : Type 0} (eq : K → K → Bool) (hash : S → K → ℕ) where
   -- one run of answers after another
@@ -72,49 +76,57 @@ module _ {K V S : Type 0} (eq : K → K → Bool) (hash : S → K → ℕ) where
   replied_on told s r r' reply left s' before done = record { answers = told ++ done.answers; end = done.end; drives = drives_on told done.answers s r s r' s' done.end before done.drives; replied = done.replied; value = done.value }
 
   -- one ask of a call is answered
-  pub driven : (m : Machine) (k : Part K) (v : Option (Part V)) (ask : Ask) → ask_of m ≡ ask → (told : Answer) → IsOfStore (asks.Call ask) → chain.IsFitAsk (asks.Call ask) → (s s' : StoreState K V S) (later : Running K V (Unit {0})) → Performs eq whatever false ask s (under_way m k v) told s' later → later.machine ≡ calling m
-      → IsDriven eq hash s (under_way m k v) (answers.Call told) s' later
-  driven m k v ask is told asked fit s s' later performs same = record {
+  pub driven_by : (n : ℕ) (m : Machine) (k : Part K) (v : Option (Part V)) (ask : Ask) → ask_of m ≡ ask → (told : Answer) → IsOfStore (asks.Call ask) → chain.IsFitAsk (asks.Call ask) → (s s' : StoreState K V S) (later : Running K V (Unit {0})) → Performs eq whatever false ask s (under_way_by n m k v) told s' later → later.machine ≡ calling_by n m
+      → IsDriven eq hash s (under_way_by n m k v) (answers.Call told) s' later
+  driven_by n m k v ask is told asked fit s s' later performs same = record {
     asked = subst (λ a. IsOfStore (asks.Call a)) (sym is) asked;
     fit = subst (λ a. chain.IsFitAsk (asks.Call a)) (sym is) fit;
-    performs = (told, refl, subst (λ a. Performs eq whatever false a s (under_way m k v) told s' later) (sym is) performs);
+    performs = (told, refl, subst (λ a. Performs eq whatever false a s (under_way_by n m k v) told s' later) (sym is) performs);
     same = same;
   }
 
+  pub driven : (m : Machine) (k : Part K) (v : Option (Part V)) (ask : Ask) → ask_of m ≡ ask → (told : Answer) → IsOfStore (asks.Call ask) → chain.IsFitAsk (asks.Call ask) → (s s' : StoreState K V S) (later : Running K V (Unit {0})) → Performs eq whatever false ask s (under_way m k v) told s' later → later.machine ≡ calling m
+      → IsDriven eq hash s (under_way m k v) (answers.Call told) s' later
+  driven m k v ask is told asked fit s s' later performs same = driven_by 0 m k v ask is told asked fit s s' later performs same
+
   module _ (s : StoreState K V S) (key : K) (value : Option V) where
+    -- a call of this number, with its key and value at hand
+    abbrev pub begun_by : ℕ → Machine → Running K V (Unit {0})
+    begun_by n m = under_way_by n m (Own key) (option_map (λ v. Own v) value)
+
     -- the search of the root leads a call on
     same_matches : (o : Option (Stored K V)) → matches_in (eq key) o ≡ same_stored eq key o
     same_matches None = refl
     same_matches (Some p) = refl
 
-    searched_step : (m : Machine) (answer : Answer) (ask : Ask) → ask_of m ≡ ask → IsSearchAsk ask → IsToldBy (eq key) s ask answer → IsDriven eq hash s (at_hand m key value) (answers.Call answer) s (at_hand m key value)
-    searched_step m answer (Load at) is asked told = driven m (Own key) (option_map (λ v. Own v) value) (Load at) is answer tt tt s s (at_hand m key value) (told, (refl, refl)) refl
-    searched_step m answer (LoadHint t x) is asked told = driven m (Own key) (option_map (λ v. Own v) value) (LoadHint t x) is answer tt tt s s (at_hand m key value) (told, (refl, refl)) refl
-    searched_step m answer (SameKey n) is asked told = driven m (Own key) (option_map (λ v. Own v) value) (SameKey n) is answer tt tt s s (at_hand m key value) (told ∙ ap Yes (same_matches (pair_of s n)), (refl, refl)) refl
-    searched_step m answer (SizeOf n) is asked told = driven m (Own key) (option_map (λ v. Own v) value) (SizeOf n) is answer tt tt s s (at_hand m key value) (told, (refl, refl)) refl
-    searched_step m answer (WriteHint t x hint) is asked told = absurd asked
-    searched_step m answer (Exchange at old new) is asked told = absurd asked
-    searched_step m answer ShowNone is asked told = absurd asked
-    searched_step m answer (ShowPair n) is asked told = absurd asked
-    searched_step m answer MakeKey is asked told = absurd asked
-    searched_step m answer MakePair is asked told = absurd asked
-    searched_step m answer MakeValue is asked told = absurd asked
-    searched_step m answer (MakePairOf i) is asked told = absurd asked
-    searched_step m answer (MakeTable slots limit chunks) is asked told = absurd asked
-    searched_step m answer (AddToShard by) is asked told = absurd asked
-    searched_step m answer (Ask_done reply) is asked told = absurd asked
+    searched_step : (n : ℕ) (m : Machine) (answer : Answer) (ask : Ask) → ask_of m ≡ ask → IsSearchAsk ask → IsToldBy (eq key) s ask answer → IsDriven eq hash s (begun_by n m) (answers.Call answer) s (begun_by n m)
+    searched_step n m answer (Load at) is asked told = driven_by n m (Own key) (option_map (λ v. Own v) value) (Load at) is answer tt tt s s (begun_by n m) (told, (refl, refl)) refl
+    searched_step n m answer (LoadHint t x) is asked told = driven_by n m (Own key) (option_map (λ v. Own v) value) (LoadHint t x) is answer tt tt s s (begun_by n m) (told, (refl, refl)) refl
+    searched_step n m answer (SameKey i) is asked told = driven_by n m (Own key) (option_map (λ v. Own v) value) (SameKey i) is answer tt tt s s (begun_by n m) (told ∙ ap Yes (same_matches (pair_of s i)), (refl, refl)) refl
+    searched_step n m answer (SizeOf i) is asked told = driven_by n m (Own key) (option_map (λ v. Own v) value) (SizeOf i) is answer tt tt s s (begun_by n m) (told, (refl, refl)) refl
+    searched_step n m answer (WriteHint t x hint) is asked told = absurd asked
+    searched_step n m answer (Exchange at old new) is asked told = absurd asked
+    searched_step n m answer ShowNone is asked told = absurd asked
+    searched_step n m answer (ShowPair i) is asked told = absurd asked
+    searched_step n m answer MakeKey is asked told = absurd asked
+    searched_step n m answer MakePair is asked told = absurd asked
+    searched_step n m answer MakeValue is asked told = absurd asked
+    searched_step n m answer (MakePairOf i) is asked told = absurd asked
+    searched_step n m answer (MakeTable slots limit chunks) is asked told = absurd asked
+    searched_step n m answer (AddToShard by) is asked told = absurd asked
+    searched_step n m answer (Ask_done reply) is asked told = absurd asked
 
     -- it needs no next table there
-    searched_goes : (m : Machine) (answer : Answer) → IsSearchAsk (ask_of m) → chain.after (calling m) (answers.Call answer) ≡ calling (after m answer)
-    searched_goes m answer asked = goes_itself m answer (λ need e. subst (λ st. IsSearchAsk (ask_of (record m { state = st }))) e asked) (λ t e. absurd (subst (λ st. IsSearchAsk (ask_of (record m { state = st }))) e asked))
+    searched_goes : (n : ℕ) (m : Machine) (answer : Answer) → IsSearchAsk (ask_of m) → chain.after (calling_by n m) (answers.Call answer) ≡ calling_by n (after m answer)
+    searched_goes n m answer asked = goes_itself n m answer (λ need e. subst (λ st. IsSearchAsk (ask_of (record m { state = st }))) e asked) (λ t e. absurd (subst (λ st. IsSearchAsk (ask_of (record m { state = st }))) e asked))
 
-    pub comes_drives : (told : List Answer) (m m' : Machine) → Comes (eq key) s m told m' → Drives eq hash (call_answers told) s (at_hand m key value) s (at_hand m' key value)
-    comes_drives [] m m' is = (refl, ap (λ (x : Machine). at_hand x key value) is)
-    comes_drives (answer ∷ rest) m m' (asked, said, came) = (
+    pub comes_drives : (n : ℕ) (told : List Answer) (m m' : Machine) → Comes (eq key) s m told m' → Drives eq hash (call_answers told) s (begun_by n m) s (begun_by n m')
+    comes_drives n [] m m' is = (refl, ap (λ (x : Machine). begun_by n x) is)
+    comes_drives n (answer ∷ rest) m m' (asked, said, came) = (
       s,
-      at_hand m key value,
-      searched_step m answer (ask_of m) refl asked said,
-      subst (λ x. Drives eq hash (call_answers rest) s (record (at_hand {A = Unit {0}} m key value) { machine = x }) s (at_hand m' key value)) (sym (searched_goes m answer asked)) (comes_drives rest (after m answer) m' came),
+      begun_by n m,
+      searched_step n m answer (ask_of m) refl asked said,
+      subst (λ x. Drives eq hash (call_answers rest) s (record (begun_by n m) { machine = x }) s (begun_by n m')) (sym (searched_goes n m answer asked)) (comes_drives n rest (after m answer) m' came),
     )
 
   module _ (s : StoreState K V S) (key : K) (value : V) where
@@ -328,7 +340,7 @@ module _ {K V S : Type 0} (eq : K → K → Bool) (hash : S → K → ℕ) where
         let begun : Machine = started (Insert replace) hashed mode initial None in
         let came = root.sees begun in
         let led : Comes (eq key) s begun came.0 (record begun { state = state }) = subst (λ (st : State). Comes (eq key) s begun came.0 (record begun { state = st })) is came.1 in
-        replied_on (call_answers came.0) s (inserts replace AtRoot) (inserts replace state) reply left s' (comes_drives s key (Some value) came.0 begun (record begun { state = state }) led) done
+        replied_on (call_answers came.0) s (inserts replace AtRoot) (inserts replace state) reply left s' (comes_drives s key (Some value) 0 came.0 begun (record begun { state = state }) led) done
 
     pub claimed : (replace : Bool) → IsRootTurn (eq key) s hashed (turns.Empty place) → word_at s.words (slot_of place) ≡ 0 → (done : Reply × Option V) (s' : StoreState K V S) → IsWritten s hashed (record { place = place; old = 0 }) key value done.0 done.1 s' → IsReplied eq hash s (inserts replace AtRoot) done.0 done.1 s'
     claimed replace root stands done s' writes = root_led replace (turns.Empty place) (Writing (record { place = place; old = 0 })) root refl done.0 done.1 s' (written_replied s key value hashed place (started (Insert replace) hashed mode initial None) 0 stands done.0 done.1 s' writes)

@@ -71,7 +71,7 @@ module _ {K V S F : Type 0} (g : Mut F (Bor K × (Bor V × Unit {0})) Bool) (mat
     searched_answer (Ask_done reply) answer asked told = absurd asked
 
     searched_goes : (m : Call_machine) (answer : Answer) → IsSearchAsk (call_ask m) → after (itself m) (answers.Call answer) ≡ itself (call_after m answer)
-    searched_goes m answer asked = goes_itself m answer (λ need e. subst (λ st. IsSearchAsk (call_ask (record m { state = st }))) e asked) (λ t e. absurd (subst (λ st. IsSearchAsk (call_ask (record m { state = st }))) e asked))
+    searched_goes m answer asked = goes_itself 0 m answer (λ need e. subst (λ st. IsSearchAsk (call_ask (record m { state = st }))) e asked) (λ t e. absurd (subst (λ st. IsSearchAsk (call_ask (record m { state = st }))) e asked))
 
     comes_leads : (told : List Answer) (m m' : Call_machine) → Comes matches s m told m' → Leads g matches told s f (itself m) s f (itself m')
     comes_leads [] m m' is = (refl, refl, ap (λ (x : Call_machine). itself x) is)

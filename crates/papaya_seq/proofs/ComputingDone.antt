@@ -161,7 +161,7 @@ module _ {K V S H F T : Type 0} (eq : K → K → Bool) (input : K → List (Lis
         (ap (λ limit. (at_hand {V = V} {A = Unit {0}} (started Compute (hash s.store.hasher k) s.mode.resize s.initial limit) k None).machine) (sym free)) refl standing
 
     searches : (loads : List Call_answer) (m : Machine) → Comes (eq k) s.store begun loads m → Waits m
-    searches loads m comes = computing_drives (call_answers loads) s.store (at_hand begun k None) s.store (at_hand m k None) (comes_drives eq hash s.store k None loads begun m comes) (Some f) None None begins
+    searches loads m comes = computing_drives (call_answers loads) s.store (at_hand begun k None) s.store (at_hand m k None) (comes_drives eq hash s.store k None 0 loads begun m comes) (Some f) None None begins
 
     -- its closure may be called at what the search found
     pub computation_takes : (pre : Option (Bor K × Bor V) → Type 0) → Takes pre (map_in eq s.store k) → (turn : Turn) → IsRootTurn (eq k) s.store (hash s.store.hasher k) turn → TakesAt pre s.store turn

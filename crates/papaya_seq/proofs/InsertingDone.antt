@@ -6,21 +6,26 @@ use Rattle.papaya_ask.specs.declared.ask.Ask.TheVariants.{Done as Ask_done}
 use Rattle.papaya_ask.specs.declared.call.Reply as replies
 use Rattle.papaya_ask.specs.declared.call.Reply.TheVariants.{Occupied, Refused as Reply_refused}
 use Rattle.papaya_ask.specs.declared.call.Task.TheVariants.{Insert}
+use Rattle.papaya_call.specs.declared.machine.State.{State}
 use Rattle.papaya_call.specs.Machine.{started}
 use Rattle.papaya_chain.specs.declared.ask.Answer.{Answer}
 use Rattle.papaya_chain.specs.declared.ask.Ask.{Ask}
 use Rattle.papaya_chain.specs.declared.ask.Ask.TheVariants as asks
+use Rattle.papaya_chain.specs.declared.machine.Machine.{Machine}
+use Rattle.papaya_chain.specs.Machine as chain
 use Rattle.papaya_chain.specs.Machine.{IsStanding, after, ask_of}
 use Rattle.papaya_chain_rests.proofs.Standing.{chain_stands}
 use Rattle.papaya_keys.specs.Hashes.{hash_of}
+use Rattle.papaya_store.specs.declared.pairs.Part.TheVariants.{Own}
 use Rattle.papaya_store.specs.declared.pairs.Running.{Running}
 use Rattle.papaya_store.specs.Store.{StoreState}
 use Rattle.papaya_timeline.specs.Content.{map_in}
 use Rattle.papaya_timeline.specs.Solo.{IsAnswered, IsNewIn, whatever}
 use Rattle.papaya_timeline.proofs.KeptSettings.{IsLawfulKeys}
-use Rattle.papaya_seq.specs.Drives.{Drives, IsOfStore, IsReplied, at_hand, value_left}
+use Rattle.papaya_seq.specs.Drives.{Drives, IsLedTo, IsOfStore, IsReplied, at_hand, value_left}
 use Rattle.papaya_seq.specs.MadeAlone.{IsMadeAlone}
 use Rattle.papaya_seq.specs.Map.{IsLawfulMap, IsTryCause, IsWriteCauseAt, KeepsAndGrows, LogsOne, MapState, insertion}
+use Rattle.papaya_seq.proofs.AtOnce.{call_answers, comes_drives, under_way_by}
 use Rattle.papaya_seq.proofs.Alone.{map_answered, map_hasher, map_lawful, map_logged}
 use Rattle.papaya_seq.proofs.InsertingRun.{inserting_absent, inserting_alone, inserting_begin, inserting_cause, inserting_fit, inserting_left, inserting_more, inserting_tables, IsInserting}
 use Rattle.papaya_seq.proofs.Turns.{IsOver}
@@ -50,6 +55,32 @@ module _ {K V S : Type 0} (eq : K → K → Bool) (hash : S → K → ℕ) (s : 
       let fit = inserting_fit eq hash s replace k value keys lawful fits whatever store r answer middle later (ask_of r.machine) refl open_still step.performs step.same now step.fit in
       inserting_drives rest middle (record later { machine = after r.machine answer }) store' r' more
       (inserting_more eq hash s replace k value keys lawful fits whatever store r answer middle later (ask_of r.machine) refl open_still step.performs step.same now (chain_stands r.machine now.standing answer fit))
+
+  -- whatever answers its closures would give
+  inserting_as : {A : Type 0} (store : StoreState K V S) (m : Machine) → IsInserting {A = Unit {0}} eq hash s replace k value store (record { machine = m; key = Own k; value = Some (Own value); answers = None }) → IsInserting {A = A} eq hash s replace k value store (record { machine = m; key = Own k; value = Some (Own value); answers = None })
+  inserting_as store m now = record {
+    steps = now.steps;
+    silence = refl;
+    standing = now.standing;
+    hand = now.hand;
+    resting = now.resting;
+    unlogged = now.unlogged;
+    served = now.served;
+    logs = now.logs;
+    caused = now.caused;
+  }
+
+  -- it begins where the search of the root has led it
+  pub inserting_led : {A : Type 0} (m : Machine) (hashed number : ℕ) (state : State) → m ≡ chain.started (Insert replace) hashed s.mode.resize s.initial number s.mode.limit → hashed ≡ hash s.store.hasher k → IsStanding m → IsLedTo (eq k) s.store (hash s.store.hasher k) replace state
+      → IsInserting {A = A} eq hash s replace k value s.store (record { machine = record m { call = record m.call { state = state } }; key = Own k; value = Some (Own value); answers = None })
+  inserting_led {A} m hashed number state is hash_same standing led =
+      let begun = started (Insert replace) (hash s.store.hasher k) s.mode.resize s.initial s.mode.limit in
+      let machine : m ≡ chain.started (Insert replace) (hash s.store.hasher k) s.mode.resize s.initial number s.mode.limit = is ∙ ap (λ n. chain.started (Insert replace) n s.mode.resize s.initial number s.mode.limit) hash_same in
+      let first = inserting_begin {A = Unit {0}} eq hash s replace k value (chain.started (Insert replace) (hash s.store.hasher k) s.mode.resize s.initial number s.mode.limit) (hash s.store.hasher k) number refl refl (subst IsStanding machine standing) in
+      let came = led s.mode.resize s.initial s.mode.limit in
+      let drives = comes_drives eq hash s.store k (Some value) number came.0 begun (record begun { state = state }) came.1 in
+      let now = inserting_drives (call_answers came.0) s.store (under_way_by number begun (Own k) (Some (Own value))) s.store (under_way_by number (record begun { state = state }) (Own k) (Some (Own value))) drives first in
+      subst (λ (x : Machine). IsInserting {A = A} eq hash s replace k value s.store (record { machine = record x { call = record x.call { state = state } }; key = Own k; value = Some (Own value); answers = None })) (sym machine) (inserting_as s.store (under_way_by number (record begun { state = state }) (Own k) (Some (Own value))).machine now)
 
 module _ {K V S H : Type 0} (eq : K → K → Bool) (input : K → List (List ℕ)) (build : S → H) (write : H → List ℕ → H) (finish : H → ℕ) (classes : IsEquivalence eq) (respects : (x y : K) → eq x y ≡ true → input x ≡ input y)
     (s : MapState K V S) (replace : Bool) (k : K) (value : V) (keys : IsLawfulKeys eq (hash_of input build write finish s.store.hasher)) (lawful : IsLawfulMap eq (hash_of input build write finish s.store.hasher) s.store s.mode s.initial) (fits : hash_of input build write finish s.store.hasher k < 2 ^ 64) where

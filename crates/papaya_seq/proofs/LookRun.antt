@@ -103,7 +103,7 @@ module _ {K V S : Type 0} (eq : K → K → Bool) (hash : S → K → ℕ) (s : 
   told_steps : (m : Machine) (answer : Answer) (reply : Option Reply) → m.task ≡ Get_task → IsLooking s.store m.state → IsToldBy matches s.store (ask_of m) answer → reply ≡ reply_in (ask_of (after m answer)) → ((refused : Refused) → reply ≡ Some (Reply_refused refused) → ⊥)
       → Advances eq whatever hash false (core_in (Some (getting m))) 0 (core_in (goes_on reply (getting (after m answer)))) (event_at m answer) reply
   told_steps m answer reply is_get looking told is unrefused =
-      let own : chain.after (calling m) (answers.Call answer) ≡ calling (after m answer) = goes_itself m answer (λ need e. not_growing need m.state e looking) (λ t e. inl is_get) in
+      let own : chain.after (calling m) (answers.Call answer) ≡ calling (after m answer) = goes_itself 0 m answer (λ need e. not_growing need m.state e looking) (λ t e. inl is_get) in
       record {
         before = getting m;
         was = refl;

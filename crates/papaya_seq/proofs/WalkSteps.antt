@@ -1,6 +1,7 @@
 -- How a walk goes on.
-use Rattle.std.proofs.Common.{◌≡◌, ◌⊎◌, inl, inr, ℕ, zero, suc, ◌+◌, ◌<◌, ◌≤◌, ◌||◌, Bool, true, false, [], ◌∷◌, ◌++◌, length, slice_index, Option, Some, None, is_some, refl, sym, ◌∙◌, ap, subst, arith}
+use Rattle.std.proofs.Common.{◌≡◌, ◌⊎◌, inl, inr, ℕ, zero, suc, ◌+◌, ◌<◌, ◌≤◌, ◌||◌, Bool, true, false, [], ◌∷◌, ◌++◌, length, slice_get, slice_index, List, Option, Some, None, is_some, refl, sym, ◌∙◌, ap, subst, arith}
 use Rattle.std.proofs.lemmas.Bool.{cases_lt}
+use denote.Bor.{Bor}
 use Rattle.std.specs.Int.{IsPowerOfTwo}
 use Rattle.papaya_words.specs.Probe.{place}
 use Rattle.papaya_words.specs.Table.{TableWords}
@@ -20,12 +21,12 @@ use Rattle.papaya_timeline.specs.Content.{listed, pairs_of_kind}
 use Rattle.papaya_timeline.specs.Kept.{IsLawfulCore, is_blocking, low}
 use Rattle.papaya_store.specs.Performs.{size_of}
 use Rattle.papaya_store.specs.Store.{StoreState, Stored, pair_of}
-use Rattle.papaya_store.specs.Tables.{table_of, word_at, word_in}
+use Rattle.papaya_store.specs.Tables.{Tables, table_of, word_at, word_in}
 use Rattle.papaya_store.proofs.Logs.{pair_number}
 use Rattle.papaya_timeline.proofs.KeptSettings.{IsLawfulKeys}
 use Rattle.papaya_timeline.proofs.KeptTables.{table_low}
 use Rattle.papaya_seq.specs.Map.{MapState, slots_in}
-use Rattle.papaya_seq.specs.Walks.{HasMark, HasNoMark, HasNoMarkIn, IsNext, IsNextHere, IsStand, IsStepped, IsWord, has_in, left_from, left_to, pairs_at, table_after}
+use Rattle.papaya_seq.specs.Walks.{HasMark, HasNoMark, HasNoMarkIn, IsHeld, IsNext, IsNextHere, IsStand, IsStepped, IsWord, has_in, left_from, left_to, pairs_at, table_after}
 use Rattle.papaya_seq.specs.declared.stand.Stand.{Stand}
 use Rattle.papaya_seq.proofs.WalkLaw.{after_far, after_low, after_on, blocking_end, none_unmarked, now, pair_logged, some_marked}
 use Rattle.papaya_seq.proofs.WalkLists.{given, left_bare, left_none, left_pair, left_past, pairs_of_word}
@@ -279,9 +280,39 @@ module _ {K V S : Type 0} (eq : K → K → Bool) (store : StoreState K V S) whe
   here_none at at' None step none = step
   here_none at at' (Some n) step none = absurd cc
 
+  -- what comes next, where the way to there gave nothing
+  pub next_later : (first at at' : Stand) (o : Option ℕ) → left_to eq store first ≡ left_to eq store at → IsNext eq store at o at' → IsNext eq store first o at'
+  next_later first at at' None same next = (same ∙ next.0, next.1)
+  next_later first at at' (Some n) same (p, logged, left) = (p, logged, same ∙ left)
+
+  -- before any table was passed, as many are passed as said
+  pub left_of_root : (at : Stand) → at.passed ≡ 0 → left_to eq store at ≡ left_to eq store (record at { passed = 0 })
+  left_of_root at none = ap (λ n. left_from eq store n at.slot (length store.words.tables) store.words.root) none
+
+-- a walk that holds a table stands there, and has passed none
+pub held_some : {K V S : Type 0} (store : StoreState K V S) (at : Stand) (o : Option (Bor TableWords)) (root : Bor TableWords) → o ≡ Some root → IsHeld store at o → (table_of store.words.tables at.table ≡ Some root.now) × (at.passed ≡ 0)
+held_some store at o root is held = subst (IsHeld store at) is held
+
+-- the next pair of a map is one that it has logged
+pub next_logged : {K V S : Type 0} (eq : K → K → Bool) (store : StoreState K V S) (at at' : Stand) (o : Option ℕ) (n : ℕ) → o ≡ Some n → IsNext eq store at o at' → (p : Stored K V) × (pair_of store n ≡ Some p) × (left_to eq store at ≡ p ∷ left_to eq store at')
+next_logged eq store at at' o n is next = subst (λ v. IsNext eq store at v at') is next
+
 -- a stand in the same table
 pub stand_same : {K V S : Type 0} (s : MapState K V S) (at at' : Stand) → at'.table ≡ at.table → at'.passed ≡ at.passed → IsStand s at → IsStand s at'
 stand_same s at at' table passed stand = record {
   on = ap (λ n. table_after s.store n s.store.words.root) passed ∙ stand.on ∙ sym table;
   alone = λ blocks. passed ∙ stand.alone blocks;
 }
+
+-- a slot of a table that is held is one of the table's
+pub held_within : (w : Tables) (t i : ℕ) (table : TableWords) → table_of w.tables t ≡ Some table → i < length table.slots → i < slots_in (table_of w.tables t)
+held_within w t i table there within = subst (λ o. i < slots_in o) (sym there) within
+
+-- and its word is the one that stands there
+pub slot_read : (w : Tables) (t i word : ℕ) (table : TableWords) → table_of w.tables t ≡ Some table → slice_get table.slots i ≡ Some word → word ≡ word_at w (Slot t i)
+slot_read w t i word table there read = index_got table.slots i word read ∙ sym (ap (word_in (λ v. slice_index v.slots i)) there)
+  where
+    index_got : (slots : List ℕ) (i word : ℕ) → slice_get slots i ≡ Some word → word ≡ slice_index slots i
+    index_got [] i word e = absurd cc
+    index_got (x ∷ xs) zero word e = cc
+    index_got (x ∷ xs) (suc i) word e = index_got xs i word e

@@ -1,10 +1,12 @@
 -- A call under way, each of whose asks is answered by the store: what its driver does at once.
 use Rattle.std.specs.Prelude.{◌≡◌, ℕ, Bool, false, Option, Some, None, option_map, List, [], ◌∷◌}
 use Rattle.papaya_words.specs.declared.probe.ResizeMode.{ResizeMode}
+use Rattle.papaya_ask.specs.declared.ask.Answer.{Answer as Call_answer}
 use Rattle.papaya_ask.specs.declared.ask.Ask.TheVariants.{Done, ShowNone, ShowPair}
 use Rattle.papaya_ask.specs.declared.call.Reply.{Reply}
 use Rattle.papaya_ask.specs.declared.call.Task.TheVariants.{Insert}
 use Rattle.papaya_call.specs.declared.machine.Machine.{Machine as Call_machine}
+use Rattle.papaya_call.specs.declared.machine.State.{State}
 use Rattle.papaya_call.specs.Machine.{started}
 use Rattle.papaya_chain.specs.declared.ask.Answer.{Answer}
 use Rattle.papaya_chain.specs.declared.ask.Ask.{Ask}
@@ -17,6 +19,7 @@ use Rattle.papaya_store.specs.declared.pairs.Part.TheVariants.{Own, Logged}
 use Rattle.papaya_store.specs.declared.pairs.Running.{Running}
 use Rattle.papaya_store.specs.Store.{StoreState}
 use Rattle.papaya_timeline.specs.Solo.{whatever}
+use Rattle.papaya_seq.specs.Looks.{Comes}
 
 -- a call that goes on for itself, with its key at hand, and its value, if it has one
 abbrev pub at_hand : {K V A : Type 0} → Call_machine → K → Option V → Running K V A
@@ -39,6 +42,15 @@ abbrev pub value_left : {V : Type 0} → Option (Part V) → Option V
 value_left (Some (Own value)) = Some value
 value_left (Some (Logged n)) = None
 value_left None = None
+
+-- An insertion by a key that these match comes to this state, whatever the map's settings are, when
+-- each of its asks is answered by what stands in the tables.
+abbrev pub IsLedTo : {K V S : Type 0} → (matches : K → Bool) → StoreState K V S → (hashed : ℕ)
+    → Bool → State → Type 0
+IsLedTo matches store hashed replace state = (mode : ResizeMode) (initial : ℕ) (limit : Option ℕ)
+    → (answers : List Call_answer)
+    × Comes matches store (started (Insert replace) hashed mode initial limit) answers
+    (record (started (Insert replace) hashed mode initial limit) { state = state })
 
 module _ {K V S : Type 0} (eq : K → K → Bool) (hash : S → K → ℕ) where
   -- one ask was answered by the store

@@ -1,5 +1,6 @@
 -- A walk of the map: which pairs are left to it.
 use Rattle.std.specs.Prelude.{◌≡◌, ◌⊎◌, ℕ, zero, suc, ◌+◌, ◌<◌, ◌≤◌, ◌||◌, Bool, false, List, [], ◌∷◌, ◌++◌, Option, Some, None, drop, is_some, length, map}
+use denote.Bor.{Bor}
 use Rattle.papaya_words.specs.Probe.{place}
 use Rattle.papaya_words.specs.Table.{TableWords}
 use Rattle.papaya_words.specs.Word.{kind_of, pair_of as number_of}
@@ -109,6 +110,12 @@ pub record IsWord {K V S : Type 0} (store : StoreState K V S) (at : Stand) (n : 
   pub kind : (kind_of (word_at store.words (Slot at.table at.slot)) ≡ Live)
       ⊎ (kind_of (word_at store.words (Slot at.table at.slot)) ≡ Marked)
   pub names : number_of (word_at store.words (Slot at.table at.slot)) ≡ n
+
+-- the walk holds the root and stands there, or it holds none
+abbrev pub IsHeld : {K V S : Type 0} → StoreState K V S → Stand → Option (Bor TableWords) → Type 0
+IsHeld store at None = Unit {0}
+IsHeld store at (Some root) = (table_of store.words.tables at.table ≡ Some root.now)
+    × (at.passed ≡ 0)
 
 -- a walk may stand here
 pub record IsStand {K V S : Type 0} (s : MapState K V S) (at : Stand) : Type 0 where

@@ -1,10 +1,9 @@
 //! The calls that are computes: what their closures say is done.
-ghost use Rattle.std.specs.Prelude.{◌≡◌, Some, None, IfOk, IfErr, IsSome, MatchOption};
+ghost use Rattle.std.specs.Prelude.{◌≡◌, Some, None, IfOk, IfErr, MatchOption};
 ghost use Rattle.std.specs.Borrow.{sem};
 ghost use Rattle.std.specs.Fn.{FnReturnsAt};
 ghost use Rattle.papaya_keys.specs.Hashes.{hash_of};
 ghost use Rattle.papaya_timeline.specs.Content.{map_in};
-ghost use Rattle.papaya_store.specs.Store.{pair_of};
 ghost use Rattle.papaya_seq.specs.Answered.{IsParted, old_answered, value_answered};
 ghost use Rattle.papaya_seq.specs.Computes.{ComputesBy, HasValueOf, IsTriedWith, IsUpdated};
 ghost use Rattle.papaya_seq.specs.Computes.{IsUpdatedOrInserted, Says, Takes, compute_answered};
@@ -39,18 +38,6 @@ impl<K: Hash + Eq + Drop, V: Drop, S: BuildHasher> HashMap<K, V, S> {
             self.new }
     {
         self.compute_by(key, f).1
-    }
-
-    /// The key and the value of a pair that is in the log.
-    fn entry(&self, n: u64) -> (&K, &V)
-        requires { IsSome (pair_of self.now.store n) }
-        ensures { pair_of self.now.store n ≡ Some
-            (record { number = n; key = result.0.now; value = result.1.now }) }
-    {
-        match self.store.pair(n) {
-            Some(entry) => entry,
-            None => unreachable!(),
-        }
     }
 
     /// What the closure makes of the key's pair, or of its absence: `compute` of 0.2.5. It is shown

@@ -4,7 +4,7 @@ ghost use Rattle.papaya_words.specs.declared.probe.Refused.{Refused};
 ghost use Rattle.papaya_keys.specs.Hashes.{hash_of};
 ghost use Rattle.papaya_timeline.specs.Content.{map_in};
 ghost use Rattle.papaya_timeline.specs.Solo.{IsAnswered, IsNewIn};
-ghost use Rattle.papaya_seq.specs.Drives.{value_left};
+ghost use Rattle.papaya_seq.specs.Drives.{IsLedTo, value_left};
 ghost use Rattle.papaya_seq.specs.MadeAlone.{IsMadeAlone};
 ghost use Rattle.papaya_seq.specs.Map.{IsTryCause, IsWriteCauseAt, KeepsAndGrows, LogsOne, insertion};
 
@@ -15,6 +15,7 @@ use crate::writing::insert_at_once;
 use papaya_ask::ask::Ask as CallAsk;
 use papaya_ask::call::{Reply, Task};
 use papaya_call::answers::Listed;
+use papaya_call::machine::State;
 use papaya_chain::ask::Ask;
 use papaya_chain::machine::Machine;
 use papaya_store::pairs::{Part, Running};
@@ -53,18 +54,27 @@ impl<K: Hash + Eq + Drop, V: Drop, S: BuildHasher> HashMap<K, V, S> {
     {
         // A call that takes a number for its pair goes by the machine.
         if self.mode.limit.is_some() {
-            return self.insert_stepwise(key, value, replace);
+            return self.insert_stepwise(key, value, replace, State::AtRoot);
         }
         let hash = self.store.hash(&key);
         match insert_at_once(&mut self.store, self.alloc, key, value, hash, replace) {
             Ok(done) => done,
-            Err((key, value)) => self.insert_stepwise(key, value, replace),
+            Err((key, value, state)) => self.insert_stepwise(key, value, replace, state),
         }
     }
 
-    /// The same by the machine, step by step.
+    /// The same by the machine, step by step, from this state on.
     #[inline(never)]
-    fn insert_stepwise(&mut self, key: K, value: V, replace: bool) -> (Reply, Option<V>)
+    fn insert_stepwise(
+        &mut self,
+        key: K,
+        value: V,
+        replace: bool,
+        state: State,
+    ) -> (Reply, Option<V>)
+        requires { IsLedTo (K.eq key) self.old.store
+            (hash_of K.hash_input S.build_hasher S.Hasher.write S.Hasher.finish
+            self.old.store.hasher key) replace state }
         ensures answers { IsAnswered K.eq (insertion replace key value) (map_in K.eq self.old.store)
             result.0 (map_in K.eq self.new.store) }
         ensures fresh { IsNewIn self.old.store result.0 }
@@ -81,15 +91,17 @@ impl<K: Hash + Eq + Drop, V: Drop, S: BuildHasher> HashMap<K, V, S> {
     {
         let hash = self.store.hash(&key);
         let number = copies_from(&self.store);
+        let mut machine = Machine::new(
+            Task::Insert { replace },
+            hash,
+            self.mode.resize,
+            self.initial,
+            number,
+            self.mode.limit,
+        );
+        machine.call.state = state;
         let mut running: Running<K, V, Listed<V>> = Running {
-            machine: Machine::new(
-                Task::Insert { replace },
-                hash,
-                self.mode.resize,
-                self.initial,
-                number,
-                self.mode.limit,
-            ),
+            machine,
             key: Part::Own(key),
             value: Some(Part::Own(value)),
             answers: None,

@@ -316,6 +316,16 @@ impl<K: Hash + Eq, V, S: BuildHasher> HashMap<K, V, S> {
 }
 
 impl<K: Hash + Eq, V, S: BuildHasher> HashMap<K, V, S> {
+    /// The key and the value of a pair that is in the log.
+    #[inline(always)]
+    pub(crate) fn entry(&self, n: u64) -> (&K, &V)
+        requires { IsSome (pair_of self.now.store n) }
+        ensures { pair_of self.now.store n ≡ Some
+            (record { number = n; key = result.0.now; value = result.1.now }) }
+    {
+        self.store.logged(n)
+    }
+
     /// The value of a pair that is in the log.
     #[inline(always)]
     pub(crate) fn logged(&self, n: u64) -> &V

@@ -5,8 +5,8 @@ ghost use Rattle.papaya_ask.specs.Search.{IsSize};
 ghost use Rattle.papaya_store.specs.Store.{pair_of};
 ghost use Rattle.papaya_store.specs.Tables.{table_of};
 ghost use Rattle.papaya_timeline.specs.Content.{content};
-ghost use Rattle.papaya_seq.specs.Map.{deref_pair, entry_of, slots_in};
-ghost use Rattle.papaya_seq.specs.Walks.{HasMark, HasNoMark, IsNext, IsNextHere, IsStand};
+ghost use Rattle.papaya_seq.specs.Map.{deref_pair, entry_of};
+ghost use Rattle.papaya_seq.specs.Walks.{HasMark, HasNoMark, IsHeld, IsNext, IsNextHere, IsStand};
 ghost use Rattle.papaya_seq.specs.Walks.{IsStepped, IsWord, has_in, left_to};
 
 use crate::seq::HashMap;
@@ -14,6 +14,7 @@ use crate::stand::Stand;
 use papaya_ask::ask::{Answer, At};
 use papaya_store::store::Store;
 use papaya_words::probe::{Probe, Refused, ResizeMode};
+use papaya_words::table::Table;
 use papaya_words::word::{Kind, Word, h1};
 use std::hash::{BuildHasher, Hash};
 use std::marker::Model;
@@ -46,19 +47,10 @@ fn marks<K: Hash + Eq, V, S: BuildHasher>(
 }
 
 impl<K: Hash + Eq, V, S: BuildHasher> HashMap<K, V, S> {
-    /// How many slots a table has; 0 where there is no such table.
-    #[inline]
-    fn slots_at(&self, table: u64) -> usize
-        ensures { result ≡ slots_in (table_of self.now.store.words.tables table) }
-    {
-        match self.store.size_of(table) {
-            Answer::Size { len, .. } => len,
-            _ => 0,
-        }
-    }
-
     /// Has one of so many tables, from the root on, the pair of this word, which stands in the table
     /// after them? Then the pair was being copied when a call was refused.
+    #[cold]
+    #[inline(never)]
     fn is_copy(&self, pair: u64, at: Stand) -> bool
         requires stands { IsStand self.now at }
         requires word { IsWord self.now.store at pair }
@@ -82,13 +74,16 @@ impl<K: Hash + Eq, V, S: BuildHasher> HashMap<K, V, S> {
     }
 
     /// The pair of the word at this stand, if it has one that is given here.
-    #[inline]
-    fn given(&self, at: Stand) -> Option<u64>
+    #[inline(always)]
+    fn given(&self, table: &Table, at: Stand) -> Option<u64>
         requires stands { IsStand self.now at }
-        requires within { at.slot < slots_in (table_of self.now.store.words.tables at.table) }
+        requires table { table_of self.now.store.words.tables at.table ≡ Some table.now }
+        requires within { at.slot < length table.now.slots }
         ensures { IsStepped K.eq self.now.store at result }
     {
-        let word = Word(self.store.word(At::Slot(at.table, at.slot)));
+        // By this read the map is known to be in order.
+        let _mode = self.mode;
+        let word = Word(table.slot(at.slot));
         match word.kind() {
             Kind::Live | Kind::Marked if at.passed == 0 || !self.is_copy(word.pair(), at) => {
                 Some(word.pair())
@@ -97,16 +92,16 @@ impl<K: Hash + Eq, V, S: BuildHasher> HashMap<K, V, S> {
         }
     }
 
-    /// The next pair of the table where the walk stands.
-    #[inline]
-    fn next_here(&self, at: &mut Stand) -> Option<u64>
-        requires { IsStand self.now at.old }
+    /// The next pair of this table, where the walk stands.
+    #[inline(always)]
+    fn next_in(&self, table: &Table, at: &mut Stand) -> Option<u64>
+        requires stands { IsStand self.now at.old }
+        requires table { table_of self.now.store.words.tables at.old.table ≡ Some table.now }
         ensures same { (at.new.table ≡ at.old.table) × (at.new.passed ≡ at.old.passed) }
         ensures next { IsNextHere K.eq self.now.store at.old result at.new }
     {
-        let slots = self.slots_at(at.table);
-        while at.slot < slots {
-            let given = self.given(*at);
+        while at.slot < table.len() {
+            let given = self.given(table, *at);
             at.slot += 1;
             if given.is_some() {
                 return given;
@@ -115,7 +110,20 @@ impl<K: Hash + Eq, V, S: BuildHasher> HashMap<K, V, S> {
         None
     }
 
+    /// The next pair of the table where the walk stands, if there is such a table.
+    fn next_here(&self, at: &mut Stand) -> Option<u64>
+        requires { IsStand self.now at.old }
+        ensures same { (at.new.table ≡ at.old.table) × (at.new.passed ≡ at.old.passed) }
+        ensures next { IsNextHere K.eq self.now.store at.old result at.new }
+    {
+        match self.store.table(at.table) {
+            Some(table) => self.next_in(table, at),
+            None => None,
+        }
+    }
+
     /// The next pair of the map. With blocking the root has all of them.
+    #[inline(never)]
     fn next_pair(&self, at: &mut Stand) -> Option<u64>
         requires { IsStand self.now at.old }
         ensures stands { IsStand self.now at.new }
@@ -141,10 +149,36 @@ impl<K: Hash + Eq, V, S: BuildHasher> HashMap<K, V, S> {
         }
     }
 
+    /// The next pair of the map. The walk holds the root until that has no more.
+    #[inline(always)]
+    fn next_held(&self, root: &mut Option<&Table>, at: &mut Stand) -> Option<u64>
+        requires stands { IsStand self.now at.old }
+        requires held { IsHeld self.now.store at.old root.old }
+        ensures stands { IsStand self.now at.new }
+        ensures held { IsHeld self.now.store at.new root.new }
+        ensures next { IsNext K.eq self.now.store at.old result at.new }
+    {
+        if let Some(table) = *root {
+            // It is so, and said here, so that no pair is asked whether it is a copy.
+            at.passed = 0;
+            let pair = self.next_in(table, at);
+            if pair.is_some() {
+                return pair;
+            }
+        }
+        *root = None;
+        // The place handed on is a copy, so that the walk's own may be kept in registers.
+        let mut place = *at;
+        let pair = self.next_pair(&mut place);
+        *at = place;
+        pair
+    }
+
     /// Where a walk begins.
     #[inline]
     fn first(&self) -> Stand
         ensures stands { IsStand self.now result }
+        ensures root { (result.table ≡ self.now.store.words.root) × (result.passed ≡ 0) }
         ensures whole { left_to K.eq self.now.store result ≡ content K.eq self.now.store }
     {
         Stand {
@@ -178,8 +212,9 @@ impl<K: Hash + Eq, V, S: BuildHasher> HashMap<K, V, S> {
         ensures { result ≡ map entry_of (content K.eq self.now.store) }
     {
         Iter {
-            at: self.first(),
             map: self,
+            root: self.store.root(),
+            at: self.first(),
         }
     }
 
@@ -214,18 +249,20 @@ impl<'a, K: Hash + Eq, V, S: BuildHasher> IntoIterator for &'a HashMap<K, V, S> 
 #[derive(Drop)]
 pub struct Iter<'a, K: Hash + Eq, V, S: BuildHasher> {
     map: &'a HashMap<K, V, S>,
+    /// The root, while the walk is in it.
+    root: Option<&'a Table>,
     at: Stand,
 }
 
 impl<'a, K: Hash + Eq, V, S: BuildHasher> Model for Iter<'a, K, V, S> {
     ghost use Rattle.std.specs.Prelude.{List};
-    ghost use Rattle.papaya_seq.specs.Walks.{IsStand, entries_left};
+    ghost use Rattle.papaya_seq.specs.Walks.{IsHeld, IsStand, entries_left};
 
     ghost Value = { List (K × V) };
 
     ghost view = { λ it. entries_left K.eq it.map.now.store it.at };
 
-    ghost invariant = { λ it. IsStand it.map.now it.at };
+    ghost invariant = { λ it. IsStand it.map.now it.at × IsHeld it.map.now.store it.at it.root };
 }
 
 impl<'a, K: Hash + Eq, V, S: BuildHasher> Iter<'a, K, V, S> {
@@ -235,6 +272,7 @@ impl<'a, K: Hash + Eq, V, S: BuildHasher> Iter<'a, K, V, S> {
     {
         Iter {
             map: self.map,
+            root: self.root,
             at: self.at,
         }
     }
@@ -247,9 +285,10 @@ impl<'a, K: Hash + Eq, V, S: BuildHasher> Iterator for Iter<'a, K, V, S> {
 
     ghost remaining = { item_count (λ rest. rest) };
 
+    #[inline(always)]
     fn next(&mut self) -> Option<(&'a K, &'a V)> {
-        match self.map.next_pair(&mut self.at) {
-            Some(pair) => self.map.pair(pair),
+        match self.map.next_held(&mut self.root, &mut self.at) {
+            Some(pair) => Some(self.map.entry(pair)),
             None => None,
         }
     }
@@ -276,6 +315,7 @@ impl<'a, K: Hash + Eq, V, S: BuildHasher> Iterator for Keys<'a, K, V, S> {
 
     ghost remaining = { item_count (λ rest. rest) };
 
+    #[inline(always)]
     fn next(&mut self) -> Option<&'a K> {
         match self.pairs.next() {
             Some((key, _)) => Some(key),
@@ -305,6 +345,7 @@ impl<'a, K: Hash + Eq, V, S: BuildHasher> Iterator for Values<'a, K, V, S> {
 
     ghost remaining = { item_count (λ rest. rest) };
 
+    #[inline(always)]
     fn next(&mut self) -> Option<&'a V> {
         match self.pairs.next() {
             Some((_, value)) => Some(value),

@@ -39,6 +39,7 @@ impl<'a, K: Hash + Eq, S: BuildHasher> Iterator for Iter<'a, K, S> {
     ghost remaining = { λ it. at_most it.left };
 
     /// It loads words and nothing else: it waits for nobody, and takes no lock and no memory.
+    #[inline(always)]
     fn next(&mut self) -> Option<&'a K> {
         self.keys.next()
     }

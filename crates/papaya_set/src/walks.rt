@@ -52,6 +52,7 @@ impl<'a, K: Hash + Eq, S: BuildHasher> Iterator for Iter<'a, K, S> {
 
     ghost remaining = { item_count (λ rest. rest) };
 
+    #[inline(always)]
     fn next(&mut self) -> Option<&'a K> {
         self.keys.next()
     }

@@ -2,7 +2,7 @@
 //! numbers were taken for them, and the count.
 ghost use Rattle.std.specs.Prelude.{◌≡◌, ℤ, ◌+◌, ◌-◌, ◌<◌, ◌^◌, ◌⊎◌, [], ◌∷◌, ◌++◌, ◌+ℤ◌, length};
 ghost use Rattle.std.specs.Prelude.{vec_len, vec_capacity, Some, None, FitsSigned, MatchOption};
-ghost use Rattle.std.specs.Prelude.{OnOk, IfOk, IfErr, ◌*◌, ◌≤◌, slice_get};
+ghost use Rattle.std.specs.Prelude.{OnOk, IfOk, IfErr, IsSome, ◌*◌, ◌≤◌, slice_get};
 ghost use Rattle.std.specs.Int.{w64, int_wrap, IsPowerOfTwo};
 ghost use Rattle.papaya_words.specs.Counter.{added, count_of};
 ghost use Rattle.papaya_words.specs.declared.limits.TheConstants.{MAX_TABLE_LEN};
@@ -222,6 +222,39 @@ impl<K: Hash + Eq, V, S: BuildHasher> Store<K, V, S> {
         }
     }
 
+    /// The key and the value of a pair that is in the log.
+    #[inline(always)]
+    pub fn logged(&self, n: u64) -> (&K, &V)
+        requires { IsSome (pair_of self.now n) }
+        ensures { pair_of self.now n ≡ Some (record {
+          number = n;
+          key = result.0.now;
+          value = result.1.now;
+        }) }
+    {
+        match &self.pairs[n as usize] {
+            Pair::Own(key, value) => (key, value),
+            pair => self.logged_apart(n as usize, pair),
+        }
+    }
+
+    /// The same of pair `n`, which does not have both of its own.
+    #[cold]
+    #[inline(never)]
+    fn logged_apart<'a>(&'a self, n: usize, pair: &'a Pair<K, V>) -> (&'a K, &'a V)
+        requires { IsSome (stored_in self.now.pairs n (Some pair.now)) }
+        ensures { stored_in self.now.pairs n (Some pair.now) ≡ Some (record {
+          number = n;
+          key = result.0.now;
+          value = result.1.now;
+        }) }
+    {
+        match self.named(n, pair) {
+            Some(entry) => entry,
+            None => unreachable!(),
+        }
+    }
+
     /// The key and the value of pair `n`, which does not have both of its own.
     #[inline(never)]
     fn named<'a>(&'a self, n: usize, pair: &'a Pair<K, V>) -> Option<(&'a K, &'a V)>
@@ -268,7 +301,7 @@ impl<K: Hash + Eq, V, S: BuildHasher> Store<K, V, S> {
 
     /// A table by its number.
     #[inline(always)]
-    fn table(&self, n: u64) -> Option<&Table>
+    pub fn table(&self, n: u64) -> Option<&Table>
         ensures { MatchOption result (table_of self.now.words.tables n ≡ None)
             (λ t. table_of self.now.words.tables n ≡ Some t.now) }
     {

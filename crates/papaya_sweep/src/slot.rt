@@ -14,6 +14,7 @@ use papaya_words::word::Word;
 use std::hash::{BuildHasher, Hash};
 
 /// Loads a slot's word, and the pair that it names. `began` is what was seen as the call began.
+#[inline(always)]
 pub fn load<'a, K: Hash + Eq, V, S: BuildHasher>(
     table: &Table<K, V, S>,
     number: u64,

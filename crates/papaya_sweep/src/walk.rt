@@ -16,7 +16,6 @@ use papaya_book::rule::own::Own;
 use papaya_book::rule::trade::Sight;
 use papaya_book::table::Table;
 use papaya_book::window::Window;
-use papaya_change::removal::entry;
 use papaya_words::word::{Kind, Word};
 use std::hash::{BuildHasher, Hash};
 use std::marker::Model;
@@ -98,6 +97,7 @@ impl<'a, K: Hash + Eq, V, S: BuildHasher> Iter<'a, K, V, S> {
 }
 
 /// Does a word of this kind name a pair that the map has, or had until it was copied?
+#[inline(always)]
 fn names_pair(kind: Kind) -> bool
     ensures { result ≡ has_pair kind }
 {
@@ -108,6 +108,7 @@ fn names_pair(kind: Kind) -> bool
 }
 
 /// The next pair of a table from this place on, and the place after it.
+#[inline(always)]
 fn next_pair<'a, K: Hash + Eq, V, S: BuildHasher>(
     table: &Table<K, V, S>,
     number: u64,
@@ -124,14 +125,18 @@ fn next_pair<'a, K: Hash + Eq, V, S: BuildHasher>(
     ensures had { MatchOption result.1 Unit (λ entry. HadEntry K.eq (history_of began.now.log)
         (past window.new) entry) }
 {
-    for place in from..table.len() {
+    let len = table.len();
+    let mut place = from;
+    while place < len {
         let (word, pair) = load(table, number, place, began, window);
+        place += 1;
         if names_pair(Word(word).kind()) {
             let Some(stored) = &pair else { unreachable!() };
-            return (place + 1, Some(entry(window.book, stored)));
+            let book = window.book;
+            return (place, Some(book.entry(book.pair(stored))));
         }
     }
-    (table.len(), None)
+    (len, None)
 }
 
 impl<'a, K: Hash + Eq, V, S: BuildHasher> Iterator for Iter<'a, K, V, S> {
@@ -142,6 +147,7 @@ impl<'a, K: Hash + Eq, V, S: BuildHasher> Iterator for Iter<'a, K, V, S> {
     ghost remaining = { λ i. at_most i.left };
 
     /// It loads words and nothing else: it waits for nobody, and takes no lock and no memory.
+    #[inline(always)]
     fn next(&mut self) -> Option<(&'a K, &'a V)> {
         let (number, table) = self.root?;
         let mut window = Window::new(self.book, &self.kept, &self.sight, &Own::nothing());
@@ -183,6 +189,7 @@ impl<'a, K: Hash + Eq, V, S: BuildHasher> Iterator for Keys<'a, K, V, S> {
 
     ghost remaining = { λ s. at_most s.pairs.left };
 
+    #[inline(always)]
     fn next(&mut self) -> Option<&'a K> {
         match self.pairs.next() {
             Some((key, _)) => Some(key),
@@ -213,6 +220,7 @@ impl<'a, K: Hash + Eq, V, S: BuildHasher> Iterator for Values<'a, K, V, S> {
 
     ghost remaining = { λ s. at_most s.pairs.left };
 
+    #[inline(always)]
     fn next(&mut self) -> Option<&'a V> {
         match self.pairs.next() {
             Some((_, value)) => Some(value),

@@ -1,14 +1,13 @@
 //! Making and opening tables.
 ghost use Rattle.papaya_book.specs.Books.{IsIn, IsLeft, Opens, Seals, root_then};
-ghost use Rattle.std.specs.Prelude.{◌≡◌, ℕ, ◌+◌, ◌<◌, ◌≤◌, ◌⊎◌, ◌==◌, cond, false, Some, None};
-ghost use Rattle.std.specs.Prelude.{[], ◌∷◌, IfErr, IfOk, length, map};
+ghost use Rattle.std.specs.Prelude.{◌≡◌, ◌+◌, ◌-◌, ◌≤◌, ◌⊎◌, ◌==◌, cond, false, Some, None};
+ghost use Rattle.std.specs.Prelude.{[], ◌∷◌, IfErr, IfOk, IfSome, length, map};
 ghost use mathlib.Core.List.{IsPrefix};
 ghost use Rattle.papaya_ask.specs.Search.{IsSize};
 ghost use Rattle.papaya_book.specs.Calls.{IsTable};
-ghost use Rattle.papaya_book.specs.Makers.{AreMade, IsMade};
+ghost use Rattle.papaya_book.specs.Makers.{AreFrom, IsMade};
 ghost use Rattle.boxcar.specs.Table.{Shows};
 ghost use Rattle.papaya_book.specs.Limits.{HasTableFrom, IsFull, tables_of};
-ghost use Rattle.papaya_book.specs.Logs.{seals_of};
 ghost use Rattle.papaya_book.specs.Sheets.{AllOf};
 ghost use Rattle.papaya_book.specs.declared.rule.entry.Named.TheVariants.{Table as TableNamed};
 ghost use Rattle.papaya_book.specs.declared.rule.own.Given.TheVariants as numbers;
@@ -25,7 +24,7 @@ use crate::rule::trade::{Sight, Trade};
 use crate::slot::{Cell, Slot};
 use crate::table::Table;
 use boxcar::Pushed;
-use logbook::Pen;
+use logbook::{Pen, Pens};
 use papaya_ask::ask::{At, StepKind};
 use papaya_words::limits::MAX_TABLES;
 use papaya_words::probe::{Refused, limit};
@@ -35,52 +34,89 @@ use std::hash::{BuildHasher, Hash};
 use std::sync::{Mutex, Wait};
 
 impl<K: Hash + Eq, V, S: BuildHasher> Book<K, V, S> {
-    /// The words of a new table's chunks.
+    /// The words of a new table's chunks: the next ones of the row.
     fn words(
-        &self,
-        alloc: Global,
+        room: Vec<Cell<K, V, S>>,
         len: usize,
-        seal: &Pen,
-        sight: &mut Sight<K, V, S>,
+        row: &mut Pens,
     ) -> Result<Vec<Cell<K, V, S>>, AllocError>
-        requires book { sight.old.book ≡ self.now.begun.book }
-        ensures book { sight.new.book ≡ sight.old.book }
-        ensures seen { IsPrefix sight.old.log sight.new.log }
+        requires room { room.items ≡ [] }
+        requires left { len ≤ row.old.left }
+        ensures rest { IfOk result (λ v. (row.new.book ≡ row.old.book)
+            × (row.new.next ≡ row.old.next + len) × (row.new.left ≡ row.old.left - len)) }
         ensures len { IfOk result (λ v. length v.items ≡ len) }
-        ensures words { IfOk result (λ v. AllOf self.now.begun.book v.items) }
-        ensures made { IfOk result (λ v. (least : ℕ) → least < 3 + length (seals_of sight.old.log)
-            → AreMade (map (λ w. w.key) v.items) least seal.now.nib.key sight.new.log) }
+        ensures words { IfOk result (λ v. AllOf row.old.book v.items) }
+        ensures keys { IfOk result (λ v. AreFrom (map (λ w. w.key) v.items) row.old.next) }
     {
-        let mut words = Vec::with_capacity(alloc, len)?;
+        let mut words = room;
         for _ in 0..len {
-            let word = self.word(seal, sight);
-            words.push(word)?;
+            words.push(Self::word(row))?;
         }
         Ok(words)
     }
 
-    /// The slots of a new table.
-    fn row(
-        &self,
-        alloc: Global,
+    /// The slots of a new table, whose words are the next ones of the row.
+    fn slots(
+        room: Vec<Slot<K, V, S>>,
         len: usize,
-        seal: &Pen,
-        sight: &mut Sight<K, V, S>,
+        row: &mut Pens,
+        sight: &Sight<K, V, S>,
     ) -> Result<Vec<Slot<K, V, S>>, AllocError>
-        requires book { sight.old.book ≡ self.now.begun.book }
-        ensures book { sight.new.book ≡ sight.old.book }
-        ensures seen { IsPrefix sight.old.log sight.new.log }
+        requires room { room.items ≡ [] }
+        requires left { len ≤ row.old.left }
+        requires book { sight.now.book ≡ row.old.book }
         ensures len { IfOk result (λ v. length v.items ≡ len) }
-        ensures words { IfOk result (λ v. AllOf self.now.begun.book v.items) }
-        ensures made { IfOk result (λ v. (least : ℕ) → least < 3 + length (seals_of sight.old.log)
-            → AreMade (map (λ w. w.key) v.items) least seal.now.nib.key sight.new.log) }
+        ensures words { IfOk result (λ v. AllOf row.old.book v.items) }
+        ensures keys { IfOk result (λ v. AreFrom (map (λ w. w.key) v.items) row.old.next) }
     {
-        let mut slots = Vec::with_capacity(alloc, len)?;
+        let mut slots = room;
         for _ in 0..len {
-            let word = self.word(seal, sight);
-            slots.push(Slot::new(word, sight))?;
+            slots.push(Slot::new(Self::word(row), sight))?;
         }
         Ok(slots)
+    }
+
+    /// A table of so many slots, all Empty, to which a table of so many chunks is copied, with the pen
+    /// of its seal. It draws its words once there is room for them.
+    fn lay_table<R: Wait>(
+        &self,
+        rt: &R,
+        alloc: Global,
+        len: usize,
+        limit: usize,
+        chunks: usize,
+        sight: &mut Sight<K, V, S>,
+    ) -> Option<(Table<K, V, S>, Pen)>
+        requires book { sight.old.book ≡ self.now.begun.book }
+        requires size { IsSize len limit }
+        ensures book { sight.new.book ≡ sight.old.book }
+        ensures seen { IsPrefix sight.old.log sight.new.log }
+        ensures size { IfSome result (λ r. (length r.0.slots ≡ len) × (r.0.limit ≡ limit)) }
+        ensures chunks { IfSome result (λ r. length r.0.done ≡ chunks) }
+        ensures named { IfSome result (λ r. r.0.book ≡ self.now.begun.book) }
+        ensures made { IfSome result (λ r. IsMade r.0 sight.new.log) }
+        ensures pen { IfSome result (λ r. Seals self.now r.1 r.0) }
+    {
+        let count = chunks.checked_add(len + 1)?;
+        let done = Vec::with_capacity(alloc, chunks).ok()?;
+        let slots = Vec::with_capacity(alloc, len).ok()?;
+        let (aborted, seal, mut row) = self.deal(rt, count as u64, sight)?;
+        let next = Self::word(&mut row);
+        let Ok(done) = Self::words(done, chunks, &mut row) else {
+            return None;
+        };
+        let Ok(slots) = Self::slots(slots, len, &mut row, sight) else {
+            return None;
+        };
+        let table = Table {
+            limit,
+            next,
+            aborted,
+            done,
+            slots,
+            making: Mutex::new(()),
+        };
+        Some((table, seal))
     }
 
     /// What tells that the log of tables gave this number.
@@ -121,21 +157,8 @@ impl<K: Hash + Eq, V, S: BuildHasher> Book<K, V, S> {
         ensures placed { IfOk result (λ r. IsIn self.now (TableNamed r.0)) }
         ensures pen { IfOk result (λ r. Seals self.now r.1 r.0.value) }
     {
-        let (aborted, seal) = self.seal(sight);
-        let next = self.word(&seal, sight);
-        let Ok(done) = self.words(alloc, chunks, &seal, sight) else {
+        let Some((table, seal)) = self.lay_table(rt, alloc, len, limit, chunks, sight) else {
             return Err(Refused::Memory);
-        };
-        let Ok(slots) = self.row(alloc, len, &seal, sight) else {
-            return Err(Refused::Memory);
-        };
-        let table = Table {
-            limit,
-            next,
-            aborted,
-            done,
-            slots,
-            making: Mutex::new(()),
         };
         let Ok(token) = self.parts.tables.push_shown(rt, table) else {
             return Err(Refused::Memory);

@@ -1,31 +1,35 @@
 //! Making a book, and the words of its tables.
 //!
-//! A table's words enter the book before the table's number is written. Each is added by a step on
-//! the makers' word, is made, and is brought home by another. The first of a table, which says
-//! whether it was given up, is its seal: its pen is kept until the exchange that opens or links the
-//! table, and every other word is added for this seal. So no two tables that have come share a word.
+//! A book opens with a row of words, which hold 0. Whoever makes a table draws as many as it needs, all
+//! by one exchange of the makers' word, which counts them. The same exchange adds one word more, the
+//! table's seal, which says whether the table was given up. Its pen is kept until the exchange that
+//! opens or links the table. The log says for which seal a word was dealt, so no two tables that have
+//! come share a word.
 ghost use Rattle.papaya_book.specs.Books.{Brings, CanBring, IsIn, IsLeft, Seals};
-ghost use Rattle.std.specs.Prelude.{◌≡◌, ◌≢◌, ◌+◌, ◌≤◌, ◌==◌, false, Some, IfOk, IfErr, length};
+ghost use Rattle.std.specs.Prelude.{◌≡◌, ◌≢◌, ◌+◌, ◌-◌, ◌<◌, ◌==◌, false, Some, IfOk, IfErr, IfSome};
 ghost use mathlib.Core.List.{IsPrefix};
 ghost use Rattle.logbook.specs.Pages.{nib, may_write};
 ghost use Rattle.papaya_words.specs.Mode.{IsChunked};
-ghost use Rattle.papaya_book.specs.Logs.{Member, key_at, owner, seals_of, steps_of};
-ghost use Rattle.papaya_book.specs.Makers.{IsMade};
+ghost use Rattle.papaya_book.specs.Logs.{key_at, steps_of};
+ghost use Rattle.papaya_book.specs.Makers.{AreDealt, IsMade};
 ghost use Rattle.papaya_book.specs.Sheets.{word_named};
-ghost use Rattle.papaya_book.specs.declared.rule.entry.Event.TheVariants.{Home};
 ghost use Rattle.papaya_book.specs.declared.rule.entry.Named.TheVariants.{Table as TableNamed};
 
 use crate::book::Book;
 use crate::book::parts::{First, Parts};
 use crate::keyed::Keyed;
-use crate::rule::law::Found;
-use crate::rule::steps::{Add, Bring, Call, Come, Laying, Seal};
-use crate::rule::token::tell;
+use crate::rule::law::{Drawn, Found};
+use crate::rule::steps::{Bring, Call, Deal, Laying};
+use crate::rule::token::{drawn, tell};
 use crate::rule::trade;
 use crate::rule::trade::{Sight, Trade};
 use crate::slot::Cell;
-use logbook::{Pen, Seen, Word};
+use logbook::{Pen, Pens, Seen, Word};
 use std::hash::{BuildHasher, Hash};
+use std::sync::Wait;
+
+/// How many words of tables a map makes in its life. It would take a century to write them all.
+const ROW_LEN: u64 = 1 << 62;
 
 impl<K: Hash + Eq, V, S: BuildHasher> Book<K, V, S> {
     /// A new book. The parts come back where it got another name first, which no thread could give
@@ -38,7 +42,7 @@ impl<K: Hash + Eq, V, S: BuildHasher> Book<K, V, S> {
         let (mut begun, mut pens) = Seen::open_row::<Parts<K, V, S>, First>(
             &parts,
             trade::begin(&parts),
-            3,
+            3 + ROW_LEN as usize,
         );
         let mut pen = pens.take();
         let root = Word::tracked(0, &mut pen);
@@ -47,7 +51,7 @@ impl<K: Hash + Eq, V, S: BuildHasher> Book<K, V, S> {
         let mut pen = pens.take();
         let made = Word::tracked(0, &mut pen);
         let known = begun.again();
-        let mut trade = trade::bare::<K, V, S, Sight<K, V, S>, Call>(&known, &known);
+        let mut trade = trade::with_row(&known, &mut pens);
         let mut pen = begun.no_pen();
         let found = maker.compare_exchange::<Call, Found<K, V>>(
             0, 1, &mut begun, &mut trade, &mut pen,
@@ -65,48 +69,56 @@ impl<K: Hash + Eq, V, S: BuildHasher> Book<K, V, S> {
         })
     }
 
-    /// The first word of a new table, with the pen that the table's opening takes.
-    pub fn seal(&self, sight: &mut Sight<K, V, S>) -> (Cell<K, V, S>, Pen)
+    /// The seal of a new table, with the pen that the table's opening takes, and the rights to make so
+    /// many words, which are of the row. There are none where the row has fewer left.
+    pub(crate) fn deal<R: Wait>(
+        &self,
+        rt: &R,
+        count: u64,
+        sight: &mut Sight<K, V, S>,
+    ) -> Option<(Cell<K, V, S>, Pen, Pens)>
         requires { sight.old.book ≡ self.now.begun.book }
         ensures book { sight.new.book ≡ sight.old.book }
         ensures seen { IsPrefix sight.old.log sight.new.log }
-        ensures word { result.0 ≡ word_named self.now.begun.book result.0.key }
-        ensures pen { (result.1.book ≡ self.now.begun.book)
-            × (result.1.nib ≡ nib may_write result.0.key 0) }
-        ensures owner { owner result.0.key sight.new.log ≡ Some result.0.key }
-        ensures after { 3 + length (seals_of sight.old.log) ≤ result.0.key }
+        ensures seal { IfSome result (λ r. r.0 ≡ word_named self.now.begun.book r.0.key) }
+        ensures pen { IfSome result (λ r. (r.1.book ≡ self.now.begun.book)
+            × (r.1.nib ≡ nib may_write r.0.key 0)) }
+        ensures row { IfSome result (λ r. (r.2.book ≡ self.now.begun.book)
+            × (r.2.left ≡ count)) }
+        ensures dealt { IfSome result (λ r. AreDealt r.2.next count r.0.key sight.new.log) }
     {
-        let mut pen = sight.no_pen();
-        let mut trade = trade::bare::<K, V, S, Pen, Add>(sight, &pen);
-        self.maker
-            .compare_exchange::<Seal, Found<K, V>>(1, 1, sight, &mut trade, &mut pen);
-        let word = Word::tracked(0, &mut pen);
-        (word, pen)
+        sight.learn(&self.begun);
+        let mut old = 1;
+        for _ in rt.forever() {
+            if count > ROW_LEN || old > ROW_LEN + 1 - count {
+                return None;
+            }
+            let mut draw = trade::drawing(sight, old + 2, count);
+            let mut pen = sight.no_pen();
+            let found = self
+                .maker
+                .compare_exchange::<Deal, Drawn>(old, old + count, sight, &mut draw, &mut pen);
+            if found == old {
+                let seal = Word::tracked(0, &mut pen);
+                return Some((seal, pen, drawn(draw.into_gain())));
+            }
+            old = found;
+        }
+        unreachable!()
     }
 
-    /// Another word of the table whose seal the pen holds. It has come home, and holds 0.
-    pub fn word(&self, seal: &Pen, sight: &mut Sight<K, V, S>) -> Cell<K, V, S>
-        requires { sight.old.book ≡ self.now.begun.book }
-        ensures book { sight.new.book ≡ sight.old.book }
-        ensures seen { IsPrefix sight.old.log sight.new.log }
-        ensures word { result ≡ word_named self.now.begun.book result.key }
-        ensures home { Member (Home result.key) sight.new.log }
-        ensures owner { owner result.key sight.new.log ≡ Some seal.now.nib.key }
-        ensures after { 3 + length (seals_of sight.old.log) ≤ result.key }
+    /// The next word of the row. It holds 0.
+    pub(crate) fn word(row: &mut Pens) -> Cell<K, V, S>
+        requires { 0 < row.old.left }
+        ensures word { result ≡ word_named row.old.book row.old.next }
+        ensures rest { (row.new.book ≡ row.old.book) × (row.new.next ≡ row.old.next + 1)
+            × (row.new.left ≡ row.old.left - 1) }
     {
-        let mut trade = trade::bare::<K, V, S, Pen, Add>(sight, seal);
-        let mut pen = sight.no_pen();
-        self.maker
-            .compare_exchange::<Add, Found<K, V>>(1, 1, sight, &mut trade, &mut pen);
-        let word = Word::tracked(0, &mut pen);
-        let mut trade = trade::bare::<K, V, S, Pen, Come>(sight, &pen);
-        self.maker
-            .compare_exchange::<Come, Found<K, V>>(1, 1, sight, &mut trade, &mut pen);
-        word
+        let mut pen = row.take();
+        Word::tracked(0, &mut pen)
     }
 
-    /// One atomic exchange with which a table comes, which is opened or linked by it: the word
-    /// found
+    /// One atomic exchange with which a table comes, which is opened or linked by it: the word found
     /// there. It takes the pen of the table's seal, unless it is lost.
     pub fn bring(
         &self,

@@ -102,14 +102,15 @@ pub enum Event<K, V, S> {
     /// call
     /// has made, and what comes with the step. No log has it.
     Wish(At, Option<StepKind>, Option<Stored<K, V>>, Named<K, V>),
+    /// What a maker of a table asks for: from this word on, so many words of the book's row. No log
+    /// has it.
+    Draw(Name, u64, u64),
     /// The book was opened.
     Begin(Begun<K, V, S>),
     /// The book was told its own name.
     Called(Name),
-    /// A word was added, for the table that will have this seal.
-    Born(u64),
-    /// The word of this key came home, and holds 0.
-    Home(u64),
+    /// A seal was added, and so many words of the row were dealt for the table that will have it.
+    Dealt(u64, u64),
     /// A word was exchanged.
     Stepped(Step<K, V>),
 }

@@ -6,8 +6,8 @@ use std::hash::{BuildHasher, Hash};
 use std::marker::PhantomData;
 
 /// The rule: the log's exchanges are allowed, the words are those that they leave, each hint was one
-/// of its slot, and the book keeps the tokens of all pairs and tables that came. Hints stand beside
-/// words of slots; the book has no other words that it does not track.
+/// of its slot, and the book keeps the tokens of all pairs and tables that came, and the rights to
+/// make words for tables. Hints stand beside words of slots; the book has no other words that it does not track.
 pub struct Law<K, V, S> {
     of: PhantomData<(K, V, S)>,
 }
@@ -18,7 +18,7 @@ impl<K: Hash + Eq, V, S: BuildHasher> Rule<Event<K, V, S>, Named<K, V>> for Law<
     ghost use Rattle.papaya_book.specs.Rule.{IsKept};
     ghost use Rattle.papaya_log.specs.Tokens.{stands as pair_stands};
     ghost use Rattle.papaya_book.specs.Tokens.{stands};
-    ghost use Rattle.papaya_book.specs.Trade.{kept, Moved};
+    ghost use Rattle.papaya_book.specs.Trade.{held, Moved};
     ghost use Rattle.papaya_book.specs.contracts.rule.pair.Pair.{the_row as PairOf};
     ghost use Rattle.papaya_book.specs.contracts.rule.entry.Sheet.{the_row as SheetRow};
 
@@ -31,7 +31,7 @@ impl<K: Hash + Eq, V, S: BuildHasher> Rule<Event<K, V, S>, Named<K, V>> for Law<
 
     ghost shows = { λ log. log };
 
-    ghost keeps = { λ names log. kept (pair_stands (PairOf K.row V.row)) (stands SheetRow) log };
+    ghost keeps = { λ names log. held (pair_stands (PairOf K.row V.row)) (stands SheetRow) log };
 
     ghost moves = { λ ask before after answer. Moved ask before after answer };
 }
@@ -58,4 +58,13 @@ impl<K, V, S> Gain<Event<K, V, S>, Named<K, V>> for Found<K, V> {
 
     ghost after = { λ names about answer. shown (pair_stands (PairOf K.row V.row)) (stands SheetRow)
         answer };
+}
+
+/// The client has the rights to make the words that it asked for.
+pub struct Drawn;
+
+impl<K, V, S> Gain<Event<K, V, S>, Named<K, V>> for Drawn {
+    ghost use Rattle.papaya_book.specs.Trade.{drawn};
+
+    ghost after = { λ names about answer. drawn about };
 }

@@ -1,9 +1,8 @@
 //! The steps on words: what they ask for, and what they tell.
 use crate::rule::entry::{Event, Named, Stored};
-use crate::rule::trade::Sight;
 use crate::table::Table;
 use boxcar::Pushed;
-use logbook::{Pen, Plain, Play};
+use logbook::{Plain, Play};
 use papaya_ask::ask::{At, StepKind};
 use std::hash::{BuildHasher, Hash};
 
@@ -127,14 +126,8 @@ impl<K: Hash + Eq, V, S: BuildHasher> Play<Event<K, V, S>, Named<K, V>> for Try 
         S.Hasher.finish) };
 }
 
-/// A step that adds the first word of a table, whose key is the table's seal.
-pub struct Seal;
-
-/// A step that adds another word of the table whose seal this pen holds.
-pub struct Add;
-
-/// A step that brings the pen's word home.
-pub struct Come;
+/// A step that adds the seal of a table, and deals words of the row for it.
+pub struct Deal;
 
 /// A step that tells the book its own name.
 pub struct Call;
@@ -150,33 +143,6 @@ pub struct Laying<'a, K: Hash + Eq, V, S: BuildHasher> {
     pub table: &'a Pushed<Table<K, V, S>>,
 }
 
-impl<K, V, S> Plain<Pen, Event<K, V, S>, Named<K, V>> for Add {
-    ghost use Rattle.std.specs.Prelude.{None};
-    ghost use Rattle.papaya_book.specs.declared.rule.entry.Event.TheVariants.{Born};
-
-    ghost ask = { λ pen. Born pen.nib.key };
-
-    ghost state = { λ pen. None };
-}
-
-impl<K, V, S> Plain<Pen, Event<K, V, S>, Named<K, V>> for Come {
-    ghost use Rattle.std.specs.Prelude.{None};
-    ghost use Rattle.papaya_book.specs.declared.rule.entry.Event.TheVariants.{Home};
-
-    ghost ask = { λ pen. Home pen.nib.key };
-
-    ghost state = { λ pen. None };
-}
-
-impl<K: Hash + Eq, V, S: BuildHasher> Plain<Sight<K, V, S>, Event<K, V, S>, Named<K, V>> for Call {
-    ghost use Rattle.std.specs.Prelude.{None};
-    ghost use Rattle.papaya_book.specs.declared.rule.entry.Event.TheVariants.{Called};
-
-    ghost ask = { λ seen. Called seen.book };
-
-    ghost state = { λ seen. None };
-}
-
 impl<'a, K: Hash + Eq, V, S: BuildHasher> Plain<Laying<'a, K, V, S>, Event<K, V, S>, Named<K, V>>
     for Bring {
     ghost use Rattle.std.specs.Prelude.{None};
@@ -188,22 +154,10 @@ impl<'a, K: Hash + Eq, V, S: BuildHasher> Plain<Laying<'a, K, V, S>, Event<K, V,
     ghost state = { λ x. None };
 }
 
-impl<K, V, S> Play<Event<K, V, S>, Named<K, V>> for Seal {
-    ghost use Rattle.papaya_book.specs.Makers.{Seals};
+impl<K, V, S> Play<Event<K, V, S>, Named<K, V>> for Deal {
+    ghost use Rattle.papaya_book.specs.Makers.{Deals};
 
-    ghost then = { Seals };
-}
-
-impl<K, V, S> Play<Event<K, V, S>, Named<K, V>> for Add {
-    ghost use Rattle.papaya_book.specs.Makers.{Adds};
-
-    ghost then = { Adds };
-}
-
-impl<K, V, S> Play<Event<K, V, S>, Named<K, V>> for Come {
-    ghost use Rattle.papaya_book.specs.Makers.{Homes};
-
-    ghost then = { Homes };
+    ghost then = { Deals };
 }
 
 impl<K, V, S> Play<Event<K, V, S>, Named<K, V>> for Call {

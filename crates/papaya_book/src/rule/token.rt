@@ -1,12 +1,18 @@
-//! Tokens of `boxcar` logs, taken apart and put together again.
+//! Tokens of `boxcar` logs, taken apart and put together again, and the rights to make words.
 //!
 //! The rule of the book keeps what a token shows, but not a token's bytes. A token is told, what it
-//! shows goes to the book, and whoever finds the number in a word rebuilds it.
-ghost use Rattle.std.specs.Prelude.{◌≡◌, ℕ, ◌+◌, ◌^◌, ◌<◌};
+//! shows goes to the book, and whoever finds the number in a word rebuilds it. The rights to make
+//! words go to the book when it is opened, and whoever draws some has them again.
+ghost use Rattle.std.specs.Prelude.{◌≡◌, ℕ, ◌+◌, ◌^◌, ◌<◌, [], ◌∷◌};
+ghost use Rattle.logbook.specs.Pages.{Book};
 ghost use Rattle.boxcar.specs.Table.{Where, where_coded, IsAt, span};
 ghost use Rattle.papaya_book.specs.Tokens.{stands};
+ghost use Rattle.papaya_book.specs.declared.rule.entry.Event.TheVariants.{Draw};
 
+use crate::rule::entry::{Event, Named};
+use crate::rule::law::Drawn;
 use boxcar::Pushed;
+use logbook::{Gained, Pens};
 use std::marker::{Model, PhantomData};
 
 /// What a token of a log shows, with no bytes.
@@ -87,4 +93,22 @@ pub fn token<T>(known: Known<T>, index: usize) -> Pushed<T>
 {
     let (bucket, slot) = locate(index);
     rebuild(known, index, bucket, slot)
+}
+
+// It lies in memory as the rights to make words do.
+#[derive(Drop)]
+struct Rights {
+    marker: PhantomData<()>,
+}
+
+/// The rights to make the words that were drawn.
+pub fn drawn<K, V, S>(gained: Gained<Event<K, V, S>, Named<K, V>, Drawn>) -> Pens
+    requires { (b : Book) × (k : ℕ) × (n : ℕ) × (gained.about ≡ Draw b k n ∷ []) }
+    ensures { gained.about ≡ Draw result.book result.next result.left ∷ [] }
+{
+    let Gained { marker: _ } = gained;
+    let held = Rights {
+        marker: PhantomData,
+    };
+    unsafe { std::ptr::read(&raw const held as *const Pens) }
 }

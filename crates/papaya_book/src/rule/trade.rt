@@ -3,17 +3,19 @@
 //! a name in a word has its token.
 ghost use Rattle.std.specs.Prelude.{◌≡◌, [], ◌∷◌, None};
 ghost use Rattle.papaya_book.specs.declared.rule.entry.Named.TheVariants.{Nothing, Pair as PairNamed, Table as TableNamed};
-ghost use Rattle.papaya_book.specs.declared.rule.entry.Event.TheVariants.{Begin};
+ghost use Rattle.papaya_book.specs.declared.rule.entry.Event.TheVariants.{Begin, Called, Draw};
 ghost use Rattle.papaya_book.specs.Logs.{brought};
 ghost use Rattle.papaya_book.specs.Parts.{begun_of};
+ghost use Rattle.papaya_book.specs.Rows.{row_len};
+ghost use Rattle.papaya_book.specs.Trade.{LeavesRow};
 
 use crate::book::parts::Parts;
 use crate::rule::entry::{Event, Named};
-use crate::rule::law::{Found, Law};
+use crate::rule::law::{Drawn, Found, Law};
 use crate::rule::pair::Pair;
 use crate::rule::token::Known;
 use crate::table::Table;
-use logbook::{Gained, Offer, Plain, Seen, Start};
+use logbook::{Gained, Offer, Pens, Plain, Seen, Start};
 use papaya_log::token::Known as KnownPair;
 use std::hash::{BuildHasher, Hash};
 use std::marker::PhantomData;
@@ -24,12 +26,15 @@ pub type Sight<K, V, S> = Seen<Event<K, V, S>, Named<K, V>, Law<K, V, S>>;
 /// A client's update of the book.
 pub type Trade<K, V, S> = Offer<Event<K, V, S>, Named<K, V>, Law<K, V, S>, Found<K, V>>;
 
+/// A client's update that draws words of the row.
+pub type Drawing<K, V, S> = Offer<Event<K, V, S>, Named<K, V>, Law<K, V, S>, Drawn>;
+
 /// An update with which nothing comes. It gains the token of what the word names.
 pub fn bare<K: Hash + Eq, V, S: BuildHasher, X, M: Plain<X, Event<K, V, S>, Named<K, V>>>(
     seen: &Sight<K, V, S>,
     about: &X,
 ) -> Trade<K, V, S>
-    requires { brought (M.ask about.now) ≡ Nothing }
+    requires { (brought (M.ask about.now) ≡ Nothing) × LeavesRow (M.ask about.now) }
     ensures { (result.names ≡ seen.now.names) × (result.ask ≡ M.ask about.now) × (result.about ≡ [])
         × (result.state ≡ None) }
 {
@@ -92,6 +97,34 @@ pub fn table_known<K: Hash + Eq, V, S: BuildHasher>(
 {
     let Gained { marker: _ } = gained;
     Known {
+        marker: PhantomData,
+    }
+}
+
+/// An update that tells a new book its name, and gives it the row of words.
+pub fn with_row<K: Hash + Eq, V, S: BuildHasher>(
+    seen: &Sight<K, V, S>,
+    row: &mut Pens,
+) -> Trade<K, V, S>
+    requires { (row.old.next ≡ 3) × (row.old.left ≡ row_len) }
+    ensures { (result.names ≡ seen.now.names) × (result.ask ≡ Called row.old.book)
+        × (result.about ≡ []) × (result.state ≡ None) }
+{
+    Offer {
+        marker: PhantomData,
+    }
+}
+
+/// An update that draws so many words of the row, from this one on.
+pub fn drawing<K: Hash + Eq, V, S: BuildHasher>(
+    seen: &Sight<K, V, S>,
+    first: u64,
+    count: u64,
+) -> Drawing<K, V, S>
+    ensures { (result.names ≡ seen.now.names) × (result.ask ≡ Draw seen.now.book first count)
+        × (result.about ≡ Draw seen.now.book first count ∷ []) × (result.state ≡ None) }
+{
+    Offer {
         marker: PhantomData,
     }
 }

@@ -1,5 +1,6 @@
 use Rattle.std.proofs.Common.{◌≡◌, Result, Ok, Err, IfOk, Some, refl, subst}
-use Rattle.papaya_call.specs.declared.machine.State.TheVariants.{Writing}
+use Rattle.papaya_call.specs.declared.machine.State.TheVariants.{Growing, Writing}
+use Rattle.papaya_call.specs.declared.need.Need.TheVariants.{Room}
 use Rattle.papaya_book.proofs.Logs.{prefix_trans}
 use Rattle.papaya_lookup.specs.declared.lookup.Met.{Met}
 use Rattle.papaya_change.specs.declared.at_once.Turn.{Turn}
@@ -59,3 +60,17 @@ returns-in-Met-clause-put g c =
     let to = Writing (record { place = c.in-Met.met.place; old = c.in-Met.met.word }) in
     let there = subst (λ (z : Turn _ _). led_to z ≡ Some to → IsInsertingAt c.find_place.new.window c.args.key log to (met_by z) c.in-Some.spot.table.now) c.in-Met.is (c.find_place.ensures.found c.in-Some.spot c.in-Some.is Inserts to) refl in
     if_ok _ _ c.replace_at.result c.replace_at.ensures.put (λ a h. put_since g.K.PartialEq.eq c.args.key c.args.value c.args.window.now.sight.log log c.replace_at.new.window.sight.log a c.learn.ensures.sees.log (subst (λ (z : Met _ _). HasWritten c.find_place.new.window c.replace_at.new.window c.args.key c.args.value c.in-Some.spot.table.now (MetPair z) a) c.in-Met.met-is h log to refl there))
+
+pub insert_onward-requires-clause-stands : goal.insert_onward-requires-clause-stands
+insert_onward-requires-clause-stands g c =
+    let log = c.learn.new.self.sight.log in
+    let to = Growing (Room c.in-Over.number) in
+    let there = subst (λ (z : Turn _ _). led_to z ≡ Some to → IsInsertingAt c.find_place.new.window c.args.key log to (met_by z) c.in-Some.spot.table.now) c.in-Over.is (c.find_place.ensures.found c.in-Some.spot c.in-Some.is Inserts to) refl in
+    (to, refl, (log, there))
+
+pub returns-in-Over-clause-put : goal.returns-in-Over-clause-put
+returns-in-Over-clause-put g c =
+    let log = c.learn.new.self.sight.log in
+    let to = Growing (Room c.in-Over.number) in
+    let there = subst (λ (z : Turn _ _). led_to z ≡ Some to → IsInsertingAt c.find_place.new.window c.args.key log to (met_by z) c.in-Some.spot.table.now) c.in-Over.is (c.find_place.ensures.found c.in-Some.spot c.in-Some.is Inserts to) refl in
+    if_ok _ _ c.insert_onward.result c.insert_onward.ensures.put (λ a h. put_since g.K.PartialEq.eq c.args.key c.args.value c.args.window.now.sight.log log c.insert_onward.new.window.sight.log a c.learn.ensures.sees.log (h log to refl there))

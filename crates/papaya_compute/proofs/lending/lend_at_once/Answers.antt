@@ -6,12 +6,13 @@ use Rattle.papaya_book.specs.Logs.{Stored}
 use Rattle.papaya_book.specs.Parts.{begun_of}
 use Rattle.papaya_book.proofs.Logs.{prefix_trans}
 use Rattle.papaya_lookup.specs.Drivers.{past}
+use Rattle.papaya_lookup.specs.declared.lookup.Met.{Met}
 use Rattle.papaya_change.specs.declared.at_once.Turn.{Turn}
 use Rattle.papaya_change.specs.Seeking.{Computes, leads, met_by}
 use Rattle.papaya_change.specs.Seeks.{IsSeekingAt}
 use Rattle.papaya_change.specs.Showings.{Operates}
 use Rattle.papaya_change.specs.declared.at_once.Turn.TheVariants.{Empty, Met as MetPair}
-use Rattle.papaya_compute.specs.AtOnce.{IsFoundAt}
+use Rattle.papaya_compute.specs.AtOnce.{GoesOnce, IsFoundAt, RepliesOnce}
 use Rattle.papaya_compute.proofs.AtOnce.{does_since, if_on, if_over}
 use Rattle.papaya_compute.proofs.ComputeReplies.{computed_by}
 use Rattle.papaya_compute.proofs.Found.{pair_placed}
@@ -67,7 +68,7 @@ pub renew-requires-clause-found : goal.renew-requires-clause-found
 renew-requires-clause-found g c =
     let w = c.args.window.now in let log = w.sight.log in let key = c.args.key in let mid = c.look.new.window in let spot = c.in-Some.spot in
     let found : IsFoundAt mid key log spot.table.now (MetPair c.in-Met.met) = λ who state. subst (λ (z : Turn _ _). leads who z ≡ Some state → IsSeekingAt who mid key log state (met_by z) spot.table.now) c.in-Met.is (c.look.ensures.found spot c.in-Some.is who state) in
-    (log, found)
+    rw c.in-Met.met-is (log, found)
 
 pub renew-requires-clause-limit : goal.renew-requires-clause-limit
 renew-requires-clause-limit g c = c.look.ensures.limit c.in-Some.spot c.in-Some.is
@@ -80,7 +81,7 @@ returns-in-Met-clause-computed g c =
     let w = c.args.window.now in let log = w.sight.log in let key = c.args.key in let mid = c.look.new.window in let spot = c.in-Some.spot in
     let found : IsFoundAt mid key log spot.table.now (MetPair c.in-Met.met) = λ who state. subst (λ (z : Turn _ _). leads who z ≡ Some state → IsSeekingAt who mid key log state (met_by z) spot.table.now) c.in-Met.is (c.look.ensures.found spot c.in-Some.is who state) in
     let tried = c.renew in let then = tried.new.window in let done = c.operate-again.result in
-    if_over _ _ tried.result (λ a h. computed_by g.K.PartialEq.eq key _ _ _ ([], append-nil (past w)) (Operates g.F.FnMut) c.args.f.now c.operate-again.new.f (((Some c.in-Met.met.stored), done) ∷ []) (c.args.f.now, refl, (subst (λ (z : Stored _ _). Operates g.F.FnMut c.args.f.now (Some z) c.operate-again.result c.operate-again.new.f) c.again.ensures c.operate-again.ensures.operates)) a (h log found)) tried.ensures.replies
+    if_over _ _ tried.result (λ a h. computed_by g.K.PartialEq.eq key _ _ _ ([], append-nil (past w)) (Operates g.F.FnMut) c.args.f.now c.operate-again.new.f (((Some c.in-Met.met.stored), done) ∷ []) (c.args.f.now, refl, (subst (λ (z : Stored _ _). Operates g.F.FnMut c.args.f.now (Some z) c.operate-again.result c.operate-again.new.f) (c.again.ensures ∙ ap (λ (z : Met _ _). z.stored) c.in-Met.met-is) c.operate-again.ensures.operates)) a (h log found)) (subst (λ (z : Met _ _). RepliesOnce mid then key spot.table.now (MetPair z) done tried.result) c.in-Met.met-is tried.ensures.replies)
 
 pub returns-in-Met-clause-made : goal.returns-in-Met-clause-made
 returns-in-Met-clause-made g c =
@@ -101,7 +102,7 @@ returns-in-Met-clause-goes g c =
     let w = c.args.window.now in let log = w.sight.log in let key = c.args.key in let mid = c.look.new.window in let spot = c.in-Some.spot in
     let found : IsFoundAt mid key log spot.table.now (MetPair c.in-Met.met) = λ who state. subst (λ (z : Turn _ _). leads who z ≡ Some state → IsSeekingAt who mid key log state (met_by z) spot.table.now) c.in-Met.is (c.look.ensures.found spot c.in-Some.is who state) in
     let tried = c.renew in let then = tried.new.window in let done = c.operate-again.result in
-    if_on _ _ tried.result (λ x h. (((Some c.in-Met.met.stored), done) ∷ [], (log, ([], append-nil log), h log found), (c.args.f.now, refl, (subst (λ (z : Stored _ _). Operates g.F.FnMut c.args.f.now (Some z) c.operate-again.result c.operate-again.new.f) c.again.ensures c.operate-again.ensures.operates)))) tried.ensures.goes
+    if_on _ _ tried.result (λ x h. (((Some c.in-Met.met.stored), done) ∷ [], (log, ([], append-nil log), h log found), (c.args.f.now, refl, (subst (λ (z : Stored _ _). Operates g.F.FnMut c.args.f.now (Some z) c.operate-again.result c.operate-again.new.f) (c.again.ensures ∙ ap (λ (z : Met _ _). z.stored) c.in-Met.met-is) c.operate-again.ensures.operates)))) (subst (λ (z : Met _ _). GoesOnce mid then key spot.table.now (MetPair z) done tried.result) c.in-Met.met-is tried.ensures.goes)
 
 pub operate-again-requires-clause-placed : goal.operate-again-requires-clause-placed
 operate-again-requires-clause-placed g c =
@@ -109,11 +110,11 @@ operate-again-requires-clause-placed g c =
     let found : IsFoundAt mid key log spot.table.now (MetPair c.in-Met.met) = λ who state. subst (λ (z : Turn _ _). leads who z ≡ Some state → IsSeekingAt who mid key log state (met_by z) spot.table.now) c.in-Met.is (c.look.ensures.found spot c.in-Some.is who state) in
     let met = c.in-Met.met in let p = met.stored in
     let there = pair_placed g.K.PartialEq.eq g.K.Hash.hash_input g.S.BuildHasher.build_hasher g.S.Hasher.Hasher.write g.S.Hasher.Hasher.finish g.met.K.Eq.laws g.met.K.Hash.respects_eq (begun_of mid.book.now.parts) mid.book.now.begun.book key log mid.sight.log spot.table.now met.place met.word p (found Computes (Showing (record { place = met.place; word = met.word })) refl) in
-    subst (λ (z : Stored _ _). IsPlaced (begun_of w.book.now.parts) (Some w.book.now.begun.book) (names.Pair z)) (sym c.again.ensures)
+    subst (λ (z : Stored _ _). IsPlaced (begun_of w.book.now.parts) (Some w.book.now.begun.book) (names.Pair z)) (sym (c.again.ensures ∙ ap (λ (z : Met _ _). z.stored) c.in-Met.met-is))
     (subst (λ (k : _). IsPlaced (begun_of k.now.parts) (Some k.now.begun.book) (names.Pair p)) c.look.ensures.sees.book there)
 
 pub renew-requires-clause-live : goal.renew-requires-clause-live
-renew-requires-clause-live g c = c.look.ensures.live c.in-Some.spot c.in-Some.is c.in-Met.met c.in-Met.is
+renew-requires-clause-live g c = rw c.in-Met.met-is (c.look.ensures.live c.in-Some.spot c.in-Some.is c.in-Met.met c.in-Met.is)
 
 pub returns-in_default-turn-clause-goes : goal.returns-in_default-turn-clause-goes
 returns-in_default-turn-clause-goes g c = ([], (c.begin-in_default-turn.new.window.sight.log, prefix_trans c.args.window.now.sight.log c.look.new.window.sight.log c.begin-in_default-turn.new.window.sight.log c.look.ensures.sees.log c.begin-in_default-turn.ensures.sees.log, c.begin-in_default-turn.ensures.begins), refl)

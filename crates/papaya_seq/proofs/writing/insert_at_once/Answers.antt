@@ -1,6 +1,8 @@
-use Rattle.std.proofs.Common.{rules, ◌≡◌, true, false, subst}
+use Rattle.std.proofs.Common.{rules, ◌≡◌, true, false, [], refl, subst}
 use Rattle.papaya_words.specs.Word.{kind_of, pair_of as number_of}
 use Rattle.papaya_words.specs.declared.word.Kind.TheVariants.{Live}
+use Rattle.papaya_ask.specs.declared.call.Task.TheVariants.{Insert}
+use Rattle.papaya_call.specs.Machine.{started}
 use Rattle.papaya_keys.specs.Hashes.{hash_of}
 use Rattle.papaya_seq.specs.Searches.{IsRootTurn}
 use Rattle.papaya_seq.specs.Writes.{slot_of}
@@ -49,3 +51,11 @@ returns-else-not-replace-clause-ok g c mode initial =
     let live : kind_of c.in-Some-Here.word ≡ Live = search rules in
     let may : c.args.replace ≡ true = search rules in
     replaces_it g.K.PartialEq.eq (hash_of g.K.Hash.hash_input g.S.BuildHasher.build_hasher g.S.Hasher.Hasher.write g.S.Hasher.Hasher.finish) c.args.store.now c.args.key c.args.value c.args.hash c.in-Some-Here.place mode initial c.in-Some-Here.word live (here g (goal.at.returns-else-not-replace-clause-ok g c).In-Some-Here) c.args.replace may c.write-in-Some-Here.result c.write-in-Some-Here.new.store c.write-in-Some-Here.ensures
+
+pub returns-in-Some-Over-clause-err : goal.returns-in-Some-Over-clause-err
+returns-in-Some-Over-clause-err g c =
+    let over : IsRootTurn (g.K.PartialEq.eq c.args.key) c.args.store.now c.args.hash (turns.Over c.in-Some-Over.table) = subst (λ (t : Turn). IsRootTurn (g.K.PartialEq.eq c.args.key) c.args.store.now c.args.hash t) (search rules) (c.search_root.ensures c.in-Some-Over.field-0 c.in-Some-Over.is) in
+    (refl, refl, refl, λ mode initial limit. over.sees (started (Insert c.args.replace) c.args.hash mode initial limit))
+
+pub returns-in_default-clause-err : goal.returns-in_default-clause-err
+returns-in_default-clause-err g c = (refl, refl, refl, λ mode initial limit. ([], refl))

@@ -22,7 +22,7 @@ compare_exchange-found-requires g c =
       c.requires.pen.0 ∙ sym (ap (λ w. w.book) word),
       c.with_table-trade.ensures.0,
       rw (c.requires.pen.1, c.with_table-trade.ensures.1, c.with_table-trade.ensures.3)
-          (brings_moves g.K.PartialEq.eq hash (plans g.K.PartialEq.eq g.K.Hash.hash_input g.S.BuildHasher.build_hasher g.S.Hasher.Hasher.write g.S.Hasher.Hasher.finish g.met.K.Eq.laws g.met.K.Hash.respects_eq) b v (Wish x.at x.kind None (Table x.table.now)) x.table.now c.args.word.now.key c.args.old c.args.new
+          (brings_moves g.K.PartialEq.eq hash (plans g.K.PartialEq.eq g.K.Hash.hash_input g.S.BuildHasher.build_hasher g.S.Hasher.Hasher.write g.S.Hasher.Hasher.finish g.met.K.Eq.laws g.met.K.Hash.respects_eq) b v (Wish x.at x.kind None (Table x.table.now)) x.table.now c.args.word.now.key c.args.old c.args.new tt
           (key_since c.args.sight.now.log v x.at c.args.word.now.key pre c.requires.key)
           (began_seen g.K.PartialEq.eq hash b w.begun.log v v w.begins learned ([], append-nil v))
           refl c.requires.some w.begun.book (name_since w.begun.log v w.begun.book learned w.called) c.requires.placed (made_since x.table.now.value c.args.sight.now.log v pre c.requires.made)

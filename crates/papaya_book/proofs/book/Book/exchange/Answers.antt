@@ -21,7 +21,7 @@ compare_exchange-found-requires g c =
       c.no_pen-pen.ensures.0 ∙ (c.learn.ensures.0 ∙ (c.requires.book ∙ sym (ap (λ w. w.book) word))),
       c.bare-trade.ensures.0,
       rw (c.no_pen-pen.ensures.1, c.bare-trade.ensures.1, c.bare-trade.ensures.3)
-          (tries_moves g.K.PartialEq.eq hash (plans g.K.PartialEq.eq g.K.Hash.hash_input g.S.BuildHasher.build_hasher g.S.Hasher.Hasher.write g.S.Hasher.Hasher.finish g.met.K.Eq.laws g.met.K.Hash.respects_eq) b v (Wish at c.args.wish.now.kind None Nothing) c.args.word.now.key c.args.old c.args.new
+          (tries_moves g.K.PartialEq.eq hash (plans g.K.PartialEq.eq g.K.Hash.hash_input g.S.BuildHasher.build_hasher g.S.Hasher.Hasher.write g.S.Hasher.Hasher.finish g.met.K.Eq.laws g.met.K.Hash.respects_eq) b v (Wish at c.args.wish.now.kind None Nothing) c.args.word.now.key c.args.old c.args.new tt
           (key_since c.args.sight.now.log v at c.args.word.now.key pre c.requires.key)
           (began_seen g.K.PartialEq.eq hash b w.begun.log v v w.begins learned ([], Rattle.std.proofs.lemmas.List.append-nil v))
           tt w.begun.book (name_since w.begun.log v w.begun.book learned w.called) tt

@@ -16,7 +16,7 @@ load-found-requires g c =
       ap (λ w. w.tracked) word,
       c.learn.ensures.0 ∙ (c.requires.book ∙ sym (ap (λ w. w.book) word)),
       c.bare-trade.ensures.0,
-      rw (c.bare-trade.ensures.1, c.bare-trade.ensures.3) (looks_moves g.K.PartialEq.eq hash c.learn.new.self.log (Wish at None None Nothing) c.args.word.now.key (key_since c.args.sight.now.log c.learn.new.self.log at c.args.word.now.key c.learn.ensures.2 c.requires.key)),
+      rw (c.bare-trade.ensures.1, c.bare-trade.ensures.3) (looks_moves g.K.PartialEq.eq hash c.learn.new.self.log (Wish at None None Nothing) c.args.word.now.key tt (key_since c.args.sight.now.log c.learn.new.self.log at c.args.word.now.key c.learn.ensures.2 c.requires.key)),
     )
 
 pub returns-clause-read : goal.returns-clause-read

@@ -21,7 +21,7 @@ load-requires g c =
       ap (λ w. w.tracked) root,
       c.learn.ensures.0 ∙ (c.requires.book ∙ sym (ap (λ w. w.book) root)),
       c.bare-trade.ensures.0,
-      rw (ap (λ w. w.key) root, c.bare-trade.ensures.1, c.bare-trade.ensures.3) (fetches_moves g.K.PartialEq.eq hash c.learn.new.self.log (Wish (Next c.args.number) None None Nothing)),
+      rw (ap (λ w. w.key) root, c.bare-trade.ensures.1, c.bare-trade.ensures.3) (fetches_moves g.K.PartialEq.eq hash c.learn.new.self.log (Wish (Next c.args.number) None None Nothing) tt),
     )
 
 pub table_known-known-requires : goal.table_known-known-requires

@@ -1,17 +1,16 @@
-use Rattle.std.proofs.Common.{◌≡◌, ℕ, ◌+◌, ◌<◌, length, map}
-use mathlib.Core.List.{IsPrefix}
+use Rattle.std.proofs.Common.{◌≡◌, ◌+◌, ◌-◌, length, map}
 use Rattle.logbook.specs.Pages.{Named}
-use Rattle.papaya_book.specs.Logs.{seals_of}
-use Rattle.papaya_book.specs.Makers.{AreMade}
+use Rattle.papaya_book.specs.Makers.{AreFrom}
 use Rattle.papaya_book.specs.Sheets.{AllOf}
 use Rattle.papaya_book.proofs.book.Book.words.Given as goal
 
--- the words so far were made for the seal, one after the other
+-- the words so far are the next ones of the row
 abbrev pub invariant-loop : goal.invariant-loop
 invariant-loop g l = record {
   count : length l.words.items ≡ l.counter;
-  book : l.sight.book ≡ l.self.begun.book;
-  seen : IsPrefix l.fn.sight.log l.sight.log;
-  words : AllOf l.self.begun.book l.words.items;
-  made : (least : ℕ) → least < 3 + length (seals_of l.fn.sight.log) → AreMade (map (λ (w : Named). w.key) l.words.items) least l.seal.nib.key l.sight.log;
+  book : l.row.book ≡ l.fn.row.book;
+  next : l.row.next ≡ l.fn.row.next + l.counter;
+  left : l.row.left ≡ l.fn.row.left - l.counter;
+  words : AllOf l.fn.row.book l.words.items;
+  keys : AreFrom (map (λ (w : Named). w.key) l.words.items) l.fn.row.next;
 }

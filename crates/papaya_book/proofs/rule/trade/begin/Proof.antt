@@ -21,7 +21,7 @@ use Rattle.atomic_table.proofs.Walks.{proved}
 use Rattle.logbook.proofs.Fields.{token, Token, token_made, ends}
 use Rattle.papaya_book.specs.Tokens.{stands}
 use Rattle.papaya_log.specs.Tokens.{stands as pair_stands}
-use Rattle.papaya_book.specs.Trade.{kept}
+use Rattle.papaya_book.specs.Trade.{held}
 use Rattle.papaya_book.specs.contracts.rule.pair.Pair as Pair
 use Rattle.papaya_book.specs.contracts.rule.entry.Sheet.{the_row as SheetRow}
 use Rattle.papaya_book.specs.contracts.rule.trade.begin.{ended, clauses}
@@ -45,7 +45,7 @@ begin_spec 𝓤 𝓛 𝓜 𝓡 wired K V S I _ _ _ _ gh dh ge de gp dp gb db gi 
     let y : (walk_of 𝓛 En hs c).Ghost = ((κs, qs, bounds, a, (p ∷ [], tt)), gh) in let Post : Val → SProp 𝓤 = (walk_of 𝓛 En hs c).post y in
     qed 𝓛 ((raw (denote.Triple.Entry.alive 𝓛 En.signature κs qs) ⊛ ‵ (owns (types_at En.signature.params κs) a y.0.4)) ∷ raw ((c κs a).requires gh) ∷ []) ∵ split ! $ keep ! (0 ∷ []) $
     enter ! 𝓣.C 𝓣.Λ fn (p ∷ []) Post $ alloc_all ! (λ l. pass_all ! refl ((tt, tt), tt) $
-    use0 𝓛 (‵ (kept (pair_stands R) (stands SheetRow) {S = S.Denot} (Begin (begun_of a.0.now) ∷ []))) (qed 𝓛 [] ∵ nothing ! $ nothing ! $ fjoin ! $ done !) $ use0 𝓛 (‵ ((Token R).own_val (record {}, tt) (token ∷ []))) (token_made R 𝓛) $ fjoin ! $
+    use0 𝓛 (‵ (held (pair_stands R) (stands SheetRow) {S = S.Denot} (Begin (begun_of a.0.now) ∷ []))) (qed 𝓛 [] ∵ nothing ! $ nothing ! $ nothing ! $ fjoin ! $ fjoin ! $ done !) $ use0 𝓛 (‵ ((Token R).own_val (record {}, tt) (token ∷ []))) (token_made R 𝓛) $ fjoin ! $
     sets ! (agg ! (no_more !)) refl (tt, tt) $ sets ! (agg ! (and_then ! (get ! refl) (no_more !))) refl (tt, (tt, tt)) $
     nothing ! $ nothing ! $ fjoin ! $
     returns ! (look_at ! 0 refl) $ free_all ! refl $ keep ! (2 ∷ 0 ∷ 1 ∷ []) $ by ! (ends 𝓛 En hs c y token (record { marker = record {}; names = []; shown = Begin (begun_of a.0.now) ∷ [] }) (tt, tt) (tt, tt) (fact_i 𝓤 _ (emp 𝓤) (refl, refl)))))

@@ -26,7 +26,7 @@ use Rattle.logbook.specs.contracts.tokens.Seen as Seen
 use denote.Exit.{no}
 use Rattle.papaya_book.specs.Tokens.{stands}
 use Rattle.papaya_log.specs.Tokens.{stands as pair_stands}
-use Rattle.papaya_book.specs.Trade.{shown, kept, Moved}
+use Rattle.papaya_book.specs.Trade.{shown, held, Moved}
 use Rattle.papaya_book.proofs.Made.{stands_twice}
 use Rattle.papaya_log.proofs.Made.{stands_twice as pair_stands_twice}
 use Rattle.papaya_book.proofs.Trades.{pair_offer}
@@ -59,7 +59,7 @@ with_pair_spec 𝓤 𝓛 𝓜 𝓡 wired K V S X N I _ _ _ _ _ _ gh dh ge de gp 
     qed 𝓛 ((raw (denote.Triple.Entry.alive 𝓛 En.signature κs qs) ⊛ ‵ (owns (types_at En.signature.params κs) a y.0.4)) ∷ raw (fact 𝓤 _) ∷ raw (fact 𝓤 _) ∷ raw (fact 𝓤 _) ∷ raw (fact 𝓤 _) ∷ raw (fact 𝓤 _) ∷ raw (fact 𝓤 _) ∷ given _ (‵ ftrue) ∷ []) ∵ move ! (7 ∷ []) $ learn ! (λ asked. drop ! $ split ! $ keep ! (1 ∷ 0 ∷ []) $
     fsplit ! $ move ! (1 ∷ []) $ fsplit ! $ move ! (1 ∷ []) $ fsplit ! $ fsplit ! $ keep ! (1 ∷ 5 ∷ []) $
     enter ! 𝓣.C 𝓣.Λ fn (p ∷ q ∷ token ∷ []) Post $ alloc_all ! (λ l. pass_all ! refl ((tt, tt), ((tt, tt), ((tt, (tt, tt)), tt))) $
-    use1 𝓛 (‵ (offer (kept (pair_stands R) (stands SheetRow)) (Moved ask) (shown (pair_stands R) (stands SheetRow)))) (pair_offer 𝓛 {K = K.Denot} {V = V.Denot} (pair_stands R) (stands SheetRow) (pair_stands_twice 𝓛 R) (stands_twice 𝓛 SheetRow) S.Denot ask w asked) $ use0 𝓛 (‵ ((Token R).own_val (record {}, tt) (token ∷ []))) (token_made R 𝓛) $ fjoin ! $
+    use1 𝓛 (‵ (offer (held (pair_stands R) (stands SheetRow)) (Moved ask) (shown (pair_stands R) (stands SheetRow)))) (pair_offer 𝓛 {K = K.Denot} {V = V.Denot} (pair_stands R) (stands SheetRow) (pair_stands_twice 𝓛 R) (stands_twice 𝓛 SheetRow) S.Denot ask w asked) $ use0 𝓛 (‵ ((Token R).own_val (record {}, tt) (token ∷ []))) (token_made R 𝓛) $ fjoin ! $
     sets ! (agg ! (no_more !)) refl (tt, tt) $ sets ! (agg ! (and_then ! (get ! refl) (no_more !))) refl (tt, (tt, tt)) $
     nothing ! $ nothing ! $ fjoin ! $ nothing ! $ fjoin ! $ nothing ! $ fjoin ! $
     returns ! (look_at ! 0 refl) $ free_all ! refl $ keep ! (2 ∷ 0 ∷ 1 ∷ []) $ by ! (ends 𝓛 En hs c y token (record { marker = record {}; names = a.0.now.names; ask = ask; about = []; state = None }) (tt, (tt, (tt, tt))) (tt, (tt, (tt, tt))) (fact_i 𝓤 _ (emp 𝓤) (refl, refl, refl, refl))))))

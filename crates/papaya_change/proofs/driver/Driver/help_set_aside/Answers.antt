@@ -20,9 +20,9 @@ loop-init g c =
     let is = c.copy_from.ensures in record {
       sees = record { book = refl; log = ([], append-nil w.sight.log) };
       own = refl;
-      standing = subst (λ (z : Driver _ _ _ _). IsStanding z.machine) (sym is) (stands_numbered d.machine c.start.result c.requires.standing);
-      goes_on = subst (λ (z : Driver _ _ _ _). GoesOn g.K.PartialEq.eq hash (begun_of w.book.now.parts) w.book.now.begun.book w.sight.log d w.sight.log z) (sym is) (goes_numbered g.K.PartialEq.eq hash (begun_of w.book.now.parts) w.book.now.begun.book w.sight.log d c.start.result);
-      reached = subst (λ (z : Driver _ _ _ _). HasReached d.machine z.machine (tables_of w.sight.log) z.given.done) (sym is) (inr (inl (aside_numbered g.K.PartialEq.eq hash (begun_of w.book.now.parts) w.book.now.begun.book w.sight.log d c.start.result c.requires.can c.requires.aside)));
+      standing = subst (λ (z : Driver _ _ _ _). IsStanding z.machine) (sym is) (stands_numbered d.machine c.next_start.result c.requires.standing);
+      goes_on = subst (λ (z : Driver _ _ _ _). GoesOn g.K.PartialEq.eq hash (begun_of w.book.now.parts) w.book.now.begun.book w.sight.log d w.sight.log z) (sym is) (goes_numbered g.K.PartialEq.eq hash (begun_of w.book.now.parts) w.book.now.begun.book w.sight.log d c.next_start.result);
+      reached = subst (λ (z : Driver _ _ _ _). HasReached d.machine z.machine (tables_of w.sight.log) z.given.done) (sym is) (inr (inl (aside_numbered g.K.PartialEq.eq hash (begun_of w.book.now.parts) w.book.now.begun.book w.sight.log d c.next_start.result c.requires.can c.requires.aside)));
       rest = (ap (λ (z : Driver _ _ _ _). z.taken) is, ap (λ (z : Driver _ _ _ _). z.put) is);
     }
 

@@ -9,7 +9,7 @@ use Rattle.papaya_timeline.proofs.KeptCore.{keys_lawful}
 use Rattle.papaya_timeline.proofs.KeptSettings.{IsLawfulKeys}
 use Rattle.papaya_seq.specs.Map.{IsLawfulMap, MapState}
 use Rattle.papaya_seq.specs.Walks.{has_in}
-use Rattle.papaya_seq.proofs.WalkSteps.{word_bare, word_before, word_given}
+use Rattle.papaya_seq.proofs.WalkSteps.{held_within, slot_read, word_bare, word_before, word_given}
 use Rattle.papaya_seq.proofs.seq.HashMap.given.Goals as goal
 use Rattle.papaya_seq.proofs.seq.HashMap.given.Goals.{After-kind, then-at-eq0, else-at-eq0}
 use Rattle.papaya_seq.proofs.seq.HashMap.given.Given.{Over}
@@ -32,8 +32,8 @@ module _ (g : Over) where
   orderly c = subst Orderly c.self.view_is c.self.invariant
 
   -- the word that was read stands at the slot
-  word_is : (c : After-kind g) → c.word.result ≡ word_at c.args.self.now.store.words (Slot c.args.at.table c.args.at.slot)
-  word_is c = c.word.ensures ∙ ap (λ (y : Map). word_at y.store.words (Slot c.args.at.table c.args.at.slot)) c.self.view_is
+  word_is : (c : After-kind g) → c.slot.result ≡ word_at c.args.self.now.store.words (Slot c.args.at.table c.args.at.slot)
+  word_is c = slot_read c.args.self.now.store.words c.args.at.table c.args.at.slot c.slot.result c.args.table.now c.requires.table c.slot.ensures
 
   kind_is : (c : After-kind g) → c.kind.result ≡ kind_of (word_at c.args.self.now.store.words (Slot c.args.at.table c.args.at.slot))
   kind_is c = c.kind.ensures ∙ ap kind_of (word_is c)
@@ -44,7 +44,7 @@ returns-in-Live g c =
     let at = goal.at.returns-in-Live g c in
     let number : c.pair-in-Live.result ≡ number_of (word_at s.store.words (Slot c.args.at.table c.args.at.slot)) = c.pair-in-Live.ensures ∙ ap number_of (word_is g at.After-kind) in
     let kind : (kind_of (word_at s.store.words (Slot c.args.at.table c.args.at.slot)) ≡ Live) ⊎ (kind_of (word_at s.store.words (Slot c.args.at.table c.args.at.slot)) ≡ Marked) = elim c.in-Live.is [ inl live ↦ inl (sym (kind_is g at.After-kind) ∙ live) | inr marked ↦ inr (sym (kind_is g at.After-kind) ∙ marked) ] in
-    word_given g.K.PartialEq.eq (key_hash g s.store.hasher) s (orderly g at.After-kind).lawful (keys g s) c.args.at c.requires.stands c.pair-in-Live.result (record { within = c.requires.within; kind = kind; names = sym number })
+    word_given g.K.PartialEq.eq (key_hash g s.store.hasher) s (orderly g at.After-kind).lawful (keys g s) c.args.at c.requires.stands c.pair-in-Live.result (record { within = held_within s.store.words c.args.at.table c.args.at.slot c.args.table.now c.requires.table c.requires.within; kind = kind; names = sym number })
     (λ p logged. elim c.if-at-eq0.branch [
       | then-at-eq0 w ↦ ap (λ n. has_in g.K.PartialEq.eq s.store n s.store.words.root p.key) w.if-at-eq0.true
       | else-at-eq0 w ↦
@@ -63,7 +63,7 @@ returns-in_default g c =
       | else-at-eq0 w ↦
           let number : w.pair.result ≡ number_of (word_at s.store.words (Slot c.args.at.table c.args.at.slot)) = w.pair.ensures ∙ ap number_of (word_is g at.After-kind) in
           let old : w.is_copy.result ≡ true = search rules in
-          word_before g.K.PartialEq.eq (key_hash g s.store.hasher) s (orderly g at.After-kind).lawful (keys g s) c.args.at c.requires.stands w.pair.result (record { within = c.requires.within; kind = kind; names = sym number })
+          word_before g.K.PartialEq.eq (key_hash g s.store.hasher) s (orderly g at.After-kind).lawful (keys g s) c.args.at c.requires.stands w.pair.result (record { within = held_within s.store.words c.args.at.table c.args.at.slot c.args.table.now c.requires.table c.requires.within; kind = kind; names = sym number })
           (λ p logged. sym (w.is_copy.ensures p logged) ∙ old)
     ]
 
@@ -71,5 +71,5 @@ pub returns-in_default-2 : goal.returns-in_default-2
 returns-in_default-2 g c =
     let s = c.args.self.now in
     let at = goal.at.returns-in_default-2 g c in
-    word_bare g.K.PartialEq.eq (key_hash g s.store.hasher) s (orderly g at.After-kind).lawful (keys g s) c.args.at c.requires.stands c.requires.within
+    word_bare g.K.PartialEq.eq (key_hash g s.store.hasher) s (orderly g at.After-kind).lawful (keys g s) c.args.at c.requires.stands (held_within c.args.self.now.store.words c.args.at.table c.args.at.slot c.args.table.now c.requires.table c.requires.within)
     (λ live. let e : c.kind.result ≡ Live = kind_is g at.After-kind ∙ live in search rules) (λ marked. let e : c.kind.result ≡ Marked = kind_is g at.After-kind ∙ marked in search rules)

@@ -1,15 +1,16 @@
-use Rattle.std.proofs.Common.{rules, ◌≡◌, ℕ, ◌^◌, ◌<◌, None, Some, [], subst}
+use Rattle.std.proofs.Common.{rules, ◌≡◌, ℕ, ◌^◌, ◌<◌, Err, IfErr, None, Some, [], refl, subst}
 use Rattle.papaya_ask.specs.declared.call.Task.TheVariants.{Insert}
 use Rattle.papaya_call.specs.Machine.{started}
 use Rattle.papaya_chain_rests.proofs.Standing.{started_stands}
 use Rattle.papaya_keys.specs.Hashes.{hash_of}
 use Rattle.papaya_timeline.proofs.KeptCore.{keys_lawful}
-use Rattle.papaya_seq.specs.Drives.{IsReplied, at_hand}
+use Rattle.papaya_call.specs.declared.machine.State.{State}
+use Rattle.papaya_seq.specs.Drives.{IsLedTo, IsReplied, at_hand}
 use Rattle.papaya_seq.specs.Map.{MapState}
 use Rattle.papaya_seq.proofs.InsertingDone.{InsertionDone, insertion_done}
 use Rattle.papaya_seq.proofs.Lawful.{core_bare}
 use Rattle.papaya_seq.proofs.seq.HashMap.insert_by.Goals as goal
-use Rattle.papaya_seq.proofs.seq.HashMap.insert_by.Goals.{In-Ok}
+use Rattle.papaya_seq.proofs.seq.HashMap.insert_by.Goals.{In-Err, In-Ok}
 use Rattle.papaya_seq.proofs.seq.HashMap.insert_by.Given.{Over}
 
 -- the hash of a key
@@ -62,3 +63,24 @@ returns-in-Ok-clause-keeps g c = (done g (goal.at.returns-in-Ok-clause-keeps g c
 
 pub returns-in-Ok-clause-logs : goal.returns-in-Ok-clause-logs
 returns-in-Ok-clause-logs g c = (done g (goal.at.returns-in-Ok-clause-logs g c).In-Ok).logs
+
+-- a call that begins at the root has come there
+pub insert_stepwise-requires : goal.insert_stepwise-requires
+insert_stepwise-requires g c = λ mode initial limit. ([], refl)
+
+-- What was given back is what was handed in, with where the search has led, and the store is as it was.
+abbrev IsGivenBack : (g : Over) → In-Err g → (g.row.K.Denot × g.row.V.Denot × State) → Type 0
+IsGivenBack g c back = (back.0 ≡ c.args.key) × (back.1 ≡ c.args.value) × (c.insert_at_once.new.store ≡ c.self.inside.store) × IsLedTo (g.K.PartialEq.eq c.args.key) c.self.inside.store c.hash-hash.result c.args.replace back.2
+
+given_back : (g : Over) (c : In-Err g) → IsGivenBack g c (c.in-Err.key, c.in-Err.value, c.in-Err.state)
+given_back g c =
+    let is : c.insert_at_once.result ≡ Err (c.in-Err.key, c.in-Err.value, c.in-Err.state) = search rules in
+    subst (λ r. IfErr r (IsGivenBack g c)) is c.insert_at_once.ensures.err
+
+pub invariant_of-self-in-Err : goal.invariant_of-self-in-Err
+invariant_of-self-in-Err g c = rw (given_back g (goal.at.invariant_of-self-in-Err g c).In-Err).2 c.self.invariant
+
+pub insert_stepwise-requires-in-Err : goal.insert_stepwise-requires-in-Err
+insert_stepwise-requires-in-Err g c =
+    let (key, value, store, led) = given_back g (goal.at.insert_stepwise-requires-in-Err g c).In-Err in
+    rw (store, key) (subst (λ n. IsLedTo (g.K.PartialEq.eq c.args.key) c.self.inside.store n c.args.replace c.in-Err.state) c.hash-hash.ensures.value led)

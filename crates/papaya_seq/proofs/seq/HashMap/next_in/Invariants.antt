@@ -1,6 +1,6 @@
-use Rattle.std.proofs.Common.{◌≡◌, ◌-◌}
+use Rattle.std.proofs.Common.{◌≡◌, ◌-◌, length}
 use Rattle.papaya_seq.specs.Walks.{left_to}
-use Rattle.papaya_seq.proofs.seq.HashMap.next_here.Given as goal
+use Rattle.papaya_seq.proofs.seq.HashMap.next_in.Given as goal
 
 -- the slots so far gave nothing
 abbrev pub invariant-loop-at : goal.invariant-loop-at
@@ -10,4 +10,4 @@ invariant-loop-at g l =
     × (left_to g.K.PartialEq.eq l.self.store l.fn.at ≡ left_to g.K.PartialEq.eq l.self.store l.at)
 
 abbrev pub decreases-loop-at : goal.decreases-loop-at
-decreases-loop-at g l = l.slots - l.at.slot
+decreases-loop-at g l = length l.table.slots - l.at.slot
