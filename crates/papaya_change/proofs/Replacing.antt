@@ -103,7 +103,7 @@ module _ {K V S H : Type 0} (eq : K → K → Bool) (input : K → List (List �
         let hashed = hashed_with eq input build write finish classes respects b (eq key) (input key) query log r.4.lawful in
         let calls = r.4.rests.call in
         let shown = machine_shows (setting_for eq hash b (eq key) h log) (coding_for hash b.hasher h) hashed (exchanges_of begun) r.4.since (Some key) (hands_with r.2 None []).call (seeker_at Computes h b.mode 1 (nothing_made b.limit) (Showing (record { place = at; word = word }))).call
-            (record { hash = calls.hash; mode = calls.mode; made = calls.made; stage = (tt, may) }) (pair_of word) refl in
+        (record { hash = calls.hash; mode = calls.mode; made = calls.made; stage = (tt, may) }) (pair_of word) refl in
         let both : Some shown.0 ≡ Some p = sym shown.1 ∙ last_is in
         let one : shown.0 ≡ p = cc both in
         ap (λ (z : Stored K V). z.index) (sym one) ∙ shown.2

@@ -1,5 +1,5 @@
 -- What an insertion has put in that put its pair in the place of what a search met.
-use Rattle.std.proofs.Common.{◌≡◌, Bool, true, MatchOption, Option, None, Some, List, refl, sym, ap, ◌∙◌, subst}
+use Rattle.std.proofs.Common.{◌≡◌, Bool, Option, None, Some, List, refl, sym, ap, ◌∙◌, subst}
 use Rattle.std.specs.Cmp.{IsEquivalence}
 use denote.Bor.{Bor}
 use Rattle.papaya_book.specs.Logs.{Stored}

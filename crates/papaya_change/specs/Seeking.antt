@@ -9,10 +9,12 @@ use Rattle.papaya_ask.specs.declared.call.Task.TheVariants.{Insert, Compute}
 use Rattle.papaya_ask.specs.declared.search.Place.{Place}
 use Rattle.papaya_ask.specs.declared.search.Search.TheVariants.{Looking}
 use Rattle.papaya_ask.specs.declared.search.Seen.{Seen}
-use Rattle.papaya_ask.specs.declared.search.Seen.TheVariants.{On, Empty as Seen_empty, Over as Seen_over}
+use Rattle.papaya_ask.specs.declared.search.Seen.TheVariants.{On, Empty as Seen_empty}
+use Rattle.papaya_ask.specs.declared.search.Seen.TheVariants.{Over as Seen_over}
 use Rattle.papaya_call.specs.declared.compute.Gap.TheVariants.{At as At_place}
 use Rattle.papaya_call.specs.declared.machine.State.{State}
-use Rattle.papaya_call.specs.declared.machine.State.TheVariants.{Growing, Offering, Searching, Showing, Writing}
+use Rattle.papaya_call.specs.declared.machine.State.TheVariants.{Growing, Offering, Searching}
+use Rattle.papaya_call.specs.declared.machine.State.TheVariants.{Showing, Writing}
 use Rattle.papaya_call.specs.declared.need.Need.TheVariants.{Room}
 use Rattle.papaya_call.specs.declared.made.Made.{Made}
 use Rattle.papaya_call.specs.Made.{nothing_made}
@@ -101,8 +103,8 @@ IsSeekingAt {K} {V} who eq hash b name key begun log state met table = (lent : B
     × (lent.now ≡ table) × (last : Option (Stored K V))
     × ((p : Stored K V) → met ≡ Some p → last ≡ Some p)
     × IsCalling eq hash b name (eq key) (hash b.hasher key) (Some key) begun log
-    (seeker_at who (hash b.hasher key) b.mode 1 (nothing_made b.limit) state) (Some lent) last None []
-    None None None
+    (seeker_at who (hash b.hasher key) b.mode 1 (nothing_made b.limit) state) (Some lent) last None
+    [] None None None
 
 -- an insertion would
 abbrev pub IsInsertingAt : {K V S : Type 0} → (K → K → Bool) → (S → K → ℕ) → Begun K V S → Book → K

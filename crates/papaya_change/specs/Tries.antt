@@ -1,5 +1,6 @@
 -- What came of a pair that was logged for a place that a search had found.
-use Rattle.std.specs.Prelude.{◌≡◌, ℕ, ◌<◌, ◌^◌, Bool, true, false, MatchOption, Option, None, Some, Result, Ok, Err, List}
+use Rattle.std.specs.Prelude.{◌≡◌, ◌<◌, ◌^◌, Bool, true, false, Option, None, Some, List}
+use Rattle.std.specs.Prelude.{Result, Ok, Err}
 use Rattle.papaya_words.specs.declared.probe.Refused.{Refused}
 use Rattle.papaya_call.specs.declared.machine.State.{State}
 use Rattle.papaya_book.specs.declared.keyed.Keyed as keyed

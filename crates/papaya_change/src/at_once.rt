@@ -13,10 +13,12 @@ ghost use Rattle.papaya_lookup.specs.Drivers.{own, past};
 ghost use Rattle.papaya_lookup.specs.History.{Makes, key_of};
 ghost use Rattle.papaya_change.specs.Changes.{IsPut};
 ghost use Rattle.papaya_change.specs.Seeking.{left_at, left_to, turn_of};
-ghost use Rattle.papaya_change.specs.Seeks.{HasWritten, IsFoundFor, LooksAt, ReadsAt, StandsBy, Turns};
+ghost use Rattle.papaya_change.specs.Seeks.{HasWritten, IsFoundFor, LooksAt, ReadsAt, StandsBy};
+ghost use Rattle.papaya_change.specs.Seeks.{Turns};
 ghost use Rattle.papaya_change.specs.Tries.{IsLoggedAs, Trades, is_put, pair_in};
 ghost use Rattle.papaya_change.specs.declared.at_once.Tried.TheVariants.{Put};
-ghost use Rattle.papaya_change.specs.declared.at_once.Turn.TheVariants.{Empty, Met as MetPair, Next};
+ghost use Rattle.papaya_change.specs.declared.at_once.Turn.TheVariants.{Empty, Next};
+ghost use Rattle.papaya_change.specs.declared.at_once.Turn.TheVariants.{Met as MetPair};
 ghost use Rattle.papaya_change.specs.Writing.{IsMemoryCapacityOrLimit, IsMemoryOrCapacity};
 
 use crate::insertion::{insert_logged, insert_met, insert_onward, insert_stepwise};

@@ -11,7 +11,6 @@ use Rattle.papaya_call.specs.Made.{nothing_made}
 use Rattle.papaya_law.specs.Code.{Coding}
 use Rattle.papaya_law.specs.Exchange.{Setting}
 use Rattle.papaya_rests.specs.Rests.{WasAtMoment}
-use Rattle.papaya_rests.specs.Told.{Hands}
 use Rattle.papaya_rests.proofs.RestsHeld.{machine_offers, machine_shows}
 use Rattle.papaya_book.specs.declared.rule.entry.Begun.{Begun}
 use Rattle.papaya_book.specs.declared.rule.entry.Event.{Event}

@@ -11,7 +11,8 @@ ghost use Rattle.papaya_lookup.specs.History.{Makes};
 ghost use Rattle.papaya_change.specs.Seeks.{IsFoundFor};
 ghost use Rattle.papaya_change.specs.declared.at_once.Turn.TheVariants.{Empty, Met as MetPair};
 ghost use Rattle.papaya_compute.specs.ComputeAnswers.{changes};
-ghost use Rattle.papaya_compute.specs.AtOnce.{GoesOnce, IfOn, IfOver, IsAhead, IsFoundAt, RepliesOnce};
+ghost use Rattle.papaya_compute.specs.AtOnce.{GoesOnce, IfOn, IfOver, IsAhead, IsFoundAt};
+ghost use Rattle.papaya_compute.specs.AtOnce.{RepliesOnce};
 ghost use Rattle.papaya_compute.specs.Computes.{IsBegun};
 ghost use Rattle.papaya_compute.specs.declared.at_once.First.TheVariants.{Over};
 

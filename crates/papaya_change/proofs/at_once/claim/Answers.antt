@@ -82,9 +82,12 @@ returns-clause-put g c = λ z e begun state led stands.
     let put = c.put_slot-found in let mid = put.new.self.sight.log in
     let tried = subst (λ (z : ℕ). IsSlotTried g.K.PartialEq.eq hash b w.begun.book at.table at.probe.i (Some steps.Claim) 0 z (Some q) (names.Pair q) log put.result.0 mid put.result.1) word put.ensures.tried in
     let is : (put.result.0 == 0) ≡ true = search rules in
-    let one : q ≡ z = cc e in
-    (None, refl, subst (λ (o : Stored _ _). IsChangeOf (g.K.PartialEq.eq key) (history_of begun) (past put.new.self) None (Some o)) one
-    (claim_traded g.K.PartialEq.eq g.K.Hash.hash_input g.S.BuildHasher.build_hasher g.S.Hasher.Hasher.write g.S.Hasher.Hasher.finish g.met.K.Eq.laws g.met.K.Hash.respects_eq b w.begun.book key begun log at c.args.table.now c.requires.limit r q key_is c.in-Ok.ensures.placed mid put.result.0 put.result.1 tried is))
+    let one : q ≡ z = cc e in (
+      None,
+      refl,
+      subst (λ (o : Stored _ _). IsChangeOf (g.K.PartialEq.eq key) (history_of begun) (past put.new.self) None (Some o)) one
+          (claim_traded g.K.PartialEq.eq g.K.Hash.hash_input g.S.BuildHasher.build_hasher g.S.Hasher.Hasher.write g.S.Hasher.Hasher.finish g.met.K.Eq.laws g.met.K.Hash.respects_eq b w.begun.book key begun log at c.args.table.now c.requires.limit r q key_is c.in-Ok.ensures.placed mid put.result.0 put.result.1 tried is),
+    )
 
 pub returns-clause-does : goal.returns-clause-does
 returns-clause-does g c =

@@ -1,4 +1,4 @@
-use Rattle.std.proofs.Common.{◌≡◌, Result, Ok, Err, IfOk, ap, ◌∙◌, subst}
+use Rattle.std.proofs.Common.{Result, Ok, Err, IfOk, ap, ◌∙◌, subst}
 use Rattle.papaya_book.proofs.Logs.{prefix_trans}
 use Rattle.papaya_lookup.specs.Drivers.{past}
 use Rattle.papaya_change.specs.Changes.{IsPut}

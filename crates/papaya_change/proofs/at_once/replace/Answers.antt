@@ -50,10 +50,11 @@ agrees-requires g c =
     let put = c.put_slot-found in let mid = put.new.self.sight.log in
     let tried = subst (λ (z : ℕ). IsSlotTried g.K.PartialEq.eq hash b w.begun.book met.place.table met.place.probe.i (Some steps.Replace) met.word z (Some q) (names.Pair q) log put.result.0 mid put.result.1) word put.ensures.tried in
     let is : (put.result.0 == met.word) ≡ true = search rules in
-    let there = taken_there g.K.PartialEq.eq g.K.Hash.hash_input g.S.BuildHasher.build_hasher g.S.Hasher.Hasher.write g.S.Hasher.Hasher.finish g.met.K.Eq.laws g.met.K.Hash.respects_eq b w.begun.book key st.2.0 log met.place met.word full p c.args.table.now r c.requires.limit q key_is c.in-Ok.ensures.placed mid put.result.0 put.result.1 tried is in
-    ((met_placed g.K.PartialEq.eq g.K.Hash.hash_input g.S.BuildHasher.build_hasher g.S.Hasher.Hasher.write g.S.Hasher.Hasher.finish g.met.K.Eq.laws g.met.K.Hash.respects_eq b w.begun.book key st.2.0 log met.place met.word full p c.args.table.now r).0,
-    (subst (λ (o : Option (Stored _ _)). IsPlaced b (Some w.begun.book) (pair_named o)) c.in-Some.is there).0,
-    taken_number g.K.PartialEq.eq g.K.Hash.hash_input g.S.BuildHasher.build_hasher g.S.Hasher.Hasher.write g.S.Hasher.Hasher.finish g.met.K.Eq.laws g.met.K.Hash.respects_eq b w.begun.book key st.2.0 log met.place met.word full p c.args.table.now r c.requires.limit q key_is c.in-Ok.ensures.placed mid put.result.0 put.result.1 tried is c.in-Some.taken c.in-Some.is)
+    let there = taken_there g.K.PartialEq.eq g.K.Hash.hash_input g.S.BuildHasher.build_hasher g.S.Hasher.Hasher.write g.S.Hasher.Hasher.finish g.met.K.Eq.laws g.met.K.Hash.respects_eq b w.begun.book key st.2.0 log met.place met.word full p c.args.table.now r c.requires.limit q key_is c.in-Ok.ensures.placed mid put.result.0 put.result.1 tried is in (
+      (met_placed g.K.PartialEq.eq g.K.Hash.hash_input g.S.BuildHasher.build_hasher g.S.Hasher.Hasher.write g.S.Hasher.Hasher.finish g.met.K.Eq.laws g.met.K.Hash.respects_eq b w.begun.book key st.2.0 log met.place met.word full p c.args.table.now r).0,
+      (subst (λ (o : Option (Stored _ _)). IsPlaced b (Some w.begun.book) (pair_named o)) c.in-Some.is there).0,
+      taken_number g.K.PartialEq.eq g.K.Hash.hash_input g.S.BuildHasher.build_hasher g.S.Hasher.Hasher.write g.S.Hasher.Hasher.finish g.met.K.Eq.laws g.met.K.Hash.respects_eq b w.begun.book key st.2.0 log met.place met.word full p c.args.table.now r c.requires.limit q key_is c.in-Ok.ensures.placed mid put.result.0 put.result.1 tried is c.in-Some.taken c.in-Some.is,
+    )
 
 pub returns-clause-put : goal.returns-clause-put
 returns-clause-put g c = λ z e key begun state led stands.
@@ -67,9 +68,12 @@ returns-clause-put g c = λ z e key begun state led stands.
     let tried = subst (λ (z : ℕ). IsSlotTried g.K.PartialEq.eq hash b w.begun.book met.place.table met.place.probe.i (Some steps.Replace) met.word z (Some q) (names.Pair q) log put.result.0 mid put.result.1) word put.ensures.tried in
     let is : (put.result.0 == met.word) ≡ true = search rules in
     let one : q ≡ z = cc e in
-    let number = taken_number g.K.PartialEq.eq g.K.Hash.hash_input g.S.BuildHasher.build_hasher g.S.Hasher.Hasher.write g.S.Hasher.Hasher.finish g.met.K.Eq.laws g.met.K.Hash.respects_eq b w.begun.book key begun log met.place met.word full p c.args.table.now r c.requires.limit q key_is c.in-Ok.ensures.placed mid put.result.0 put.result.1 tried is c.in-Some.taken c.in-Some.is in
-    (Some c.in-Some.taken, (p, refl, (number, c.agrees.ensures)), subst (λ (o : Stored _ _). IsChangeOf (g.K.PartialEq.eq key) (history_of begun) (past put.new.self) (Some c.in-Some.taken) (Some o)) one
-    (replace_traded g.K.PartialEq.eq g.K.Hash.hash_input g.S.BuildHasher.build_hasher g.S.Hasher.Hasher.write g.S.Hasher.Hasher.finish g.met.K.Eq.laws g.met.K.Hash.respects_eq b w.begun.book key begun log met.place met.word full p c.args.table.now r c.requires.limit q key_is c.in-Ok.ensures.placed mid put.result.0 put.result.1 tried is c.in-Some.taken c.in-Some.is))
+    let number = taken_number g.K.PartialEq.eq g.K.Hash.hash_input g.S.BuildHasher.build_hasher g.S.Hasher.Hasher.write g.S.Hasher.Hasher.finish g.met.K.Eq.laws g.met.K.Hash.respects_eq b w.begun.book key begun log met.place met.word full p c.args.table.now r c.requires.limit q key_is c.in-Ok.ensures.placed mid put.result.0 put.result.1 tried is c.in-Some.taken c.in-Some.is in (
+      Some c.in-Some.taken,
+      (p, refl, (number, c.agrees.ensures)),
+      subst (λ (o : Stored _ _). IsChangeOf (g.K.PartialEq.eq key) (history_of begun) (past put.new.self) (Some c.in-Some.taken) (Some o)) one
+          (replace_traded g.K.PartialEq.eq g.K.Hash.hash_input g.S.BuildHasher.build_hasher g.S.Hasher.Hasher.write g.S.Hasher.Hasher.finish g.met.K.Eq.laws g.met.K.Hash.respects_eq b w.begun.book key begun log met.place met.word full p c.args.table.now r c.requires.limit q key_is c.in-Ok.ensures.placed mid put.result.0 put.result.1 tried is c.in-Some.taken c.in-Some.is),
+    )
 
 pub returns-clause-does : goal.returns-clause-does
 returns-clause-does g c =

@@ -1,4 +1,4 @@
-use Rattle.std.proofs.Common.{◌≡◌, Ok, sym, ap, ◌∙◌}
+use Rattle.std.proofs.Common.{Ok, sym, ap, ◌∙◌}
 use Rattle.papaya_compute.specs.Deciding.{answer_of}
 use Rattle.papaya_compute.proofs.deciding.decision.Goals as goal
 

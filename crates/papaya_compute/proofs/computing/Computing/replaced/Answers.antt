@@ -10,7 +10,6 @@ use Rattle.papaya_book.specs.Hashes.{hash_of}
 use Rattle.papaya_book.specs.Logs.{Stored}
 use Rattle.papaya_book.specs.Parts.{begun_of}
 use Rattle.papaya_book.specs.Rule.{IsPlaced}
-use Rattle.papaya_lookup.specs.History.{key_of}
 use Rattle.papaya_change.specs.Doing.{has_changed}
 use Rattle.papaya_change.specs.Writing.{HasValue, held_value}
 use Rattle.papaya_compute.specs.Resuming.{resumed_at}
