@@ -21,6 +21,7 @@ pub mod InsertingHelped
 pub mod Seeking
 pub mod Claiming
 pub mod Replacing
+pub mod Burying
 pub mod Trading
 pub mod Logged
 pub mod Onward

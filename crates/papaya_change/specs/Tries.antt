@@ -12,9 +12,10 @@ use Rattle.papaya_book.specs.Sheets.{Sheet}
 use Rattle.papaya_book.specs.Windows.{IsIn}
 use Rattle.papaya_lookup.specs.Drivers.{past}
 use Rattle.papaya_lookup.specs.History.{history_of, key_of}
+use Rattle.papaya_lookup.specs.declared.lookup.Met.{Met}
 use Rattle.papaya_change.specs.Changes.{IsChangeOf}
-use Rattle.papaya_change.specs.Seeking.{led_to, met_by}
-use Rattle.papaya_change.specs.Seeks.{IsInsertingAt}
+use Rattle.papaya_change.specs.Seeking.{Computes, at_live, led_to, met_by}
+use Rattle.papaya_change.specs.Seeks.{IsInsertingAt, IsSeekingAt}
 use Rattle.papaya_change.specs.Showings.{IsSamePair}
 use Rattle.papaya_change.specs.declared.at_once.Tried.{Tried}
 use Rattle.papaya_change.specs.declared.at_once.Tried.TheVariants.{Put, Lost}
@@ -49,3 +50,14 @@ module _ {K V S H : Type 0} {d : keyed.Ghosts S K H} where
       → led_to turn ≡ Some state → IsInsertingAt w key begun state (met_by turn) table
       → (taken : Option (Stored K V)) × AreSame (met_by turn) taken
       × IsChangeOf (d.keys.eq key) (history_of begun) (past w') taken (Some q)
+
+  -- a compute that began at this log is to show the live pair that its search met
+  abbrev pub ShowsMet : Window K V S H d → K → List (Event K V S) → Sheet → Met K V → Type 0
+  ShowsMet w key begun table met = IsSeekingAt Computes w key begun
+      (at_live Computes met.place met.word) (Some met.stored) table
+
+  -- each such one has taken out that very pair
+  abbrev pub TakesOut : (w w' : Window K V S H d) → K → Sheet → Met K V → Type 0
+  TakesOut w w' key table met = (begun : List (Event K V S)) → ShowsMet w key begun table met
+      → (taken : Stored K V) × IsSamePair met.stored taken
+      × IsChangeOf (d.keys.eq key) (history_of begun) (past w') (Some taken) None

@@ -1,6 +1,6 @@
 //! Insertions whose search of the root ends where most do: their pair is logged and put in at once.
 //! The machine stands in the proof. Computes search so too, and put their pairs in so.
-ghost use Rattle.std.specs.Prelude.{◌≡◌, ◌<◌, is_ok, Ok, Err, IfErr, IfOk, None, Some};
+ghost use Rattle.std.specs.Prelude.{◌≡◌, ◌<◌, true, is_ok, Ok, Err, IfErr, IfOk, None, Some};
 ghost use Rattle.std.specs.Int.{IsPowerOfTwo};
 ghost use Rattle.papaya_ask.specs.Search.{IsWithin};
 ghost use Rattle.papaya_ask.specs.declared.search.Search.TheVariants.{Looking, Reading};
@@ -15,7 +15,7 @@ ghost use Rattle.papaya_change.specs.Changes.{IsPut};
 ghost use Rattle.papaya_change.specs.Seeking.{left_at, left_to, turn_of};
 ghost use Rattle.papaya_change.specs.Seeks.{HasWritten, IsFoundFor, LooksAt, ReadsAt, StandsBy};
 ghost use Rattle.papaya_change.specs.Seeks.{Turns};
-ghost use Rattle.papaya_change.specs.Tries.{IsLoggedAs, Trades, is_put, pair_in};
+ghost use Rattle.papaya_change.specs.Tries.{IsLoggedAs, ShowsMet, TakesOut, Trades, is_put, pair_in};
 ghost use Rattle.papaya_change.specs.declared.at_once.Tried.TheVariants.{Put};
 ghost use Rattle.papaya_change.specs.declared.at_once.Turn.TheVariants.{Empty, Next};
 ghost use Rattle.papaya_change.specs.declared.at_once.Turn.TheVariants.{Met as MetPair};
@@ -300,6 +300,35 @@ pub fn replace<R: Wait, K: Hash + Eq + Drop, V: Drop, S: BuildHasher>(
     let Some(taken) = before else { unreachable!() };
     book.parts.pairs.agrees(&met.stored, &taken);
     Ok(Tried::Put(pair))
+}
+
+/// Tries to bury the live pair that a search has met: whether its word stood there still.
+#[inline(always)]
+pub fn bury<K: Hash + Eq, V, S: BuildHasher>(
+    shard: &Shard<'_>,
+    window: &mut Window<'_, K, V, S>,
+    table: &Table<K, V, S>,
+    met: &Met<K, V>,
+) -> bool
+    requires shows { (key : K) × (begun : _) × ShowsMet window.old key begun table.now met.now }
+    ensures sees { Sees window.old window.new }
+    ensures lawful { IsLawful window.new }
+    ensures went { result ≡ true → (key : K) → TakesOut window.old window.new key table.now
+        met.now }
+    ensures does { Does result window.old window.new }
+    ensures made { Makes result (own window.old) (own window.new) (past window.new) }
+{
+    let (place, word) = (met.place, met.word);
+    let (slot, kind) = (place.probe.i, Some(StepKind::Bury));
+    let grave = Word::buried(Word(word).pair());
+    let (found, before) = window.exchange_slot(table, place.table, slot, kind, (word, grave.0));
+    if found != word {
+        return false;
+    }
+    shard.add(-1);
+    let Some(taken) = before else { unreachable!() };
+    window.book.parts.pairs.agrees(&met.stored, &taken);
+    true
 }
 
 /// Inserts a pair at the empty place that a search has found for it. Where another word stands there by

@@ -58,6 +58,10 @@ module _ {K V T : Type 0} (eq : K → K → Bool) (key : K) (old new : List (Cha
   updates p taken q some is same change before after of_p of_q =
       replies (Ok (Updated before after)) (taken, q, change, change.kept taken q refl refl, (p, same, inl (λ i. (sym some i, sym is i))), (of_p.0 ∙ ap (λ z. z.key.value) same.1, of_p.1 ∙ ap (λ z. z.value) same.1), of_q)
 
+  pub removed : (p taken : Stored K V) → held ≡ Some p → done ≡ operation.Remove → IsSamePair p taken → IsChangeOf (eq key) old new (Some taken) None → (k : Bor K) (v : Bor V) → AreOf (k, v) p → Replies (Ok (Removed k v))
+  removed p taken some is same change k v of_p =
+      replies (Ok (Removed k v)) (taken, change, (p, same, inl (λ i. (sym some i, sym is i))), (of_p.0 ∙ ap (λ z. z.key.value) same.1, of_p.1 ∙ ap (λ z. z.value) same.1))
+
   pub aborts : (t : T) → done ≡ operation.Abort t → Replies (Ok (Aborted t))
   aborts t is = replies (Ok (Aborted t)) (held, λ i. (held, is i))
 

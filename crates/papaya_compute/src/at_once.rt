@@ -1,5 +1,5 @@
 //! Computes whose search of the root ends at an empty place or at a live pair: what their closure answered is
-//! done at once. Where another call was first, and where a pair is to go, their machine goes on.
+//! done at once. Where another call was first, their machine goes on.
 ghost use Rattle.std.specs.Prelude.{◌≡◌, false, None, Some, Err, Option};
 ghost use Rattle.std.specs.Int.{IsPowerOfTwo};
 ghost use Rattle.papaya_words.specs.Word.{kind_of};
@@ -23,7 +23,7 @@ use papaya_book::rule::own::{Given, Own};
 use papaya_book::table::Table;
 use papaya_book::window::Window;
 use papaya_call::answers::Operation;
-use papaya_change::at_once::{Spot, Tried, claim, find_place, replace};
+use papaya_change::at_once::{Spot, Tried, bury, claim, find_place, replace};
 use papaya_change::means::Means;
 use papaya_change::removal::entry;
 use papaya_keys::compute::Compute;
@@ -174,7 +174,12 @@ pub(crate) fn renew<'a, R: Wait, K: Hash + Eq + Drop, V: Drop, S: BuildHasher, T
             Err(refused) => First::Over(Err(refused)),
         },
         Operation::Remove => {
-            First::On(Computing::removing(window, means.initial, key, hash, met.stored))
+            if !bury(means.shard, window, table, &met) {
+                let call = Computing::removing(window, means.initial, key, hash, met.stored);
+                return First::On(call);
+            }
+            let (key, value) = entry(window.book, &met.stored);
+            First::Over(Ok(Compute::Removed(key, value)))
         }
         Operation::Abort(with) => First::Over(Ok(Compute::Aborted(with))),
     }

@@ -56,8 +56,7 @@ fn operate<K: Hash + Eq, V, S: BuildHasher, T, F: FnMut(Option<(&K, &V)>) -> Ope
 }
 
 /// Looks for the key in the root, and does at once what the closure answers where the search ends at an
-/// empty place or at a live pair. Else, where a pair is to go, and where another call was first, the
-/// machine goes on.
+/// empty place or at a live pair. Else, and where another call was first, the machine goes on.
 #[inline(always)]
 fn lend_at_once<
     'a,

@@ -1,4 +1,4 @@
-use Rattle.std.proofs.Common.{◌≡◌, Option, Some, Result, Ok, Err, IfErr, IfOk, [], ◌∷◌, append-nil, refl, sym, ap, ◌∙◌, subst}
+use Rattle.std.proofs.Common.{◌≡◌, Bool, true, false, Option, Some, Result, Ok, Err, IfErr, IfOk, [], ◌∷◌, append-nil, refl, sym, ap, ◌∙◌, rules, subst}
 use Rattle.papaya_words.specs.declared.probe.Refused.TheVariants.{Capacity}
 use Rattle.papaya_call.specs.declared.answers.Operation.{Operation}
 use Rattle.papaya_call.specs.declared.answers.Operation.TheVariants as operation
@@ -21,7 +21,7 @@ use Rattle.papaya_change.proofs.Replacing.{live_full, met_key_there, met_same}
 use Rattle.papaya_change.proofs.Showings.{held_wider}
 use Rattle.papaya_change.proofs.Trading.{met_some}
 use Rattle.papaya_compute.specs.Computing.{IsComputing}
-use Rattle.papaya_compute.proofs.AtOnce.{aborts, refuses, updates}
+use Rattle.papaya_compute.proofs.AtOnce.{aborts, refuses, removed, updates}
 use Rattle.papaya_compute.proofs.Found.{pair_found, pair_placed}
 use Rattle.papaya_compute.proofs.at_once.renew.Goals as goal
 
@@ -153,37 +153,55 @@ returns-in-Insert-clause-made g c =
 pub returns-in-Insert-clause-crowded : goal.returns-in-Insert-clause-crowded
 returns-in-Insert-clause-crowded g c = λ e. let same : c.in-Err.refused ≡ Capacity = cc e in c.replace.ensures.crowded (c.in-Err.is ∙ ap (λ z. Err z) same)
 
-pub removing-requires-clause-lawful : goal.removing-requires-clause-lawful
-removing-requires-clause-lawful g c =
+pub bury-requires : goal.bury-requires
+bury-requires g c =
     let w = c.args.window.now in let log = w.sight.log in let key = c.args.key in let b = begun_of w.book.now.parts in let name = w.book.now.begun.book in let hash = (hash_of g.K.Hash.hash_input g.S.BuildHasher.build_hasher g.S.Hasher.Hasher.write g.S.Hasher.Hasher.finish) in
-    let met = c.args.met in let p = met.stored in let write = Writing (record { place = met.place; old = met.word }) in
-    let found = c.requires.found in (found.1 Inserts write refl).4.lawful
+    let met = c.args.met in let p = met.stored in let show = Showing (record { place = met.place; word = met.word }) in
+    let found = c.requires.found in record { shows = (key, found.0, found.1 Computes show refl) }
 
-pub removing-requires-clause-shown : goal.removing-requires-clause-shown
-removing-requires-clause-shown g c =
+pub removing-call-requires-clause-shown : goal.removing-call-requires-clause-shown
+removing-call-requires-clause-shown g c =
     let w = c.args.window.now in let log = w.sight.log in let key = c.args.key in let b = begun_of w.book.now.parts in let name = w.book.now.begun.book in let hash = (hash_of g.K.Hash.hash_input g.S.BuildHasher.build_hasher g.S.Hasher.Hasher.write g.S.Hasher.Hasher.finish) in
-    let met = c.args.met in let p = met.stored in let write = Writing (record { place = met.place; old = met.word }) in
-    let found = c.requires.found in
-    pair_placed g.K.PartialEq.eq g.K.Hash.hash_input g.S.BuildHasher.build_hasher g.S.Hasher.Hasher.write g.S.Hasher.Hasher.finish g.met.K.Eq.laws g.met.K.Hash.respects_eq b name key found.0 log c.args.table.now met.place met.word p (found.1 Computes (Showing (record { place = met.place; word = met.word })) refl)
+    let met = c.args.met in let p = met.stored in let show = Showing (record { place = met.place; word = met.word }) in
+    let found = c.requires.found in rw c.bury.ensures.sees.book (pair_placed g.K.PartialEq.eq g.K.Hash.hash_input g.S.BuildHasher.build_hasher g.S.Hasher.Hasher.write g.S.Hasher.Hasher.finish g.met.K.Eq.laws g.met.K.Hash.respects_eq b name key found.0 log c.args.table.now met.place met.word p (found.1 Computes show refl))
 
-pub returns-in-Remove-clause-goes : goal.returns-in-Remove-clause-goes
-returns-in-Remove-clause-goes g c = λ begun found.
+pub removing-call-requires-clause-hashed : goal.removing-call-requires-clause-hashed
+removing-call-requires-clause-hashed g c =
+    rw c.bury.ensures.sees.book c.requires.hashed
+
+pub returns-then-not-bury-clause-goes : goal.returns-then-not-bury-clause-goes
+returns-then-not-bury-clause-goes g c = λ begun found.
     let w = c.args.window.now in let log = w.sight.log in let key = c.args.key in let b = begun_of w.book.now.parts in let name = w.book.now.begun.book in let hash = (hash_of g.K.Hash.hash_input g.S.BuildHasher.build_hasher g.S.Hasher.Hasher.write g.S.Hasher.Hasher.finish) in
-    let met = c.args.met in let p = met.stored in let write = Writing (record { place = met.place; old = met.word }) in
-    let there = found Computes (Showing (record { place = met.place; word = met.word })) refl in let was = pair_found g.K.PartialEq.eq g.K.Hash.hash_input g.S.BuildHasher.build_hasher g.S.Hasher.Hasher.write g.S.Hasher.Hasher.finish g.met.K.Eq.laws g.met.K.Hash.respects_eq b name key begun log c.args.table.now met.place met.word p there in
-    let x = c.removing.result in
-    subst (λ (o : Operation _ _). IsComputing g.K.PartialEq.eq hash b name key begun log x ((Some p, o) ∷ [])) (sym c.in-Remove.is) (c.removing.ensures.resumes begun there.4.seen was)
+    let met = c.args.met in let p = met.stored in let show = Showing (record { place = met.place; word = met.word }) in
+    let there = found Computes show refl in let was = pair_found g.K.PartialEq.eq g.K.Hash.hash_input g.S.BuildHasher.build_hasher g.S.Hasher.Hasher.write g.S.Hasher.Hasher.finish g.met.K.Eq.laws g.met.K.Hash.respects_eq b name key begun log c.args.table.now met.place met.word p there in
+    let then = c.bury.new.window in let later = held_wider g.K.PartialEq.eq (g.K.PartialEq.eq key) (history_of begun) (history_of begun) (history_of log) (history_of then.sight.log) ([], append-nil (history_of begun)) (history_since log then.sight.log c.bury.ensures.sees.log) (Some p) was in
+    let x = c.removing-call.result in
+    subst (λ (o : Operation _ _). IsComputing g.K.PartialEq.eq hash (begun_of then.book.now.parts) then.book.now.begun.book key begun then.sight.log x ((Some p, o) ∷ [])) (sym c.in-Remove.is) (c.removing-call.ensures.resumes begun (prefix_trans begun log then.sight.log there.4.seen c.bury.ensures.sees.log) later)
 
-pub returns-in-Remove-clause-lawful : goal.returns-in-Remove-clause-lawful
-returns-in-Remove-clause-lawful g c =
+pub returns-then-not-bury-clause-ahead : goal.returns-then-not-bury-clause-ahead
+returns-then-not-bury-clause-ahead g c =
+    let not : c.bury.result ≡ false = search rules in
+    (record { standing = c.removing-call.ensures.standing; calling = c.removing-call.ensures.calling; initial_is = c.removing-call.ensures.initial; unchanged = c.removing-call.ensures.unchanged }, subst (λ (z : Bool). Does z c.args.window.now c.bury.new.window) not c.bury.ensures.does)
+
+pub entry-requires : goal.entry-requires
+entry-requires g c =
     let w = c.args.window.now in let log = w.sight.log in let key = c.args.key in let b = begun_of w.book.now.parts in let name = w.book.now.begun.book in let hash = (hash_of g.K.Hash.hash_input g.S.BuildHasher.build_hasher g.S.Hasher.Hasher.write g.S.Hasher.Hasher.finish) in
-    let met = c.args.met in let p = met.stored in let write = Writing (record { place = met.place; old = met.word }) in
-    let found = c.requires.found in (found.1 Inserts write refl).4.lawful
+    let met = c.args.met in let p = met.stored in let show = Showing (record { place = met.place; word = met.word }) in
+    let found = c.requires.found in rw c.bury.ensures.sees.book (pair_placed g.K.PartialEq.eq g.K.Hash.hash_input g.S.BuildHasher.build_hasher g.S.Hasher.Hasher.write g.S.Hasher.Hasher.finish g.met.K.Eq.laws g.met.K.Hash.respects_eq b name key found.0 log c.args.table.now met.place met.word p (found.1 Computes show refl))
 
-pub returns-in-Remove-clause-ahead : goal.returns-in-Remove-clause-ahead
-returns-in-Remove-clause-ahead g c =
-    let w = c.args.window.now in
-    (record { standing = c.removing.ensures.standing; calling = c.removing.ensures.calling; initial_is = c.removing.ensures.initial; unchanged = c.removing.ensures.unchanged }, sym (append-nil w.own.done))
+pub returns-in-Remove-clause-replies : goal.returns-in-Remove-clause-replies
+returns-in-Remove-clause-replies g c = λ begun found.
+    let w = c.args.window.now in let log = w.sight.log in let key = c.args.key in let b = begun_of w.book.now.parts in let name = w.book.now.begun.book in let hash = (hash_of g.K.Hash.hash_input g.S.BuildHasher.build_hasher g.S.Hasher.Hasher.write g.S.Hasher.Hasher.finish) in
+    let met = c.args.met in let p = met.stored in let show = Showing (record { place = met.place; word = met.word }) in
+    let there = found Computes show refl in let was = pair_found g.K.PartialEq.eq g.K.Hash.hash_input g.S.BuildHasher.build_hasher g.S.Hasher.Hasher.write g.S.Hasher.Hasher.finish g.met.K.Eq.laws g.met.K.Hash.respects_eq b name key begun log c.args.table.now met.place met.word p there in
+    let then = c.bury.new.window in let later = held_wider g.K.PartialEq.eq (g.K.PartialEq.eq key) (history_of begun) (history_of begun) (history_of log) (history_of then.sight.log) ([], append-nil (history_of begun)) (history_since log then.sight.log c.bury.ensures.sees.log) (Some p) was in
+    let did : c.bury.result ≡ true = search rules in let t = c.bury.ensures.went did key begun there in
+    removed g.K.PartialEq.eq key _ _ (Some p) later c.args.operation p t.0 refl c.in-Remove.is t.1 t.2 c.entry.result.0 c.entry.result.1 c.entry.ensures
+
+pub returns-in-Remove-clause-made : goal.returns-in-Remove-clause-made
+returns-in-Remove-clause-made g c =
+    let w = c.args.window.now in let then = c.bury.new.window in let did : c.bury.result ≡ true = search rules in
+    subst (λ (z : Bool). Makes z (own w) (own then) (past then)) did c.bury.ensures.made
 
 pub returns-clause-replies : goal.returns-clause-replies
 returns-clause-replies g c = λ begun found.
