@@ -31,7 +31,7 @@ use Rattle.papaya_lookup.specs.History.{Change, changes_of, history_of, key_of}
 use Rattle.papaya_lookup.proofs.Driving.{can_put}
 use Rattle.papaya_lookup.proofs.Histories.{changes-append, history_since}
 use Rattle.papaya_lookup.proofs.Readings.{IsQuery}
-use Rattle.papaya_change.specs.Changes.{IsPut}
+use Rattle.papaya_change.specs.Changes.{IsChangeOf}
 use Rattle.papaya_change.specs.Changing.{HasChanged, IsCalling}
 use Rattle.papaya_change.specs.Seeking.{IsInsertingAt, insertion_at}
 use Rattle.papaya_change.proofs.Changing.{barren, call_hands, call_rests, counted, hint_may, quiet, slot_table}
@@ -129,7 +129,7 @@ module _ {K V S H : Type 0} (eq : K → K → Bool) (input : K → List (List �
         (call_rests eq input build write finish classes respects b (eq key) (input key) query (Some key) name begun log m (Some lent) r.2 None (q ∷ []) None None None paired) at.table at.probe.i 0 new refl (inl refl) q (λ claims. ap (λ z. Some z) key_is, λ replaces. absurd (cc replaces)) number
 
     -- it was put in
-    module _ (value : V) (value_is : q.value.value ≡ value) (log' : List (Event K V S)) (found : ℕ) (before : Option (Stored K V)) (tried : IsSlotTried eq hash b name at.table at.probe.i (Some steps.Claim) 0 new (Some q) (names.Pair q) log found log' before) (is : (found == 0) ≡ true) where
+    module _ (log' : List (Event K V S)) (found : ℕ) (before : Option (Stored K V)) (tried : IsSlotTried eq hash b name at.table at.probe.i (Some steps.Claim) 0 new (Some q) (names.Pair q) log found log' before) (is : (found == 0) ≡ true) where
       abbrev claimed : Claimed
       claimed = claimed_by target q.index
 
@@ -155,15 +155,15 @@ module _ {K V S H : Type 0} (eq : K → K → Bool) (input : K → List (List �
           hint_may eq input build write finish classes respects b (eq key) (input key) query (Some key) name begun log' (insertion_at h b.mode 1 has_pair (Noting claimed)) (Some lent) r.2 None (q ∷ []) before (Some q) None noting at.table at.probe.i (hint_of h) refl
 
       -- so the history ends with it
-      pub claim_done : IsPut {V = V} eq key value (history_of begun) (history_of log') None
-      claim_done =
-          let c = claim_changed in
-          let none_taken = nothing_there before c.taken_is in record {
+      pub claim_traded : IsChangeOf (eq key) (history_of begun) (history_of log') None (Some q)
+      claim_traded =
+          let c = claim_changed in record {
             before = history_of c.before;
             change = record { class = c.class; taken = before; put = Some q };
             since = history_since begun c.before c.since;
             is = ap (changes_of key_of) c.is ∙ (changes-append key_of (exchanges_of c.before) (c.by ∷ []) ∙ ap (λ (cs : List (Change K (Stored K V))). history_of c.before ++ cs) (append-nil _ ∙ c.change_is));
-            class_is = subst (λ (z : K). eq c.class z ≡ true) key_is c.put_is.1;
-            put_is = (q, refl, key_is ∙ ap (λ (o : Option (Stored K V)). Rattle.papaya_change.specs.Changes.key_kept o key) (sym none_taken), value_is);
-            taken_is = none_taken;
+            class_is = classes.symm key c.class ∙ subst (λ (z : K). eq c.class z ≡ true) key_is c.put_is.1;
+            taken_is = nothing_there before c.taken_is;
+            put_is = refl;
+            kept = λ z w e. absurd (cc e);
           }

@@ -21,6 +21,8 @@ pub mod InsertingHelped
 pub mod Seeking
 pub mod Claiming
 pub mod Replacing
+pub mod Burying
+pub mod Trading
 pub mod Logged
 pub mod Onward
 -- what closures are shown

@@ -14,7 +14,7 @@ use Rattle.papaya_ask.specs.declared.ask.StepKind.{StepKind}
 use Rattle.papaya_ask.specs.declared.ask.StepKind.TheVariants as steps
 use Rattle.papaya_ask.specs.declared.call.Reply.TheVariants.{Replaced}
 use Rattle.papaya_ask.specs.declared.search.Place.{Place}
-use Rattle.papaya_call.specs.declared.machine.State.TheVariants.{Writing, Counting, Ended}
+use Rattle.papaya_call.specs.declared.machine.State.TheVariants.{Writing, Showing, Counting, Ended}
 use Rattle.papaya_call.specs.declared.made.Made.{Made}
 use Rattle.papaya_call.specs.declared.write.Write.{Write}
 use Rattle.papaya_call.specs.Made.{nothing_made, of_grown, own_grown}
@@ -24,6 +24,7 @@ use Rattle.papaya_chain.specs.declared.ask.Ask.TheVariants.{Call}
 use Rattle.papaya_chain.specs.declared.machine.Machine.{Machine}
 use Rattle.papaya_chain.specs.Machine.{after, ask_of, kind_of_ask}
 use Rattle.papaya_rests.specs.Rests.{MayRemove}
+use Rattle.papaya_rests.proofs.RestsHeld.{machine_shows}
 use Rattle.papaya_book.specs.declared.rule.entry.Begun.{Begun}
 use Rattle.papaya_book.specs.declared.rule.entry.Event.{Event}
 use Rattle.papaya_book.specs.declared.rule.entry.Named.TheVariants as names
@@ -38,10 +39,10 @@ use Rattle.papaya_lookup.specs.Lookups.{coding_for, setting_for}
 use Rattle.papaya_lookup.proofs.Driving.{can_put}
 use Rattle.papaya_lookup.proofs.Histories.{changes-append, history_since}
 use Rattle.papaya_lookup.proofs.KeptKeys.{key_at_stays, met_key}
-use Rattle.papaya_lookup.proofs.Readings.{IsQuery}
-use Rattle.papaya_change.specs.Changes.{IsPut, key_kept}
+use Rattle.papaya_lookup.proofs.Readings.{IsQuery, hashed_with}
+use Rattle.papaya_change.specs.Changes.{IsChangeOf}
 use Rattle.papaya_change.specs.Changing.{HasChanged, IsCalling, hands_with}
-use Rattle.papaya_change.specs.Seeking.{IsInsertingAt, insertion_at}
+use Rattle.papaya_change.specs.Seeking.{Computes, IsInsertingAt, insertion_at, seeker_at}
 use Rattle.papaya_change.specs.Writing.{HasKeyAt}
 use Rattle.papaya_change.proofs.Changing.{barren, call_hands, call_rests, quiet, slot_table}
 use Rattle.papaya_change.proofs.Exchanging.{exchanged}
@@ -95,6 +96,17 @@ module _ {K V S H : Type 0} (eq : K → K → Bool) (input : K → List (List �
 
     pub met_same : eq key (key_of p) ≡ true
     met_same = subst (λ (z : Stored K V). eq key (key_of z) ≡ true) met_is may.same
+
+    -- it has the number that the word names
+    pub met_number : p.index ≡ pair_of word
+    met_number =
+        let hashed = hashed_with eq input build write finish classes respects b (eq key) (input key) query log r.4.lawful in
+        let calls = r.4.rests.call in
+        let shown = machine_shows (setting_for eq hash b (eq key) h log) (coding_for hash b.hasher h) hashed (exchanges_of begun) r.4.since (Some key) (hands_with r.2 None []).call (seeker_at Computes h b.mode 1 (nothing_made b.limit) (Showing (record { place = at; word = word }))).call
+        (record { hash = calls.hash; mode = calls.mode; made = calls.made; stage = (tt, may) }) (pair_of word) refl in
+        let both : Some shown.0 ≡ Some p = sym shown.1 ∙ last_is in
+        let one : shown.0 ≡ p = cc both in
+        ap (λ (z : Stored K V). z.index) (sym one) ∙ shown.2
 
     -- a pair of that key was logged
     module _ (unlimited : b.limit ≡ None) (q : Stored K V) (key_is : key_of q ≡ key_of p) (placed : IsPlaced b (Some name) (names.Pair q)) where
@@ -189,7 +201,7 @@ module _ {K V S H : Type 0} (eq : K → K → Bool) (input : K → List (List �
       key_same = subst (λ (z : K). eq key z ≡ true) (sym key_is) met_same
 
       -- it was put in
-      module _ (value : V) (value_is : q.value.value ≡ value) (log' : List (Event K V S)) (found : ℕ) (before : Option (Stored K V)) (tried : IsSlotTried eq hash b name at.table at.probe.i (Some steps.Replace) word new (Some q) (names.Pair q) log found log' before) (is : (found == word) ≡ true) where
+      module _ (log' : List (Event K V S)) (found : ℕ) (before : Option (Stored K V)) (tried : IsSlotTried eq hash b name at.table at.probe.i (Some steps.Replace) word new (Some q) (names.Pair q) log found log' before) (is : (found == word) ≡ true) where
         abbrev pub ends : Machine
         ends = insertion_at h b.mode 1 has_pair (Ended (Replaced (pair_of word) q.index))
 
@@ -217,19 +229,27 @@ module _ {K V S H : Type 0} (eq : K → K → Bool) (input : K → List (List �
         pub taken_there : IsPlaced b (Some name) (pair_named before)
         taken_there = ended.taken_placed
 
-        kept_by : (o : Option (Stored K V)) → MatchOption o (Some (key_of q) ≡ Some key) (λ z. key_of q ≡ key_of z) → key_of q ≡ key_kept o key
-        kept_by None e = cc e
-        kept_by (Some z) e = e
+        kept_by : (o z : Stored K V) → before ≡ Some z → MatchOption before (Some (key_of q) ≡ Some key) (λ w. key_of q ≡ key_of w) → Some q ≡ Some o → key_of o ≡ key_of z
+        kept_by o z took is e = let one : q ≡ o = cc e in subst (λ (w : Stored K V). key_of w ≡ key_of z) one (subst (λ (w : Option (Stored K V)). MatchOption w (Some (key_of q) ≡ Some key) (λ v. key_of q ≡ key_of v)) took is)
 
-        -- so the history ends with it
-        pub replace_done : (answer : Bor V) (taken : Stored K V) → before ≡ Some taken → answer.now ≡ taken.value.value → IsPut eq key value (history_of begun) (history_of log') (Some answer)
-        replace_done answer taken took now =
-            let c = replace_changed in record {
-              before = history_of c.before;
-              change = record { class = c.class; taken = before; put = Some q };
-              since = history_since begun c.before c.since;
-              is = ap (changes_of key_of) c.is ∙ (changes-append key_of (exchanges_of c.before) (c.by ∷ []) ∙ ap (λ (cs : List (Change K (Stored K V))). history_of c.before ++ cs) (append-nil _ ∙ c.change_is));
-              class_is = classes.congr c.class (key_of q) key c.put_is.1 ∙ (classes.symm (key_of q) key ∙ key_same);
-              put_is = (q, refl, kept_by before c.put_is.2.is, value_is);
-              taken_is = (taken, took, now);
-            }
+        module _ (taken : Stored K V) (took : before ≡ Some taken) where
+          -- the pair that went has the number of the one that was met
+          pub taken_number : p.index ≡ taken.index
+          taken_number =
+              let at = subst (λ (w : Option (Stored K V)). MatchOption w (Some (pair_of word) ≡ None) (λ z. (Some (pair_of word) ≡ Some z.index) × (replace_changed.class ≡ key_of z))) took replace_changed.taken_is in
+              let same : pair_of word ≡ taken.index = let e = at.0 in cc e in
+              met_number ∙ same
+
+          -- so the history ends with it
+          pub replace_traded : IsChangeOf (eq key) (history_of begun) (history_of log') (Some taken) (Some q)
+          replace_traded =
+              let c = replace_changed in record {
+                before = history_of c.before;
+                change = record { class = c.class; taken = before; put = Some q };
+                since = history_since begun c.before c.since;
+                is = ap (changes_of key_of) c.is ∙ (changes-append key_of (exchanges_of c.before) (c.by ∷ []) ∙ ap (λ (cs : List (Change K (Stored K V))). history_of c.before ++ cs) (append-nil _ ∙ c.change_is));
+                class_is = classes.symm key c.class ∙ (classes.congr c.class (key_of q) key c.put_is.1 ∙ (classes.symm (key_of q) key ∙ key_same));
+                taken_is = took;
+                put_is = refl;
+                kept = λ z o e f. let one : taken ≡ z = cc e in subst (λ (w : Stored K V). key_of o ≡ key_of w) one (kept_by o taken took c.put_is.2.is f);
+              }

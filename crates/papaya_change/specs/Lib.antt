@@ -23,4 +23,5 @@ pub mod Goings
 pub mod Writers
 pub mod Insertions
 pub mod Seeks
+pub mod Tries
 pub mod Removals

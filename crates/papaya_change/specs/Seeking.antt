@@ -1,15 +1,20 @@
--- An insertion that is made at once: its machine, which nothing runs, stands in the proof.
+-- A search that is made at once, for an insertion or a compute: their machines, which nothing runs,
+-- stand in the proof.
 use Rattle.std.specs.Prelude.{◌≡◌, ℕ, ◌+◌, ◌-◌, Bool, true, false, Option, None, Some, List, []}
 use denote.Bor.{Bor}
 use Rattle.logbook.specs.Pages.{Book}
 use Rattle.papaya_words.specs.declared.probe.ResizeMode.{ResizeMode}
-use Rattle.papaya_ask.specs.declared.call.Task.TheVariants.{Insert}
+use Rattle.papaya_ask.specs.declared.call.Task.{Task}
+use Rattle.papaya_ask.specs.declared.call.Task.TheVariants.{Insert, Compute}
 use Rattle.papaya_ask.specs.declared.search.Place.{Place}
 use Rattle.papaya_ask.specs.declared.search.Search.TheVariants.{Looking}
 use Rattle.papaya_ask.specs.declared.search.Seen.{Seen}
-use Rattle.papaya_ask.specs.declared.search.Seen.TheVariants.{On, Empty as Seen_empty, Over as Seen_over}
+use Rattle.papaya_ask.specs.declared.search.Seen.TheVariants.{On, Empty as Seen_empty}
+use Rattle.papaya_ask.specs.declared.search.Seen.TheVariants.{Over as Seen_over}
+use Rattle.papaya_call.specs.declared.compute.Gap.TheVariants.{At as At_place}
 use Rattle.papaya_call.specs.declared.machine.State.{State}
-use Rattle.papaya_call.specs.declared.machine.State.TheVariants.{Growing, Searching, Writing}
+use Rattle.papaya_call.specs.declared.machine.State.TheVariants.{Growing, Offering, Searching}
+use Rattle.papaya_call.specs.declared.machine.State.TheVariants.{Showing, Writing}
 use Rattle.papaya_call.specs.declared.need.Need.TheVariants.{Room}
 use Rattle.papaya_call.specs.declared.made.Made.{Made}
 use Rattle.papaya_call.specs.Made.{nothing_made}
@@ -24,14 +29,26 @@ use Rattle.papaya_change.specs.Changing.{IsCalling}
 use Rattle.papaya_change.specs.declared.at_once.Turn.{Turn}
 use Rattle.papaya_change.specs.declared.at_once.Turn.TheVariants.{Next, Empty, Met, Over, Else}
 
--- the machine of an insertion that has made this and stands here, of a map of this initial capacity
-abbrev pub insertion_at : (hash : ℕ) → ResizeMode → (initial : ℕ) → Made → State → Machine
-insertion_at hash mode initial made state = record {
-  call = record (started (Insert true) hash mode initial made.limit) { made = made; state = state };
+-- the calls that such a search serves
+pub data Seeker : Type 0 where
+  Inserts : Seeker
+  Computes : Seeker
+
+abbrev pub task_of : Seeker → Task
+task_of Inserts = Insert true
+task_of Computes = Compute
+
+-- the machine of a call that has made this and stands here, of a map of this initial capacity
+abbrev pub seeker_at : Seeker → (hash : ℕ) → ResizeMode → (initial : ℕ) → Made → State → Machine
+seeker_at who hash mode initial made state = record {
+  call = record (started (task_of who) hash mode initial made.limit) { made = made; state = state };
   number = 0;
   helped = false;
   phase = Calling;
 }
+
+abbrev pub insertion_at : (hash : ℕ) → ResizeMode → (initial : ℕ) → Made → State → Machine
+insertion_at hash mode initial made state = seeker_at Inserts hash mode initial made state
 
 -- where a search goes on that has met no pair of the key
 abbrev pub turn_of : {K V : Type 0} → Seen → Turn K V
@@ -40,13 +57,30 @@ turn_of (Seen_empty at) = Empty at
 turn_of (Seen_over table) = Over table
 turn_of _ = Else
 
--- where a turn leads the insertion's machine, where it leads to a place or past the table
+-- where a call goes on at an empty place, and where it has met a live pair of the key
+abbrev pub at_empty : Seeker → Place → State
+at_empty Inserts at = Writing (record { place = at; old = 0 })
+at_empty Computes at = Offering (At_place at)
+
+abbrev pub at_live : Seeker → Place → (word : ℕ) → State
+at_live Inserts at word = Writing (record { place = at; old = word })
+at_live Computes at word = Showing (record { place = at; word = word })
+
+-- where an insertion goes on that found no place in a table: it asks for a further one
+abbrev pub at_over : Seeker → (table : ℕ) → Option State
+at_over Inserts table = Some (Growing (Room table))
+at_over Computes table = None
+
+-- where a turn leads a call's machine, where it leads to a place or asks for a table
+abbrev pub leads : {K V : Type 0} → Seeker → Turn K V → Option State
+leads who (Next at) = Some (Searching (Looking at))
+leads who (Empty at) = Some (at_empty who at)
+leads who (Met met) = Some (at_live who met.place met.word)
+leads who (Over table) = at_over who table
+leads who Else = None
+
 abbrev pub led_to : {K V : Type 0} → Turn K V → Option State
-led_to (Next at) = Some (Searching (Looking at))
-led_to (Empty at) = Some (Writing (record { place = at; old = 0 }))
-led_to (Met met) = Some (Writing (record { place = met.place; old = met.word }))
-led_to (Over table) = Some (Growing (Room table))
-led_to Else = None
+led_to turn = leads Inserts turn
 
 -- the pair that it met
 abbrev pub met_by : {K V : Type 0} → Turn K V → Option (Stored K V)
@@ -61,13 +95,19 @@ abbrev pub left_to : {K V : Type 0} → Turn K V → ℕ
 left_to (Next at) = left_at at
 left_to _ = 0
 
--- An insertion of this key that began at this log would stand here by now, and was told of this pair
--- last, if one is named. It has made no pair yet, and rests on this table.
-abbrev pub IsInsertingAt : {K V S : Type 0} → (K → K → Bool) → (S → K → ℕ) → Begun K V S → Book → K
-    → (begun log : List (Event K V S)) → State → Option (Stored K V) → Sheet → Type 0
-IsInsertingAt {K} {V} eq hash b name key begun log state met table = (lent : Bor Sheet)
+-- A call of this key that began at this log would stand here by now, and was told of this pair last,
+-- if one is named. It has made no pair yet, and rests on this table.
+abbrev pub IsSeekingAt : {K V S : Type 0} → Seeker → (K → K → Bool) → (S → K → ℕ) → Begun K V S
+    → Book → K → (begun log : List (Event K V S)) → State → Option (Stored K V) → Sheet → Type 0
+IsSeekingAt {K} {V} who eq hash b name key begun log state met table = (lent : Bor Sheet)
     × (lent.now ≡ table) × (last : Option (Stored K V))
     × ((p : Stored K V) → met ≡ Some p → last ≡ Some p)
     × IsCalling eq hash b name (eq key) (hash b.hasher key) (Some key) begun log
-    (insertion_at (hash b.hasher key) b.mode 1 (nothing_made b.limit) state) (Some lent) last None []
-    None None None
+    (seeker_at who (hash b.hasher key) b.mode 1 (nothing_made b.limit) state) (Some lent) last None
+    [] None None None
+
+-- an insertion would
+abbrev pub IsInsertingAt : {K V S : Type 0} → (K → K → Bool) → (S → K → ℕ) → Begun K V S → Book → K
+    → (begun log : List (Event K V S)) → State → Option (Stored K V) → Sheet → Type 0
+IsInsertingAt eq hash b name key begun log state met table =
+    IsSeekingAt Inserts eq hash b name key begun log state met table

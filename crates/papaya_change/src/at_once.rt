@@ -1,6 +1,6 @@
 //! Insertions whose search of the root ends where most do: their pair is logged and put in at once.
-//! The machine stands in the proof.
-ghost use Rattle.std.specs.Prelude.{◌≡◌, ◌<◌, is_ok, Err, IfErr, IfOk, None, Some};
+//! The machine stands in the proof. Computes search so too, and put their pairs in so.
+ghost use Rattle.std.specs.Prelude.{◌≡◌, ◌<◌, true, is_ok, Ok, Err, IfErr, IfOk, None, Some};
 ghost use Rattle.std.specs.Int.{IsPowerOfTwo};
 ghost use Rattle.papaya_ask.specs.Search.{IsWithin};
 ghost use Rattle.papaya_ask.specs.declared.search.Search.TheVariants.{Looking, Reading};
@@ -8,23 +8,29 @@ ghost use Rattle.papaya_call.specs.declared.machine.State.TheVariants.{Searching
 ghost use Rattle.papaya_words.specs.Word.{kind_of};
 ghost use Rattle.papaya_words.specs.declared.word.Kind.TheVariants.{Live};
 ghost use Rattle.papaya_book.specs.Limits.{HasNoRoom, IsSpent, tables_of};
-ghost use Rattle.papaya_book.specs.Windows.{IsLawful, Sees};
+ghost use Rattle.papaya_book.specs.Windows.{Does, IsLawful, Sees};
 ghost use Rattle.papaya_lookup.specs.Drivers.{own, past};
-ghost use Rattle.papaya_lookup.specs.History.{Makes};
+ghost use Rattle.papaya_lookup.specs.History.{Makes, key_of};
 ghost use Rattle.papaya_change.specs.Changes.{IsPut};
 ghost use Rattle.papaya_change.specs.Seeking.{left_at, left_to, turn_of};
-ghost use Rattle.papaya_change.specs.Seeks.{HasWritten, IsFoundFor, LooksAt, ReadsAt, StandsBy, Turns};
-ghost use Rattle.papaya_change.specs.declared.at_once.Turn.TheVariants.{Empty, Met as MetPair, Next};
-ghost use Rattle.papaya_change.specs.Writing.{IsMemoryCapacityOrLimit};
+ghost use Rattle.papaya_change.specs.Seeks.{HasWritten, IsFoundFor, LooksAt, ReadsAt, StandsBy};
+ghost use Rattle.papaya_change.specs.Seeks.{Turns};
+ghost use Rattle.papaya_change.specs.Tries.{IsLoggedAs, ShowsMet, TakesOut, Trades, is_put, pair_in};
+ghost use Rattle.papaya_change.specs.declared.at_once.Tried.TheVariants.{Put};
+ghost use Rattle.papaya_change.specs.declared.at_once.Turn.TheVariants.{Empty, Next};
+ghost use Rattle.papaya_change.specs.declared.at_once.Turn.TheVariants.{Met as MetPair};
+ghost use Rattle.papaya_change.specs.Writing.{IsMemoryCapacityOrLimit, IsMemoryOrCapacity};
 
 use crate::insertion::{insert_logged, insert_met, insert_onward, insert_stepwise};
 use crate::means::Means;
+use crate::removal::entry;
 use papaya_ask::ask::StepKind;
 use papaya_ask::search::{Place, Search, Seen};
 use papaya_book::book::gains::named_pair;
 use papaya_book::book::pairs::{KeyPart, ValuePart};
 use papaya_book::count::Shard;
 use papaya_book::keyed::Hashed;
+use papaya_book::rule::entry::Stored;
 use papaya_book::rule::own::{Given, Own};
 use papaya_book::table::Table;
 use papaya_book::window::Window;
@@ -37,9 +43,9 @@ use std::alloc::Global;
 use std::hash::{BuildHasher, Hash};
 use std::sync::Wait;
 
-/// Where a turn of a search leads an insertion.
+/// Where a turn of a search leads a call.
 #[derive(Drop)]
-enum Turn<K, V> {
+pub enum Turn<K, V> {
     /// This place is looked at next.
     Next(Place),
     /// This place is empty, and no pair has the key.
@@ -162,16 +168,16 @@ fn seek<K: Hash + Eq, V, S: BuildHasher>(
     }
 }
 
-/// Where a search of the root has led an insertion.
+/// Where a search of the root has led a call.
 #[derive(Drop)]
-struct Spot<'a, K: Hash + Eq, V, S: BuildHasher> {
-    table: &'a Table<K, V, S>,
-    turn: Turn<K, V>,
+pub struct Spot<'a, K: Hash + Eq, V, S: BuildHasher> {
+    pub table: &'a Table<K, V, S>,
+    pub turn: Turn<K, V>,
 }
 
 /// Where a pair of the key may be put in, as the search of the root sees it.
 #[inline(always)]
-fn find_place<'a, K: Hash + Eq, V, S: BuildHasher>(
+pub fn find_place<'a, K: Hash + Eq, V, S: BuildHasher>(
     window: &mut Window<'a, K, V, S>,
     key: &K,
     hash: u64,
@@ -195,8 +201,138 @@ fn find_place<'a, K: Hash + Eq, V, S: BuildHasher>(
     Some(Spot { table, turn })
 }
 
-/// Logs a pair and claims the empty place that a search has found for it. Where another word stands
-/// there by now, its machine begins.
+/// What came of a pair that was logged for a place that a search had found.
+#[derive(Drop)]
+pub enum Tried<K, V> {
+    /// It was put in.
+    Put(Stored<K, V>),
+    /// Another word stands there by now.
+    Lost(Stored<K, V>),
+}
+
+/// Logs a pair and tries to claim for it the empty place that a search has found.
+#[inline(always)]
+pub fn claim<R: Wait, K: Hash + Eq + Drop, V: Drop, S: BuildHasher>(
+    means: &Means<'_, '_, R>,
+    window: &mut Window<'_, K, V, S>,
+    given: &mut Own<Given>,
+    key: K,
+    value: V,
+    hash: u64,
+    table: &Table<K, V, S>,
+    at: Place,
+) -> Result<Tried<K, V>, Refused>
+    requires hashed { hash ≡ ⟦<S as Hashed<K>>⟧.hash window.old.book.now.parts.hasher key }
+    requires limit { window.old.book.now.parts.limit ≡ None }
+    requires stands { StandsBy window.old key table.now (Empty at) }
+    ensures sees { Sees window.old window.new }
+    ensures lawful { IsLawful window.new }
+    ensures logged { IfOk result (λ tried. IsLoggedAs window.new key value (pair_in tried)) }
+    ensures put { (q : _) → result ≡ Ok (Put q) → Trades window.old window.new key table.now
+        (Empty at) q }
+    ensures refused { IfErr result (λ refused. IsMemoryOrCapacity refused) }
+    ensures crowded { result ≡ Err Refused.Capacity → HasNoRoom means.now.initial
+        (tables_of window.new.sight.log) given.new.done }
+    ensures does { Does (is_put result) window.old window.new }
+    ensures made { Makes (is_put result) (own window.old) (own window.new) (past window.new) }
+{
+    let book = window.book;
+    let Ok(pair) = book.log_pair(means.rt, KeyPart::Own(key), ValuePart::Own(value)) else {
+        return Err(Refused::Memory);
+    };
+    if pair.index() >= MAX_LOG_LEN {
+        *given = book.gave_pair(&pair);
+        return Err(Refused::Capacity);
+    }
+    let words = (0, Word::live(pair.index() as u64).0);
+    let (slot, kind) = (at.probe.i, Some(StepKind::Claim));
+    let (found, _) = window.put_slot(table, at.table, slot, kind, &pair, words);
+    if found != 0 {
+        return Ok(Tried::Lost(pair));
+    }
+    means.shard.add(1);
+    window.write_hint(table, at.table, slot, hint(hash));
+    Ok(Tried::Put(pair))
+}
+
+/// Logs a pair with the key that a search has met, and tries to put it in the place of the pair that has
+/// that.
+#[inline(always)]
+pub fn replace<R: Wait, K: Hash + Eq + Drop, V: Drop, S: BuildHasher>(
+    means: &Means<'_, '_, R>,
+    window: &mut Window<'_, K, V, S>,
+    given: &mut Own<Given>,
+    value: V,
+    table: &Table<K, V, S>,
+    met: &Met<K, V>,
+) -> Result<Tried<K, V>, Refused>
+    requires limit { window.old.book.now.parts.limit ≡ None }
+    requires stands { (key : K) × StandsBy window.old key table.now (MetPair met.now) }
+    requires live { kind_of met.now.word ≡ Live }
+    ensures sees { Sees window.old window.new }
+    ensures lawful { IsLawful window.new }
+    ensures logged { IfOk result (λ tried. IsLoggedAs window.new (key_of met.now.stored) value
+        (pair_in tried)) }
+    ensures put { (q : _) → result ≡ Ok (Put q) → (key : K) → Trades window.old window.new key
+        table.now (MetPair met.now) q }
+    ensures refused { IfErr result (λ refused. IsMemoryOrCapacity refused) }
+    ensures crowded { result ≡ Err Refused.Capacity → HasNoRoom means.now.initial
+        (tables_of window.new.sight.log) given.new.done }
+    ensures does { Does (is_put result) window.old window.new }
+    ensures made { Makes (is_put result) (own window.old) (own window.new) (past window.new) }
+{
+    let book = window.book;
+    let (place, word) = (met.place, met.word);
+    let of = KeyPart::Of(met.stored.again());
+    let Ok(pair) = book.log_pair(means.rt, of, ValuePart::Own(value)) else {
+        return Err(Refused::Memory);
+    };
+    if pair.index() >= MAX_LOG_LEN {
+        *given = book.gave_pair(&pair);
+        return Err(Refused::Capacity);
+    }
+    let words = (word, Word::live(pair.index() as u64).0);
+    let (slot, kind) = (place.probe.i, Some(StepKind::Replace));
+    let (found, before) = window.put_slot(table, place.table, slot, kind, &pair, words);
+    if found != word {
+        return Ok(Tried::Lost(pair));
+    }
+    let Some(taken) = before else { unreachable!() };
+    book.parts.pairs.agrees(&met.stored, &taken);
+    Ok(Tried::Put(pair))
+}
+
+/// Tries to bury the live pair that a search has met: whether its word stood there still.
+#[inline(always)]
+pub fn bury<K: Hash + Eq, V, S: BuildHasher>(
+    shard: &Shard<'_>,
+    window: &mut Window<'_, K, V, S>,
+    table: &Table<K, V, S>,
+    met: &Met<K, V>,
+) -> bool
+    requires shows { (key : K) × (begun : _) × ShowsMet window.old key begun table.now met.now }
+    ensures sees { Sees window.old window.new }
+    ensures lawful { IsLawful window.new }
+    ensures went { result ≡ true → (key : K) → TakesOut window.old window.new key table.now
+        met.now }
+    ensures does { Does result window.old window.new }
+    ensures made { Makes result (own window.old) (own window.new) (past window.new) }
+{
+    let (place, word) = (met.place, met.word);
+    let (slot, kind) = (place.probe.i, Some(StepKind::Bury));
+    let grave = Word::buried(Word(word).pair());
+    let (found, before) = window.exchange_slot(table, place.table, slot, kind, (word, grave.0));
+    if found != word {
+        return false;
+    }
+    shard.add(-1);
+    let Some(taken) = before else { unreachable!() };
+    window.book.parts.pairs.agrees(&met.stored, &taken);
+    true
+}
+
+/// Inserts a pair at the empty place that a search has found for it. Where another word stands there by
+/// now, its machine begins.
 #[inline(always)]
 fn claim_at<'a, R: Wait, K: Hash + Eq + Drop, V: Drop, S: BuildHasher>(
     means: &Means<'_, '_, R>,
@@ -223,28 +359,16 @@ fn claim_at<'a, R: Wait, K: Hash + Eq + Drop, V: Drop, S: BuildHasher>(
         window.new.sight.log }
     ensures made { Makes (is_ok result) (own window.old) (own window.new) (past window.new) }
 {
-    let book = window.book;
-    let Ok(pair) = book.log_pair(means.rt, KeyPart::Own(key), ValuePart::Own(value)) else {
-        return Err(Refused::Memory);
-    };
-    if pair.index() >= MAX_LOG_LEN {
-        *given = book.gave_pair(&pair);
-        return Err(Refused::Capacity);
+    match claim(means, window, given, key, value, hash, table, at) {
+        Ok(Tried::Put(_)) => Ok(None),
+        Ok(Tried::Lost(pair)) => insert_logged(means, window, given, hash, pair),
+        Err(refused) => Err(refused),
     }
-    let words = (0, Word::live(pair.index() as u64).0);
-    let (slot, kind) = (at.probe.i, Some(StepKind::Claim));
-    let (found, _) = window.put_slot(table, at.table, slot, kind, &pair, words);
-    if found != 0 {
-        return insert_logged(means, window, given, hash, pair);
-    }
-    means.shard.add(1);
-    window.write_hint(table, at.table, slot, hint(hash));
-    Ok(None)
 }
 
-/// Logs a pair with the key that a search has met, and puts it in the place of the pair that has that:
-/// the value that it had. The key that was handed in goes. Where another word stands there by now, its
-/// machine begins.
+/// Inserts a pair with the key that a search has met in the place of the pair that has that: the value
+/// that it had. The key that was handed in goes. Where another word stands there by now, its machine
+/// begins.
 #[inline(always)]
 fn replace_at<'a, R: Wait, K: Hash + Eq + Drop, V: Drop, S: BuildHasher>(
     means: &Means<'_, '_, R>,
@@ -273,27 +397,17 @@ fn replace_at<'a, R: Wait, K: Hash + Eq + Drop, V: Drop, S: BuildHasher>(
     ensures made { Makes (is_ok result) (own window.old) (own window.new) (past window.new) }
 {
     let book = window.book;
-    let Met {
-        place,
-        word,
-        stored,
-    } = met;
-    let Ok(pair) = book.log_pair(means.rt, KeyPart::Of(stored), ValuePart::Own(value)) else {
-        return Err(Refused::Memory);
-    };
-    if pair.index() >= MAX_LOG_LEN {
-        *given = book.gave_pair(&pair);
-        return Err(Refused::Capacity);
+    match replace(means, window, given, value, table, &met) {
+        Ok(Tried::Put(_)) => Ok(Some(entry(book, &met.stored).1)),
+        Ok(Tried::Lost(pair)) => {
+            let write = Write {
+                place: met.place,
+                old: met.word,
+            };
+            insert_met(means, window, given, key, hash, write, pair)
+        }
+        Err(refused) => Err(refused),
     }
-    let words = (word, Word::live(pair.index() as u64).0);
-    let (slot, kind) = (place.probe.i, Some(StepKind::Replace));
-    let (found, before) = window.put_slot(table, place.table, slot, kind, &pair, words);
-    if found != word {
-        let write = Write { place, old: word };
-        return insert_met(means, window, given, key, hash, write, pair);
-    }
-    let Some(taken) = before else { unreachable!() };
-    Ok(Some(book.value(book.pair(&taken))))
 }
 
 /// Inserts a pair: the value that its key had. Where it is refused for want of room, `given` tells

@@ -10,3 +10,7 @@ pub mod ComputePairs
 pub mod ComputePuts
 pub mod ComputeReplies
 pub mod DoneBy
+-- computes at once
+pub mod Resumed
+pub mod Found
+pub mod AtOnce

@@ -1,5 +1,6 @@
 -- What a call does that stores a value where its rule says so: a compute whose closure is a rule.
-use Rattle.std.specs.Prelude.{◌≡◌, Bool, true, false, Option, None, Some, Result, Ok, Err, List, option_map}
+use Rattle.std.specs.Prelude.{◌≡◌, Bool, true, false, Option, None, Some, Result, Ok, Err, List}
+use Rattle.std.specs.Prelude.{option_map}
 use denote.Bor.{Bor}
 use Rattle.papaya_words.specs.declared.probe.Refused.{Refused}
 use Rattle.papaya_call.specs.declared.answers.Operation.{Operation}
@@ -9,7 +10,11 @@ use Rattle.papaya_lookup.specs.History.{Change, key_of}
 use Rattle.papaya_change.specs.Changes.{IsChangeOf}
 use Rattle.papaya_change.specs.Showings.{AllShown, HasSaid, IsNoneOnce, WasHeld, WasLast}
 use Rattle.papaya_change.specs.Writing.{IsMemoryCapacityOrLimit}
+use Rattle.papaya_keys.specs.declared.compute.Compute.{Compute as Computed}
+use Rattle.papaya_keys.specs.declared.compute.Compute.TheVariants.{Inserted, Updated, Removed, Aborted}
 use Rattle.papaya_compute.specs.ComputeAnswers.{WasOperated}
+use Rattle.papaya_compute.specs.declared.at_once.First.{First}
+use Rattle.papaya_compute.specs.declared.at_once.First.TheVariants.{Over, On}
 use Rattle.papaya_compute.specs.Computing.{value_in}
 use Rattle.papaya_compute.specs.declared.deciding.Outcome.{Outcome}
 use Rattle.papaya_compute.specs.declared.deciding.Outcome.TheVariants.{Put, Replaced, Left}
@@ -20,6 +25,24 @@ puts (Ok (Put v)) = true
 puts (Ok (Replaced v)) = true
 puts (Ok (Left current spare)) = false
 puts (Err refused) = false
+
+-- what a call that stores did, by what its compute did that removed nothing; the key had this value
+abbrev pub outcome_of : {K V : Type 0} → Computed K V (Unit {0}) → Option (Bor V) → Outcome V
+outcome_of (Inserted k v) current = Put v
+outcome_of (Updated before after) current = Replaced after.1
+outcome_of (Removed k v) current = Left current None
+outcome_of (Aborted t) current = Left current None
+
+-- what it answers
+abbrev pub answer_of : {K V : Type 0} → Result (Computed K V (Unit {0})) Refused → Option (Bor V)
+    → Result (Outcome V) Refused
+answer_of (Ok done) current = Ok (outcome_of done current)
+answer_of (Err refused) current = Err refused
+
+abbrev pub outcomes : {C K V : Type 0} → First C (Result (Computed K V (Unit {0})) Refused)
+    → Option (Bor V) → First C (Result (Outcome V) Refused)
+outcomes (Over answer) current = Over (answer_of answer current)
+outcomes (On x) current = On x
 
 module _ {K V : Type 0} where
   -- The rule is shown this, and answers what is stored then, or that all is left as it is.

@@ -2,6 +2,9 @@
 pub mod ComputeAnswers
 pub mod Computing
 pub mod Putting
+-- one that goes on with a pair that was made
+pub mod Resuming
+pub mod AtOnce
 -- what a call does that stores where its rule says so
 pub mod Deciding
 -- the same by what is seen of the map

@@ -1,11 +1,13 @@
 //! Computes: their machine, answered by steps on the book and by a closure.
-ghost use Rattle.papaya_book.specs.Windows.{Does, IsLawful, Sees};
+ghost use Rattle.papaya_book.specs.declared.rule.entry.Named.TheVariants.{Pair as PairNamed};
+ghost use Rattle.papaya_book.specs.Windows.{Does, IsIn as IsInWindow, IsLawful, Sees};
 ghost use Rattle.papaya_book.specs.Books.{IsIn};
 ghost use Rattle.papaya_book.specs.Logs.{pair_named};
 ghost use Rattle.papaya_change.specs.Helping.{HasHelped};
 ghost use Rattle.papaya_compute.specs.Computes.{CanCompute, CanTake, Computes, Hears, IsAnyCompute, IsBegun, Replies, Takes, Turns};
-ghost use Rattle.std.specs.Prelude.{◌≡◌, ◌⊎◌, ℕ, false, None, Some, Option, Ok, Err, IfErr, option_map};
+ghost use Rattle.std.specs.Prelude.{◌≡◌, ◌⊎◌, ℕ, ◌<◌, ◌^◌, false, true, None, Some, Option, Ok, Err, IfErr, option_map};
 ghost use Rattle.std.specs.Int.{IsPowerOfTwo};
+ghost use Rattle.papaya_call.specs.Compute.{IsRemembered};
 ghost use Rattle.papaya_call.specs.Machine.{IsFitAsk};
 ghost use Rattle.papaya_chain.specs.Machine.{IsStanding, after, ask_of, kind_of_ask};
 ghost use Rattle.papaya_chain.specs.declared.ask.Answer.TheVariants.{Call as Told};
@@ -18,6 +20,9 @@ ghost use Rattle.papaya_ask.specs.declared.ask.At.TheVariants.{Slot};
 ghost use Rattle.papaya_compute.specs.Computing.{IsKept, IsToShow, IsWriters, chosen_after, pair_for, value_in};
 ghost use Rattle.papaya_compute.specs.ComputeAnswers.{changes};
 ghost use Rattle.papaya_change.specs.Doing.{has_changed, was_made};
+ghost use Rattle.papaya_change.specs.Writing.{HasKeyAt};
+ghost use Rattle.papaya_compute.specs.Resuming.{IsResumed, resumed_at};
+ghost use Rattle.papaya_lookup.specs.History.{key_of};
 ghost use Rattle.papaya_book.specs.Limits.{tables_of};
 
 use papaya_ask::ask::{Answer, Ask as CallAsk, At, OpKind, StepKind};
@@ -25,16 +30,18 @@ use papaya_ask::call::{Reply, Task};
 use papaya_book::book::Book;
 use papaya_book::book::pairs::{KeyPart, ValuePart};
 use papaya_book::count::Shard;
-use papaya_book::keyed::Keyed;
+use papaya_book::keyed::{Hashed, Keyed};
 use papaya_book::rule::entry::Stored;
 use papaya_book::window::Window;
 use papaya_call::answers::Operation;
+use papaya_call::compute::{Choice, Remembered};
+use papaya_call::write::Write;
 use papaya_chain::ask::Ask;
 use papaya_change::driver::Driver;
 use papaya_change::removal::entry;
 use papaya_change::writing::Writer;
 use papaya_keys::compute::Compute;
-use papaya_lookup::lookup::hash;
+use papaya_lookup::lookup::{Met, hash};
 use papaya_words::probe::Refused;
 use std::alloc::Global;
 use std::hash::{BuildHasher, Hash};
@@ -95,6 +102,30 @@ fn pair_for<K, V>(
     }
 }
 
+/// The call of a compute that begins at the root with what it remembers.
+fn resume<'a, K: Hash + Eq, V, S: BuildHasher>(
+    book: &Book<K, V, S>,
+    initial: usize,
+    hash: u64,
+    remembered: Remembered,
+) -> Driver<'a, K, V, S>
+    requires initial { IsPowerOfTwo initial }
+    requires remembered { IsRemembered remembered }
+    ensures machine { result.machine ≡ resumed_at hash book.now.parts.mode initial
+        book.now.parts.limit remembered }
+    ensures standing { IsStanding result.machine }
+    ensures table { (result.table ≡ None) × (result.fresh ≡ None) }
+    ensures pairs { (result.last ≡ None) × (result.kept ≡ None) × (result.taken ≡ None)
+        × (result.put ≡ None) }
+{
+    let parts = &book.parts;
+    let mut call = Driver::new(Task::Compute, hash, parts.mode, initial, parts.limit);
+    let mut machine = call.machine;
+    machine.call.remembered = remembered;
+    call.machine = machine;
+    call
+}
+
 impl<'a, K: Hash + Eq + Drop, V: Drop, S: BuildHasher, T: Drop> Computing<'a, K, V, S, T> {
     /// Keeps what the closure answered, and tells the machine of it.
     fn keep(&mut self, operation: Operation<V, T>) -> Answer
@@ -140,6 +171,134 @@ impl<'a, K: Hash + Eq + Drop, V: Drop, S: BuildHasher, T: Drop> Computing<'a, K,
             shown: None,
             fill: None,
             chosen: None,
+            made: None,
+            aborted: None,
+        }
+    }
+
+    /// A compute that goes on with this pair, made where its closure was shown that there is none.
+    pub(crate) fn filled(
+        window: &Window<'a, K, V, S>,
+        initial: usize,
+        hash: u64,
+        pair: Stored<K, V>,
+    ) -> Computing<'a, K, V, S, T>
+        requires lawful { IsLawful window.now }
+        requires initial { IsPowerOfTwo initial }
+        requires hashed { hash ≡ ⟦<S as Hashed<K>>⟧.hash window.now.book.now.parts.hasher
+            (key_of pair) }
+        requires placed { IsInWindow window.now (PairNamed pair) }
+        requires number { pair.index < 2 ^ 48 }
+        ensures standing { IsStanding result.writer.call.machine }
+        ensures calling { result.writer.call.machine.phase ≡ Calling }
+        ensures initial { result.writer.call.machine.call.initial ≡ initial }
+        ensures unchanged { has_changed result.writer.call.machine ≡ false }
+        ensures resumes { IsResumed window.now (key_of pair) None
+            (Operation.Insert pair.value.value) result }
+    {
+        let remembered = Remembered {
+            fill: Some(pair.index() as u64),
+            choice: None,
+        };
+        Computing {
+            writer: Writer {
+                call: resume(window.book, initial, hash, remembered),
+                key: Some(KeyPart::Of(pair.again())),
+                value: None,
+            },
+            shown: None,
+            fill: Some(pair),
+            chosen: None,
+            made: None,
+            aborted: None,
+        }
+    }
+
+    /// One that goes on with this pair, made where its closure was shown the pair that was met.
+    pub(crate) fn replaced(
+        window: &Window<'a, K, V, S>,
+        initial: usize,
+        key: K,
+        hash: u64,
+        met: Met<K, V>,
+        pair: Stored<K, V>,
+    ) -> Computing<'a, K, V, S, T>
+        requires lawful { IsLawful window.now }
+        requires initial { IsPowerOfTwo initial }
+        requires hashed { hash ≡ ⟦<S as Hashed<K>>⟧.hash window.now.book.now.parts.hasher key }
+        requires shown { IsInWindow window.now (PairNamed met.stored) }
+        requires placed { IsInWindow window.now (PairNamed pair) }
+        requires number { pair.index < 2 ^ 48 }
+        requires kept { key_of pair ≡ key_of met.stored }
+        requires same { K.eq key (key_of pair) ≡ true }
+        requires there { HasKeyAt window.now.sight.log met.place.table met.place.probe.i
+            (key_of pair) }
+        ensures standing { IsStanding result.writer.call.machine }
+        ensures calling { result.writer.call.machine.phase ≡ Calling }
+        ensures initial { result.writer.call.machine.call.initial ≡ initial }
+        ensures unchanged { has_changed result.writer.call.machine ≡ false }
+        ensures resumes { IsResumed window.now key (Some met.stored)
+            (Operation.Insert pair.value.value) result }
+    {
+        let Met {
+            place,
+            word,
+            stored,
+        } = met;
+        let write = Write { place, old: word };
+        let choice = Choice::Replace {
+            old: stored.index() as u64,
+            new: write.of(pair.index() as u64),
+        };
+        let remembered = Remembered {
+            fill: None,
+            choice: Some(choice),
+        };
+        Computing {
+            writer: Writer {
+                call: resume(window.book, initial, hash, remembered),
+                key: Some(KeyPart::Own(key)),
+                value: Some(ValuePart::Of(pair.again())),
+            },
+            shown: Some(stored.again()),
+            fill: None,
+            chosen: Some(stored),
+            made: Some(pair),
+            aborted: None,
+        }
+    }
+
+    /// One that goes on to remove the pair that its closure was shown.
+    pub(crate) fn removing(
+        window: &Window<'a, K, V, S>,
+        initial: usize,
+        key: K,
+        hash: u64,
+        shown: Stored<K, V>,
+    ) -> Computing<'a, K, V, S, T>
+        requires lawful { IsLawful window.now }
+        requires initial { IsPowerOfTwo initial }
+        requires hashed { hash ≡ ⟦<S as Hashed<K>>⟧.hash window.now.book.now.parts.hasher key }
+        requires shown { IsInWindow window.now (PairNamed shown) }
+        ensures standing { IsStanding result.writer.call.machine }
+        ensures calling { result.writer.call.machine.phase ≡ Calling }
+        ensures initial { result.writer.call.machine.call.initial ≡ initial }
+        ensures unchanged { has_changed result.writer.call.machine ≡ false }
+        ensures resumes { IsResumed window.now key (Some shown) Operation.Remove result }
+    {
+        let remembered = Remembered {
+            fill: None,
+            choice: Some(Choice::Remove(shown.index() as u64)),
+        };
+        Computing {
+            writer: Writer {
+                call: resume(window.book, initial, hash, remembered),
+                key: Some(KeyPart::Own(key)),
+                value: None,
+            },
+            shown: Some(shown.again()),
+            fill: None,
+            chosen: Some(shown),
             made: None,
             aborted: None,
         }
@@ -461,7 +620,7 @@ impl<'a, K: Hash + Eq + Drop, V: Drop, S: BuildHasher, T: Drop> Computing<'a, K,
 }
 
 /// The value of a pair, if there is one.
-fn value_in<'a, K: Hash + Eq, V, S: BuildHasher>(
+pub(crate) fn value_in<'a, K: Hash + Eq, V, S: BuildHasher>(
     book: &'a Book<K, V, S>,
     pair: &Option<Stored<K, V>>,
 ) -> Option<&'a V>

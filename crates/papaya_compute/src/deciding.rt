@@ -1,6 +1,6 @@
 //! Calls that store a value where their rule says so. Each is a compute whose rule is a type in the
 //! place of a closure, and no pair is removed by it.
-ghost use Rattle.std.specs.Prelude.{◌≡◌, None, Some, Option, Err, IfErr};
+ghost use Rattle.std.specs.Prelude.{◌≡◌, false, None, Some, Option, Ok, Err, IfErr};
 ghost use Rattle.std.specs.Int.{IsPowerOfTwo};
 ghost use Rattle.papaya_ask.specs.declared.ask.Ask.TheVariants.{Done};
 ghost use Rattle.papaya_ask.specs.declared.call.Reply.TheVariants.{Refused as ReplyRefused};
@@ -9,21 +9,28 @@ ghost use Rattle.papaya_chain.specs.Machine.{IsStanding, ask_of};
 ghost use Rattle.papaya_book.specs.Books.{IsIn};
 ghost use Rattle.papaya_book.specs.Limits.{HasNoRoom, IsSpent, tables_of};
 ghost use Rattle.papaya_book.specs.Logs.{pair_named};
-ghost use Rattle.papaya_book.specs.Windows.{IsLawful, Sees};
+ghost use Rattle.papaya_book.specs.Windows.{Does, IsLawful, Sees};
 ghost use Rattle.papaya_lookup.specs.Drivers.{own, past};
 ghost use Rattle.papaya_lookup.specs.History.{Makes};
 ghost use Rattle.papaya_change.specs.Doing.{has_changed};
 ghost use Rattle.papaya_compute.specs.Computes.{CanDecide, Decides};
-ghost use Rattle.papaya_compute.specs.Deciding.{IsDecided, Wishes, puts};
+ghost use Rattle.papaya_compute.specs.Deciding.{IsDecided, Wishes, answer_of, outcome_of};
+ghost use Rattle.papaya_compute.specs.Deciding.{outcomes, puts};
+ghost use Rattle.papaya_compute.specs.AtOnce.{IfOn, IfOver, IsAhead, IsOnItsWay};
+ghost use Rattle.papaya_compute.specs.declared.at_once.First.TheVariants.{Over};
 
-use crate::computing::{Computing, Turn};
+use crate::at_once::{First, begin, fill, look, renew};
+use crate::computing::{Computing, Turn as Next, value_in};
 use papaya_book::book::Book;
 use papaya_book::count::Shard;
 use papaya_book::rule::entry::Stored;
 use papaya_book::rule::own::{Given, Own};
 use papaya_book::window::Window;
 use papaya_call::answers::Operation;
+use papaya_change::at_once::Turn;
+use papaya_change::means::Means;
 use papaya_keys::compute::Compute;
+use papaya_lookup::lookup::hash;
 use papaya_words::probe::Refused;
 use std::alloc::Global;
 use std::hash::{BuildHasher, Hash};
@@ -116,6 +123,104 @@ fn decided<'a, K: Hash + Eq + Drop, V: Drop, S: BuildHasher>(
     }
 }
 
+/// What the call did, by what its compute did, where the key had this value.
+#[inline(always)]
+fn outcome_by<'a, K, V>(done: Compute<'a, K, V, ()>, current: Option<&'a V>) -> Outcome<'a, V>
+    requires { (k : _) (v : _) → done ≡ Compute.Removed k v → ⊥ }
+    ensures { result ≡ outcome_of done.entry current.entry }
+{
+    match done {
+        Compute::Inserted(_, value) => Outcome::Put(value),
+        Compute::Updated { new, .. } => Outcome::Replaced(new.1),
+        Compute::Removed(_, _) => unreachable!(),
+        Compute::Aborted(()) => Outcome::Left {
+            current,
+            spare: None,
+        },
+    }
+}
+
+/// What the call answers, by what its compute answered.
+#[inline(always)]
+fn decision<'a, K, V>(
+    answer: Result<Compute<'a, K, V, ()>, Refused>,
+    current: Option<&'a V>,
+) -> Result<Outcome<'a, V>, Refused>
+    requires { (k : _) (v : _) → answer ≡ Ok (Compute.Removed k v) → ⊥ }
+    ensures { result ≡ answer_of answer.entry current.entry }
+{
+    match answer {
+        Ok(done) => Ok(outcome_by(done, current)),
+        Err(refused) => Err(refused),
+    }
+}
+
+/// The same of a compute that was tried at once.
+#[inline(always)]
+fn settle<'a, C: Drop, K, V>(
+    first: First<C, Result<Compute<'a, K, V, ()>, Refused>>,
+    current: Option<&'a V>,
+) -> First<C, Result<Outcome<'a, V>, Refused>>
+    requires { (k : _) (v : _) → first ≡ Over (Ok (Compute.Removed k v)) → ⊥ }
+    ensures { result ≡ outcomes first.entry current.entry }
+{
+    match first {
+        First::Over(answer) => First::Over(decision(answer, current)),
+        First::On(computing) => First::On(computing),
+    }
+}
+
+/// Looks for the key in the root, and stores at once what the rule answers where the search ends at an
+/// empty place or at a live pair. Else, and where another call was first, the machine goes on.
+#[inline(always)]
+fn decide_at_once<'a, R: Wait, K: Hash + Eq + Drop, V: Drop, S: BuildHasher, D: Rule<V>>(
+    means: &Means<'_, '_, R>,
+    window: &mut Window<'a, K, V, S>,
+    given: &mut Own<Given>,
+    key: K,
+    rule: &mut D,
+) -> First<Computing<'a, K, V, S, ()>, Result<Outcome<'a, V>, Refused>>
+    requires callable { D.callable rule.old }
+    requires initial { IsPowerOfTwo means.now.initial }
+    requires lawful { IsLawful window.old }
+    ensures callable { D.callable rule.new }
+    ensures sees { Sees window.old window.new }
+    ensures lawful { IsLawful window.new }
+    ensures made { IfOver result (λ answer. Makes (puts answer) (own window.old) (own window.new)
+        (past window.new)) }
+    ensures crowded { result ≡ Over (Err Refused.Capacity) → HasNoRoom means.now.initial
+        (tables_of window.new.sight.log) given.new.done }
+    ensures spent { result ≡ Over (Err Refused.Limit) → IsSpent window.new.book.now.parts.limit
+        window.new.sight.log }
+    ensures decided { IfOver result (λ answer. IsDecided K.eq key (past window.old)
+        (past window.new) D.decides rule.old rule.new answer) }
+    ensures ahead { IfOn result (λ x. IsAhead means.now.initial x
+        × Does false window.old window.new) }
+    ensures goes { IfOn result (IsOnItsWay window.old window.new key (Wishes D.decides) rule.old
+        rule.new) }
+{
+    let book = window.book;
+    let hash = hash(&book.parts.hasher, &key);
+    let Some(spot) = look(window, &key, hash) else {
+        return First::On(begin(window, means.initial, key));
+    };
+    let table = spot.table;
+    match spot.turn {
+        Turn::Empty(at) => {
+            let wished = wish(book, &None, rule);
+            let filled = fill(means, window, given, key, hash, table, at, wished);
+            settle(filled, None)
+        }
+        Turn::Met(met) => {
+            let shown = Some(met.stored.again());
+            let again = wish(book, &shown, rule);
+            let renewed = renew(means, window, given, key, hash, table, met, again);
+            settle(renewed, value_in(book, &shown))
+        }
+        _ => First::On(begin(window, means.initial, key)),
+    }
+}
+
 /// Stores for a key what the rule answers. Where it is refused for want of room, `given` tells the
 /// number that a full log gave, or the sum of the count that makes a further table too long.
 pub fn decide<'a, R: Wait, K: Hash + Eq + Drop, V: Drop, S: BuildHasher, D: Rule<V>>(
@@ -142,16 +247,25 @@ pub fn decide<'a, R: Wait, K: Hash + Eq + Drop, V: Drop, S: BuildHasher, D: Rule
 {
     window.learn();
     let book = window.book;
-    let mut computing: Computing<'a, K, V, S, ()> = Computing::new(window, initial, key);
+    let means = Means {
+        rt,
+        alloc,
+        initial,
+        shard,
+    };
+    let mut computing = match decide_at_once(&means, window, given, key, rule) {
+        First::Over(answer) => return answer,
+        First::On(computing) => computing,
+    };
     for _ in rt.forever() {
         match computing.turn(rt, alloc, shard, window) {
-            Turn::Answered(answer) => computing.tell(rt, alloc, shard, answer, window),
-            Turn::Shows(shown) => {
+            Next::Answered(answer) => computing.tell(rt, alloc, shard, answer, window),
+            Next::Shows(shown) => {
                 let operation = wish(book, &shown, rule);
                 let answer = computing.hear(shown, operation);
                 computing.tell(rt, alloc, shard, answer, window);
             }
-            Turn::Replied => {
+            Next::Replied => {
                 *given = computing.writer.call.given.again();
                 return decided(&mut computing, window);
             }

@@ -4,14 +4,14 @@ use Rattle.papaya_ask.specs.Search.{IsWithin}
 use Rattle.papaya_ask.specs.declared.search.Search.TheVariants.{Looking}
 use Rattle.papaya_call.specs.declared.machine.State.TheVariants.{Searching}
 use Rattle.papaya_book.specs.Windows.{Sees}
-use Rattle.papaya_change.specs.Seeking.{left_at}
-use Rattle.papaya_change.specs.Seeks.{IsInsertingAt}
+use Rattle.papaya_change.specs.Seeking.{Seeker, left_at}
+use Rattle.papaya_change.specs.Seeks.{IsSeekingAt}
 use Rattle.papaya_change.proofs.at_once.seek.Given as goal
 
 -- the turns so far led on from the first place to this one
 abbrev pub invariant-loop-next : goal.invariant-loop-next
 invariant-loop-next g l =
-    ((begun : List (Event _ _ _)) → IsInsertingAt l.fn.window l.key begun (Searching (Looking l.fn.at)) None l.table → IsInsertingAt l.window l.key begun (Searching (Looking l.place)) None l.table)
+    ((who : Seeker) (begun : List (Event _ _ _)) → IsSeekingAt who l.fn.window l.key begun (Searching (Looking l.fn.at)) None l.table → IsSeekingAt who l.window l.key begun (Searching (Looking l.place)) None l.table)
     × IsWithin l.place
     × Sees l.fn.window l.window
     × (l.window.own ≡ l.fn.window.own)

@@ -1,5 +1,5 @@
-use Rattle.std.proofs.Common.{◌≡◌, Some, [], ◌∷◌, refl, sym, ap, ◌∙◌, subst}
-use Rattle.std.specs.Prelude.{Bool, IfErr}
+use Rattle.std.proofs.Common.{◌≡◌, Bool, false, Some, ◌∷◌, sym, ap, ◌∙◌, subst}
+use Rattle.std.specs.Prelude.{IfErr}
 use Rattle.papaya_ask.specs.declared.ask.Ask.TheVariants.{Done}
 use Rattle.papaya_ask.specs.declared.call.Reply.TheVariants.{Refused}
 use Rattle.papaya_chain.specs.declared.ask.Ask.TheVariants.{Call}
@@ -12,21 +12,55 @@ use Rattle.papaya_change.specs.Doing.{has_changed}
 use Rattle.papaya_change.proofs.Doing.{does_on, does_still, idles, makes}
 use Rattle.papaya_change.proofs.Helped.{helped_does, helped_keeps}
 use Rattle.papaya_change.proofs.OwnSteps.{own_settings}
+use Rattle.papaya_change.proofs.Logged.{makes_since}
+use Rattle.papaya_lookup.specs.Drivers.{own, past}
+use Rattle.papaya_lookup.specs.History.{Makes}
 use Rattle.papaya_lookup.proofs.Histories.{history_since}
+use Rattle.papaya_book.proofs.Logs.{prefix_trans}
 use Rattle.papaya_book.proofs.Windows.{sees_trans}
+use Rattle.papaya_compute.specs.Deciding.{IsDecided, Wishes, puts}
+use Rattle.papaya_compute.specs.AtOnce.{IfOn, IfOver, IsAhead, IsOnItsWay}
+use Rattle.papaya_compute.specs.declared.at_once.First.{First}
+use Rattle.papaya_compute.specs.declared.at_once.First.TheVariants.{Over}
+use Rattle.papaya_compute.proofs.AtOnce.{does_since}
 use Rattle.papaya_compute.proofs.DoneBy.{done_since, none_removed}
 use Rattle.papaya_compute.proofs.deciding.decide.Goals as goal
 
 pub loop-init : goal.loop-init
-loop-init g c = (
-  ([], (c.learn.new.self.sight.log, c.learn.ensures.sees.log, c.new-computing.ensures.begins), refl),
-  c.new-computing.ensures.standing,
-  c.new-computing.ensures.calling,
-  c.new-computing.ensures.initial,
-  c.learn.ensures.sees,
-  c.requires.callable,
-  subst (λ (changed : Bool). Does changed c.args.window.now c.learn.new.self) (sym c.new-computing.ensures.unchanged) (idles c.args.window.now c.learn.new.self c.learn.ensures.own),
-)
+loop-init g c =
+    let first = c.learn.new.self in let at = c.decide_at_once in let then = at.new.window in
+    let goes = subst (λ (z : First _ _). IfOn z (IsOnItsWay first then c.args.key (Wishes g.D.Rule.decides) c.args.rule.now at.new.rule)) c.in-On.is at.ensures.goes in
+    let ahead = subst (λ (z : First _ _). IfOn z (λ x. IsAhead c.args.initial x × Does false first then)) c.in-On.is at.ensures.ahead in (
+      (goes.0, (goes.1.0, prefix_trans c.args.window.now.sight.log first.sight.log goes.1.0 c.learn.ensures.sees.log goes.1.1, goes.1.2), goes.2),
+      ahead.0.standing,
+      ahead.0.calling,
+      ahead.0.initial_is,
+      sees_trans _ _ _ c.learn.ensures.sees at.ensures.sees,
+      at.ensures.callable,
+      subst (λ (changed : Bool). Does changed c.args.window.now then) (sym ahead.0.unchanged) (does_since c.args.window.now first then c.learn.ensures.own ahead.1),
+    )
+
+pub returns-in-Over-clause-made : goal.returns-in-Over-clause-made
+returns-in-Over-clause-made g c =
+    let first = c.learn.new.self in let at = c.decide_at_once in let then = at.new.window in
+    let m = subst (λ (z : First _ _). IfOver z (λ answer. Makes (puts answer) (own first) (own then) (past then))) c.in-Over.is at.ensures.made in
+    makes_since (puts c.in-Over.answer) c.args.window.now first then (idles c.args.window.now first c.learn.ensures.own) m
+
+pub returns-in-Over-clause-crowded : goal.returns-in-Over-clause-crowded
+returns-in-Over-clause-crowded g c = λ e. c.decide_at_once.ensures.crowded (c.in-Over.is ∙ ap (λ z. Over z) e)
+
+pub returns-in-Over-clause-spent : goal.returns-in-Over-clause-spent
+returns-in-Over-clause-spent g c = λ e. c.decide_at_once.ensures.spent (c.in-Over.is ∙ ap (λ z. Over z) e)
+
+pub returns-in-Over-clause-decided : goal.returns-in-Over-clause-decided
+returns-in-Over-clause-decided g c =
+    let first = c.learn.new.self in let at = c.decide_at_once in let then = at.new.window in
+    let d = subst (λ (z : First _ _). IfOver z (λ answer. IsDecided g.K.PartialEq.eq c.args.key (past first) (past then) g.D.Rule.decides c.args.rule.now at.new.rule answer)) c.in-Over.is at.ensures.decided in
+    record {
+      heard = d.heard;
+      has_said = d.has_said;
+      done = done_since g.K.PartialEq.eq c.args.key _ _ _ (history_since c.args.window.now.sight.log first.sight.log c.learn.ensures.sees.log) d.heard c.in-Over.answer d.done;
+    }
 
 pub tell-requires-clause-can : goal.tell-requires-clause-can
 tell-requires-clause-can g c = let u = c.loop.invariant.0 in (c.args.key, u.1.0, u.0, rw c.turn.ensures.sees.book (c.in-Answered.ensures.turns.0 c.args.key u.1.0 u.0 u.1.2))

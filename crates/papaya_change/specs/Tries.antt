@@ -1,0 +1,63 @@
+-- What came of a pair that was logged for a place that a search had found.
+use Rattle.std.specs.Prelude.{◌≡◌, ◌<◌, ◌^◌, Bool, true, false, Option, None, Some, List}
+use Rattle.std.specs.Prelude.{Result, Ok, Err}
+use Rattle.papaya_words.specs.declared.probe.Refused.{Refused}
+use Rattle.papaya_call.specs.declared.machine.State.{State}
+use Rattle.papaya_book.specs.declared.keyed.Keyed as keyed
+use Rattle.papaya_book.specs.declared.rule.entry.Event.{Event}
+use Rattle.papaya_book.specs.declared.rule.entry.Named.TheVariants as names
+use Rattle.papaya_book.specs.declared.window.Window.{Window}
+use Rattle.papaya_book.specs.Logs.{Stored}
+use Rattle.papaya_book.specs.Sheets.{Sheet}
+use Rattle.papaya_book.specs.Windows.{IsIn}
+use Rattle.papaya_lookup.specs.Drivers.{past}
+use Rattle.papaya_lookup.specs.History.{history_of, key_of}
+use Rattle.papaya_lookup.specs.declared.lookup.Met.{Met}
+use Rattle.papaya_change.specs.Changes.{IsChangeOf}
+use Rattle.papaya_change.specs.Seeking.{Computes, at_live, led_to, met_by}
+use Rattle.papaya_change.specs.Seeks.{IsInsertingAt, IsSeekingAt}
+use Rattle.papaya_change.specs.Showings.{IsSamePair}
+use Rattle.papaya_change.specs.declared.at_once.Tried.{Tried}
+use Rattle.papaya_change.specs.declared.at_once.Tried.TheVariants.{Put, Lost}
+use Rattle.papaya_change.specs.declared.at_once.Turn.{Turn}
+
+abbrev pub pair_in : {K V : Type 0} → Tried K V → Stored K V
+pair_in (Put q) = q
+pair_in (Lost q) = q
+
+-- it was put in
+abbrev pub is_put : {K V : Type 0} → Result (Tried K V) Refused → Bool
+is_put (Ok (Put q)) = true
+is_put (Ok (Lost q)) = false
+is_put (Err refused) = false
+
+-- the very pair that a search met, or none where it met none
+abbrev pub AreSame : {K V : Type 0} → (met taken : Option (Stored K V)) → Type 0
+AreSame met None = met ≡ None
+AreSame {K} {V} met (Some p) = (q : Stored K V) × (met ≡ Some q) × IsSamePair q p
+
+module _ {K V S H : Type 0} {d : keyed.Ghosts S K H} where
+  -- the pair lies in the log, with this key and this value
+  pub record IsLoggedAs (w : Window K V S H d) (key : K) (value : V) (q : Stored K V) : Type 0 where
+    pub placed : IsIn w (names.Pair q)
+    pub key_is : key_of q ≡ key
+    pub value_is : q.value.value ≡ value
+    pub number : q.index < 2 ^ 48
+
+  -- each call that a turn had led there has put the pair in the place of the one that it met
+  abbrev pub Trades : (w w' : Window K V S H d) → K → Sheet → Turn K V → Stored K V → Type 0
+  Trades w w' key table turn q = (begun : List (Event K V S)) (state : State)
+      → led_to turn ≡ Some state → IsInsertingAt w key begun state (met_by turn) table
+      → (taken : Option (Stored K V)) × AreSame (met_by turn) taken
+      × IsChangeOf (d.keys.eq key) (history_of begun) (past w') taken (Some q)
+
+  -- a compute that began at this log is to show the live pair that its search met
+  abbrev pub ShowsMet : Window K V S H d → K → List (Event K V S) → Sheet → Met K V → Type 0
+  ShowsMet w key begun table met = IsSeekingAt Computes w key begun
+      (at_live Computes met.place met.word) (Some met.stored) table
+
+  -- each such one has taken out that very pair
+  abbrev pub TakesOut : (w w' : Window K V S H d) → K → Sheet → Met K V → Type 0
+  TakesOut w w' key table met = (begun : List (Event K V S)) → ShowsMet w key begun table met
+      → (taken : Stored K V) × IsSamePair met.stored taken
+      × IsChangeOf (d.keys.eq key) (history_of begun) (past w') (Some taken) None
