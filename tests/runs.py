@@ -251,7 +251,7 @@ def full(runs):
 # it, learns its size, loads the hint and the slot, makes the key, the value and the pair, claims the slot,
 # counts, and writes the hint. Where the key is there any call loads the root, learns the size, loads the
 # hint and the slot and compares the key. A lookup is over then. An update shows the pair, makes the value
-# and the new pair, and replaces the old one; a removal shows the pair, buries it, and counts.
+# and the new pair, and replaces the old one; a removal shows the pair, deletes it, and counts.
 STEPS = {"i": 12, "g": 5, "u": 9, "r": 8}
 
 # The step in which an insertion into a new map claims the slot.

@@ -20,10 +20,10 @@ pub use papaya_keys::guard::{Collector, Equivalent, Guard, LocalGuard, OwnedGuar
 pub use papaya_keys::occupied::{NotInserted, OccupiedError};
 pub use papaya_map::builder::HashMapBuilder;
 pub use papaya_map::map::{HashMap, HashMapRef, Pass};
+pub use papaya_scan::walk::{Iter, Keys, Values};
 pub use papaya_session::session::Session;
 pub use papaya_set::builder::HashSetBuilder;
 pub use papaya_set::set::{HashSet, HashSetRef};
-pub use papaya_sweep::walk::{Iter, Keys, Values};
 pub use papaya_words::probe::{Refused, ResizeMode};
 
 /// The walk of the set that threads share.

@@ -20,24 +20,24 @@ use Rattle.papaya_copy.specs.declared.settle.Settled.{Settled}
 use Rattle.papaya_copy.specs.declared.settle.Settled.TheVariants as settled
 use Rattle.papaya_copy.specs.declared.settle.Slot.{Slot}
 use Rattle.papaya_copy.specs.declared.step.Chunk.{Chunk}
-use Rattle.papaya_copy.specs.declared.step.Scan.{Scan}
+use Rattle.papaya_copy.specs.declared.step.Cursor.{Cursor}
 use Rattle.papaya_copy.specs.declared.step.Step.{Step}
 use Rattle.papaya_copy.specs.declared.step.Step.TheVariants as steps
 use Rattle.papaya_copy.specs.declared.step.Stepped.{Stepped}
 use Rattle.papaya_copy.specs.declared.step.Stepped.TheVariants as stepped
 use Rattle.papaya_copy.specs.Settle.{settle_ask}
-use Rattle.papaya_copy.specs.Step.{chunk_at, next_scan, scanned, step_ask}
+use Rattle.papaya_copy.specs.Step.{chunk_at, chunk_read, next_cursor, step_ask}
 use Rattle.papaya_copy.specs.Copying.{all_of, copying_ask, further as further_of, leads, lone, over}
 use Rattle.papaya_call.specs.declared.made.Number.TheVariants.{Wanted}
 use Rattle.papaya_chain.specs.declared.ask.Answer.{Answer}
 use Rattle.papaya_chain.specs.declared.ask.Answer.TheVariants as answers
 use Rattle.papaya_chain.specs.declared.machine.Machine.{Machine}
 use Rattle.papaya_chain.specs.Machine.{after_copied, copying_after}
-use Rattle.papaya_chain_rests.specs.Rests.{left_by}
-use Rattle.papaya_rests.specs.Alone.{IsBare, IsPut, IsSame}
-use Rattle.papaya_rests.specs.Copier.{aim_of}
-use Rattle.papaya_rests.proofs.AloneCurrent.{machine_stays}
-use Rattle.papaya_rests.proofs.AloneSteps.{exchange_done}
+use Rattle.papaya_chain_law.specs.Relies.{left_by}
+use Rattle.papaya_call_law.specs.Alone.{IsBare, IsPut, IsSame}
+use Rattle.papaya_call_law.specs.Copier.{aim_of}
+use Rattle.papaya_call_law.proofs.AloneCurrent.{machine_stable}
+use Rattle.papaya_call_law.proofs.AloneSteps.{exchange_done}
 use Rattle.papaya_alone.specs.Ahead.{IsAsideAhead, IsCallRead}
 use Rattle.papaya_alone.specs.Budget.{Budget, IsSpent, SpendsCopy}
 use Rattle.papaya_alone.specs.Current.{IsCopiedRead, IsCopyingRead, IsIncremental, IsSettleRead, IsSteppedRead}
@@ -49,7 +49,7 @@ use Rattle.papaya_alone.proofs.AsideRanks.{GoesOn, HasNext, IsBegun, IsMidway, L
 use Rattle.papaya_alone.proofs.CopyEnds.{any_alive, copying_ends, same_aim}
 use Rattle.papaya_alone.proofs.Onwards.{AimsAt, aim_read, anew_current, anew_rank, enters_current}
 use Rattle.papaya_alone.proofs.SettleEnds.{settle_puts}
-use Rattle.papaya_alone.proofs.StepEnds.{same_scan, scanned_within}
+use Rattle.papaya_alone.proofs.StepEnds.{chunk_read_within, same_cursor}
 use Rattle.papaya_alone.proofs.Telling.{copy_spends, stays_at}
 
 -- it copies for one table
@@ -153,15 +153,15 @@ module _ (words words' : At → ℕ) (bare : IsBare words) (bare' : IsBare words
   aim_least aim (inr (blocks, (met, e))) left same n is = absurd (subst (λ a. AimsAt a n) e is)
 
   -- the chunk was copied, and its word says so
-  advancing_lowers : (aim : Aim) (scan : Scan) (answer : Answer) → IsBehind words → IsCopyingRead mode words (copyings.Stepping aim (steps.Advancing scan)) → IsCopyPrompt words (step_ask (steps.Advancing scan)) answer words' → SpendsCopy (step_ask (steps.Advancing scan)) answer before later
-      → Lowers words words' before later m (rank 1 0 1) (after_copied m (copying_after (copyings.Stepping aim (steps.Advancing scan)) mode m.call.initial m.number answer))
-  advancing_lowers aim scan answer left read told spends =
-      let here : At = words_at.Done scan.to scan.at in
+  advancing_lowers : (aim : Aim) (cursor : Cursor) (answer : Answer) → IsBehind words → IsCopyingRead mode words (copyings.Stepping aim (steps.Advancing cursor)) → IsCopyPrompt words (step_ask (steps.Advancing cursor)) answer words' → SpendsCopy (step_ask (steps.Advancing cursor)) answer before later
+      → Lowers words words' before later m (rank 1 0 1) (after_copied m (copying_after (copyings.Stepping aim (steps.Advancing cursor)) mode m.call.initial m.number answer))
+  advancing_lowers aim cursor answer left read told spends =
+      let here : At = words_at.Done cursor.to cursor.at in
       let done : (answer ≡ answers.Call Exchanged) × IsPut words here 1 words' = exchange_done _ _ (words here) 0 read.1.0.due told in
       let same : words' words_at.Root ≡ words words_at.Root = done.1.others words_at.Root (λ e. cc) in
-      let e = copying_ends mode m.call.initial m.number words words' bare' (copyings.Stepping aim (steps.Advancing scan)) answer read told in (
+      let e = copying_ends mode m.call.initial m.number words words' bare' (copyings.Stepping aim (steps.Advancing cursor)) answer read told in (
         inl (inr (subst (λ a. SpendsCopy (Ask_exchange here 0 1) a before later) done.0 spends)),
-        subst (λ a. IsCopiedRead mode words' (copying_after (copyings.Stepping aim (steps.Advancing scan)) mode m.call.initial m.number a) → IsCallRead words' (after_copied m (copying_after (copyings.Stepping aim (steps.Advancing scan)) mode m.call.initial m.number a))) (sym done.0)
+        subst (λ a. IsCopiedRead mode words' (copying_after (copyings.Stepping aim (steps.Advancing cursor)) mode m.call.initial m.number a) → IsCallRead words' (after_copied m (copying_after (copyings.Stepping aim (steps.Advancing cursor)) mode m.call.initial m.number a))) (sym done.0)
             (λ there. (there, λ t how e. let l = left t how e in omega (arith, l, same))) e.1,
       )
 
@@ -174,14 +174,14 @@ module _ (words words' : At → ℕ) (bare : IsBare words) (bare' : IsBare words
   further_lowers aims.Chunk chunk left (inr which) behind least read less = let e = which.1.1 in absurd (cc e)
   further_lowers (aims.All met) chunk left which behind least read less = (omega (arith, less), ((tt, read), behind))
 
-  round_lowers : (aim : Aim) (scan : Scan) (answer : Answer) → scan.copied ≡ true → IsFor m aim → IsBehind words → IsCopyingRead mode words (copyings.Stepping aim (steps.Scanning scan)) → IsCopyPrompt words (step_ask (steps.Scanning scan)) answer words' → SpendsCopy (step_ask (steps.Scanning scan)) answer before later
-      → Lowers words words' before later m (rank 5 0 (left_of_step (steps.Scanning scan))) (after_copied m (copying_after (copyings.Stepping aim (steps.Scanning scan)) mode m.call.initial m.number answer))
-  round_lowers aim scan answer copied which left read told spends =
-      subst (λ a. SpendsCopy (step_ask (steps.Scanning scan)) a before later → Lowers words words' before later m most (after_copied m (copying_after (copyings.Stepping aim (steps.Scanning scan)) mode m.call.initial m.number a))) (sym told.0.0)
+  round_lowers : (aim : Aim) (cursor : Cursor) (answer : Answer) → cursor.copied ≡ true → IsFor m aim → IsBehind words → IsCopyingRead mode words (copyings.Stepping aim (steps.AtChunk cursor)) → IsCopyPrompt words (step_ask (steps.AtChunk cursor)) answer words' → SpendsCopy (step_ask (steps.AtChunk cursor)) answer before later
+      → Lowers words words' before later m (rank 5 0 (left_of_step (steps.AtChunk cursor))) (after_copied m (copying_after (copyings.Stepping aim (steps.AtChunk cursor)) mode m.call.initial m.number answer))
+  round_lowers aim cursor answer copied which left read told spends =
+      subst (λ a. SpendsCopy (step_ask (steps.AtChunk cursor)) a before later → Lowers words words' before later m most (after_copied m (copying_after (copyings.Stepping aim (steps.AtChunk cursor)) mode m.call.initial m.number a))) (sym told.0.0)
       (λ kept. (inr (kept, led.0), led.1)) spends
     where
       most : ℕ
-      most = rank 5 0 (left_of_step (steps.Scanning scan))
+      most = rank 5 0 (left_of_step (steps.AtChunk cursor))
 
       same : words' words_at.Root ≡ words words_at.Root
       same = told.1 words_at.Root
@@ -190,32 +190,32 @@ module _ (words words' : At → ℕ) (bare : IsBare words) (bare' : IsBare words
       behind t how e = let l = left t how e in omega (arith, l, same)
 
       done : ℕ
-      done = words (words_at.Done scan.to scan.at)
+      done = words (words_at.Done cursor.to cursor.at)
 
       Fits : Stepped → Type 0
-      Fits end = (left_of_stepped end < left_of_step (steps.Scanning scan)) × IsSteppedRead mode words' end
+      Fits end = (left_of_stepped end < left_of_step (steps.AtChunk cursor)) × IsSteppedRead mode words' end
 
       Led : Stepped → Type 0
       Led end = (rank_of (words' words_at.Root) (after_copied m (leads aim mode end)) < most) × IsCallRead words' (after_copied m (leads aim mode end))
 
-      led : Led (scanned scan done)
+      led : Led (chunk_read cursor done)
       led =
-          cond_both (not (done == 0)) (stepped.On (next_scan scan)) (cond scan.copied (stepped.Further (chunk_at scan)) (stepped.On (steps.Settling (chunk_at scan) settles.Looking))) (λ y. Fits y → Led y)
-          (λ e h. (next_ranks (words' words_at.Root) aim scan h.0, ((same_aim mode m.call.initial m.number words words' bare' aim read.0, h.1), behind)))
+          cond_both (not (done == 0)) (stepped.On (next_cursor cursor)) (cond cursor.copied (stepped.Further (chunk_at cursor)) (stepped.On (steps.Settling (chunk_at cursor) settles.Looking))) (λ y. Fits y → Led y)
+          (λ e h. (next_ranks (words' words_at.Root) aim cursor h.0, ((same_aim mode m.call.initial m.number words words' bare' aim read.0, h.1), behind)))
           (λ e.
-          cond_both scan.copied (stepped.Further (chunk_at scan)) (stepped.On (steps.Settling (chunk_at scan) settles.Looking)) (λ y. Fits y → Led y)
-          (λ _ h. further_lowers aim (chunk_at scan) (left_of_step (steps.Scanning scan)) which behind (aim_least aim which left same) h.1 h.0)
+          cond_both cursor.copied (stepped.Further (chunk_at cursor)) (stepped.On (steps.Settling (chunk_at cursor) settles.Looking)) (λ y. Fits y → Led y)
+          (λ _ h. further_lowers aim (chunk_at cursor) (left_of_step (steps.AtChunk cursor)) which behind (aim_least aim which left same) h.1 h.0)
           (λ first h. absurd (cc (first, copied))))
-          (scanned_within mode words' scan (same_scan mode m.call.initial m.number words words' bare' scan read.1 told.1) done (told.1 (words_at.Done scan.to scan.at)))
+          (chunk_read_within mode words' cursor (same_cursor mode m.call.initial m.number words words' bare' cursor read.1 told.1) done (told.1 (words_at.Done cursor.to cursor.at)))
 
   -- the word of a chunk is loaded
-  scanning_lowers : (aim : Aim) (scan : Scan) (answer : Answer) → IsFor m aim → HasNext mode words (steps.Scanning scan) → IsBehind words → IsCopyingRead mode words (copyings.Stepping aim (steps.Scanning scan)) → IsCopyPrompt words (step_ask (steps.Scanning scan)) answer words' → SpendsCopy (step_ask (steps.Scanning scan)) answer before later
-      → Lowers words words' before later m (rank_of_step (words words_at.Root) aim (steps.Scanning scan)) (after_copied m (copying_after (copyings.Stepping aim (steps.Scanning scan)) mode m.call.initial m.number answer))
-  scanning_lowers aim scan answer which next left read told spends =
+  at_chunk_lowers : (aim : Aim) (cursor : Cursor) (answer : Answer) → IsFor m aim → HasNext mode words (steps.AtChunk cursor) → IsBehind words → IsCopyingRead mode words (copyings.Stepping aim (steps.AtChunk cursor)) → IsCopyPrompt words (step_ask (steps.AtChunk cursor)) answer words' → SpendsCopy (step_ask (steps.AtChunk cursor)) answer before later
+      → Lowers words words' before later m (rank_of_step (words words_at.Root) aim (steps.AtChunk cursor)) (after_copied m (copying_after (copyings.Stepping aim (steps.AtChunk cursor)) mode m.call.initial m.number answer))
+  at_chunk_lowers aim cursor answer which next left read told spends =
       ⊎_elim
-      (λ (e : scan.copied ≡ true). subst (λ b. Lowers words words' before later m (cond b (rank 5 0 (left_of_step (steps.Scanning scan))) (rank 1 0 (left_of_step (steps.Scanning scan)))) (after_copied m (copying_after (copyings.Stepping aim (steps.Scanning scan)) mode m.call.initial m.number answer))) (sym e) (round_lowers aim scan answer e which left read told spends))
-      (λ (e : scan.copied ≡ false). midway_lowers aim (steps.Scanning scan) answer e e next left read told spends)
-      (cases_Bool scan.copied)
+      (λ (e : cursor.copied ≡ true). subst (λ b. Lowers words words' before later m (cond b (rank 5 0 (left_of_step (steps.AtChunk cursor))) (rank 1 0 (left_of_step (steps.AtChunk cursor)))) (after_copied m (copying_after (copyings.Stepping aim (steps.AtChunk cursor)) mode m.call.initial m.number answer))) (sym e) (round_lowers aim cursor answer e which left read told spends))
+      (λ (e : cursor.copied ≡ false). midway_lowers aim (steps.AtChunk cursor) answer e e next left read told spends)
+      (cases_Bool cursor.copied)
 
   -- all was copied, and the other table becomes the root
   promoting_lowers : (aim : Aim) (from to : ℕ) (answer : Answer) → IsFor m aim → ((n : ℕ) → AimsAt aim n → to ≤ n) → IsCopyingRead mode words (copyings.Stepping aim (steps.Promoting from to)) → IsCopyPrompt words (step_ask (steps.Promoting from to)) answer words' → SpendsCopy (step_ask (steps.Promoting from to)) answer before later
@@ -244,7 +244,7 @@ module _ (words words' : At → ℕ) (bare : IsBare words) (bare' : IsBare words
   met_lowers blocks met root is same was kept false =
       subst (λ r. Lowers words words' before later m (rank 3 0 0) (after_copied m (copied.Root r))) is (
         inr (kept, anew_rank words' m),
-        anew_current words' m (machine_stays words words' (record m.call { state = At_root; made = record m.call.made { number = Wanted } }) bare (Word_read (words' words_at.Root)) tt tt (ap Word_read (same words_at.Root), same)).read,
+        anew_current words' m (machine_stable words words' (record m.call { state = At_root; made = record m.call.made { number = Wanted } }) bare (Word_read (words' words_at.Root)) tt tt (ap Word_read (same words_at.Root), same)).read,
       )
 
   -- a chunk begins at the root
@@ -283,9 +283,9 @@ module _ (words words' : At → ℕ) (bare : IsBare words) (bare' : IsBare words
   copying_lowers (copyings.Stepping aim (steps.Linking from link)) answer which left read known told spends = midway_lowers aim (steps.Linking from link) answer tt tt known left read told spends
   copying_lowers (copyings.Stepping aim (steps.Judging from to)) answer which left read known told spends = midway_lowers aim (steps.Judging from to) answer tt tt known left read told spends
   copying_lowers (copyings.Stepping aim (steps.Sizing from to)) answer which left read known told spends = midway_lowers aim (steps.Sizing from to) answer tt tt known left read told spends
-  copying_lowers (copyings.Stepping aim (steps.Scanning scan)) answer which left read known told spends = scanning_lowers aim scan answer which known left read told spends
+  copying_lowers (copyings.Stepping aim (steps.AtChunk cursor)) answer which left read known told spends = at_chunk_lowers aim cursor answer which known left read told spends
   copying_lowers (copyings.Stepping aim (steps.Settling chunk settle)) answer which left read known told spends = midway_lowers aim (steps.Settling chunk settle) answer tt tt known left read told spends
-  copying_lowers (copyings.Stepping aim (steps.Advancing scan)) answer which left read known told spends = advancing_lowers aim scan answer left read told spends
+  copying_lowers (copyings.Stepping aim (steps.Advancing cursor)) answer which left read known told spends = advancing_lowers aim cursor answer left read told spends
   copying_lowers (copyings.Stepping aim (steps.Promoting from to)) answer which left read known told spends = promoting_lowers aim from to answer which known read told spends
   copying_lowers (copyings.Lone slot settle) answer (inl which) left read known told spends = lone_lowers which.0 slot settle answer left read told spends
   copying_lowers (copyings.Lone slot settle) answer (inr which) left read known told spends = absurd (not_all which.1.0 which.1.1)

@@ -14,17 +14,17 @@ use Rattle.papaya_copy.specs.declared.settle.Settle.TheVariants as settles
 use Rattle.papaya_copy.specs.declared.settle.Settled.{Settled}
 use Rattle.papaya_copy.specs.declared.settle.Settled.TheVariants as settled
 use Rattle.papaya_copy.specs.declared.step.Chunk.{Chunk}
-use Rattle.papaya_copy.specs.declared.step.Scan.{Scan}
+use Rattle.papaya_copy.specs.declared.step.Cursor.{Cursor}
 use Rattle.papaya_copy.specs.declared.step.Step.{Step}
 use Rattle.papaya_copy.specs.declared.step.Step.TheVariants as steps
 use Rattle.papaya_copy.specs.declared.step.Stepped.{Stepped}
 use Rattle.papaya_copy.specs.declared.step.Stepped.TheVariants as stepped
 use Rattle.papaya_copy.specs.Link.{follows, link_ask}
-use Rattle.papaya_copy.specs.Step.{aimed, chunk_at, first_chunk, is_further, linked_to, next_chunk, next_scan, next_slot, scanned, settled_to, slot_of, step_ask}
+use Rattle.papaya_copy.specs.Step.{aimed, chunk_at, chunk_read, first_chunk, is_further, linked_to, next_chunk, next_cursor, next_slot, settled_to, slot_of, step_ask}
 use Rattle.papaya_chain.specs.declared.ask.Answer.{Answer}
 use Rattle.papaya_chain.specs.declared.machine.Machine.{Machine}
 use Rattle.papaya_chain.specs.Machine.{after_linked, link_after}
-use Rattle.papaya_chain_rests.specs.Rests.{left_by}
+use Rattle.papaya_chain_law.specs.Relies.{left_by}
 use Rattle.papaya_alone.specs.Ahead.{IsCallRead}
 use Rattle.papaya_alone.specs.Budget.{Budget, IsSpent, SpendsCopy}
 use Rattle.papaya_alone.specs.Current.{IsIncremental, IsLinkedRead, IsLinkRead}
@@ -72,13 +72,13 @@ linking_lowers words words' before later m inc link read left behind answer prom
 -- a chunk that has begun, and one that is not over yet
 abbrev pub IsBegun : Step → Type 0
 IsBegun steps.AtRoot = ⊥
-IsBegun (steps.Scanning scan) = scan.copied ≡ false
+IsBegun (steps.AtChunk cursor) = cursor.copied ≡ false
 IsBegun _ = Unit {0}
 
 abbrev pub IsMidway : Step → Type 0
 IsMidway steps.AtRoot = ⊥
-IsMidway (steps.Scanning scan) = scan.copied ≡ false
-IsMidway (steps.Advancing scan) = ⊥
+IsMidway (steps.AtChunk cursor) = cursor.copied ≡ false
+IsMidway (steps.Advancing cursor) = ⊥
 IsMidway (steps.Promoting from to) = ⊥
 IsMidway _ = Unit {0}
 
@@ -94,9 +94,9 @@ begun_rank root aim (steps.Aiming from behind) h = refl
 begun_rank root aim (steps.Linking from link) h = refl
 begun_rank root aim (steps.Judging from to) h = refl
 begun_rank root aim (steps.Sizing from to) h = refl
-begun_rank root aim (steps.Scanning scan) h = ap (λ b. cond b (rank 5 0 (left_of_step (steps.Scanning scan))) (rank 1 0 (left_of_step (steps.Scanning scan)))) h
+begun_rank root aim (steps.AtChunk cursor) h = ap (λ b. cond b (rank 5 0 (left_of_step (steps.AtChunk cursor))) (rank 1 0 (left_of_step (steps.AtChunk cursor)))) h
 begun_rank root aim (steps.Settling chunk settle) h = refl
-begun_rank root aim (steps.Advancing scan) h = refl
+begun_rank root aim (steps.Advancing cursor) h = refl
 begun_rank root aim (steps.Promoting from to) h = refl
 
 -- while it is not over it exchanges no root
@@ -106,9 +106,9 @@ step_puts (steps.Aiming from behind) h e = e
 step_puts (steps.Linking from link) h e = link_puts link words_at.Root tt e
 step_puts (steps.Judging from to) h e = e
 step_puts (steps.Sizing from to) h e = e
-step_puts (steps.Scanning scan) h e = e
+step_puts (steps.AtChunk cursor) h e = e
 step_puts (steps.Settling chunk settle) h e = settle_puts settle (slot_of chunk) words_at.Root tt e
-step_puts (steps.Advancing scan) h e = h
+step_puts (steps.Advancing cursor) h e = h
 step_puts (steps.Promoting from to) h e = h
 
 -- the table behind has a next one, where none is made
@@ -124,34 +124,34 @@ linked_goes from (linked.Refused refused) = tt
 
 settled_goes : (chunk : Chunk) (end : Settled) → GoesOn (settled_to chunk end)
 settled_goes chunk (settled.On settle) = tt
-settled_goes chunk settled.Settled = cond_both (nat_lt (chunk.at + 1) chunk.end) (stepped.On (steps.Settling (next_slot chunk) settles.Looking)) (stepped.On (steps.Advancing chunk.scan)) GoesOn (λ _. tt) (λ _. tt)
+settled_goes chunk settled.Settled = cond_both (nat_lt (chunk.at + 1) chunk.end) (stepped.On (steps.Settling (next_slot chunk) settles.Looking)) (stepped.On (steps.Advancing chunk.cursor)) GoesOn (λ _. tt) (λ _. tt)
 settled_goes chunk (settled.Unfit table) = tt
 settled_goes chunk (settled.Refused refused) = tt
 
-next_goes : (scan : Scan) → scan.copied ≡ false → IsBegun (next_scan scan)
-next_goes scan first =
-    cond_both (is_further scan) (steps.Scanning (next_chunk scan)) (cond (not scan.wrapped && nat_lt 0 scan.start) (steps.Scanning (first_chunk scan)) (steps.Promoting scan.from scan.to)) IsBegun (λ _. first)
-    (λ _. cond_both (not scan.wrapped && nat_lt 0 scan.start) (steps.Scanning (first_chunk scan)) (steps.Promoting scan.from scan.to) IsBegun (λ _. first) (λ _. tt))
+next_goes : (cursor : Cursor) → cursor.copied ≡ false → IsBegun (next_cursor cursor)
+next_goes cursor first =
+    cond_both (is_further cursor) (steps.AtChunk (next_chunk cursor)) (cond (not cursor.wrapped && nat_lt 0 cursor.start) (steps.AtChunk (first_chunk cursor)) (steps.Promoting cursor.from cursor.to)) IsBegun (λ _. first)
+    (λ _. cond_both (not cursor.wrapped && nat_lt 0 cursor.start) (steps.AtChunk (first_chunk cursor)) (steps.Promoting cursor.from cursor.to) IsBegun (λ _. first) (λ _. tt))
 
-scanned_goes : (scan : Scan) (done : ℕ) → scan.copied ≡ false → GoesOn (scanned scan done)
-scanned_goes scan done first =
-    cond_both (not (done == 0)) (stepped.On (next_scan scan)) (cond scan.copied (stepped.Further (chunk_at scan)) (stepped.On (steps.Settling (chunk_at scan) settles.Looking))) GoesOn
-    (λ _. next_goes scan first)
-    (λ _. cond_both scan.copied (stepped.Further (chunk_at scan)) (stepped.On (steps.Settling (chunk_at scan) settles.Looking)) GoesOn (λ copied. absurd (cc (copied, first))) (λ _. tt))
+chunk_read_goes : (cursor : Cursor) (done : ℕ) → cursor.copied ≡ false → GoesOn (chunk_read cursor done)
+chunk_read_goes cursor done first =
+    cond_both (not (done == 0)) (stepped.On (next_cursor cursor)) (cond cursor.copied (stepped.Further (chunk_at cursor)) (stepped.On (steps.Settling (chunk_at cursor) settles.Looking))) GoesOn
+    (λ _. next_goes cursor first)
+    (λ _. cond_both cursor.copied (stepped.Further (chunk_at cursor)) (stepped.On (steps.Settling (chunk_at cursor) settles.Looking)) GoesOn (λ copied. absurd (cc (copied, first))) (λ _. tt))
 
 -- after a chunk that was copied the next word has a lower rank
-pub next_ranks : (root : ℕ) (aim : Aim) (scan : Scan) → left_of_step (next_scan scan) < left_of_step (steps.Scanning scan) → rank_of_step root aim (next_scan scan) < rank 5 0 (left_of_step (steps.Scanning scan))
-next_ranks root aim scan =
-    cond_both (is_further scan) (steps.Scanning (next_chunk scan)) (cond (not scan.wrapped && nat_lt 0 scan.start) (steps.Scanning (first_chunk scan)) (steps.Promoting scan.from scan.to)) Falls
-    (λ _. scan_falls (next_chunk scan))
-    (λ _. cond_both (not scan.wrapped && nat_lt 0 scan.start) (steps.Scanning (first_chunk scan)) (steps.Promoting scan.from scan.to) Falls (λ _. scan_falls (first_chunk scan)) (λ _ less. omega arith))
+pub next_ranks : (root : ℕ) (aim : Aim) (cursor : Cursor) → left_of_step (next_cursor cursor) < left_of_step (steps.AtChunk cursor) → rank_of_step root aim (next_cursor cursor) < rank 5 0 (left_of_step (steps.AtChunk cursor))
+next_ranks root aim cursor =
+    cond_both (is_further cursor) (steps.AtChunk (next_chunk cursor)) (cond (not cursor.wrapped && nat_lt 0 cursor.start) (steps.AtChunk (first_chunk cursor)) (steps.Promoting cursor.from cursor.to)) Falls
+    (λ _. cursor_falls (next_chunk cursor))
+    (λ _. cond_both (not cursor.wrapped && nat_lt 0 cursor.start) (steps.AtChunk (first_chunk cursor)) (steps.Promoting cursor.from cursor.to) Falls (λ _. cursor_falls (first_chunk cursor)) (λ _ less. omega arith))
   where
     Falls : Step → Type 0
-    Falls step = left_of_step step < left_of_step (steps.Scanning scan) → rank_of_step root aim step < rank 5 0 (left_of_step (steps.Scanning scan))
+    Falls step = left_of_step step < left_of_step (steps.AtChunk cursor) → rank_of_step root aim step < rank 5 0 (left_of_step (steps.AtChunk cursor))
 
-    scan_falls : (next : Scan) → Falls (steps.Scanning next)
-    scan_falls next less =
-        cond_both next.copied (rank 5 0 (left_of_step (steps.Scanning next))) (rank 1 0 (left_of_step (steps.Scanning next))) (λ r. r < rank 5 0 (left_of_step (steps.Scanning scan)))
+    cursor_falls : (next : Cursor) → Falls (steps.AtChunk next)
+    cursor_falls next less =
+        cond_both next.copied (rank 5 0 (left_of_step (steps.AtChunk next))) (rank 1 0 (left_of_step (steps.AtChunk next))) (λ r. r < rank 5 0 (left_of_step (steps.AtChunk cursor)))
         (λ _. omega (arith, less)) (λ _. omega (arith, less))
 
 aimed_goes : (mode : ResizeMode) (words : At → ℕ) (from behind : ℕ) → HasNext mode words (steps.Aiming from behind) → GoesOn (aimed from behind mode (words (words_at.Next behind)))
@@ -173,7 +173,7 @@ step_goes mode initial number words words' (steps.Judging from to) answer h next
 step_goes mode initial number words words' (steps.Sizing from to) answer h next told =
     let (slots, limit, size, e) = told.0 in
     subst (λ a. GoesOn (step_after (steps.Sizing from to) mode initial number a)) (sym e) refl
-step_goes mode initial number words words' (steps.Scanning scan) answer h next told = subst (λ a. GoesOn (step_after (steps.Scanning scan) mode initial number a)) (sym told.0.0) (scanned_goes scan (words (words_at.Done scan.to scan.at)) h)
+step_goes mode initial number words words' (steps.AtChunk cursor) answer h next told = subst (λ a. GoesOn (step_after (steps.AtChunk cursor) mode initial number a)) (sym told.0.0) (chunk_read_goes cursor (words (words_at.Done cursor.to cursor.at)) h)
 step_goes mode initial number words words' (steps.Settling chunk settle) answer h next told = subst GoesOn (sym (step_settles mode initial number chunk settle answer)) (settled_goes chunk (settle_after settle (slot_of chunk) mode initial answer))
-step_goes mode initial number words words' (steps.Advancing scan) answer h next told = absurd h
+step_goes mode initial number words words' (steps.Advancing cursor) answer h next told = absurd h
 step_goes mode initial number words words' (steps.Promoting from to) answer h next told = absurd h

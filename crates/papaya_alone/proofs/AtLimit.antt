@@ -46,10 +46,10 @@ use Rattle.papaya_chain.specs.declared.machine.Machine.{Machine}
 use Rattle.papaya_chain.specs.declared.machine.Phase.{Phase}
 use Rattle.papaya_chain.specs.declared.machine.Phase.TheVariants.{Calling, Linking, Copying as Copying_root}
 use Rattle.papaya_chain.specs.Machine.{after, after_copied, after_in, after_linked, aim_for, ask_of, asks_in, called, copying_after, goes_on, grows_as, kind_in, kind_of_ask, leaves, link_after, onward, stepped, told_next}
-use Rattle.papaya_rests.specs.Alone.{IsNumberRead}
-use Rattle.papaya_rests.specs.Says.{MakesPair}
-use Rattle.papaya_rests.proofs.Makings.{IsMakeAsk, make_asks, pair_holds, pair_made}
-use Rattle.papaya_chain_rests.proofs.Names.{call_asks}
+use Rattle.papaya_call_law.specs.Alone.{IsNumberRead}
+use Rattle.papaya_call_law.specs.Says.{MakesPair}
+use Rattle.papaya_call_law.proofs.Makings.{IsMakeAsk, make_asks, pair_holds, pair_made}
+use Rattle.papaya_chain_law.proofs.Names.{call_asks}
 use Rattle.papaya_alone.specs.Limits.{HasNumber, IsLogAsk, IsLogging, IsNumberTaken, IsPairLogged, IsTakeAsk}
 
 -- the number of a call that makes a pair in this stage

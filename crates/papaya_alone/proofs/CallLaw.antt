@@ -19,11 +19,11 @@ use Rattle.papaya_call.specs.Machine.{asks, kind_asked, needed}
 use Rattle.papaya_chain.specs.declared.machine.Machine.{Machine}
 use Rattle.papaya_chain.specs.declared.machine.Phase.TheVariants.{Calling}
 use Rattle.papaya_chain.specs.Machine.{called, leaves, onward, stepped}
-use Rattle.papaya_chain.proofs.Settings.{settings_stay}
-use Rattle.papaya_chain_rests.specs.Rests.{left_by}
-use Rattle.papaya_rests.specs.Alone.{IsBare, IsNumberRead, IsPrompt, IsPut, IsRead}
-use Rattle.papaya_rests.proofs.AloneCurrent.{machine_stays}
-use Rattle.papaya_rests.proofs.AloneSteps.{exchange_done}
+use Rattle.papaya_chain.proofs.Settings.{settings_stable}
+use Rattle.papaya_chain_law.specs.Relies.{left_by}
+use Rattle.papaya_call_law.specs.Alone.{IsBare, IsNumberRead, IsPrompt, IsPut, IsRead}
+use Rattle.papaya_call_law.proofs.AloneCurrent.{machine_stable}
+use Rattle.papaya_call_law.proofs.AloneSteps.{exchange_done}
 use Rattle.papaya_alone.specs.Ahead.{IsAheadIn, IsCallRead}
 use Rattle.papaya_alone.specs.Budget.{Budget, IsSpent, SpendsCall, SpendsExchange}
 use Rattle.papaya_alone.specs.Current.{IsIncremental}
@@ -75,7 +75,7 @@ module _ (words words' : At → ℕ) (bare : IsBare words) (before later : Budge
               (λ (less : rank_in (call_machine.after m told).made (call_machine.after m told).state < rank_in call.made stage). inr (kept, less))
               ends.0)
               (call_spent before later (kind_asked call.made stage) (asks call.made call.hash stage) told spends),
-          ((machine_stays words words' m bare told known read prompt).read, subst (λ how. IsAheadIn how words' (call_machine.after m told).state) (sym (settings_stay m told).0) ends.1),
+          ((machine_stable words words' m bare told known read prompt).read, subst (λ how. IsAheadIn how words' (call_machine.after m told).state) (sym (settings_stable m told).0) ends.1),
         )
 
     -- what the next table's number is

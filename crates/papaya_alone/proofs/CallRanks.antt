@@ -29,24 +29,24 @@ use Rattle.papaya_call.specs.declared.compute.Remembered.{Remembered}
 use Rattle.papaya_call.specs.declared.remove.Removal.{Removal}
 use Rattle.papaya_ask.specs.declared.search.Place.{Place}
 use Rattle.papaya_ask.specs.declared.search.Search.TheVariants.{Sizing, Looking, Reading, Comparing}
-use Rattle.papaya_ask.specs.declared.search.Seen.{Seen}
-use Rattle.papaya_ask.specs.declared.search.Seen.TheVariants as seen
+use Rattle.papaya_ask.specs.declared.search.Probed.{Probed}
+use Rattle.papaya_ask.specs.declared.search.Probed.TheVariants as seen
 use Rattle.papaya_call.specs.declared.made.Made.{Made}
 use Rattle.papaya_call.specs.declared.made.Number.{Number}
 use Rattle.papaya_call.specs.declared.made.Number.TheVariants.{Wanted, Free, Taken}
 use Rattle.papaya_call.specs.declared.write.Write.{Write}
 use Rattle.papaya_call.specs.declared.machine.Machine.{Machine}
 use Rattle.papaya_call.specs.declared.machine.State.{State}
-use Rattle.papaya_call.specs.declared.machine.State.TheVariants.{AtRoot, Making, Opening, Searching, Writing, Offering, Showing, Pairing, Putting, Burying, Counting, Noting, Uncounting, Leaving, Growing, Ended}
+use Rattle.papaya_call.specs.declared.machine.State.TheVariants.{AtRoot, Making, Opening, Searching, Writing, Offering, Showing, Pairing, Putting, Deleting, Counting, Noting, Uncounting, Leaving, Growing, Ended}
 use Rattle.papaya_ask.specs.Search.{IsSize, next_place, go_on, look_at, match_at, look, at_yes as search_compared, hinted}
 use Rattle.papaya_call.specs.Compute.{fills, in_place_of, lacks, offered, chosen, provides, recalled, recalls}
 use Rattle.papaya_call.specs.Made.{answered, serves_at}
 use Rattle.papaya_call.specs.Machine.{after, ask_of, asks, absent, at_root, left as next_or_end, passes, replaces, removes, computes, goes_as, written, agreed}
-use Rattle.papaya_rests.proofs.Leads.{occupies_leads}
-use Rattle.papaya_rests.specs.Alone.{IsNumberRead, IsPut, IsMaking, IsSame, IsSaying, IsPrompt, IsRead, left, left_in, left_to_log, left_to_number, left_to_pair, left_to_serve_with, left_to_write}
-use Rattle.papaya_rests.proofs.AloneSteps.{by_saying, exchange_done}
-use Rattle.papaya_rests.proofs.Makings.{HoldsOfPairAsks, pair_holds, pairing_leads, unserved_leads, write_then, write_then_is}
-use Rattle.papaya_rests.proofs.RestsLearn.{by_test}
+use Rattle.papaya_call_law.proofs.Leads.{occupies_leads}
+use Rattle.papaya_call_law.specs.Alone.{IsNumberRead, IsPut, IsMaking, IsSame, IsSaying, IsPrompt, IsRead, left, left_in, left_to_log, left_to_number, left_to_pair, left_to_serve_with, left_to_write}
+use Rattle.papaya_call_law.proofs.AloneSteps.{by_saying, exchange_done}
+use Rattle.papaya_call_law.proofs.Makings.{HoldsOfPairAsks, pair_holds, pairing_leads, unserved_leads, write_then, write_then_is}
+use Rattle.papaya_call_law.proofs.ReliesLearn.{by_test}
 use Rattle.papaya_alone.specs.Ahead.{IsAhead, IsAheadIn, IsGapAhead, IsPurposeAhead}
 use Rattle.papaya_alone.specs.Current.{IsIncremental}
 use Rattle.papaya_alone.specs.Measure.{further}
@@ -56,21 +56,21 @@ use Rattle.papaya_alone.proofs.Calm.{pairing_nearer, writing_nearer}
 use Rattle.papaya_call.specs.Write.{claimed_by, served_ask, serves}
 
 -- what a search saw, with as much as may come of it
-abbrev rank_of_seen : Seen → ℕ
+abbrev rank_of_seen : Probed → ℕ
 rank_of_seen (seen.On search) = rank 2 (further (table_of search)) (left_of_search search)
 rank_of_seen (seen.Empty at) = rank 2 (further at.table) (2 ^ 68 + 16)
 rank_of_seen (seen.Here at word) = rank 2 (further at.table) (2 ^ 68 + 16)
 rank_of_seen (seen.Over t) = rank 2 (further t) (2 ^ 68 + 16)
 
 -- the table of a search, and of what it saw
-abbrev seen_in : Seen → ℕ
+abbrev seen_in : Probed → ℕ
 seen_in (seen.On search) = table_of search
 seen_in (seen.Empty at) = at.table
 seen_in (seen.Here at word) = at.table
 seen_in (seen.Over t) = t
 
 -- no more is left than this, in the same table
-abbrev SeesIn : ℕ → ℕ → Seen → Type 0
+abbrev SeesIn : ℕ → ℕ → Probed → Type 0
 SeesIn most t s = (rank_of_seen s ≤ most) × (seen_in s ≡ t)
 
 -- a search goes on one place nearer its limit
@@ -95,7 +95,7 @@ look_sees word_kinds.Empty at word = (omega arith, refl)
 look_sees word_kinds.Live at word = (omega arith, refl)
 look_sees word_kinds.Marked at word = (omega arith, refl)
 look_sees word_kinds.Copied at word = (omega arith, refl)
-look_sees word_kinds.Buried at word = let f = go_on_sees at in let l = f.0 in (omega (arith, l), f.1)
+look_sees word_kinds.Tombstone at word = let f = go_on_sees at in let l = f.0 in (omega (arith, l), f.1)
 look_sees word_kinds.Closed at word = let f = go_on_sees at in let l = f.0 in (omega (arith, l), f.1)
 
 -- a matching key ends the search
@@ -104,7 +104,7 @@ match_sees word_kinds.Empty at word = (omega arith, refl)
 match_sees word_kinds.Live at word = (omega arith, refl)
 match_sees word_kinds.Marked at word = (omega arith, refl)
 match_sees word_kinds.Copied at word = (omega arith, refl)
-match_sees word_kinds.Buried at word = (omega arith, refl)
+match_sees word_kinds.Tombstone at word = (omega arith, refl)
 match_sees word_kinds.Closed at word = (omega arith, refl)
 
 -- and one that was compared
@@ -161,7 +161,7 @@ module _ (made : Made) (how : ResizeMode) (words : At → ℕ) where
   replaces_leads word_kinds.Live at word h = (omega (arith, write_most made (record { place = at; old = word })), tt)
   replaces_leads word_kinds.Marked at word h = (omega arith, h)
   replaces_leads word_kinds.Copied at word h = (omega arith, h)
-  replaces_leads word_kinds.Buried at word h = (omega arith, h)
+  replaces_leads word_kinds.Tombstone at word h = (omega arith, h)
   replaces_leads word_kinds.Closed at word h = (omega arith, h)
 
   -- or removed
@@ -170,7 +170,7 @@ module _ (made : Made) (how : ResizeMode) (words : At → ℕ) where
   removes_leads word_kinds.Live at word h = (omega arith, tt)
   removes_leads word_kinds.Marked at word h = (omega arith, h)
   removes_leads word_kinds.Copied at word h = (omega arith, h)
-  removes_leads word_kinds.Buried at word h = (omega arith, h)
+  removes_leads word_kinds.Tombstone at word h = (omega arith, h)
   removes_leads word_kinds.Closed at word h = (omega arith, h)
 
   -- what is remembered of a pair is done, or its closure is shown it
@@ -184,7 +184,7 @@ module _ (made : Made) (how : ResizeMode) (words : At → ℕ) where
       (λ _. (omega arith, tt))
   recalls_leads (Some (choices.Remove old)) at word n =
       let removal : Removal = record { place = at; word = word } in
-      cond_both (old == n) (Burying removal) (Showing removal) (Leads (rank 2 0 0)) (λ _. (omega arith, tt)) (λ _. (omega arith, tt))
+      cond_both (old == n) (Deleting removal) (Showing removal) (Leads (rank 2 0 0)) (λ _. (omega arith, tt)) (λ _. (omega arith, tt))
 
   -- or shown to a closure
   computes_leads : (kind : Kind) (held : Remembered) (at : Place) (word : ℕ) → IsAhead how words at.table → Leads (rank 2 (further at.table) (2 ^ 68 + 3)) (computes kind held at word)
@@ -192,7 +192,7 @@ module _ (made : Made) (how : ResizeMode) (words : At → ℕ) where
   computes_leads word_kinds.Live held at word h = more (rank 2 0 0) _ (recalls held.choice at word (pair_of word)) (omega arith) (recalls_leads held.choice at word (pair_of word))
   computes_leads word_kinds.Marked held at word h = (omega arith, h)
   computes_leads word_kinds.Copied held at word h = (omega arith, h)
-  computes_leads word_kinds.Buried held at word h = (omega arith, h)
+  computes_leads word_kinds.Tombstone held at word h = (omega arith, h)
   computes_leads word_kinds.Closed held at word h = (omega arith, h)
 
   -- a pair that was made goes where its key is absent
@@ -220,7 +220,7 @@ module _ (made : Made) (words : At → ℕ) where
 
 module _ (made : Made) (how : ResizeMode) (words : At → ℕ) where
   -- where a search leads, no more is left than it saw
-  goes_leads : (task : Task) (held : Remembered) (s : Seen) → IsAhead how words (seen_in s) → Leads made how words (rank_of_seen s) (goes_as task how held s)
+  goes_leads : (task : Task) (held : Remembered) (s : Probed) → IsAhead how words (seen_in s) → Leads made how words (rank_of_seen s) (goes_as task how held s)
   goes_leads task held (seen.On search) h = (omega arith, h)
   goes_leads Get held (seen.Here at word) h = (omega arith, tt)
   goes_leads (Insert false) held (seen.Here at word) h = occupies_leads (Leads made how words (rank_of_seen (seen.Here at word))) (kind_of word) at word (omega arith, tt) (omega arith, h)
@@ -432,10 +432,10 @@ module _ (words words' : At → ℕ) (m : Machine) where
       let f = written_leads made m.mode words' put.write put.pair in
       let l = f.0 in
       subst (Ends made (Putting put)) (sym done.0) (inr (omega (arith, l)), f.1)
-  ends_in made (Burying removal) answer known read h number told =
+  ends_in made (Deleting removal) answer known read h number told =
       let at : At = Slot removal.place.table removal.place.probe.i in
       let done : (answer ≡ Exchanged) × IsPut words at _ words' = exchange_done _ _ (words at) removal.word read told in
-      subst (Ends made (Burying removal)) (sym done.0) (inr (omega arith), tt)
+      subst (Ends made (Deleting removal)) (sym done.0) (inr (omega arith), tt)
   ends_in made (Counting n) answer known read h number told = subst (Ends made (Counting n)) (sym told.0) (inr (omega arith), tt)
   ends_in made (Noting n) answer known read h number told = subst (Ends made (Noting n)) (sym told.0) (inr (omega arith), tt)
   ends_in made (Uncounting n) answer known read h number told = subst (Ends made (Uncounting n)) (sym told.0) (inr (omega arith), tt)

@@ -22,9 +22,9 @@ use Rattle.papaya_call.specs.declared.machine.State.TheVariants.{Writing, Pairin
 use Rattle.papaya_call.specs.declared.write.Write.{Write}
 use Rattle.papaya_call.specs.Compute.{in_place_of}
 use Rattle.papaya_call.specs.Machine.{after, asks}
-use Rattle.papaya_rests.specs.Alone.{IsGapRead, IsNumberRead, IsPrompt, IsPurposeRead, IsPut, IsRead, IsSame, left, left_in}
-use Rattle.papaya_rests.proofs.AloneSteps.{machine_nears}
-use Rattle.papaya_rests.proofs.Makings.{HoldsOfPairAsks, pair_holds, write_holds}
+use Rattle.papaya_call_law.specs.Alone.{IsGapRead, IsNumberRead, IsPrompt, IsPurposeRead, IsPut, IsRead, IsSame, left, left_in}
+use Rattle.papaya_call_law.proofs.AloneSteps.{machine_nears}
+use Rattle.papaya_call_law.proofs.Makings.{HoldsOfPairAsks, pair_holds, write_holds}
 use Rattle.papaya_alone.proofs.CopyPrompts.{by_each}
 
 -- the words, but that no table has a next one

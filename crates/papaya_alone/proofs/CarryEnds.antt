@@ -24,8 +24,8 @@ use Rattle.papaya_copy.specs.Link.{link_ask}
 use Rattle.papaya_chain.specs.declared.ask.Answer.{Answer}
 use Rattle.papaya_chain.specs.declared.ask.Answer.TheVariants as answers
 use Rattle.papaya_chain.specs.Machine.{link_after}
-use Rattle.papaya_rests.specs.Alone.{IsBare, IsPut, IsSame}
-use Rattle.papaya_rests.proofs.AloneSteps.{exchange_done}
+use Rattle.papaya_call_law.specs.Alone.{IsBare, IsPut, IsSame}
+use Rattle.papaya_call_law.proofs.AloneSteps.{exchange_done}
 use Rattle.papaya_alone.specs.Prompt.{IsCopyPrompt, IsNumber}
 use Rattle.papaya_alone.specs.Measure.{further, left_of_carried, left_of_carry, left_of_link, left_of_linked}
 use Rattle.papaya_alone.specs.Current.{IsAlive, IsAtTarget, IsCarriedRead, IsCarrying, IsCarryRead, IsIncremental, IsLinkedRead, word_in}
@@ -107,7 +107,7 @@ module _ (mode : ResizeMode) (words : At → ℕ) (bare : IsBare words) (slot : 
   look_within word_kinds.Live hash at found stands none here = (omega arith, (h, here))
   look_within word_kinds.Marked hash at found stands none here = (omega arith, (h, here))
   look_within word_kinds.Copied hash at found stands none here = (omega arith, (h, here))
-  look_within word_kinds.Buried hash at found stands none here = (omega arith, (h, here))
+  look_within word_kinds.Tombstone hash at found stands none here = (omega arith, (h, here))
   look_within word_kinds.Closed hash at found stands none here = let f = goes_within hash at here in let l = f.0 in (omega (arith, l), f.1)
 
   -- the keys match, or they do not

@@ -28,16 +28,16 @@ use Rattle.papaya_law.specs.Allows.{AllAllowed}
 use Rattle.papaya_law.specs.Code.{Coding, IsHashed}
 use Rattle.papaya_law.specs.Exchange.{Setting, Exchange, run, start}
 use Rattle.papaya_law.proofs.Moments.{run-append}
-use Rattle.papaya_rests.proofs.AloneCurrent.{machine_stays}
-use Rattle.papaya_rests.specs.Alone.{IsNumberRead}
-use Rattle.papaya_rests.specs.Told.{word_of}
-use Rattle.papaya_rests.specs.Copier.{HasWords}
-use Rattle.papaya_chain_rests.proofs.Goes.{machine_goes}
-use Rattle.papaya_chain_rests.proofs.Order.{in_order}
-use Rattle.papaya_chain_rests.proofs.Replies.{own_told}
-use Rattle.papaya_chain_rests.specs.Goes.{IsInOrder, IsOwnStep, link_in}
-use Rattle.papaya_chain_rests.specs.Rests.{Rests, left_by}
-use Rattle.papaya_chain_rests.specs.Told.{Hands, IsTold}
+use Rattle.papaya_call_law.proofs.AloneCurrent.{machine_stable}
+use Rattle.papaya_call_law.specs.Alone.{IsNumberRead}
+use Rattle.papaya_call_law.specs.Told.{word_of}
+use Rattle.papaya_call_law.specs.Copier.{HasWords}
+use Rattle.papaya_chain_law.proofs.Goes.{machine_goes}
+use Rattle.papaya_chain_law.proofs.Order.{in_order}
+use Rattle.papaya_chain_law.proofs.Replies.{own_told}
+use Rattle.papaya_chain_law.specs.Goes.{IsInOrder, IsOwnStep, link_in}
+use Rattle.papaya_chain_law.specs.Relies.{Relies, left_by}
+use Rattle.papaya_chain_law.specs.Told.{IsTold, LoadedPairs}
 use Rattle.papaya_alone.specs.Ahead.{IsCallRead, IsCurrent, IsPhaseRead}
 use Rattle.papaya_alone.specs.Budget.{Budget, IsSpent, Spends, SpendsCall, SpendsCopy, SpendsExchange}
 use Rattle.papaya_alone.specs.Prompt.{IsBounded, IsServedAsk}
@@ -79,14 +79,14 @@ some_budget kind (asks.Call ask) (answers.Hash hash) = (nothing_left, nothing_le
 some_budget kind (asks.Call ask) (answers.Count count) = (nothing_left, nothing_left, refl)
 some_budget kind (asks.Copy ask) answer = some_copy ask answer
 
-module _ {K P : Type 0} (g : Setting K P) (c : Coding K P) (hashed : IsHashed g c) (begun since : List (Exchange P)) (may : AllAllowed g start (begun ++ since)) (bounded : IsBounded g (run (begun ++ since) start)) (k : K) (m : Machine) (hands : Hands P) (r : Rests g c begun since k m hands) (made : HasWords g (link_in m.phase)) (current : IsCurrent (word_of g c (run (begun ++ since) start)) m) (answer : Answer) (es : List (Exchange P)) (hands' : Hands P) (told : IsTold g c k (run (begun ++ since) start) (kind_of_ask m) (follows_of m) hands (ask_of m) answer es hands') (served : IsServedAsk m.call.task (ask_of m) answer) where
+module _ {K P : Type 0} (g : Setting K P) (c : Coding K P) (hashed : IsHashed g c) (begun since : List (Exchange P)) (may : AllAllowed g start (begun ++ since)) (bounded : IsBounded g (run (begun ++ since) start)) (k : K) (m : Machine) (loaded : LoadedPairs P) (r : Relies g c begun since k m loaded) (made : HasWords g (link_in m.phase)) (current : IsCurrent (word_of g c (run (begun ++ since) start)) m) (answer : Answer) (es : List (Exchange P)) (loaded' : LoadedPairs P) (told : IsTold g c k (run (begun ++ since) start) (kind_of_ask m) (follows_of m) loaded (ask_of m) answer es loaded') (served : IsServedAsk m.call.task (ask_of m) answer) where
   -- the state comes from all exchanges
   reaches : run es (run (begun ++ since) start) ≡ run (begun ++ (since ++ es)) start
   reaches = sym (run-append (begun ++ since) es start) ∙ ap (λ l. run l start) (append_assoc begun since es)
 
   -- an answer is for the call itself, or the call was set aside
   order : IsInOrder m answer m.phase
-  order = in_order g c begun since k m hands (run (begun ++ since) start) answer es hands' r told
+  order = in_order g c begun since k m loaded (run (begun ++ since) start) answer es loaded' r told
 
   -- the words before the answer and after it
   abbrev words : At → ℕ
@@ -100,12 +100,12 @@ module _ {K P : Type 0} (g : Setting K P) (c : Coding K P) (hashed : IsHashed g 
       → (IsSpent before later ⊎ ((later ≡ before) × (rank_of (run (begun ++ (since ++ es)) start).root (after m answer) < rank_of (run (begun ++ since) start).root m))) × IsCallRead (word_of g c (run (begun ++ (since ++ es)) start)) (after m answer)
   falls before later spends =
       subst (λ s. (IsSpent before later ⊎ ((later ≡ before) × (rank_of s.root (after m answer) < rank_of (run (begun ++ since) start).root m))) × IsCallRead (word_of g c s) (after m answer)) reaches
-      (phase_falls g c hashed begun since may k bounded hands m.number m.helped m.call r.call r.cut answer es hands' before later m.phase made r.phase current.number current.read told served spends)
+      (phase_falls g c hashed begun since may k bounded loaded m.number m.helped m.call r.call r.cut answer es loaded' before later m.phase made r.phase current.number current.read told served spends)
 
   -- a call that is set aside knows as much of the numbers as before
   aside_number : (t : ℕ) → left_by m.call.state ≡ Some t → (call : Call_machine) → (after m answer).call ≡ call → call.made ≡ m.call.made → IsNumberRead words' (after m answer).call.made.number
   aside_number t left call is same =
-      let counts : words' words_at.Made ≡ words words_at.Made = aside_counts g c hashed begun since may k bounded hands m.number m.helped m.call r.call r.cut answer es hands' nothing_left nothing_left t left m.phase made r.phase told in
+      let counts : words' words_at.Made ≡ words words_at.Made = aside_counts g c hashed begun since may k bounded loaded m.number m.helped m.call r.call r.cut answer es loaded' nothing_left nothing_left t left m.phase made r.phase told in
       subst (λ (d : Call_machine). IsNumberRead words' d.made.number) (sym is) (subst (λ (n : Made). IsNumberRead words' n.number) (sym same) (by_number m.call.made.number counts current.number))
     where
       by_number : (number : Number) → words' words_at.Made ≡ words words_at.Made → IsNumberRead words number → IsNumberRead words' number
@@ -116,14 +116,14 @@ module _ {K P : Type 0} (g : Setting K P) (c : Coding K P) (hashed : IsHashed g 
   -- and so does one that goes on by itself
   own_number : (own : IsOwnStep m answer) → IsNumberRead words' (after m answer).call.made.number
   own_number own =
-      let (call', tells) = own_told g c k (run (begun ++ since) start) m hands answer es hands' order told own in
+      let (call', tells) = own_told g c k (run (begun ++ since) start) m loaded answer es loaded' order told own in
       let serves = subst (λ a. IsServedAsk m.call.task (ask_of m) a) own.is served in
-      let prompt = call_prompt g c hashed begun since may k bounded m.call hands.call r.call own.told es call' (subst (λ phase. IsServedAsk m.call.task (asks_in m.call phase) (answers.Call own.told)) own.phase serves) tells in
+      let prompt = call_prompt g c hashed begun since may k bounded m.call loaded.call r.call own.told es call' (subst (λ phase. IsServedAsk m.call.task (asks_in m.call phase) (answers.Call own.told)) own.phase serves) tells in
       let read = subst (IsPhaseRead m.call.mode words m.call.state) own.phase current.read in
-      subst (λ (d : Call_machine). IsNumberRead words' d.made.number) (sym own.call) (machine_stays words words' m.call (words_bare g c (run (begun ++ since) start)) own.told current.number read.0 prompt).number
+      subst (λ (d : Call_machine). IsNumberRead words' d.made.number) (sym own.call) (machine_stable words words' m.call (words_bare g c (run (begun ++ since) start)) own.told current.number read.0 prompt).number
 
-  number_stays : IsNumberRead words' (after m answer).call.made.number
-  number_stays = elim (machine_goes m answer order) [
+  number_stable : IsNumberRead words' (after m answer).call.made.number
+  number_stable = elim (machine_goes m answer order) [
     | inl waits ↦ aside_number waits.from waits.left m.call waits.call refl
     | inr (inl own) ↦ own_number own
     | inr (inr (inl enters)) ↦ aside_number enters.from enters.left (record m.call { state = Searching (Sizing enters.table) }) enters.call refl
@@ -141,4 +141,4 @@ module _ {K P : Type 0} (g : Setting K P) (c : Coding K P) (hashed : IsHashed g 
   pub call_current : IsCurrent (word_of g c (run (begun ++ (since ++ es)) start)) (after m answer)
   call_current =
       let (before, later, spends) = some_budget (kind_of_ask m) (ask_of m) answer in
-      record { number = subst (λ s. IsNumberRead (word_of g c s) (after m answer).call.made.number) reaches number_stays; read = (falls before later spends).1 }
+      record { number = subst (λ s. IsNumberRead (word_of g c s) (after m answer).call.made.number) reaches number_stable; read = (falls before later spends).1 }

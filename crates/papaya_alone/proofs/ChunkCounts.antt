@@ -16,14 +16,14 @@ use Rattle.papaya_copy.specs.declared.settle.Settle.TheVariants as settles
 use Rattle.papaya_copy.specs.declared.settle.Settled.{Settled}
 use Rattle.papaya_copy.specs.declared.settle.Settled.TheVariants as settled
 use Rattle.papaya_copy.specs.declared.step.Chunk.{Chunk as Slots}
-use Rattle.papaya_copy.specs.declared.step.Scan.{Scan}
+use Rattle.papaya_copy.specs.declared.step.Cursor.{Cursor}
 use Rattle.papaya_copy.specs.declared.step.Step.{Step}
 use Rattle.papaya_copy.specs.declared.step.Step.TheVariants as steps
 use Rattle.papaya_copy.specs.declared.step.Stepped.{Stepped}
 use Rattle.papaya_copy.specs.declared.step.Stepped.TheVariants as stepped
 use Rattle.papaya_copy.specs.Copying.{copying_ask, leads}
 use Rattle.papaya_copy.specs.Settle.{settle_ask}
-use Rattle.papaya_copy.specs.Step.{aimed, chunk_at, first_chunk, is_further, next_chunk, next_scan, next_slot, scanned, settled_to, slot_of, step_ask}
+use Rattle.papaya_copy.specs.Step.{aimed, chunk_at, chunk_read, first_chunk, is_further, next_chunk, next_cursor, next_slot, settled_to, slot_of, step_ask}
 use Rattle.papaya_chain.specs.declared.ask.Answer.{Answer}
 use Rattle.papaya_chain.specs.declared.ask.Answer.TheVariants as answers
 use Rattle.papaya_chain.specs.declared.resizer.Resize.TheVariants.{Chunk}
@@ -35,14 +35,14 @@ use Rattle.papaya_law.specs.Exchange.{Setting, State, Exchange, run}
 use Rattle.papaya_law.specs.Invariant.{IsKeeping}
 use Rattle.papaya_law.proofs.Later.{later_run}
 use Rattle.papaya_law.proofs.OneMap.{keeping_sound}
-use Rattle.papaya_rests.specs.Alone.{IsPut}
-use Rattle.papaya_rests.specs.Copier.{HasWords, IsScan, RestsStep}
-use Rattle.papaya_rests.specs.Rests.{IsCutAs, IsModeOf}
-use Rattle.papaya_rests.specs.Told.{word_of}
-use Rattle.papaya_rests.proofs.AloneSteps.{exchange_done}
-use Rattle.papaya_chain_rests.specs.Resizers.{IsStageTold, RestsStage, link_of}
-use Rattle.papaya_chain_rests.specs.Told.{Hands}
-use Rattle.papaya_chain_rests.proofs.ResizerRests.{stage_learns, told_of_ask}
+use Rattle.papaya_call_law.specs.Alone.{IsPut}
+use Rattle.papaya_call_law.specs.Copier.{HasWords, IsCursor, ReliesStep}
+use Rattle.papaya_call_law.specs.Relies.{IsCutAs, IsModeOf}
+use Rattle.papaya_call_law.specs.Told.{word_of}
+use Rattle.papaya_call_law.proofs.AloneSteps.{exchange_done}
+use Rattle.papaya_chain_law.specs.Resizers.{IsStageTold, ReliesStage, link_of}
+use Rattle.papaya_chain_law.specs.Told.{LoadedPairs}
+use Rattle.papaya_chain_law.proofs.ResizerRelies.{stage_learns, told_of_ask}
 use Rattle.papaya_alone.specs.Chunks.{AllFallShort, AllLeaveRoot, IsDue, IsFewer, WillCopyIn, WillCopyStep, chunks_of, due_of}
 use Rattle.papaya_alone.specs.Current.{IsStepRead}
 use Rattle.papaya_alone.specs.Prompt.{IsBounded, IsCopyPrompt}
@@ -53,7 +53,7 @@ use Rattle.papaya_alone.proofs.SettleEnds.{settle_puts}
 use Rattle.papaya_alone.proofs.Telling.{stays_at}
 
 -- without blocking copies go from a root behind it at once
-behind_root : {K P : Type 0} (g : Setting K P) (c : Coding K P) (s : State P) (last kept : Option P) (slots t behind : ℕ) → IsModeOf (Incremental slots) g.blocking → RestsStep g c s last kept (steps.Aiming t behind) → behind ≡ t
+behind_root : {K P : Type 0} (g : Setting K P) (c : Coding K P) (s : State P) (last kept : Option P) (slots t behind : ℕ) → IsModeOf (Incremental slots) g.blocking → ReliesStep g c s last kept (steps.Aiming t behind) → behind ≡ t
 behind_root g c s last kept slots t behind moded r = ⊎_elim (λ (e : behind ≡ t). e) (λ h. let b = h.0 in absurd (cc (b, moded))) r.given_up
 
 -- one chunk more is due, or not
@@ -133,14 +133,14 @@ module _ {K P : Type 0} (g : Setting K P) (c : Coding K P) (s : State P) (last k
     still_fewer true less = let f = due_falls words words' to still chunks in omega (arith, less, f)
     still_fewer false h = tt
 
-    -- the chunk at which a scan stands is one of the table's
-    at_counted : (scan : Scan) → IsScan g c s scan → words words_at.Root ≡ scan.from → scan.at < chunks
-    at_counted scan r root =
-        let is : g.chunk_of scan.begun ≡ scan.at = r.cut scan.begun ∙ ap (chunk_of scan.slots) r.begun ∙ chunk_first scan.slots r.some scan.at in
-        let size : scan.len ≡ g.size from = r.len ∙ ap g.size (sym root ∙ d.pending.root) in
+    -- the chunk at which a cursor stands is one of the table's
+    at_counted : (cursor : Cursor) → IsCursor g c s cursor → words words_at.Root ≡ cursor.from → cursor.at < chunks
+    at_counted cursor r root =
+        let is : g.chunk_of cursor.begun ≡ cursor.at = r.cut cursor.begun ∙ ap (chunk_of cursor.slots) r.begun ∙ chunk_first cursor.slots r.some cursor.at in
+        let size : cursor.len ≡ g.size from = r.len ∙ ap g.size (sym root ∙ d.pending.root) in
         let within = r.within in
-        let lt : scan.begun < g.size from = omega (arith, within, size) in
-        subst (λ y. y < chunks) (sym (cut scan.begun) ∙ is) (chunk_counted (chunk_len (Incremental slots)) (chunk_some (Incremental slots)) (g.size from) scan.begun lt)
+        let lt : cursor.begun < g.size from = omega (arith, within, size) in
+        subst (λ y. y < chunks) (sym (cut cursor.begun) ∙ is) (chunk_counted (chunk_len (Incremental slots)) (chunk_some (Incremental slots)) (g.size from) cursor.begun lt)
 
     -- there is a root
     root_leads : (root : ℕ) → words words_at.Root ≡ root → words' words_at.Root ≡ root → WillBe (stepped.Root root)
@@ -157,35 +157,35 @@ module _ {K P : Type 0} (g : Setting K P) (c : Coding K P) (s : State P) (last k
         (λ some. (still_due root, is))
 
     -- the next word is loaded, or all were
-    next_leads : (scan : Scan) → scan.to ≡ to → MatchBool scan.copied (due_of words' to chunks < due) (Unit {0}) → words' words_at.Root ≡ words words_at.Root → WillBe (stepped.On (next_scan scan))
-    next_leads scan goes fewer root =
-        cond_both (is_further scan) (steps.Scanning (next_chunk scan)) (cond (not scan.wrapped && nat_lt 0 scan.start) (steps.Scanning (first_chunk scan)) (steps.Promoting scan.from scan.to)) (λ y. WillBe (stepped.On y))
+    next_leads : (cursor : Cursor) → cursor.to ≡ to → MatchBool cursor.copied (due_of words' to chunks < due) (Unit {0}) → words' words_at.Root ≡ words words_at.Root → WillBe (stepped.On (next_cursor cursor))
+    next_leads cursor goes fewer root =
+        cond_both (is_further cursor) (steps.AtChunk (next_chunk cursor)) (cond (not cursor.wrapped && nat_lt 0 cursor.start) (steps.AtChunk (first_chunk cursor)) (steps.Promoting cursor.from cursor.to)) (λ y. WillBe (stepped.On y))
         (λ _. (still_due root, (goes, fewer)))
         (λ _.
-        cond_both (not scan.wrapped && nat_lt 0 scan.start) (steps.Scanning (first_chunk scan)) (steps.Promoting scan.from scan.to) (λ y. WillBe (stepped.On y))
+        cond_both (not cursor.wrapped && nat_lt 0 cursor.start) (steps.AtChunk (first_chunk cursor)) (steps.Promoting cursor.from cursor.to) (λ y. WillBe (stepped.On y))
         (λ _. (still_due root, (goes, fewer)))
         (λ _. (still_due root, goes)))
 
     -- a chunk was copied, and this one was not
-    fewer_left : (scan : Scan) → scan.at < chunks → words' (words_at.Done to scan.at) ≡ 0 → words' words_at.Root ≡ words words_at.Root → (copied_one : Bool) → copied_one ≡ true → MatchBool copied_one (due_of words' to chunks < due) (Unit {0}) → IsFewer words' from to chunks due
-    fewer_left scan lt none root true e fewer = record { pending = (still_due root).pending; fewer = fewer; some = due_some words' to scan.at none chunks lt }
-    fewer_left scan lt none root false e fewer = absurd (cc e)
+    fewer_left : (cursor : Cursor) → cursor.at < chunks → words' (words_at.Done to cursor.at) ≡ 0 → words' words_at.Root ≡ words words_at.Root → (copied_one : Bool) → copied_one ≡ true → MatchBool copied_one (due_of words' to chunks < due) (Unit {0}) → IsFewer words' from to chunks due
+    fewer_left cursor lt none root true e fewer = record { pending = (still_due root).pending; fewer = fewer; some = due_some words' to cursor.at none chunks lt }
+    fewer_left cursor lt none root false e fewer = absurd (cc e)
 
     -- the word of a chunk was loaded
-    scanned_leads : (scan : Scan) (done : ℕ) → scan.to ≡ to → scan.at < chunks → words' (words_at.Done to scan.at) ≡ done → MatchBool scan.copied (due_of words' to chunks < due) (Unit {0}) → words' words_at.Root ≡ words words_at.Root → WillBe (scanned scan done)
-    scanned_leads scan done goes lt is fewer root =
-        cond_both (not (done == 0)) (stepped.On (next_scan scan)) (cond scan.copied (stepped.Further (chunk_at scan)) (stepped.On (steps.Settling (chunk_at scan) settles.Looking))) WillBe
-        (λ _. next_leads scan goes fewer root)
+    chunk_read_leads : (cursor : Cursor) (done : ℕ) → cursor.to ≡ to → cursor.at < chunks → words' (words_at.Done to cursor.at) ≡ done → MatchBool cursor.copied (due_of words' to chunks < due) (Unit {0}) → words' words_at.Root ≡ words words_at.Root → WillBe (chunk_read cursor done)
+    chunk_read_leads cursor done goes lt is fewer root =
+        cond_both (not (done == 0)) (stepped.On (next_cursor cursor)) (cond cursor.copied (stepped.Further (chunk_at cursor)) (stepped.On (steps.Settling (chunk_at cursor) settles.Looking))) WillBe
+        (λ _. next_leads cursor goes fewer root)
         (λ e.
-        cond_both scan.copied (stepped.Further (chunk_at scan)) (stepped.On (steps.Settling (chunk_at scan) settles.Looking)) WillBe
-        (λ f. inr (fewer_left scan lt (is ∙ eqb-true done 0 (not-false (done == 0) e)) root scan.copied f fewer))
+        cond_both cursor.copied (stepped.Further (chunk_at cursor)) (stepped.On (steps.Settling (chunk_at cursor) settles.Looking)) WillBe
+        (λ f. inr (fewer_left cursor lt (is ∙ eqb-true done 0 (not-false (done == 0) e)) root cursor.copied f fewer))
         (λ _. (still_due root, goes)))
 
     -- the copy of a slot leads on in the chunk
-    settled_leads : (chunk : Slots) → chunk.scan.to ≡ to → words' words_at.Root ≡ words words_at.Root → (end : Settled) → WillBe (settled_to chunk end)
+    settled_leads : (chunk : Slots) → chunk.cursor.to ≡ to → words' words_at.Root ≡ words words_at.Root → (end : Settled) → WillBe (settled_to chunk end)
     settled_leads chunk goes root (settled.On settle) = (still_due root, goes)
     settled_leads chunk goes root settled.Settled =
-        cond_both (nat_lt (next_slot chunk).at chunk.end) (stepped.On (steps.Settling (next_slot chunk) settles.Looking)) (stepped.On (steps.Advancing chunk.scan)) WillBe
+        cond_both (nat_lt (next_slot chunk).at chunk.end) (stepped.On (steps.Settling (next_slot chunk) settles.Looking)) (stepped.On (steps.Advancing chunk.cursor)) WillBe
         (λ _. (still_due root, goes))
         (λ _. (still_due root, goes))
     settled_leads chunk goes root (settled.Unfit table) = (still_due root, tt)
@@ -195,7 +195,7 @@ module _ {K P : Type 0} (g : Setting K P) (c : Coding K P) (s : State P) (last k
     Leads step answer = WillBe (step_after step (Incremental slots) initial number answer)
 
     -- in each step
-    step_leads : (step : Step) (answer : Answer) → RestsStep g c s last kept step → IsStepRead (Incremental slots) words step → WillCopyStep words to chunks due step → IsCopyPrompt words (step_ask step) answer words' → Leads step answer
+    step_leads : (step : Step) (answer : Answer) → ReliesStep g c s last kept step → IsStepRead (Incremental slots) words step → WillCopyStep words to chunks due step → IsCopyPrompt words (step_ask step) answer words' → Leads step answer
     step_leads steps.AtRoot answer r read goes told = subst (Leads steps.AtRoot) (sym told.0.0) (root_leads (words words_at.Root) refl (told.1 words_at.Root))
     step_leads (steps.Aiming t behind) answer r read goes told =
         let there : behind ≡ from = behind_root g c s last kept slots t behind moded r ∙ sym read ∙ d.pending.root in
@@ -204,52 +204,52 @@ module _ {K P : Type 0} (g : Setting K P) (c : Coding K P) (s : State P) (last k
     step_leads (steps.Sizing t n) answer r read goes told =
         let (len, limit, size, e) = told.0 in
         subst (Leads (steps.Sizing t n)) (sym e) (still_due (told.1 words_at.Root), (goes, tt))
-    step_leads (steps.Scanning scan) answer r read goes told =
-        let lt = at_counted scan r read.root in
-        subst (Leads (steps.Scanning scan)) (sym told.0.0)
-        (scanned_leads scan (words (words_at.Done scan.to scan.at)) goes.0 lt (told.1 (words_at.Done to scan.at) ∙ ap (λ u. words (words_at.Done u scan.at)) (sym goes.0)) (still_fewer scan.copied goes.1) (told.1 words_at.Root))
+    step_leads (steps.AtChunk cursor) answer r read goes told =
+        let lt = at_counted cursor r read.root in
+        subst (Leads (steps.AtChunk cursor)) (sym told.0.0)
+        (chunk_read_leads cursor (words (words_at.Done cursor.to cursor.at)) goes.0 lt (told.1 (words_at.Done to cursor.at) ∙ ap (λ u. words (words_at.Done u cursor.at)) (sym goes.0)) (still_fewer cursor.copied goes.1) (told.1 words_at.Root))
     step_leads (steps.Settling chunk settle) answer r read goes told =
         subst WillBe (sym (step_settles (Incremental slots) initial number chunk settle answer))
         (settled_leads chunk goes (stays_at words words' answer (settle_ask settle (slot_of chunk)) told words_at.Root (settle_puts settle (slot_of chunk) words_at.Root tt)) (settle_after settle (slot_of chunk) (Incremental slots) initial answer))
-    step_leads (steps.Advancing scan) answer r read goes told =
-        let here : At = words_at.Done scan.to scan.at in
+    step_leads (steps.Advancing cursor) answer r read goes told =
+        let here : At = words_at.Done cursor.to cursor.at in
         let done : (answer ≡ answers.Call Exchanged) × IsPut words here 1 words' = exchange_done _ _ (words here) 0 read.0.due told in
         let root = done.1.others words_at.Root (λ e. cc) in
-        let lt = at_counted scan r.scanned read.0.root in
-        let none : words (words_at.Done to scan.at) ≡ 0 = ap (λ u. words (words_at.Done u scan.at)) (sym goes) ∙ read.0.due in
-        let one : words' (words_at.Done to scan.at) ≡ 1 = ap (λ u. words' (words_at.Done u scan.at)) (sym goes) ∙ done.1.here in
-        let less = due_less words words' to still scan.at none one chunks lt in
+        let lt = at_counted cursor r.chunk_read read.0.root in
+        let none : words (words_at.Done to cursor.at) ≡ 0 = ap (λ u. words (words_at.Done u cursor.at)) (sym goes) ∙ read.0.due in
+        let one : words' (words_at.Done to cursor.at) ≡ 1 = ap (λ u. words' (words_at.Done u cursor.at)) (sym goes) ∙ done.1.here in
+        let less = due_less words words' to still cursor.at none one chunks lt in
         let within = d.within in
-        subst (Leads (steps.Advancing scan)) (sym done.0) (next_leads (record scan { copied = true }) goes (omega (arith, less, within)) root)
+        subst (Leads (steps.Advancing cursor)) (sym done.0) (next_leads (record cursor { copied = true }) goes (omega (arith, less, within)) root)
     step_leads (steps.Promoting t n) answer r read goes told =
         let done : (answer ≡ answers.Call Exchanged) × IsPut words words_at.Root n words' = exchange_done _ _ (words words_at.Root) t read told in
         let here = done.1.here in
         subst (Leads (steps.Promoting t n)) (sym done.0) (inl (λ same. omega (arith, here, same, goes, rises)))
     step_leads _ answer r read goes told = absurd goes
 
-module _ {K P : Type 0} (g : Setting K P) (c : Coding K P) (hashed : IsHashed g c) (s : State P) (m : K → Option P) (keeps : IsKeeping g s m) (bounded : IsBounded g s) (slots initial number : ℕ) (hands : Hands P) (moded : IsModeOf (Incremental slots) g.blocking) (cut : IsCutAs (Incremental slots) g.chunk_of) (from to due : ℕ) where
+module _ {K P : Type 0} (g : Setting K P) (c : Coding K P) (hashed : IsHashed g c) (s : State P) (m : K → Option P) (keeps : IsKeeping g s m) (bounded : IsBounded g s) (slots initial number : ℕ) (loaded : LoadedPairs P) (moded : IsModeOf (Incremental slots) g.blocking) (cut : IsCutAs (Incremental slots) g.chunk_of) (from to due : ℕ) where
   -- after each answer
-  pub stage_copies : (stage : Stage) → RestsStage g c s hands stage → HasWords g (link_of stage) → IsStageRead (Incremental slots) (word_of g c s) Chunk stage → WillCopyIn (word_of g c s) from to (chunks_of (g.size from) slots) due stage → (answer : Answer) (es : List (Exchange P)) (hands' : Hands P) → IsStageTold g c s stage hands answer es hands'
+  pub stage_copies : (stage : Stage) → ReliesStage g c s loaded stage → HasWords g (link_of stage) → IsStageRead (Incremental slots) (word_of g c s) Chunk stage → WillCopyIn (word_of g c s) from to (chunks_of (g.size from) slots) due stage → (answer : Answer) (es : List (Exchange P)) (loaded' : LoadedPairs P) → IsStageTold g c s stage loaded answer es loaded'
       → WillCopyIn (word_of g c (run es s)) from to (chunks_of (g.size from) slots) due (after_in Chunk (Incremental slots) initial number answer stage)
-  stage_copies (Copying began (copyings.Stepping aims.Chunk step)) (own, r) made read (d, goes) answer es hands' told =
+  stage_copies (Copying began (copyings.Stepping aims.Chunk step)) (own, r) made read (d, goes) answer es loaded' told =
       let copying = copyings.Stepping aims.Chunk step in
-      let h = told_of_ask g c s hands (Copying began copying) (copying_ask copying) refl answer es hands' told in
-      let answers_so = prompt g c hashed s m keeps bounded (Incremental slots) initial number hands copying r made read.0 answer es hands' h in
-      let may = (stage_learns g c hashed s m keeps Chunk (Incremental slots) initial number hands moded cut (Copying began copying) (own, r) answer (λ _. made) es hands' told).0 in
+      let h = told_of_ask g c s loaded (Copying began copying) (copying_ask copying) refl answer es loaded' told in
+      let answers_so = prompt g c hashed s m keeps bounded (Incremental slots) initial number loaded copying r made read.0 answer es loaded' h in
+      let may = (stage_learns g c hashed s m keeps Chunk (Incremental slots) initial number loaded moded cut (Copying began copying) (own, r) answer (λ _. made) es loaded' told).0 in
       let later = later_run g hashed.lawful es s may in
       let is : s.next from ≡ to = d.pending.next in
       let some : 0 < to = d.pending.more in
       let rises : from < to = ⊎_elim (λ (e : s.next from ≡ 0). absurd (omega (arith, e, is, some))) (λ h. let l = h.1 in omega (arith, l, is)) ((keeping_sound g s m keeps).rises from) in
       subst (λ y. WillCopyIn (word_of g c (run es s)) from to (chunks_of (g.size from) slots) due (copied Chunk began y)) (sym (copying_steps (Incremental slots) initial number aims.Chunk step answer))
-      (step_leads g c s hands.call.last hands.kept (word_of g c (run es s)) slots initial number began from to due moded cut d rises (later.next from (omega (arith, is, some)) ∙ is) (λ chunk. undone (s.done to chunk) ((run es s).done to chunk) (later.done to chunk)) step answer r.1 read.0.1 goes answers_so)
+      (step_leads g c s loaded.call.last loaded.kept (word_of g c (run es s)) slots initial number began from to due moded cut d rises (later.next from (omega (arith, is, some)) ∙ is) (λ chunk. undone (s.done to chunk) ((run es s).done to chunk) (later.done to chunk)) step answer r.1 read.0.1 goes answers_so)
     where
       undone : (before after : Bool) → (before ≡ true → after ≡ true) → ◌≡◌ {A = ℕ} (cond after 1 0) 0 → ◌≡◌ {A = ℕ} (cond before 1 0) 0
       undone true true keeps e = e
       undone true false keeps e = let no = keeps refl in absurd (cc no)
       undone false after keeps e = refl
-  stage_copies Done r made read goes answer es hands' told = let asked = told.1 in absurd cc
-  stage_copies (Refused refused) r made read goes answer es hands' told = let asked = told.1 in absurd cc
-  stage_copies _ r made read goes answer es hands' told = absurd goes
+  stage_copies Done r made read goes answer es loaded' told = let asked = told.1 in absurd cc
+  stage_copies (Refused refused) r made read goes answer es loaded' told = let asked = told.1 in absurd cc
+  stage_copies _ r made read goes answer es loaded' told = absurd goes
 
 -- a table's chunks are its slots by those of a chunk, rounded up
 pub chunks_rounded : (len slots : ℕ) → 0 < len → 0 < slots → chunks_of len slots ≡ (len + (slots - 1)) / slots

@@ -22,7 +22,7 @@ use Rattle.papaya_copy.specs.declared.step.Stepped.TheVariants as stepped
 use Rattle.papaya_copy.specs.Copying.{all_of, at_root, copying_ask, further as further_of, last, leads, lone, over}
 use Rattle.papaya_chain.specs.declared.ask.Answer.{Answer}
 use Rattle.papaya_chain.specs.Machine.{copying_after}
-use Rattle.papaya_rests.specs.Alone.{IsBare}
+use Rattle.papaya_call_law.specs.Alone.{IsBare}
 use Rattle.papaya_alone.specs.Prompt.{IsCopyPrompt}
 use Rattle.papaya_alone.specs.Measure.{left_of_chunk, left_of_copied, left_of_copying, left_of_settle, left_of_settled, left_of_step, left_of_stepped}
 use Rattle.papaya_alone.specs.Current.{IsAimRead, IsAlive, IsCopiedRead, IsCopyingRead, IsIncremental, IsSettledRead, IsSteppedRead}

@@ -18,19 +18,19 @@ use Rattle.papaya_copy.specs.declared.settle.Settle.TheVariants as settles
 use Rattle.papaya_copy.specs.declared.settle.Settled.{Settled}
 use Rattle.papaya_copy.specs.declared.settle.Settled.TheVariants as settled
 use Rattle.papaya_copy.specs.declared.step.Chunk.{Chunk}
-use Rattle.papaya_copy.specs.declared.step.Scan.{Scan}
+use Rattle.papaya_copy.specs.declared.step.Cursor.{Cursor}
 use Rattle.papaya_copy.specs.declared.step.Step.{Step}
 use Rattle.papaya_copy.specs.declared.step.Step.TheVariants as steps
 use Rattle.papaya_copy.specs.declared.step.Stepped.{Stepped}
 use Rattle.papaya_copy.specs.declared.step.Stepped.TheVariants as stepped
 use Rattle.papaya_copy.specs.Copying.{all_of, copying_ask, leads}
-use Rattle.papaya_copy.specs.Step.{aimed, chunk_at, linked_to, next_scan, next_slot, scanned, settled_to, slot_of, step_ask}
+use Rattle.papaya_copy.specs.Step.{aimed, chunk_at, chunk_read, linked_to, next_cursor, next_slot, settled_to, slot_of, step_ask}
 use Rattle.papaya_chain.specs.declared.ask.Answer.{Answer}
 use Rattle.papaya_chain.specs.declared.ask.Answer.TheVariants as answers
 use Rattle.papaya_chain.specs.Machine.{copying_after, link_after}
-use Rattle.papaya_rests.specs.Alone.{IsBare, IsPut}
-use Rattle.papaya_rests.specs.Copier.{aim_of}
-use Rattle.papaya_rests.proofs.AloneSteps.{exchange_done}
+use Rattle.papaya_call_law.specs.Alone.{IsBare, IsPut}
+use Rattle.papaya_call_law.specs.Copier.{aim_of}
+use Rattle.papaya_call_law.proofs.AloneSteps.{exchange_done}
 use Rattle.papaya_alone.specs.Current.{IsCopyingRead, IsIncremental, IsStepRead, IsSteppedRead}
 use Rattle.papaya_alone.specs.Prompt.{IsCopyPrompt}
 use Rattle.papaya_alone.proofs.Afters.{copying_steps, settle_after, step_after, step_links, step_settles}
@@ -67,7 +67,7 @@ module _ (words : At → ℕ) where
 
   settled_last : (chunk : Chunk) (end : Settled) → IsLast (settled_to chunk end)
   settled_last chunk (settled.On settle) = tt
-  settled_last chunk settled.Settled = cond_both (nat_lt (next_slot chunk).at chunk.end) (stepped.On (steps.Settling (next_slot chunk) settles.Looking)) (stepped.On (steps.Advancing chunk.scan)) IsLast (λ _. tt) (λ _. tt)
+  settled_last chunk settled.Settled = cond_both (nat_lt (next_slot chunk).at chunk.end) (stepped.On (steps.Settling (next_slot chunk) settles.Looking)) (stepped.On (steps.Advancing chunk.cursor)) IsLast (λ _. tt) (λ _. tt)
   settled_last chunk (settled.Unfit table) = tt
   settled_last chunk (settled.Refused refused) = tt
 
@@ -79,10 +79,10 @@ module _ (words : At → ℕ) where
   aimed_last Blocking from behind next lined root is =
       cond_both (next == 0) (stepped.On (steps.Linking from (links.Sizing behind from (not (behind == from))))) (stepped.On (steps.Judging from next)) IsLast (λ _. tt) (λ _. tt)
 
-  scanned_last : (scan : Scan) (done : ℕ) → IsLast (scanned scan done)
-  scanned_last scan done =
-      cond_both (not (done == 0)) (stepped.On (next_scan scan)) (cond scan.copied (stepped.Further (chunk_at scan)) (stepped.On (steps.Settling (chunk_at scan) settles.Looking))) IsLast (λ _. tt)
-      (λ _. cond_both scan.copied (stepped.Further (chunk_at scan)) (stepped.On (steps.Settling (chunk_at scan) settles.Looking)) IsLast (λ _. tt) (λ _. tt))
+  chunk_read_last : (cursor : Cursor) (done : ℕ) → IsLast (chunk_read cursor done)
+  chunk_read_last cursor done =
+      cond_both (not (done == 0)) (stepped.On (next_cursor cursor)) (cond cursor.copied (stepped.Further (chunk_at cursor)) (stepped.On (steps.Settling (chunk_at cursor) settles.Looking))) IsLast (λ _. tt)
+      (λ _. cond_both cursor.copied (stepped.Further (chunk_at cursor)) (stepped.On (steps.Settling (chunk_at cursor) settles.Looking)) IsLast (λ _. tt) (λ _. tt))
 
   module _ (mode : ResizeMode) (from : ℕ) (some : 0 < from) where
     -- it copies all still, or its root is the root no more, or has no next table
@@ -124,12 +124,12 @@ module _ (mode : ResizeMode) (initial number : ℕ) (words words' : At → ℕ) 
   step_last (steps.Sizing from to) answer lined read told =
       let (slots, limit, size, e) = told.0 in
       subst (StepLast (steps.Sizing from to)) (sym e) tt
-  step_last (steps.Scanning scan) answer lined read told = subst (StepLast (steps.Scanning scan)) (sym told.0.0) (scanned_last words' scan (words (words_at.Done scan.to scan.at)))
+  step_last (steps.AtChunk cursor) answer lined read told = subst (StepLast (steps.AtChunk cursor)) (sym told.0.0) (chunk_read_last words' cursor (words (words_at.Done cursor.to cursor.at)))
   step_last (steps.Settling chunk settle) answer lined read told = subst (IsLast words') (sym (step_settles mode initial number chunk settle answer)) (settled_last words' chunk (settle_after settle (slot_of chunk) mode initial answer))
-  step_last (steps.Advancing scan) answer lined read told =
-      let here : At = words_at.Done scan.to scan.at in
+  step_last (steps.Advancing cursor) answer lined read told =
+      let here : At = words_at.Done cursor.to cursor.at in
       let done : (answer ≡ answers.Call Exchanged) × IsPut words here 1 words' = exchange_done _ _ (words here) 0 read.0.due told in
-      subst (StepLast (steps.Advancing scan)) (sym done.0) tt
+      subst (StepLast (steps.Advancing cursor)) (sym done.0) tt
   step_last (steps.Promoting from to) answer lined read told =
       let done : (answer ≡ answers.Call Exchanged) × IsPut words words_at.Root to words' = exchange_done _ _ (words words_at.Root) from read told in
       subst (StepLast (steps.Promoting from to)) (sym done.0) tt

@@ -13,16 +13,16 @@ use Rattle.papaya_chain.specs.declared.ask.Answer.{Answer}
 use Rattle.papaya_chain.specs.declared.ask.Answer.TheVariants as answers
 use Rattle.papaya_law.specs.Allows.{Allows}
 use Rattle.papaya_law.specs.Code.{Coding, IsHashed, code, kind}
-use Rattle.papaya_law.specs.Exchange.{Word, Empty, Closed, Live, Marked, Copied, Buried, Setting, State, Exchange, after, run}
+use Rattle.papaya_law.specs.Exchange.{Word, Empty, Closed, Live, Marked, Copied, Tombstone, Setting, State, Exchange, after, run}
 use Rattle.papaya_law.specs.Invariant.{IsKeeping}
 use Rattle.papaya_law.proofs.Chain.{next_on}
 use Rattle.papaya_law.proofs.Codes.{code_kind}
 use Rattle.papaya_law.proofs.OneMap.{keeping_sound}
-use Rattle.papaya_rests.specs.Alone.{IsBare, IsSame}
-use Rattle.papaya_rests.specs.Copier.{AreThere, IsCopyAsked, IsThere}
-use Rattle.papaya_rests.specs.Told.{IsWritten, word_of}
-use Rattle.papaya_rests.proofs.CopierExchange.{one_asked}
-use Rattle.papaya_chain_rests.specs.Told.{Hands, IsCopyTold}
+use Rattle.papaya_call_law.specs.Alone.{IsBare, IsSame}
+use Rattle.papaya_call_law.specs.Copier.{AreThere, IsCopyAsked, IsThere}
+use Rattle.papaya_call_law.specs.Told.{IsWritten, word_of}
+use Rattle.papaya_call_law.proofs.CopierExchange.{one_asked}
+use Rattle.papaya_chain_law.specs.Told.{IsCopyTold, LoadedPairs}
 use Rattle.papaya_alone.specs.Prompt.{IsBounded, IsCopyPrompt, IsNumber}
 
 -- by each outcome of a test
@@ -38,13 +38,13 @@ module _ {K P : Type 0} (g : Setting K P) (c : Coding K P) (s : State P) where
   empty_none (Live p) e = absurd cc
   empty_none (Marked p) e = absurd cc
   empty_none (Copied p) e = absurd cc
-  empty_none (Buried p) e = absurd cc
+  empty_none (Tombstone p) e = absurd cc
 
   -- so the words are bare
   pub words_bare : IsBare (word_of g c s)
   words_bare t i e = empty_none (s.slot t i) (sym (code_kind g c (s.slot t i)) ∙ e)
 
-module _ {K P : Type 0} (g : Setting K P) (c : Coding K P) (hashed : IsHashed g c) (s : State P) (m : K → Option P) (keeps : IsKeeping g s m) (bounded : IsBounded g s) (hands : Hands P) where
+module _ {K P : Type 0} (g : Setting K P) (c : Coding K P) (hashed : IsHashed g c) (s : State P) (m : K → Option P) (keeps : IsKeeping g s m) (bounded : IsBounded g s) (loaded : LoadedPairs P) where
   -- the words
   abbrev words : At → ℕ
   words = word_of g c s
@@ -54,7 +54,7 @@ module _ {K P : Type 0} (g : Setting K P) (c : Coding K P) (hashed : IsHashed g 
   same_none es none at = ap (λ l. word_of g c (run l s) at) none
 
   -- a next table on the chain has a greater number
-  pub number_there : (at : At) → IsThere g c s hands.call.last hands.kept at → IsNumber words at
+  pub number_there : (at : At) → IsThere g c s loaded.call.last loaded.kept at → IsNumber words at
   number_there words_at.Root there = tt
   number_there (words_at.Next t) there =
       ⊎_elim
@@ -69,32 +69,32 @@ module _ {K P : Type 0} (g : Setting K P) (c : Coding K P) (hashed : IsHashed g 
   module _ (kind_asked : Option StepKind) (behind : ℕ) where
     -- an exchange of it whose old word stands there is one of the law
     abbrev pub MayAsk : CopyAsk → Type 0
-    MayAsk q = (at : At) (old new : ℕ) → q ≡ Ask_exchange at old new → word_of g c s at ≡ old → (e : Exchange P) × IsCopyAsked c kind_asked at new s hands.kept e × Allows g s e × IsWritten g c s at new (after s e)
+    MayAsk q = (at : At) (old new : ℕ) → q ≡ Ask_exchange at old new → word_of g c s at ≡ old → (e : Exchange P) × IsCopyAsked c kind_asked at new s loaded.kept e × Allows g s e × IsWritten g c s at new (after s e)
 
     -- a told answer is prompt
-    pub told_prompt : (q : CopyAsk) → AreThere g c s hands.call.last hands.kept q → MayAsk q → (answer : Answer) (es : List (Exchange P)) (hands' : Hands P) → IsCopyTold g c s kind_asked behind hands q answer es hands' → IsCopyPrompt words q answer (word_of g c (run es s))
-    told_prompt (Load at) there may answer es hands' told = ((told.0, number_there at there), same_none es told.1)
-    told_prompt (Ask_exchange at old new) there may answer es hands' told =
+    pub told_prompt : (q : CopyAsk) → AreThere g c s loaded.call.last loaded.kept q → MayAsk q → (answer : Answer) (es : List (Exchange P)) (loaded' : LoadedPairs P) → IsCopyTold g c s kind_asked behind loaded q answer es loaded' → IsCopyPrompt words q answer (word_of g c (run es s))
+    told_prompt (Load at) there may answer es loaded' told = ((told.0, number_there at there), same_none es told.1)
+    told_prompt (Ask_exchange at old new) there may answer es loaded' told =
         by_each (word_of g c s at == old)
         (λ e (a, (x, asked, one, h')).
         let made = may at old new refl (eqb-true (word_of g c s at) old e) in
-        let same : made.0 ≡ x = one_asked c kind_asked at new s hands.kept made.0 x made.1 asked in
+        let same : made.0 ≡ x = one_asked c kind_asked at new s loaded.kept made.0 x made.1 asked in
         let put : IsWritten g c s at new (run es s) = subst (λ l. IsWritten g c s at new (run l s)) (sym one) (subst (λ y. IsWritten g c s at new (after s y)) same made.3) in
         (a, record { here = put.here; others = put.others }))
         (λ e (a, none, h'). (a, same_none es none)) told
-    told_prompt (LoadHint t x) there may answer es hands' told = ((told.0.0, told.0.2), same_none es told.1.0)
-    told_prompt (WriteHint t x hint) there may answer es hands' told = (told.0, same_none es told.1.0)
-    told_prompt (SizeOf t) there may answer es hands' told =
+    told_prompt (LoadHint t x) there may answer es loaded' told = ((told.0.0, told.0.2), same_none es told.1.0)
+    told_prompt (WriteHint t x hint) there may answer es loaded' told = (told.0, same_none es told.1.0)
+    told_prompt (SizeOf t) there may answer es loaded' told =
         let (limit, most, e) = told.0 in
         ((g.size t, limit, bounded.size t limit there most, e), same_none es told.1.0)
-    told_prompt (HashOf n) there may answer es hands' told =
+    told_prompt (HashOf n) there may answer es loaded' told =
         let (p, is, number) = there in
         ((c.hash (g.key p), told.0 p is number), same_none es told.1)
-    told_prompt (SamePair i n) there may answer es hands' told =
+    told_prompt (SamePair i n) there may answer es loaded' told =
         let (o, q, carried, is, first, second) = there in
         ((g.same (g.key o) (g.key q), told.0 o q carried first is second), same_none es told.1.0)
-    told_prompt Count there may answer es hands' told = (told.0, same_none es told.1.0)
-    told_prompt (MakeTable slots limit chunks) there may answer es hands' told = (
+    told_prompt Count there may answer es loaded' told = (told.0, same_none es told.1.0)
+    told_prompt (MakeTable slots limit chunks) there may answer es loaded' told = (
       ⊎_elim (λ (u : (refused : Refused) × (answer ≡ answers.Call (Was_refused refused))). inr u)
           (λ (n : (n : ℕ) × (behind < n) × (answer ≡ answers.Call (Made_number n))). inl (n.0, n.2)) told.0,
       same_none es told.1.0,

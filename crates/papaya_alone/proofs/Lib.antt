@@ -23,6 +23,6 @@ pub mod CopyLeads
 pub mod ResizerLaw
 pub mod ResizerEnds
 pub mod ChunkCounts
--- a call that visits a table: how much is left, and what each answer leaves
-pub mod VisitLefts
-pub mod VisitLaw
+-- a call that scans a table: how much is left, and what each answer leaves
+pub mod ScanLefts
+pub mod ScanLaw

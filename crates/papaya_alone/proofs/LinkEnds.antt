@@ -16,8 +16,8 @@ use Rattle.papaya_copy.specs.Link.{link_ask, making}
 use Rattle.papaya_chain.specs.declared.ask.Answer.{Answer}
 use Rattle.papaya_chain.specs.declared.ask.Answer.TheVariants as answers
 use Rattle.papaya_chain.specs.Machine.{link_after}
-use Rattle.papaya_rests.specs.Alone.{IsPut}
-use Rattle.papaya_rests.proofs.AloneSteps.{exchange_done}
+use Rattle.papaya_call_law.specs.Alone.{IsPut}
+use Rattle.papaya_call_law.proofs.AloneSteps.{exchange_done}
 use Rattle.papaya_alone.specs.Prompt.{IsCopyPrompt}
 use Rattle.papaya_alone.specs.Measure.{left_of_link, left_of_linked}
 use Rattle.papaya_alone.specs.Current.{IsLinkRead, IsLinkedRead}

@@ -31,21 +31,21 @@ use Rattle.papaya_law.specs.Invariant.{IsKeeping, IsSound}
 use Rattle.papaya_law.specs.Meaning.{map_left}
 use Rattle.papaya_law.proofs.Chain.{has_next, none_between, pos_before}
 use Rattle.papaya_law.proofs.OneMap.{keeping, keeping_sound}
-use Rattle.papaya_rests.specs.Alone.{IsNumberRead}
-use Rattle.papaya_rests.specs.Copier.{AreThere, HasWords, IsThere, RestsCopying, RestsLinked, aim_of, link_in_copying}
-use Rattle.papaya_rests.specs.Rests as calls
-use Rattle.papaya_rests.specs.Rests.{IsCutAs, IsModeOf}
-use Rattle.papaya_rests.specs.Told.{word_of}
-use Rattle.papaya_rests.specs.Told as call_told
-use Rattle.papaya_rests.proofs.CopierCopies.{copying_there, link_there}
-use Rattle.papaya_rests.proofs.CopierExchange.{copying_may, link_may}
-use Rattle.papaya_rests.proofs.RestsNames.{come_on}
-use Rattle.papaya_chain_rests.specs.Goes.{link_in}
-use Rattle.papaya_chain_rests.specs.Rests.{IsLinking, RestsPhase, left_by}
-use Rattle.papaya_chain_rests.specs.Told.{Hands, IsCopyTold, IsTold}
-use Rattle.papaya_chain_rests.proofs.Aside.{left_come}
-use Rattle.papaya_chain_rests.proofs.Making.{link_learns_all}
-use Rattle.papaya_chain_rests.proofs.Replies.{aside_asks}
+use Rattle.papaya_call_law.specs.Alone.{IsNumberRead}
+use Rattle.papaya_call_law.specs.Copier.{AreThere, HasWords, IsThere, ReliesCopying, ReliesLinked, aim_of, link_in_copying}
+use Rattle.papaya_call_law.specs.Relies as calls
+use Rattle.papaya_call_law.specs.Relies.{IsCutAs, IsModeOf}
+use Rattle.papaya_call_law.specs.Told.{word_of}
+use Rattle.papaya_call_law.specs.Told as call_told
+use Rattle.papaya_call_law.proofs.CopierCopies.{copying_there, link_there}
+use Rattle.papaya_call_law.proofs.CopierExchange.{copying_may, link_may}
+use Rattle.papaya_call_law.proofs.ReliesNames.{come_on}
+use Rattle.papaya_chain_law.specs.Goes.{link_in}
+use Rattle.papaya_chain_law.specs.Relies.{IsLinking, ReliesPhase, left_by}
+use Rattle.papaya_chain_law.specs.Told.{IsCopyTold, IsTold, LoadedPairs}
+use Rattle.papaya_chain_law.proofs.Aside.{left_come}
+use Rattle.papaya_chain_law.proofs.Making.{link_learns_all}
+use Rattle.papaya_chain_law.proofs.Replies.{aside_asks}
 use Rattle.papaya_alone.specs.Ahead.{IsAsideAhead, IsPhaseRead}
 use Rattle.papaya_alone.specs.Budget.{Budget, Spends, SpendsCopy}
 use Rattle.papaya_alone.specs.Current.{IsCopyingRead, IsIncremental}
@@ -98,7 +98,7 @@ pub blocks : (how : ResizeMode) (blocking : Bool) → IsModeOf how blocking → 
 blocks (Incremental chunk) blocking is e = absurd (cc (is, e))
 blocks Blocking blocking is e = refl
 
-module _ {K P : Type 0} (g : Setting K P) (c : Coding K P) (hashed : IsHashed g c) (begun since : List (Exchange_made P)) (may : AllAllowed g start (begun ++ since)) (k : K) (bounded : IsBounded g (run (begun ++ since) start)) (hands : Hands P) (number : ℕ) (helped : Bool) (call : Call_machine) (r : calls.Rests g c begun since k call hands.call) (cut : IsCutAs call.mode g.chunk_of) (answer : Answer) (es : List (Exchange_made P)) (hands' : Hands P) (before later : Budget) where
+module _ {K P : Type 0} (g : Setting K P) (c : Coding K P) (hashed : IsHashed g c) (begun since : List (Exchange_made P)) (may : AllAllowed g start (begun ++ since)) (k : K) (bounded : IsBounded g (run (begun ++ since) start)) (loaded : LoadedPairs P) (number : ℕ) (helped : Bool) (call : Call_machine) (r : calls.Relies g c begun since k call loaded.call) (cut : IsCutAs call.mode g.chunk_of) (answer : Answer) (es : List (Exchange_made P)) (loaded' : LoadedPairs P) (before later : Budget) where
   -- the state, and the words before the answer and after it
   abbrev now : State P
   now = run (begun ++ since) start
@@ -127,31 +127,31 @@ module _ {K P : Type 0} (g : Setting K P) (c : Coding K P) (hashed : IsHashed g 
 
   -- a table that a call was set aside in is on the chain
   left_on : (t : ℕ) → left_by call.state ≡ Some t → IsOn now.first now.next t
-  left_on t e = come_on g c hashed begun since may k t (left_come g c hashed begun since may k hands.call call.task call.state r.stage t e)
+  left_on t e = come_on g c hashed begun since may k t (left_come g c hashed begun since may k loaded.call call.task call.state r.stage t e)
 
   -- it asks for itself
-  calling_falls : IsNumberRead words call.made.number → IsPhaseRead call.mode words call.state Calling → IsTold g c k now (kind_of_ask (at_phase Calling)) (follows_of (at_phase Calling)) hands (ask_of (at_phase Calling)) answer es hands' → IsServedAsk call.task (ask_of (at_phase Calling)) answer → Spends (kind_of_ask (at_phase Calling)) (ask_of (at_phase Calling)) answer before later → Falls Calling
+  calling_falls : IsNumberRead words call.made.number → IsPhaseRead call.mode words call.state Calling → IsTold g c k now (kind_of_ask (at_phase Calling)) (follows_of (at_phase Calling)) loaded (ask_of (at_phase Calling)) answer es loaded' → IsServedAsk call.task (ask_of (at_phase Calling)) answer → Spends (kind_of_ask (at_phase Calling)) (ask_of (at_phase Calling)) answer before later → Falls Calling
   calling_falls known read told served spends =
       let is : answer ≡ answers.Call told.told = told.is in
       subst (λ a. IsServedAsk call.task (ask_of (at_phase Calling)) a → Spends (kind_of_ask (at_phase Calling)) (ask_of (at_phase Calling)) a before later → Lowers words words' before later (at_phase Calling) (rank_of_phase now.root call Calling) (after (at_phase Calling) a)) (sym is)
-      (λ serves spent. call_lowers words words' (words_bare g c now) before later number helped call known read.0 read.1 (asked_number g c hashed begun since may k bounded call hands.call r) told.told
-      (call_prompt g c hashed begun since may k bounded call hands.call r told.told es told.call serves told.tells) spent)
+      (λ serves spent. call_lowers words words' (words_bare g c now) before later number helped call known read.0 read.1 (asked_number g c hashed begun since may k bounded call loaded.call r) told.told
+      (call_prompt g c hashed begun since may k bounded call loaded.call r told.told es told.call serves told.tells) spent)
       served spends
 
   -- no copy takes a number for a pair
-  takes_none : (ask : CopyAsk) → AreThere g c now hands.call.last hands.kept ask → IsPutAt ask words_at.Made → ⊥
-  takes_none (Exchange at old new) there is = subst (IsThere g c now hands.call.last hands.kept) (sym is) there
+  takes_none : (ask : CopyAsk) → AreThere g c now loaded.call.last loaded.kept ask → IsPutAt ask words_at.Made → ⊥
+  takes_none (Exchange at old new) there is = subst (IsThere g c now loaded.call.last loaded.kept) (sym is) there
   takes_none ask there is = is
 
   -- its next table is made
-  module _ (link : Link) (made : HasWords g (Some link)) (at : IsLinking g c begun since k (at_phase (Linking link)) link) (told : IsCopyTold g c now (link_kind link) (follows link) hands (link_ask link) answer es hands') where
-    link_named : AreThere g c now hands.call.last hands.kept (link_ask link)
-    link_named = link_there g c hashed now (map_left g (begun ++ since)) keeps hands.call.last hands.kept link at.rests
+  module _ (link : Link) (made : HasWords g (Some link)) (at : IsLinking g c begun since k (at_phase (Linking link)) link) (told : IsCopyTold g c now (link_kind link) (follows link) loaded (link_ask link) answer es loaded') where
+    link_named : AreThere g c now loaded.call.last loaded.kept (link_ask link)
+    link_named = link_there g c hashed now (map_left g (begun ++ since)) keeps loaded.call.last loaded.kept link at.relies
 
     -- what is told of the words is what they answer
     link_prompt : IsCopyPrompt words (link_ask link) answer words'
-    link_prompt = told_prompt g c hashed now (map_left g (begun ++ since)) keeps bounded hands (link_kind link) (follows link) (link_ask link) link_named
-        (link_may g c hashed now (map_left g (begun ++ since)) keeps hands.call.last hands.kept link at.rests made) answer es hands' told
+    link_prompt = told_prompt g c hashed now (map_left g (begun ++ since)) keeps bounded loaded (link_kind link) (follows link) (link_ask link) link_named
+        (link_may g c hashed now (map_left g (begun ++ since)) keeps loaded.call.last loaded.kept link at.relies made) answer es loaded' told
 
     -- as many numbers are taken as before
     link_counts : words' words_at.Made ≡ words words_at.Made
@@ -159,11 +159,11 @@ module _ {K P : Type 0} (g : Setting K P) (c : Coding K P) (hashed : IsHashed g 
 
     linking_falls : IsPhaseRead call.mode words call.state (Linking link) → SpendsCopy (link_ask link) answer before later → Falls (Linking link)
     linking_falls read spends =
-        let out = link_learns_all g c hashed begun since may call.mode cut call.initial hands link at.rests answer (λ _. made) es hands' told in
+        let out = link_learns_all g c hashed begun since may call.mode cut call.initial loaded link at.relies answer (λ _. made) es loaded' told in
         let later_sound : IsSound g (run (begun ++ (since ++ es)) start) = keeping_sound g (run (begun ++ (since ++ es)) start) (map_left g (begun ++ (since ++ es))) (keeping g hashed.lawful (begun ++ (since ++ es)) out.0) in
         linking_lowers words words' before later (at_phase (Linking link)) read.0 link read.1 read.2 at.left answer link_prompt spends
         (λ table e.
-        let led : ((run (begun ++ (since ++ es)) start).next (follows link) ≡ table) × (0 < table) = subst (RestsLinked g c (run (begun ++ (since ++ es)) start) hands'.call.last hands'.kept (follows link)) e out.1 in
+        let led : ((run (begun ++ (since ++ es)) start).next (follows link) ≡ table) × (0 < table) = subst (ReliesLinked g c (run (begun ++ (since ++ es)) start) loaded'.call.last loaded'.kept (follows link)) e out.1 in
         let next = led.0 in
         let some = led.1 in
         ⊎_elim
@@ -172,15 +172,15 @@ module _ {K P : Type 0} (g : Setting K P) (c : Coding K P) (hashed : IsHashed g 
         (later_sound.rises (follows link)))
 
   -- the root is copied
-  module _ (copying : Copying) (rests : RestsCopying g c now hands.call.last hands.kept copying) (made : HasWords g (link_in_copying copying)) (told : IsCopyTold g c now (copying_kind copying) (copying_follows copying) hands (copying_ask copying) answer es hands') where
-    copy_named : AreThere g c now hands.call.last hands.kept (copying_ask copying)
-    copy_named = copying_there g c hashed now (map_left g (begun ++ since)) keeps hands.call.last hands.kept copying rests
+  module _ (copying : Copying) (relies : ReliesCopying g c now loaded.call.last loaded.kept copying) (made : HasWords g (link_in_copying copying)) (told : IsCopyTold g c now (copying_kind copying) (copying_follows copying) loaded (copying_ask copying) answer es loaded') where
+    copy_named : AreThere g c now loaded.call.last loaded.kept (copying_ask copying)
+    copy_named = copying_there g c hashed now (map_left g (begun ++ since)) keeps loaded.call.last loaded.kept copying relies
 
     -- what is told of the words is what they answer
     copy_prompt : IsCopyPrompt words (copying_ask copying) answer words'
     copy_prompt =
-        told_prompt g c hashed now (map_left g (begun ++ since)) keeps bounded hands (copying_kind copying) (copying_follows copying) (copying_ask copying) copy_named
-        (copying_may g c hashed now (map_left g (begun ++ since)) keeps hands.call.last hands.kept copying rests made) answer es hands' told
+        told_prompt g c hashed now (map_left g (begun ++ since)) keeps bounded loaded (copying_kind copying) (copying_follows copying) (copying_ask copying) copy_named
+        (copying_may g c hashed now (map_left g (begun ++ since)) keeps loaded.call.last loaded.kept copying relies made) answer es loaded' told
 
     -- as many numbers are taken as before
     copy_counts : words' words_at.Made ≡ words words_at.Made
@@ -199,27 +199,27 @@ module _ {K P : Type 0} (g : Setting K P) (c : Coding K P) (hashed : IsHashed g 
       target.mode
 
   -- without blocking the root has a next table, no later than the one where the call goes on
-  known_helping : (how : ResizeMode) → IsIncremental how → g.blocking ≡ false → (copying : Copying) → RestsCopying g c now hands.call.last hands.kept copying → IsCopyingRead how words copying → IsAsideAhead how words call.state copying → (t : ℕ) → left_by call.state ≡ Some t → 0 < now.next t → AimsAt (aim_of copying) (now.next t)
+  known_helping : (how : ResizeMode) → IsIncremental how → g.blocking ≡ false → (copying : Copying) → ReliesCopying g c now loaded.call.last loaded.kept copying → IsCopyingRead how words copying → IsAsideAhead how words call.state copying → (t : ℕ) → left_by call.state ≡ Some t → 0 < now.next t → AimsAt (aim_of copying) (now.next t)
       → IsKnown how words copying
-  known_helping (Incremental chunk) how inc (copyings.Stepping aim steps.AtRoot) rests read ahead t left some is = (root_on g now sound t (left_on t left)).0
-  known_helping (Incremental chunk) how inc (copyings.Stepping aim (steps.Aiming from behind)) rests read ahead t left some is =
-      let same : behind ≡ from = ⊎_elim (λ (e : behind ≡ from). e) (λ h. absurd (cc (h.0, inc))) rests.1.given_up in
+  known_helping (Incremental chunk) how inc (copyings.Stepping aim steps.AtRoot) relies read ahead t left some is = (root_on g now sound t (left_on t left)).0
+  known_helping (Incremental chunk) how inc (copyings.Stepping aim (steps.Aiming from behind)) relies read ahead t left some is =
+      let same : behind ≡ from = ⊎_elim (λ (e : behind ≡ from). e) (λ h. absurd (cc (h.0, inc))) relies.1.given_up in
       let root : now.root ≡ behind = read.1 ∙ sym same in
       subst (λ y. 0 < now.next y) root (root_next g now sound t (left_on t left) (ahead t tt left) some).0
-  known_helping (Incremental chunk) how inc (copyings.Stepping aim (steps.Linking from link)) rests read ahead t left some is = tt
-  known_helping (Incremental chunk) how inc (copyings.Stepping aim (steps.Judging from to)) rests read ahead t left some is = tt
-  known_helping (Incremental chunk) how inc (copyings.Stepping aim (steps.Sizing from to)) rests read ahead t left some is = tt
-  known_helping (Incremental chunk) how inc (copyings.Stepping aim (steps.Scanning scan)) rests read ahead t left some is = tt
-  known_helping (Incremental chunk) how inc (copyings.Stepping aim (steps.Settling slots settle)) rests read ahead t left some is = tt
-  known_helping (Incremental chunk) how inc (copyings.Stepping aim (steps.Advancing scan)) rests read ahead t left some is = tt
-  known_helping (Incremental chunk) how inc (copyings.Stepping aim (steps.Promoting from to)) rests read ahead t left some is = λ n aims.
+  known_helping (Incremental chunk) how inc (copyings.Stepping aim (steps.Linking from link)) relies read ahead t left some is = tt
+  known_helping (Incremental chunk) how inc (copyings.Stepping aim (steps.Judging from to)) relies read ahead t left some is = tt
+  known_helping (Incremental chunk) how inc (copyings.Stepping aim (steps.Sizing from to)) relies read ahead t left some is = tt
+  known_helping (Incremental chunk) how inc (copyings.Stepping aim (steps.AtChunk cursor)) relies read ahead t left some is = tt
+  known_helping (Incremental chunk) how inc (copyings.Stepping aim (steps.Settling slots settle)) relies read ahead t left some is = tt
+  known_helping (Incremental chunk) how inc (copyings.Stepping aim (steps.Advancing cursor)) relies read ahead t left some is = tt
+  known_helping (Incremental chunk) how inc (copyings.Stepping aim (steps.Promoting from to)) relies read ahead t left some is = λ n aims.
       let one : n ≡ now.next t = aims_one aim n (now.next t) aims is in
-      let to_is : now.next from ≡ to = target_next inc from to rests.1.0.target in
+      let to_is : now.next from ≡ to = target_next inc from to relies.1.0.target in
       let root : now.next now.root ≡ now.next from = ap now.next read.1 in
       let l = (root_next g now sound t (left_on t left) (ahead t tt left) some).1 in
       omega (arith, one, to_is, root, l)
-  known_helping (Incremental chunk) how inc (copyings.Lone slot settle) rests read ahead t left some is = tt
-  known_helping Blocking how inc copying rests read ahead t left some is = absurd how
+  known_helping (Incremental chunk) how inc (copyings.Lone slot settle) relies read ahead t left some is = tt
+  known_helping Blocking how inc copying relies read ahead t left some is = absurd how
 
   -- with blocking there is a root
   known_all : (how : ResizeMode) → how ≡ Blocking → (copying : Copying) (met : ℕ) → aim_of copying ≡ aims.All met → (t : ℕ) → left_by call.state ≡ Some t → IsKnown how words copying
@@ -229,35 +229,35 @@ module _ {K P : Type 0} (g : Setting K P) (c : Coding K P) (hashed : IsHashed g 
   known_all Blocking e (copyings.Stepping aim (steps.Linking from link)) met is t left = tt
   known_all Blocking e (copyings.Stepping aim (steps.Judging from to)) met is t left = tt
   known_all Blocking e (copyings.Stepping aim (steps.Sizing from to)) met is t left = tt
-  known_all Blocking e (copyings.Stepping aim (steps.Scanning scan)) met is t left = tt
+  known_all Blocking e (copyings.Stepping aim (steps.AtChunk cursor)) met is t left = tt
   known_all Blocking e (copyings.Stepping aim (steps.Settling slots settle)) met is t left = tt
-  known_all Blocking e (copyings.Stepping aim (steps.Advancing scan)) met is t left = tt
+  known_all Blocking e (copyings.Stepping aim (steps.Advancing cursor)) met is t left = tt
   known_all Blocking e (copyings.Stepping aim (steps.Promoting from to)) met is t left = λ n aims. absurd (subst (λ a. AimsAt a n) is aims)
   known_all Blocking e (copyings.Lone slot settle) met is t left = tt
 
   -- the root is copied for a call
-  helping_falls : (copying : Copying) → HasWords g (link_in_copying copying) → RestsPhase g c begun since k (at_phase (Copying_root copying)) hands (Copying_root copying) → IsPhaseRead call.mode words call.state (Copying_root copying) → IsCopyTold g c now (copying_kind copying) (copying_follows copying) hands (copying_ask copying) answer es hands' → SpendsCopy (copying_ask copying) answer before later → Falls (Copying_root copying)
+  helping_falls : (copying : Copying) → HasWords g (link_in_copying copying) → ReliesPhase g c begun since k (at_phase (Copying_root copying)) loaded (Copying_root copying) → IsPhaseRead call.mode words call.state (Copying_root copying) → IsCopyTold g c now (copying_kind copying) (copying_follows copying) loaded (copying_ask copying) answer es loaded' → SpendsCopy (copying_ask copying) answer before later → Falls (Copying_root copying)
   helping_falls copying made (inl at) read told spends =
       let inc : IsIncremental call.mode = incremental call.mode g.blocking r.mode at.mode in
       let is : AimsAt (aim_of copying) (now.next at.table) = subst (λ a. AimsAt a (now.next at.table)) (sym at.aim) (aims_at call.state (now.next at.table)) in
       let some = at.next in
       let up : at.table < now.next at.table = ⊎_elim (λ (none : now.next at.table ≡ 0). absurd (omega (arith, none, some))) (λ (h : (0 < at.table) × (at.table < now.next at.table)). h.1) (sound.rises at.table) in
-      copying_falls copying at.rests made told (inl (inc, (now.next at.table, is, (at.table, at.left, up)))) read (known_helping call.mode inc at.mode copying at.rests read.0 read.1 at.table at.left at.next is) spends
+      copying_falls copying at.relies made told (inl (inc, (now.next at.table, is, (at.table, at.left, up)))) read (known_helping call.mode inc at.mode copying at.relies read.0 read.1 at.table at.left at.next is) spends
   helping_falls copying made (inr at) read told spends =
       let e : call.mode ≡ Blocking = blocks call.mode g.blocking r.mode at.mode in
-      copying_falls copying at.rests made told (inr (e, (at.met, at.aim))) read (known_all call.mode e copying at.met at.aim at.table at.left) spends
+      copying_falls copying at.relies made told (inr (e, (at.met, at.aim))) read (known_all call.mode e copying at.met at.aim at.table at.left) spends
 
   -- in each phase
-  pub phase_falls : (phase : Phase) → HasWords g (link_in phase) → RestsPhase g c begun since k (at_phase phase) hands phase → IsNumberRead words call.made.number → IsPhaseRead call.mode words call.state phase → IsTold g c k now (kind_of_ask (at_phase phase)) (follows_of (at_phase phase)) hands (ask_of (at_phase phase)) answer es hands' → IsServedAsk call.task (ask_of (at_phase phase)) answer → Spends (kind_of_ask (at_phase phase)) (ask_of (at_phase phase)) answer before later → Falls phase
+  pub phase_falls : (phase : Phase) → HasWords g (link_in phase) → ReliesPhase g c begun since k (at_phase phase) loaded phase → IsNumberRead words call.made.number → IsPhaseRead call.mode words call.state phase → IsTold g c k now (kind_of_ask (at_phase phase)) (follows_of (at_phase phase)) loaded (ask_of (at_phase phase)) answer es loaded' → IsServedAsk call.task (ask_of (at_phase phase)) answer → Spends (kind_of_ask (at_phase phase)) (ask_of (at_phase phase)) answer before later → Falls phase
   phase_falls Calling made at known read told served spends = calling_falls known read told served spends
   phase_falls (Linking link) made at known read told served spends = linking_falls link made at told read spends
   phase_falls (Copying_root copying) made at known read told served spends = helping_falls copying made at read told spends
 
   -- where the call is set aside, as many numbers are taken as before
-  pub aside_counts : (t : ℕ) → left_by call.state ≡ Some t → (phase : Phase) → HasWords g (link_in phase) → RestsPhase g c begun since k (at_phase phase) hands phase → IsTold g c k now (kind_of_ask (at_phase phase)) (follows_of (at_phase phase)) hands (ask_of (at_phase phase)) answer es hands' → words' words_at.Made ≡ words words_at.Made
+  pub aside_counts : (t : ℕ) → left_by call.state ≡ Some t → (phase : Phase) → HasWords g (link_in phase) → ReliesPhase g c begun since k (at_phase phase) loaded phase → IsTold g c k now (kind_of_ask (at_phase phase)) (follows_of (at_phase phase)) loaded (ask_of (at_phase phase)) answer es loaded' → words' words_at.Made ≡ words words_at.Made
   aside_counts t left Calling made at told =
-      let tells = subst (λ a. call_told.IsTold g c k now (call_machine.kind_of_ask call) hands.call a told.told es told.call) (aside_asks call.made call.hash call.state t left) told.tells in
+      let tells = subst (λ a. call_told.IsTold g c k now (call_machine.kind_of_ask call) loaded.call a told.told es told.call) (aside_asks call.made call.hash call.state t left) told.tells in
       ap (λ l. word_of g c (run l now) words_at.Made) tells.1
   aside_counts t left (Linking link) made at told = link_counts link made at told
-  aside_counts t left (Copying_root copying) made (inl at) told = copy_counts copying at.rests made told
-  aside_counts t left (Copying_root copying) made (inr at) told = copy_counts copying at.rests made told
+  aside_counts t left (Copying_root copying) made (inl at) told = copy_counts copying at.relies made told
+  aside_counts t left (Copying_root copying) made (inr at) told = copy_counts copying at.relies made told

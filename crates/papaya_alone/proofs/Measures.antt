@@ -9,7 +9,7 @@ use Rattle.papaya_call.specs.declared.compute.Gap.TheVariants as gaps
 use Rattle.papaya_call.specs.declared.compute.Purpose.{Purpose}
 use Rattle.papaya_call.specs.declared.compute.Purpose.TheVariants as purposes
 use Rattle.papaya_call.specs.declared.machine.State.{State}
-use Rattle.papaya_call.specs.declared.machine.State.TheVariants.{AtRoot, Making, Opening, Searching, Writing, Offering, Showing, Pairing, Putting, Burying, Counting, Noting, Uncounting, Leaving, Growing, Ended}
+use Rattle.papaya_call.specs.declared.machine.State.TheVariants.{AtRoot, Making, Opening, Searching, Writing, Offering, Showing, Pairing, Putting, Deleting, Counting, Noting, Uncounting, Leaving, Growing, Ended}
 use Rattle.papaya_call.specs.declared.made.Made.{Made}
 use Rattle.papaya_call.specs.Machine.{IsStandingState}
 use Rattle.papaya_copy.specs.declared.carry.Carry.{Carry}
@@ -62,7 +62,7 @@ state_small task made (Offering (gaps.After t)) h = omega arith
 state_small task made (Showing removal) h = omega arith
 state_small task made (Pairing purpose) h = serve_small made purpose
 state_small task made (Putting put) h = omega arith
-state_small task made (Burying removal) h = omega arith
+state_small task made (Deleting removal) h = omega arith
 state_small task made (Counting n) h = omega arith
 state_small task made (Noting n) h = omega arith
 state_small task made (Uncounting n) h = omega arith
@@ -96,12 +96,12 @@ step_small (steps.Aiming from behind) h = omega arith
 step_small (steps.Linking from link) h = let l = link_most link in omega (arith, l)
 step_small (steps.Judging from to) h = omega arith
 step_small (steps.Sizing from to) h = omega arith
-step_small (steps.Scanning scan) h =
+step_small (steps.AtChunk cursor) h =
     let a = h.start in
     let b = h.most in
-    cond_both scan.wrapped (scan.start - scan.at) (scan.len - scan.begun + scan.start + 1) (λ left. scan.len * 2 ^ 68 + 2 ^ 68 + left + 3 < 2 ^ 104) (λ _. omega (arith, a, b)) (λ _. omega (arith, a, b))
-step_small (steps.Settling chunk settle) h = let a = h.0.within in let b = h.0.scan.most in let s = settle_small settle h.1 in omega (arith, a, b, s)
-step_small (steps.Advancing scan) h = omega arith
+    cond_both cursor.wrapped (cursor.start - cursor.at) (cursor.len - cursor.begun + cursor.start + 1) (λ left. cursor.len * 2 ^ 68 + 2 ^ 68 + left + 3 < 2 ^ 104) (λ _. omega (arith, a, b)) (λ _. omega (arith, a, b))
+step_small (steps.Settling chunk settle) h = let a = h.0.within in let b = h.0.cursor.most in let s = settle_small settle h.1 in omega (arith, a, b, s)
+step_small (steps.Advancing cursor) h = omega arith
 step_small (steps.Promoting from to) h = omega arith
 
 -- a copy within its tables has little left
@@ -123,11 +123,11 @@ phase_small root m (Copying_root (copyings.Stepping aim (steps.Aiming from behin
 phase_small root m (Copying_root (copyings.Stepping aim (steps.Linking from link))) h h' = let s = step_small (steps.Linking from link) h' in omega (arith, s)
 phase_small root m (Copying_root (copyings.Stepping aim (steps.Judging from to))) h h' = let s = step_small (steps.Judging from to) h' in omega (arith, s)
 phase_small root m (Copying_root (copyings.Stepping aim (steps.Sizing from to))) h h' = let s = step_small (steps.Sizing from to) h' in omega (arith, s)
-phase_small root m (Copying_root (copyings.Stepping aim (steps.Scanning scan))) h h' =
-    let s = step_small (steps.Scanning scan) h' in
-    cond_both scan.copied (rank 5 0 (left_of_step (steps.Scanning scan))) (rank 1 0 (left_of_step (steps.Scanning scan))) (λ r. r < 2 ^ 190) (λ _. omega (arith, s)) (λ _. omega (arith, s))
+phase_small root m (Copying_root (copyings.Stepping aim (steps.AtChunk cursor))) h h' =
+    let s = step_small (steps.AtChunk cursor) h' in
+    cond_both cursor.copied (rank 5 0 (left_of_step (steps.AtChunk cursor))) (rank 1 0 (left_of_step (steps.AtChunk cursor))) (λ r. r < 2 ^ 190) (λ _. omega (arith, s)) (λ _. omega (arith, s))
 phase_small root m (Copying_root (copyings.Stepping aim (steps.Settling chunk settle))) h h' = let s = step_small (steps.Settling chunk settle) h' in omega (arith, s)
-phase_small root m (Copying_root (copyings.Stepping aim (steps.Advancing scan))) h h' = omega arith
+phase_small root m (Copying_root (copyings.Stepping aim (steps.Advancing cursor))) h h' = omega arith
 phase_small root m (Copying_root (copyings.Stepping aim (steps.Promoting from to))) h h' = omega arith
 phase_small root m (Copying_root (copyings.Lone slot settle)) h h' = let s = settle_small settle h' in omega (arith, s)
 

@@ -16,8 +16,8 @@ use Rattle.papaya_copy.specs.declared.link.Link.TheVariants as links
 use Rattle.papaya_chain.specs.declared.machine.Machine.{Machine}
 use Rattle.papaya_chain.specs.declared.machine.Phase.TheVariants.{Linking}
 use Rattle.papaya_chain.specs.Machine.{aim_for, begins_anew, enters, goes_on, grows_as, onward}
-use Rattle.papaya_chain_rests.specs.Rests.{left_by}
-use Rattle.papaya_rests.specs.Alone.{IsRead}
+use Rattle.papaya_chain_law.specs.Relies.{left_by}
+use Rattle.papaya_call_law.specs.Alone.{IsRead}
 use Rattle.papaya_alone.specs.Ahead.{IsAhead, IsCallRead}
 use Rattle.papaya_alone.specs.Current.{IsAimRead, IsIncremental}
 use Rattle.papaya_alone.specs.Measure.{further}
@@ -49,7 +49,7 @@ module _ (words : At → ℕ) where
   ahead_least Blocking t h = omega (arith, h)
 
   module _ (m : Machine) (inc : IsIncremental m.call.mode) where
-    -- a call for a key in a further table
+    -- a call for a key in a next table
     pub enters_current : (n : ℕ) → words words_at.Root ≤ n → IsCallRead words (enters m n)
     enters_current n h = (tt, ahead_of m.call.mode n inc h)
 

@@ -25,11 +25,11 @@ use Rattle.papaya_chain.specs.Resizer.{after_in, at_last, at_next, copied, copie
 use Rattle.papaya_chain.specs.Room.{entries_of, room_of, room_of_len}
 use Rattle.papaya_law.specs.Code.{Coding}
 use Rattle.papaya_law.specs.Exchange.{Setting, State, Exchange, Open, run}
-use Rattle.papaya_rests.specs.Told.{word_of}
-use Rattle.papaya_rests.proofs.RestsLearn.{by_test}
-use Rattle.papaya_chain_rests.specs.Resizers.{IsStageTold, RestsStage}
-use Rattle.papaya_chain_rests.specs.Told.{Hands, Quiet}
-use Rattle.papaya_chain_rests.proofs.ResizerRests.{told_of_ask}
+use Rattle.papaya_call_law.specs.Told.{word_of}
+use Rattle.papaya_call_law.proofs.ReliesLearn.{by_test}
+use Rattle.papaya_chain_law.specs.Resizers.{IsStageTold, ReliesStage}
+use Rattle.papaya_chain_law.specs.Told.{LoadedPairs, Quiet}
+use Rattle.papaya_chain_law.proofs.ResizerRelies.{told_of_ask}
 use Rattle.papaya_alone.specs.Resizers.{HasResized, HasRoom, IsStageRead, IsWhole}
 
 -- it replies that it is done
@@ -69,7 +69,7 @@ room_long pairs room is = by_length (nat_le (entries_of pairs) (2 ^ 32)) is
         subst (λ (r : Room). entries_of pairs ≤ r.len) same (omega arith)
     by_length false e = absurd cc
 
-module _ {K P : Type 0} (g : Setting K P) (c : Coding K P) (s : State P) (hands : Hands P) (mode : ResizeMode) (initial number : ℕ) (answer : Answer) (es : List (Exchange P)) (hands' : Hands P) where
+module _ {K P : Type 0} (g : Setting K P) (c : Coding K P) (s : State P) (loaded : LoadedPairs P) (mode : ResizeMode) (initial number : ℕ) (answer : Answer) (es : List (Exchange P)) (loaded' : LoadedPairs P) where
   abbrev words : At → ℕ
   words = word_of g c s
 
@@ -85,32 +85,32 @@ module _ {K P : Type 0} (g : Setting K P) (c : Coding K P) (s : State P) (hands 
   same_word none at = ap (λ l. word_of g c (run l s) at) none
 
   -- the first table is made or opened: more is to come
-  made_open : (resize : Resize) (room : Room) → IsStageTold g c s (Making room) hands answer es hands' → IsDone (after_in resize mode initial number answer (Making room)) → ⊥
+  made_open : (resize : Resize) (room : Room) → IsStageTold g c s (Making room) loaded answer es loaded' → IsDone (after_in resize mode initial number answer (Making room)) → ⊥
   made_open resize room told done =
-      let h = told_of_ask g c s hands (Making room) (MakeTable room.len room.limit 0) refl answer es hands' told in
+      let h = told_of_ask g c s loaded (Making room) (MakeTable room.len room.limit 0) refl answer es loaded' told in
       ⊎_elim
       (λ (u : (refused : Refused) × (answer ≡ answers.Call (Was_refused refused))). let to = by_answer resize (Making room) (answers.Call (Was_refused u.0)) u.1 done in absurd (cc to))
       (λ (n : (n : ℕ) × (0 < n) × (answer ≡ answers.Call (Made_number n))). let to = by_answer resize (Making room) (answers.Call (Made_number n.0)) n.2 done in absurd (cc to))
       h.0
 
-  opened_open : (resize : Resize) (table : ℕ) → IsStageTold g c s (Opening table) hands answer es hands' → IsDone (after_in resize mode initial number answer (Opening table)) → ⊥
+  opened_open : (resize : Resize) (table : ℕ) → IsStageTold g c s (Opening table) loaded answer es loaded' → IsDone (after_in resize mode initial number answer (Opening table)) → ⊥
   opened_open resize table told done =
       by_test (s.root == 0)
-      ((answer ≡ answers.Call Exchanged) × (es ≡ Open table ∷ []) × (hands' ≡ hands))
-      ((answer ≡ answers.Call (Found_instead s.root)) × Quiet g c hands es hands')
+      ((answer ≡ answers.Call Exchanged) × (es ≡ Open table ∷ []) × (loaded' ≡ loaded))
+      ((answer ≡ answers.Call (Found_instead s.root)) × Quiet g c loaded es loaded')
       ⊥ told
       (λ none (a, e, h). let to = by_answer resize (Opening table) (answers.Call Exchanged) a done in absurd (cc to))
       (λ some (a, h). let to = by_answer resize (Opening table) (answers.Call (Found_instead s.root)) a done in absurd (cc to))
 
-  sized_open : (resize : Resize) (root : ℕ) → IsStageTold g c s (Sizing root) hands answer es hands' → IsDone (after_in resize mode initial number answer (Sizing root)) → ⊥
+  sized_open : (resize : Resize) (root : ℕ) → IsStageTold g c s (Sizing root) loaded answer es loaded' → IsDone (after_in resize mode initial number answer (Sizing root)) → ⊥
   sized_open resize root told done =
-      let h = told_of_ask g c s hands (Sizing root) (SizeOf root) refl answer es hands' told in
+      let h = told_of_ask g c s loaded (Sizing root) (SizeOf root) refl answer es loaded' told in
       let to = by_answer resize (Sizing root) (answers.Call (Size (g.size root) h.0.0)) h.0.2 done in absurd (cc to)
 
   -- all is copied: there is no root, or it has no next table
-  all_ends : (stage : Stage) → IsStageRead mode words CopyAll stage → IsStageTold g c s stage hands answer es hands' → IsDone (after_in CopyAll mode initial number answer stage) → IsWhole later
+  all_ends : (stage : Stage) → IsStageRead mode words CopyAll stage → IsStageTold g c s stage loaded answer es loaded' → IsDone (after_in CopyAll mode initial number answer stage) → IsWhole later
   all_ends AtRoot read told done =
-      let h = told_of_ask g c s hands AtRoot (Load words_at.Root) refl answer es hands' told in
+      let h = told_of_ask g c s loaded AtRoot (Load words_at.Root) refl answer es loaded' told in
       cond_both (s.root == 0) Done (Looking s.root 0 None) (λ y. IsDone y → IsWhole later)
       (λ none d. inl (same_word h.1 words_at.Root ∙ eqb-true s.root 0 none))
       (λ some d. absurd cc)
@@ -120,7 +120,7 @@ module _ {K P : Type 0} (g : Setting K P) (c : Coding K P) (s : State P) (hands 
   all_ends (Sizing root) read told done = absurd read.1
   all_ends (Counting root len) read told done = absurd read.1
   all_ends (Looking root len room) read told done =
-      let h = told_of_ask g c s hands (Looking root len room) (Load (words_at.Next root)) refl answer es hands' told in
+      let h = told_of_ask g c s loaded (Looking root len room) (Load (words_at.Next root)) refl answer es loaded' told in
       cond_both (s.next root == 0) (at_last mode root len room) (copies root) (λ y. IsDone y → IsWhole later)
       (λ none d. inr (ap (λ t. later (words_at.Next t)) (same_word h.1 words_at.Root ∙ read.0.0) ∙ same_word h.1 (words_at.Next root) ∙ eqb-true (s.next root) 0 none))
       (λ some d. absurd cc)
@@ -146,9 +146,9 @@ module _ {K P : Type 0} (g : Setting K P) (c : Coding K P) (s : State P) (hands 
     next_open : (root len : ℕ) (room : Room) (next : ℕ) → IsDone (at_next mode root len (Some room) next) → ⊥
     next_open root len room next = cond_both (next == 0) (at_last mode root len (Some room)) (copies root) (λ y. IsDone y → ⊥) (λ _ d. absurd cc) (λ _ d. absurd cc)
 
-    reserve_ends : (stage : Stage) → RestsStage g c s hands stage → IsStageRead mode words (Reserve more) stage → IsStageTold g c s stage hands answer es hands' → IsDone (after_in (Reserve more) mode initial number answer stage) → HasRoom later g.size answer more
+    reserve_ends : (stage : Stage) → ReliesStage g c s loaded stage → IsStageRead mode words (Reserve more) stage → IsStageTold g c s stage loaded answer es loaded' → IsDone (after_in (Reserve more) mode initial number answer stage) → HasRoom later g.size answer more
     reserve_ends AtRoot r read told done =
-        let h = told_of_ask g c s hands AtRoot (Load words_at.Root) refl answer es hands' told in
+        let h = told_of_ask g c s loaded AtRoot (Load words_at.Root) refl answer es loaded' told in
         absurd
         (cond_both (s.root == 0) (makes (room_of more)) (Sizing s.root) (λ y. IsDone y → ⊥) (λ none d. makes_open (room_of more) d) (λ some d. absurd cc)
         (by_answer (Reserve more) AtRoot (answers.Call (Word_read s.root)) h.0 done))
@@ -156,11 +156,11 @@ module _ {K P : Type 0} (g : Setting K P) (c : Coding K P) (s : State P) (hands 
     reserve_ends (Opening table) r read told done = absurd (opened_open (Reserve more) table told done)
     reserve_ends (Sizing root) r read told done = absurd (sized_open (Reserve more) root told done)
     reserve_ends (Counting root len) r read told done =
-        let h = told_of_ask g c s hands (Counting root len) Count refl answer es hands' told in
+        let h = told_of_ask g c s loaded (Counting root len) Count refl answer es loaded' told in
         room_ends root len h.0.0 h.0.1 h.1.0 read.0.0 read.0.1 r.2 (room_of (h.0.0 + more)) refl (by_answer (Reserve more) (Counting root len) (answers.Count h.0.0) h.0.1 done)
     reserve_ends (Looking root len None) r read told done = absurd read.1
     reserve_ends (Looking root len (Some room)) r read told done =
-        let h = told_of_ask g c s hands (Looking root len (Some room)) (Load (words_at.Next root)) refl answer es hands' told in
+        let h = told_of_ask g c s loaded (Looking root len (Some room)) (Load (words_at.Next root)) refl answer es loaded' told in
         absurd (next_open root len room (s.next root) (by_answer (Reserve more) (Looking root len (Some room)) (answers.Call (Word_read (s.next root))) h.0 done))
     reserve_ends (Linking link) r read told done = absurd (linked_open (follows link) (link_after link mode initial answer) done)
     reserve_ends (Copying from copying) r read told done = absurd (copied_open (Reserve more) (λ e. cc e) from (copying_after copying mode initial number answer) done)
@@ -168,7 +168,7 @@ module _ {K P : Type 0} (g : Setting K P) (c : Coding K P) (s : State P) (hands 
     reserve_ends (Ended_refused refused) r read told done = let asked = told.1 in absurd cc
 
   -- what was wanted is done
-  pub stage_ends : (resize : Resize) (stage : Stage) → RestsStage g c s hands stage → IsStageRead mode words resize stage → IsStageTold g c s stage hands answer es hands' → IsDone (after_in resize mode initial number answer stage) → HasResized later g.size answer resize
+  pub stage_ends : (resize : Resize) (stage : Stage) → ReliesStage g c s loaded stage → IsStageRead mode words resize stage → IsStageTold g c s stage loaded answer es loaded' → IsDone (after_in resize mode initial number answer stage) → HasResized later g.size answer resize
   stage_ends Chunk stage r read told done = tt
   stage_ends CopyAll stage r read told done = all_ends stage read told done
   stage_ends (Reserve more) stage r read told done = reserve_ends more stage r read told done

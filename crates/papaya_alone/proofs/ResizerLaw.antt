@@ -34,16 +34,16 @@ use Rattle.papaya_law.specs.Code.{Coding, IsHashed}
 use Rattle.papaya_law.specs.Exchange.{Setting, State, Exchange, Open, run}
 use Rattle.papaya_law.specs.Invariant.{IsKeeping}
 use Rattle.papaya_law.proofs.Later.{later_run}
-use Rattle.papaya_rests.specs.Copier.{HasWords, IsAimed, IsCopyAsked, RestsCopying, RestsLinked, last_after, told_last}
-use Rattle.papaya_rests.specs.Rests.{IsCutAs, IsModeOf}
-use Rattle.papaya_rests.specs.Told.{word_of}
-use Rattle.papaya_rests.proofs.CopierCopies.{link_there}
-use Rattle.papaya_rests.proofs.CopierExchange.{link_may}
-use Rattle.papaya_rests.proofs.RestsLearn.{by_test, more_than_none}
-use Rattle.papaya_chain_rests.specs.Resizers.{IsStageTold, RestsStage, link_of}
-use Rattle.papaya_chain_rests.specs.Told.{Hands, IsCopyTold, Quiet, told_of}
-use Rattle.papaya_chain_rests.proofs.Making.{link_learns}
-use Rattle.papaya_chain_rests.proofs.ResizerRests.{stage_learns, told_of_ask}
+use Rattle.papaya_call_law.specs.Copier.{HasWords, IsAimed, IsCopyAsked, ReliesCopying, ReliesLinked, last_after, told_last}
+use Rattle.papaya_call_law.specs.Relies.{IsCutAs, IsModeOf}
+use Rattle.papaya_call_law.specs.Told.{word_of}
+use Rattle.papaya_call_law.proofs.CopierCopies.{link_there}
+use Rattle.papaya_call_law.proofs.CopierExchange.{link_may}
+use Rattle.papaya_call_law.proofs.ReliesLearn.{by_test, more_than_none}
+use Rattle.papaya_chain_law.specs.Resizers.{IsStageTold, ReliesStage, link_of}
+use Rattle.papaya_chain_law.specs.Told.{IsCopyTold, LoadedPairs, Quiet, told_of}
+use Rattle.papaya_chain_law.proofs.Making.{link_learns}
+use Rattle.papaya_chain_law.proofs.ResizerRelies.{stage_learns, told_of_ask}
 use Rattle.papaya_alone.specs.Budget.{Budget, IsSpent, SpendsCopy}
 use Rattle.papaya_alone.specs.Current.{IsCopiedRead, IsIncremental, IsLinkedRead}
 use Rattle.papaya_alone.specs.Measure.{left_of_copied, left_of_copying, left_of_link, left_of_linked}
@@ -235,26 +235,26 @@ module _ (mode : ResizeMode) (words : At → ℕ) where
       let aim = subst (LeadsAll words mode from some) is leads in
       inr (record { some = some; aim = aim; next = more })
 
-module _ {K P : Type 0} (g : Setting K P) (c : Coding K P) (s : State P) (kind : Option StepKind) (behind : ℕ) (hands : Hands P) where
+module _ {K P : Type 0} (g : Setting K P) (c : Coding K P) (s : State P) (kind : Option StepKind) (behind : ℕ) (loaded : LoadedPairs P) where
   -- nothing was exchanged where nothing was spent
-  told_none : (ask : CopyAsk) (answer : Answer) (es : List (Exchange P)) (hands' : Hands P) → IsCopyTold g c s kind behind hands ask answer es hands' → (IsSpending answer → ⊥) → es ≡ []
-  told_none (Load at) answer es hands' told spends = told.1
-  told_none (Ask_exchange at old new) answer es hands' told spends =
+  told_none : (ask : CopyAsk) (answer : Answer) (es : List (Exchange P)) (loaded' : LoadedPairs P) → IsCopyTold g c s kind behind loaded ask answer es loaded' → (IsSpending answer → ⊥) → es ≡ []
+  told_none (Load at) answer es loaded' told spends = told.1
+  told_none (Ask_exchange at old new) answer es loaded' told spends =
       by_test (word_of g c s at == old)
-      ((answer ≡ answers.Call Exchanged) × ((e : Exchange P) × IsCopyAsked c kind at new s hands.kept e × (es ≡ e ∷ []) × (hands' ≡ told_of (last_after e hands.call.last) hands)))
-      ((answer ≡ answers.Call (Found_instead (word_of g c s at))) × (es ≡ []) × (hands' ≡ told_of (told_last s at hands.call.last) hands))
+      ((answer ≡ answers.Call Exchanged) × ((e : Exchange P) × IsCopyAsked c kind at new s loaded.kept e × (es ≡ e ∷ []) × (loaded' ≡ told_of (last_after e loaded.call.last) loaded)))
+      ((answer ≡ answers.Call (Found_instead (word_of g c s at))) × (es ≡ []) × (loaded' ≡ told_of (told_last s at loaded.call.last) loaded))
       (es ≡ []) told
       (λ e h. absurd (spends (subst IsSpending (sym h.0) tt)))
       (λ e h. h.1)
-  told_none (LoadHint t x) answer es hands' told spends = told.1.0
-  told_none (WriteHint t x hint) answer es hands' told spends = told.1.0
-  told_none (SizeOf t) answer es hands' told spends = told.1.0
-  told_none (HashOf n) answer es hands' told spends = told.1
-  told_none (SamePair i n) answer es hands' told spends = told.1.0
-  told_none Count answer es hands' told spends = told.1.0
-  told_none (MakeTable slots limit chunks) answer es hands' told spends = told.1.0
+  told_none (LoadHint t x) answer es loaded' told spends = told.1.0
+  told_none (WriteHint t x hint) answer es loaded' told spends = told.1.0
+  told_none (SizeOf t) answer es loaded' told spends = told.1.0
+  told_none (HashOf n) answer es loaded' told spends = told.1
+  told_none (SamePair i n) answer es loaded' told spends = told.1.0
+  told_none Count answer es loaded' told spends = told.1.0
+  told_none (MakeTable slots limit chunks) answer es loaded' told spends = told.1.0
 
-module _ {K P : Type 0} (g : Setting K P) (c : Coding K P) (hashed : IsHashed g c) (s : State P) (m : K → Option P) (keeps : IsKeeping g s m) (bounded : IsBounded g s) (resize : Resize) (mode : ResizeMode) (initial number : ℕ) (hands : Hands P) (moded : IsModeOf mode g.blocking) (cut : IsCutAs mode g.chunk_of) where
+module _ {K P : Type 0} (g : Setting K P) (c : Coding K P) (hashed : IsHashed g c) (s : State P) (m : K → Option P) (keeps : IsKeeping g s m) (bounded : IsBounded g s) (resize : Resize) (mode : ResizeMode) (initial number : ℕ) (loaded : LoadedPairs P) (moded : IsModeOf mode g.blocking) (cut : IsCutAs mode g.chunk_of) where
   -- the words
   abbrev words : At → ℕ
   words = word_of g c s
@@ -271,23 +271,23 @@ module _ {K P : Type 0} (g : Setting K P) (c : Coding K P) (hashed : IsHashed g 
   aimed_lined from behind r (Incremental chunk) is inc = ⊎_elim (λ (e : behind ≡ from). e) (λ h. let b = h.0 in absurd (cc (b, is))) r.given_up
   aimed_lined from behind r Blocking is inc = absurd inc
 
-  lined : (last kept : Option P) (copying : Root_copying) → RestsCopying g c s last kept copying → IsLined mode copying
+  lined : (last kept : Option P) (copying : Root_copying) → ReliesCopying g c s last kept copying → IsLined mode copying
   lined last kept (copyings.Stepping aim steps.AtRoot) r = tt
   lined last kept (copyings.Stepping aim (steps.Aiming from behind)) r = aimed_lined from behind r.1 mode moded
   lined last kept (copyings.Stepping aim (steps.Linking from link)) r = tt
   lined last kept (copyings.Stepping aim (steps.Judging from to)) r = tt
   lined last kept (copyings.Stepping aim (steps.Sizing from to)) r = tt
-  lined last kept (copyings.Stepping aim (steps.Scanning scan)) r = tt
+  lined last kept (copyings.Stepping aim (steps.AtChunk cursor)) r = tt
   lined last kept (copyings.Stepping aim (steps.Settling chunk settle)) r = tt
-  lined last kept (copyings.Stepping aim (steps.Advancing scan)) r = tt
+  lined last kept (copyings.Stepping aim (steps.Advancing cursor)) r = tt
   lined last kept (copyings.Stepping aim (steps.Promoting from to)) r = tt
   lined last kept (copyings.Lone slot settle) r = tt
 
   -- what the words answer to the making of a table
-  link_prompt : (link : Link) → RestsStage g c s hands (Linking link) → HasWords g (Some link) → (answer : Answer) (es : List (Exchange P)) (hands' : Hands P) → IsCopyTold g c s (link_kind link) (follows link) hands (link_ask link) answer es hands' → IsCopyPrompt words (link_ask link) answer (words_after es)
-  link_prompt link r made answer es hands' h =
-      told_prompt g c hashed s m keeps bounded hands (link_kind link) (follows link) (link_ask link) (link_there g c hashed s m keeps hands.call.last hands.kept link r)
-      (link_may g c hashed s m keeps hands.call.last hands.kept link r made) answer es hands' h
+  link_prompt : (link : Link) → ReliesStage g c s loaded (Linking link) → HasWords g (Some link) → (answer : Answer) (es : List (Exchange P)) (loaded' : LoadedPairs P) → IsCopyTold g c s (link_kind link) (follows link) loaded (link_ask link) answer es loaded' → IsCopyPrompt words (link_ask link) answer (words_after es)
+  link_prompt link r made answer es loaded' h =
+      told_prompt g c hashed s m keeps bounded loaded (link_kind link) (follows link) (link_ask link) (link_there g c hashed s m keeps loaded.call.last loaded.kept link r)
+      (link_may g c hashed s m keeps loaded.call.last loaded.kept link r made) answer es loaded' h
 
   module _ (before later : Budget) where
     -- the budget is spent, or less is left
@@ -303,78 +303,78 @@ module _ {K P : Type 0} (g : Setting K P) (c : Coding K P) (hashed : IsHashed g 
     spends_as : (ask ask' : CopyAsk) (answer answer' : Answer) → ask ≡ ask' → answer ≡ answer' → SpendsCopy ask answer before later → SpendsCopy ask' answer' before later
     spends_as ask ask' answer answer' q a spends = subst (λ y. SpendsCopy ask' y before later) a (subst (λ y. SpendsCopy y answer before later) q spends)
 
-    pub stage_nears : (stage : Stage) → RestsStage g c s hands stage → HasWords g (link_of stage) → IsStageRead mode words resize stage → (answer : Answer) (es : List (Exchange P)) (hands' : Hands P) → IsStageTold g c s stage hands answer es hands' → (ask : CopyAsk) → asks_in stage ≡ Some ask → SpendsCopy ask answer before later
+    pub stage_nears : (stage : Stage) → ReliesStage g c s loaded stage → HasWords g (link_of stage) → IsStageRead mode words resize stage → (answer : Answer) (es : List (Exchange P)) (loaded' : LoadedPairs P) → IsStageTold g c s stage loaded answer es loaded' → (ask : CopyAsk) → asks_in stage ≡ Some ask → SpendsCopy ask answer before later
         → HasNeared stage answer es
-    stage_nears AtRoot r made read answer es hands' told ask asks spends =
-        let h = told_of_ask g c s hands AtRoot (Load words_at.Root) refl answer es hands' told in
+    stage_nears AtRoot r made read answer es loaded' told ask asks spends =
+        let h = told_of_ask g c s loaded AtRoot (Load words_at.Root) refl answer es loaded' told in
         let is : ask ≡ Load words_at.Root = cc asks in
         quiet_near AtRoot answer (answers.Call (Word_read s.root)) es h.0 h.1 (spends_as ask (Load words_at.Root) answer (answers.Call (Word_read s.root)) is h.0 spends) (root_less s.root s.root resize)
-    stage_nears (Making room) r made read answer es hands' told ask asks spends =
+    stage_nears (Making room) r made read answer es loaded' told ask asks spends =
         let q : CopyAsk = MakeTable room.len room.limit 0 in
-        let h = told_of_ask g c s hands (Making room) q refl answer es hands' told in
+        let h = told_of_ask g c s loaded (Making room) q refl answer es loaded' told in
         let is : ask ≡ q = cc asks in
         ⊎_elim
         (λ (u : (refused : Refused) × (answer ≡ answers.Call (Was_refused refused))).
         quiet_near (Making room) answer (answers.Call (Was_refused u.0)) es u.1 h.1.0 (spends_as ask q answer (answers.Call (Was_refused u.0)) is u.1 spends) (omega arith))
         (λ (n : (n : ℕ) × (0 < n) × (answer ≡ answers.Call (Made_number n))). inl (inl (spends_as ask q answer (answers.Call (Made_number n.0)) is n.2 spends)))
         h.0
-    stage_nears (Opening table) r made read answer es hands' told ask asks spends =
+    stage_nears (Opening table) r made read answer es loaded' told ask asks spends =
         let q : CopyAsk = Ask_exchange words_at.Root 0 table in
         let is : ask ≡ q = cc asks in
         by_test (s.root == 0)
-        ((answer ≡ answers.Call Exchanged) × (es ≡ Open table ∷ []) × (hands' ≡ hands))
-        ((answer ≡ answers.Call (Found_instead s.root)) × Quiet g c hands es hands')
+        ((answer ≡ answers.Call Exchanged) × (es ≡ Open table ∷ []) × (loaded' ≡ loaded))
+        ((answer ≡ answers.Call (Found_instead s.root)) × Quiet g c loaded es loaded')
         (HasNeared (Opening table) answer es) told
         (λ none (a, e, h). inl (inr (spends_as ask q answer (answers.Call Exchanged) is a spends)))
         (λ some (a, h). absurd (eqb-false s.root 0 some read))
-    stage_nears (Sizing root) r made read answer es hands' told ask asks spends =
-        let h = told_of_ask g c s hands (Sizing root) (SizeOf root) refl answer es hands' told in
+    stage_nears (Sizing root) r made read answer es loaded' told ask asks spends =
+        let h = told_of_ask g c s loaded (Sizing root) (SizeOf root) refl answer es loaded' told in
         let is : ask ≡ SizeOf root = cc asks in
         let a : Answer = answers.Call (Size (g.size root) h.0.0) in
         quiet_near (Sizing root) answer a es h.0.2 h.1.0 (spends_as ask (SizeOf root) answer a is h.0.2 spends) (omega arith)
-    stage_nears (Counting root len) r made read answer es hands' told ask asks spends =
-        let h = told_of_ask g c s hands (Counting root len) Count refl answer es hands' told in
+    stage_nears (Counting root len) r made read answer es loaded' told ask asks spends =
+        let h = told_of_ask g c s loaded (Counting root len) Count refl answer es loaded' told in
         let is : ask ≡ Count = cc asks in
         quiet_near (Counting root len) answer (answers.Count h.0.0) es h.0.1 h.1.0 (spends_as ask Count answer (answers.Count h.0.0) is h.0.1 spends) (count_less s.root root len h.0.0 resize)
-    stage_nears (Looking root len room) r made read answer es hands' told ask asks spends =
+    stage_nears (Looking root len room) r made read answer es loaded' told ask asks spends =
         let q : CopyAsk = Load (words_at.Next root) in
-        let h = told_of_ask g c s hands (Looking root len room) q refl answer es hands' told in
+        let h = told_of_ask g c s loaded (Looking root len room) q refl answer es loaded' told in
         let is : ask ≡ q = cc asks in
         let a : Answer = answers.Call (Word_read (s.next root)) in
         quiet_near (Looking root len room) answer a es h.0 h.1 (spends_as ask q answer a is h.0 spends) (next_less s.root mode root len read.0.0 room (s.next root))
-    stage_nears (Linking link) r made read answer es hands' told ask asks spends =
-        let h = told_of_ask g c s hands (Linking link) (link_ask link) refl answer es hands' told in
+    stage_nears (Linking link) r made read answer es loaded' told ask asks spends =
+        let h = told_of_ask g c s loaded (Linking link) (link_ask link) refl answer es loaded' told in
         let is : ask ≡ link_ask link = cc asks in
-        let answers_so = link_prompt link r made answer es hands' h in
+        let answers_so = link_prompt link r made answer es loaded' h in
         let nears = (link_ends mode words (words_after es) initial link answer read.1 answers_so).0 in
         ⊎_elim (λ (spent : IsSpent before later). inl spent)
         (λ (quiet : (later ≡ before) × (IsSpending answer → ⊥)).
         let less : left_of_linked (link_after link mode initial answer) < left_of_link link = ⊎_elim (λ (x : IsSpending answer). absurd (quiet.1 x)) (λ (l : left_of_linked (link_after link mode initial answer) < left_of_link link). l) nears in
-        quiet_near (Linking link) answer answer es refl (told_none g c s (link_kind link) (follows link) hands (link_ask link) answer es hands' h quiet.1) quiet.0
+        quiet_near (Linking link) answer answer es refl (told_none g c s (link_kind link) (follows link) loaded (link_ask link) answer es loaded' h quiet.1) quiet.0
         (linked_less s.root (follows link) (left_of_link link) (link_most link) (link_after link mode initial answer) less))
         (spent_by words (words_after es) before later (link_ask link) answer answers_so (spends_as ask (link_ask link) answer answer is refl spends))
-    stage_nears (Copying from copying) (own, r) made read answer es hands' told ask asks spends =
-        let h = told_of_ask g c s hands (Copying from copying) (copying_ask copying) refl answer es hands' told in
+    stage_nears (Copying from copying) (own, r) made read answer es loaded' told ask asks spends =
+        let h = told_of_ask g c s loaded (Copying from copying) (copying_ask copying) refl answer es loaded' told in
         let is : ask ≡ copying_ask copying = cc asks in
-        let answers_so = prompt g c hashed s m keeps bounded mode initial number hands copying r made read.0 answer es hands' h in
+        let answers_so = prompt g c hashed s m keeps bounded mode initial number loaded copying r made read.0 answer es loaded' h in
         let bare = words_bare g c (run es s) in
         let end : Copied = copying_after copying mode initial number answer in
         let nears = (copying_ends mode initial number words (words_after es) bare copying answer read.0 answers_so).0 in
         ⊎_elim (λ (spent : IsSpent before later). inl spent)
         (λ (quiet : (later ≡ before) × (IsSpending answer → ⊥)).
-        let none = told_none g c s _ _ hands (copying_ask copying) answer es hands' h quiet.1 in
+        let none = told_none g c s _ _ loaded (copying_ask copying) answer es loaded' h quiet.1 in
         let less : left_of_copied end < left_of_copying copying = ⊎_elim (λ (x : IsSpending answer). absurd (quiet.1 x)) (λ (l : left_of_copied end < left_of_copying copying). l) nears in
         let ends : MayEnd s.root resize from end =
         ⊎_elim (λ (chunk : (resize ≡ Chunk) × (from ≡ 0)). chunk_ends s.root resize from end chunk.0)
         (λ (all : IsFrom words from copying).
         all_ends s.root (words_after es) mode resize from all.some (ap (λ l. (run l s).root) none) (subst (λ l. 0 < (run l s).next from) (sym none) all.next) end
-        (copy_leads mode initial number words (words_after es) bare from all.some copying answer all.aim (lined hands.call.last hands.kept copying r) read.0 answers_so))
+        (copy_leads mode initial number words (words_after es) bare from all.some copying answer all.aim (lined loaded.call.last loaded.kept copying r) read.0 answers_so))
         read.1
         in
         quiet_near (Copying from copying) answer answer es refl none quiet.0 (copied_less s.root resize from (left_of_copying copying) end less ends))
         (spent_by words (words_after es) before later (copying_ask copying) answer answers_so (spends_as ask (copying_ask copying) answer answer is refl spends))
-    stage_nears Done r made read answer es hands' told ask asks spends = absurd cc
-    stage_nears (Ended_refused refused) r made read answer es hands' told ask asks spends = absurd cc
+    stage_nears Done r made read answer es loaded' told ask asks spends = absurd cc
+    stage_nears (Ended_refused refused) r made read answer es loaded' told ask asks spends = absurd cc
 
   -- what was read stands there still
   abbrev IsStill : Stage → Answer → List (Exchange P) → Type 0
@@ -383,54 +383,54 @@ module _ {K P : Type 0} (g : Setting K P) (c : Coding K P) (hashed : IsHashed g 
   quiet_read : (stage : Stage) (answer answer' : Answer) (es : List (Exchange P)) → answer ≡ answer' → es ≡ [] → IsStageRead mode words resize (goes answer' stage) → IsStill stage answer es
   quiet_read stage answer answer' es a none read = subst (IsStill stage answer) (sym none) (subst (λ y. IsStill stage y []) (sym a) read)
 
-  linked_read : (es : List (Exchange P)) (hands' : Hands P) (root : ℕ) → (run es s).root ≡ root → 0 < root → (end : Linked) → IsLinkedRead (words_after es) end → RestsLinked g c (run es s) hands'.call.last hands'.kept root end → IsStageRead mode (words_after es) resize (linked root end)
-  linked_read es hands' root is some (linked_to.On link) read rests = ((is ∙ sym rests.0, subst (λ t. 0 < t) (sym rests.0) some), read)
-  linked_read es hands' root is some (linked_to.Table table) read rests = copies_read mode (words_after es) root some (subst (λ t. 0 < t) (sym rests.0) rests.1) resize
-  linked_read es hands' root is some (linked_to.Refused refused) read rests = tt
+  linked_read : (es : List (Exchange P)) (loaded' : LoadedPairs P) (root : ℕ) → (run es s).root ≡ root → 0 < root → (end : Linked) → IsLinkedRead (words_after es) end → ReliesLinked g c (run es s) loaded'.call.last loaded'.kept root end → IsStageRead mode (words_after es) resize (linked root end)
+  linked_read es loaded' root is some (linked_to.On link) read relies = ((is ∙ sym relies.0, subst (λ t. 0 < t) (sym relies.0) some), read)
+  linked_read es loaded' root is some (linked_to.Table table) read relies = copies_read mode (words_after es) root some (subst (λ t. 0 < t) (sym relies.0) relies.1) resize
+  linked_read es loaded' root is some (linked_to.Refused refused) read relies = tt
 
-  pub stage_current : (stage : Stage) → RestsStage g c s hands stage → HasWords g (link_of stage) → IsStageRead mode words resize stage → (answer : Answer) (es : List (Exchange P)) (hands' : Hands P) → IsStageTold g c s stage hands answer es hands' → IsStill stage answer es
-  stage_current AtRoot r made read answer es hands' told =
-      let h = told_of_ask g c s hands AtRoot (Load words_at.Root) refl answer es hands' told in
+  pub stage_current : (stage : Stage) → ReliesStage g c s loaded stage → HasWords g (link_of stage) → IsStageRead mode words resize stage → (answer : Answer) (es : List (Exchange P)) (loaded' : LoadedPairs P) → IsStageTold g c s stage loaded answer es loaded' → IsStill stage answer es
+  stage_current AtRoot r made read answer es loaded' told =
+      let h = told_of_ask g c s loaded AtRoot (Load words_at.Root) refl answer es loaded' told in
       quiet_read AtRoot answer (answers.Call (Word_read s.root)) es h.0 h.1 (root_read mode words s.root refl resize)
-  stage_current (Making room) r made read answer es hands' told =
-      let h = told_of_ask g c s hands (Making room) (MakeTable room.len room.limit 0) refl answer es hands' told in
+  stage_current (Making room) r made read answer es loaded' told =
+      let h = told_of_ask g c s loaded (Making room) (MakeTable room.len room.limit 0) refl answer es loaded' told in
       ⊎_elim
       (λ (u : (refused : Refused) × (answer ≡ answers.Call (Was_refused refused))). quiet_read (Making room) answer (answers.Call (Was_refused u.0)) es u.1 h.1.0 tt)
       (λ (n : (n : ℕ) × (0 < n) × (answer ≡ answers.Call (Made_number n))). quiet_read (Making room) answer (answers.Call (Made_number n.0)) es n.2 h.1.0 read)
       h.0
-  stage_current (Opening table) r made read answer es hands' told =
+  stage_current (Opening table) r made read answer es loaded' told =
       by_test (s.root == 0)
-      ((answer ≡ answers.Call Exchanged) × (es ≡ Open table ∷ []) × (hands' ≡ hands))
-      ((answer ≡ answers.Call (Found_instead s.root)) × Quiet g c hands es hands')
+      ((answer ≡ answers.Call Exchanged) × (es ≡ Open table ∷ []) × (loaded' ≡ loaded))
+      ((answer ≡ answers.Call (Found_instead s.root)) × Quiet g c loaded es loaded')
       (IsStill (Opening table) answer es) told
       (λ none (a, e, h). subst (λ y. IsStill (Opening table) y es) (sym a) tt)
       (λ some (a, h). subst (λ y. IsStill (Opening table) y es) (sym a) tt)
-  stage_current (Sizing root) r made read answer es hands' told =
-      let h = told_of_ask g c s hands (Sizing root) (SizeOf root) refl answer es hands' told in
+  stage_current (Sizing root) r made read answer es loaded' told =
+      let h = told_of_ask g c s loaded (Sizing root) (SizeOf root) refl answer es loaded' told in
       quiet_read (Sizing root) answer (answers.Call (Size (g.size root) h.0.0)) es h.0.2 h.1.0 read
-  stage_current (Counting root len) r made read answer es hands' told =
-      let h = told_of_ask g c s hands (Counting root len) Count refl answer es hands' told in
+  stage_current (Counting root len) r made read answer es loaded' told =
+      let h = told_of_ask g c s loaded (Counting root len) Count refl answer es loaded' told in
       quiet_read (Counting root len) answer (answers.Count h.0.0) es h.0.1 h.1.0 (count_read mode words root len h.0.0 read.0 resize)
-  stage_current (Looking root len room) r made read answer es hands' told =
-      let h = told_of_ask g c s hands (Looking root len room) (Load (words_at.Next root)) refl answer es hands' told in
+  stage_current (Looking root len room) r made read answer es loaded' told =
+      let h = told_of_ask g c s loaded (Looking root len room) (Load (words_at.Next root)) refl answer es loaded' told in
       quiet_read (Looking root len room) answer (answers.Call (Word_read (s.next root))) es h.0 h.1 (next_read mode words root len (s.next root) read.0 refl resize room)
-  stage_current (Linking link) r made read answer es hands' told =
-      let h = told_of_ask g c s hands (Linking link) (link_ask link) refl answer es hands' told in
-      let answers_so = link_prompt link r made answer es hands' h in
-      let out = link_learns g c s m keeps mode cut initial hands link r answer (λ _. made) es hands' h in
-      linked_read es hands' (follows link) (stays_at words (words_after es) answer (link_ask link) answers_so words_at.Root (link_puts link words_at.Root tt) ∙ read.0.0) read.0.1 (link_after link mode initial answer) (link_ends mode words (words_after es) initial link answer read.1 answers_so).1 out.1
-  stage_current (Copying from copying) (own, r) made read answer es hands' told =
-      let h = told_of_ask g c s hands (Copying from copying) (copying_ask copying) refl answer es hands' told in
-      let answers_so = prompt g c hashed s m keeps bounded mode initial number hands copying r made read.0 answer es hands' h in
+  stage_current (Linking link) r made read answer es loaded' told =
+      let h = told_of_ask g c s loaded (Linking link) (link_ask link) refl answer es loaded' told in
+      let answers_so = link_prompt link r made answer es loaded' h in
+      let out = link_learns g c s m keeps mode cut initial loaded link r answer (λ _. made) es loaded' h in
+      linked_read es loaded' (follows link) (stays_at words (words_after es) answer (link_ask link) answers_so words_at.Root (link_puts link words_at.Root tt) ∙ read.0.0) read.0.1 (link_after link mode initial answer) (link_ends mode words (words_after es) initial link answer read.1 answers_so).1 out.1
+  stage_current (Copying from copying) (own, r) made read answer es loaded' told =
+      let h = told_of_ask g c s loaded (Copying from copying) (copying_ask copying) refl answer es loaded' told in
+      let answers_so = prompt g c hashed s m keeps bounded mode initial number loaded copying r made read.0 answer es loaded' h in
       let bare = words_bare g c (run es s) in
       let end : Copied = copying_after copying mode initial number answer in
-      let may = (stage_learns g c hashed s m keeps resize mode initial number hands moded cut (Copying from copying) (own, r) answer (λ _. made) es hands' told).0 in
+      let may = (stage_learns g c hashed s m keeps resize mode initial number loaded moded cut (Copying from copying) (own, r) answer (λ _. made) es loaded' told).0 in
       copied_read mode (words_after es) resize from end (copying_ends mode initial number words (words_after es) bare copying answer read.0 answers_so).1
       (⊎_elim (λ (chunk : (resize ≡ Chunk) × (from ≡ 0)). λ (goes_on : Root_copying) (is : end ≡ copied_to.On goes_on). inl chunk)
       (λ (all : IsFrom words from copying).
       let same = (later_run g hashed.lawful es s may).next from all.next in
       still_all mode (words_after es) from all.some (subst (λ n. 0 < n) (sym same) all.next) resize end
-      (copy_leads mode initial number words (words_after es) bare from all.some copying answer all.aim (lined hands.call.last hands.kept copying r) read.0 answers_so))
+      (copy_leads mode initial number words (words_after es) bare from all.some copying answer all.aim (lined loaded.call.last loaded.kept copying r) read.0 answers_so))
       read.1)
-  stage_current Done r made read answer es hands' told = let asked = told.1 in absurd cc
-  stage_current (Ended_refused refused) r made read answer es hands' told = let asked = told.1 in absurd cc
+  stage_current Done r made read answer es loaded' told = let asked = told.1 in absurd cc
+  stage_current (Ended_refused refused) r made read answer es loaded' told = let asked = told.1 in absurd cc

@@ -16,8 +16,8 @@ use Rattle.papaya_copy.specs.declared.settle.Slot.{Slot}
 use Rattle.papaya_copy.specs.Settle.{look_at, marked_as, settle_ask, settled_by}
 use Rattle.papaya_chain.specs.declared.ask.Answer.{Answer}
 use Rattle.papaya_chain.specs.declared.ask.Answer.TheVariants as answers
-use Rattle.papaya_rests.specs.Alone.{IsBare, IsPut}
-use Rattle.papaya_rests.proofs.AloneSteps.{exchange_done}
+use Rattle.papaya_call_law.specs.Alone.{IsBare, IsPut}
+use Rattle.papaya_call_law.proofs.AloneSteps.{exchange_done}
 use Rattle.papaya_alone.specs.Prompt.{IsCopyPrompt}
 use Rattle.papaya_alone.specs.Measure.{left_of_carried, left_of_carry, left_of_settle, left_of_settled}
 use Rattle.papaya_alone.specs.Current.{IsAlive, IsAtTarget, IsCarriedRead, IsCarrying, IsSettledRead, IsSettleRead, word_in}
@@ -42,7 +42,7 @@ module _ (mode : ResizeMode) (words : At → ℕ) (slot : Slot) where
   settle_look_within word_kinds.Live word alive stands none is = (omega arith, (alive, stands))
   settle_look_within word_kinds.Marked word alive stands none is = (omega arith, (record { alive = alive; stands = stands; marked = is }, to_target mode))
   settle_look_within word_kinds.Copied word alive stands none is = (omega arith, alive)
-  settle_look_within word_kinds.Buried word alive stands none is = (omega arith, alive)
+  settle_look_within word_kinds.Tombstone word alive stands none is = (omega arith, alive)
   settle_look_within word_kinds.Closed word alive stands none is = (omega arith, alive)
 
   -- the pair came to a table

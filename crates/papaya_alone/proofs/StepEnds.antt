@@ -16,24 +16,24 @@ use Rattle.papaya_copy.specs.declared.settle.Settle.TheVariants as settles
 use Rattle.papaya_copy.specs.declared.settle.Settled.{Settled}
 use Rattle.papaya_copy.specs.declared.settle.Settled.TheVariants as settled
 use Rattle.papaya_copy.specs.declared.step.Chunk.{Chunk}
-use Rattle.papaya_copy.specs.declared.step.Scan.{Scan}
+use Rattle.papaya_copy.specs.declared.step.Cursor.{Cursor}
 use Rattle.papaya_copy.specs.declared.step.Step.{Step}
 use Rattle.papaya_copy.specs.declared.step.Step.TheVariants as steps
 use Rattle.papaya_copy.specs.declared.step.Stepped.{Stepped}
 use Rattle.papaya_copy.specs.declared.step.Stepped.TheVariants as stepped
 use Rattle.papaya_copy.specs.Link.{link_ask}
 use Rattle.papaya_copy.specs.Settle.{settle_ask}
-use Rattle.papaya_copy.specs.Step.{aimed, chunk_at, end_of, first_chunk, first_scan, is_further, judged, linked_to, next_chunk, next_scan, next_slot, scanned, settled_to, slot_of, step_ask}
+use Rattle.papaya_copy.specs.Step.{aimed, chunk_at, chunk_read, end_of, first_chunk, first_cursor, is_further, judged, linked_to, next_chunk, next_cursor, next_slot, settled_to, slot_of, step_ask}
 use Rattle.papaya_copy.proofs.Starts.{start_low, start_within}
 use Rattle.papaya_chain.specs.declared.ask.Answer.{Answer}
 use Rattle.papaya_chain.specs.declared.ask.Answer.TheVariants as answers
 use Rattle.papaya_chain.specs.Machine.{link_after}
-use Rattle.papaya_rests.specs.Alone.{IsBare, IsPut, IsSame}
-use Rattle.papaya_rests.proofs.AloneSteps.{exchange_done}
-use Rattle.papaya_rests.proofs.CopierScans.{round_first}
+use Rattle.papaya_call_law.specs.Alone.{IsBare, IsPut, IsSame}
+use Rattle.papaya_call_law.proofs.AloneSteps.{exchange_done}
+use Rattle.papaya_call_law.proofs.CopierCursors.{round_first}
 use Rattle.papaya_alone.specs.Prompt.{IsCopyPrompt, IsNumber}
 use Rattle.papaya_alone.specs.Measure.{further, left_of_chunk, left_of_link, left_of_linked, left_of_settle, left_of_settled, left_of_step, left_of_stepped, words_left}
-use Rattle.papaya_alone.specs.Current.{IsAlive, IsDueRead, IsLinkedRead, IsScanRead, IsSettledRead, IsStepRead, IsSteppedRead}
+use Rattle.papaya_alone.specs.Current.{IsAlive, IsCursorRead, IsDueRead, IsLinkedRead, IsSettledRead, IsStepRead, IsSteppedRead}
 use Rattle.papaya_alone.proofs.Afters.{settle_after, step_after, step_links, step_settles}
 use Rattle.papaya_alone.proofs.LinkEnds.{link_ends, link_puts}
 use Rattle.papaya_alone.proofs.CarryEnds.{still_alive}
@@ -41,13 +41,13 @@ use Rattle.papaya_alone.proofs.SettleEnds.{settle_ends, settle_puts}
 use Rattle.papaya_alone.proofs.Telling.{Nears, nearer, stays_at}
 
 -- a chunk ends within its table
-end_most : (scan : Scan) → end_of scan ≤ scan.len
-end_most scan =
-    cond_both (nat_lt scan.slots (scan.len - scan.begun)) (scan.begun + scan.slots) scan.len (λ y. y ≤ scan.len)
-    (λ less. let l : scan.slots < scan.len - scan.begun = ltb-true scan.slots (scan.len - scan.begun) less in omega (arith, l))
+end_most : (cursor : Cursor) → end_of cursor ≤ cursor.len
+end_most cursor =
+    cond_both (nat_lt cursor.slots (cursor.len - cursor.begun)) (cursor.begun + cursor.slots) cursor.len (λ y. y ≤ cursor.len)
+    (λ less. let l : cursor.slots < cursor.len - cursor.begun = ltb-true cursor.slots (cursor.len - cursor.begun) less in omega (arith, l))
     (λ more. omega arith)
 
--- fewer words are left where the scan goes on
+-- fewer words are left where the cursor goes on
 next_fewer : (wrapped : Bool) (start at len begun slots : ℕ) → 0 < slots → (nat_lt slots (len - begun) && not (wrapped && nat_le start (at + 1))) ≡ true
     → cond wrapped (start - (at + 1)) (len - (begun + slots) + start + 1) < cond wrapped (start - at) (len - begun + start + 1)
 next_fewer true start at len begun slots some e =
@@ -57,8 +57,8 @@ next_fewer false start at len begun slots some e =
     let less : slots < len - begun = ltb-true slots (len - begun) (and_parts (nat_lt slots (len - begun)) true e).0 in
     omega (arith, less, some)
 
-first_fewer : (scan : Scan) → scan.wrapped ≡ false → words_left (first_chunk scan) < words_left scan
-first_fewer scan is = subst (λ w. scan.start - 0 < cond w (scan.start - scan.at) (scan.len - scan.begun + scan.start + 1)) (sym is) (omega arith)
+first_fewer : (cursor : Cursor) → cursor.wrapped ≡ false → words_left (first_chunk cursor) < words_left cursor
+first_fewer cursor is = subst (λ w. cursor.start - 0 < cond w (cursor.start - cursor.at) (cursor.len - cursor.begun + cursor.start + 1)) (sym is) (omega arith)
 
 module _ (mode : ResizeMode) (words : At → ℕ) where
   -- no more is left than this, and what was read stands there
@@ -99,42 +99,42 @@ module _ (mode : ResizeMode) (words : At → ℕ) where
       (λ none. (omega arith, (root, judged_alive mode to word is (eqb-true word 0 none))))
       (λ some. (omega arith, root))
 
-  module _ (scan : Scan) (read : IsScanRead mode words scan) where
+  module _ (cursor : Cursor) (read : IsCursorRead mode words cursor) where
     -- less is left, and what was read stands there
     abbrev Goes : Step → Type 0
-    Goes step = (left_of_step step < left_of_step (steps.Scanning scan)) × IsStepRead mode words step
+    Goes step = (left_of_step step < left_of_step (steps.AtChunk cursor)) × IsStepRead mode words step
 
     -- the next word is loaded, or all were
-    next_goes : Goes (next_scan scan)
+    next_goes : Goes (next_cursor cursor)
     next_goes =
-        cond_both (is_further scan) (steps.Scanning (next_chunk scan)) (cond (not scan.wrapped && nat_lt 0 scan.start) (steps.Scanning (first_chunk scan)) (steps.Promoting scan.from scan.to)) Goes
-        (λ e. let l = next_fewer scan.wrapped scan.start scan.at scan.len scan.begun scan.slots read.some e in (omega (arith, l), record { some = read.some; root = read.root; alive = read.alive }))
+        cond_both (is_further cursor) (steps.AtChunk (next_chunk cursor)) (cond (not cursor.wrapped && nat_lt 0 cursor.start) (steps.AtChunk (first_chunk cursor)) (steps.Promoting cursor.from cursor.to)) Goes
+        (λ e. let l = next_fewer cursor.wrapped cursor.start cursor.at cursor.len cursor.begun cursor.slots read.some e in (omega (arith, l), record { some = read.some; root = read.root; alive = read.alive }))
         (λ e.
-        cond_both (not scan.wrapped && nat_lt 0 scan.start) (steps.Scanning (first_chunk scan)) (steps.Promoting scan.from scan.to) Goes
-        (λ f. let l = first_fewer scan (round_first scan.wrapped (nat_lt 0 scan.start) f) in (omega (arith, l), record { some = read.some; root = read.root; alive = read.alive }))
+        cond_both (not cursor.wrapped && nat_lt 0 cursor.start) (steps.AtChunk (first_chunk cursor)) (steps.Promoting cursor.from cursor.to) Goes
+        (λ f. let l = first_fewer cursor (round_first cursor.wrapped (nat_lt 0 cursor.start) f) in (omega (arith, l), record { some = read.some; root = read.root; alive = read.alive }))
         (λ f. (omega arith, read.root)))
 
     -- the word of a chunk was loaded
-    pub scanned_within : (done : ℕ) → words (words_at.Done scan.to scan.at) ≡ done → (left_of_stepped (scanned scan done) < left_of_step (steps.Scanning scan)) × IsSteppedRead mode words (scanned scan done)
-    scanned_within done is =
-        cond_both (not (done == 0)) (stepped.On (next_scan scan)) (cond scan.copied (stepped.Further (chunk_at scan)) (stepped.On (steps.Settling (chunk_at scan) settles.Looking))) Goes_on
+    pub chunk_read_within : (done : ℕ) → words (words_at.Done cursor.to cursor.at) ≡ done → (left_of_stepped (chunk_read cursor done) < left_of_step (steps.AtChunk cursor)) × IsSteppedRead mode words (chunk_read cursor done)
+    chunk_read_within done is =
+        cond_both (not (done == 0)) (stepped.On (next_cursor cursor)) (cond cursor.copied (stepped.Further (chunk_at cursor)) (stepped.On (steps.Settling (chunk_at cursor) settles.Looking))) Goes_on
         (λ _. next_goes)
         (λ e.
-        cond_both scan.copied (stepped.Further (chunk_at scan)) (stepped.On (steps.Settling (chunk_at scan) settles.Looking)) Goes_on
+        cond_both cursor.copied (stepped.Further (chunk_at cursor)) (stepped.On (steps.Settling (chunk_at cursor) settles.Looking)) Goes_on
         (λ _. (chunk_less, (due e, read.alive)))
         (λ _. (chunk_less, (due e, read.alive))))
       where
         Goes_on : Stepped → Type 0
-        Goes_on y = (left_of_stepped y < left_of_step (steps.Scanning scan)) × IsSteppedRead mode words y
+        Goes_on y = (left_of_stepped y < left_of_step (steps.AtChunk cursor)) × IsSteppedRead mode words y
 
-        due : not (done == 0) ≡ false → IsDueRead mode words scan
+        due : not (done == 0) ≡ false → IsDueRead mode words cursor
         due e = record { some = read.some; root = read.root; due = is ∙ eqb-true done 0 (not-false (done == 0) e) }
 
-        chunk_less : left_of_chunk (chunk_at scan) settles.Looking < left_of_step (steps.Scanning scan)
-        chunk_less = let l = end_most scan in omega (arith, l)
+        chunk_less : left_of_chunk (chunk_at cursor) settles.Looking < left_of_step (steps.AtChunk cursor)
+        chunk_less = let l = end_most cursor in omega (arith, l)
 
   -- the words are loaded from a chunk of the table on
-  first_within : (from to len limit number : ℕ) → IsSize len limit → words words_at.Root ≡ from → IsAlive mode words to → Within (2 ^ 102 + 1) (stepped.On (steps.Scanning (first_scan from to len mode number)))
+  first_within : (from to len limit number : ℕ) → IsSize len limit → words words_at.Root ≡ from → IsAlive mode words to → Within (2 ^ 102 + 1) (stepped.On (steps.AtChunk (first_cursor from to len mode number)))
   first_within from to len limit number size root alive =
       let within = start_within len number mode size.power in
       let low = start_low (number % chunk_count len (chunk_len mode)) mode in
@@ -142,11 +142,11 @@ module _ (mode : ResizeMode) (words : At → ℕ) where
       (omega (arith, within, low, most), record { some = chunk_some mode; root = root; alive = alive })
 
   -- the copy of a slot leads on
-  settled_within : (chunk : Chunk) (end : Settled) → IsDueRead mode words chunk.scan → IsSettledRead mode words (slot_of chunk) end
+  settled_within : (chunk : Chunk) (end : Settled) → IsDueRead mode words chunk.cursor → IsSettledRead mode words (slot_of chunk) end
       → Within ((chunk.end - chunk.at - 1) * 2 ^ 68 + left_of_settled end + 2) (settled_to chunk end)
   settled_within chunk (settled.On settle) due read = (omega arith, (due, read))
   settled_within chunk settled.Settled due read =
-      cond_both (nat_lt (chunk.at + 1) chunk.end) (stepped.On (steps.Settling (next_slot chunk) settles.Looking)) (stepped.On (steps.Advancing chunk.scan)) (Within ((chunk.end - chunk.at - 1) * 2 ^ 68 + 0 + 2))
+      cond_both (nat_lt (chunk.at + 1) chunk.end) (stepped.On (steps.Settling (next_slot chunk) settles.Looking)) (stepped.On (steps.Advancing chunk.cursor)) (Within ((chunk.end - chunk.at - 1) * 2 ^ 68 + 0 + 2))
       (λ more. let l : chunk.at + 1 < chunk.end = ltb-true (chunk.at + 1) chunk.end more in (omega (arith, l), (due, read)))
       (λ over. (omega arith, (due, read)))
   settled_within chunk (settled.Unfit table) due read = (omega arith, due.root)
@@ -165,9 +165,9 @@ module _ (mode : ResizeMode) (initial number : ℕ) (words words' : At → ℕ) 
   alive_after : (from to : ℕ) → IsAlive mode words to → words' (words_at.Aborted to) ≡ words (words_at.Aborted to) → IsAlive mode words' to
   alive_after from to alive same = still_alive mode words words' (record { from = from; index = 0; to = to }) 0 mode alive same
 
-  -- a scan has read what stands there still
-  pub same_scan : (scan : Scan) → IsScanRead mode words scan → IsSame words words' → IsScanRead mode words' scan
-  same_scan scan read same = record { some = read.some; root = same words_at.Root ∙ read.root; alive = alive_after scan.from scan.to read.alive (same (words_at.Aborted scan.to)) }
+  -- a cursor has read what stands there still
+  pub same_cursor : (cursor : Cursor) → IsCursorRead mode words cursor → IsSame words words' → IsCursorRead mode words' cursor
+  same_cursor cursor read same = record { some = read.some; root = same words_at.Root ∙ read.root; alive = alive_after cursor.from cursor.to read.alive (same (words_at.Aborted cursor.to)) }
 
   -- in each state
   pub step_ends : (step : Step) (answer : Answer) → IsStepRead mode words step → IsCopyPrompt words (step_ask step) answer words' → StepEnds step answer
@@ -191,17 +191,17 @@ module _ (mode : ResizeMode) (initial number : ℕ) (words words' : At → ℕ) 
       let f = first_within mode words' from to slots limit number size (told.1 words_at.Root ∙ read.0) (alive_after from to read.1 (told.1 (words_at.Aborted to))) in
       let l = f.0 in
       subst (StepEnds (steps.Sizing from to)) (sym e) (inr (omega (arith, l)), f.1)
-  step_ends (steps.Scanning scan) answer read told =
-      let here : At = words_at.Done scan.to scan.at in
-      let f = scanned_within mode words' scan (same_scan scan read told.1) (words here) (told.1 here) in
+  step_ends (steps.AtChunk cursor) answer read told =
+      let here : At = words_at.Done cursor.to cursor.at in
+      let f = chunk_read_within mode words' cursor (same_cursor cursor read told.1) (words here) (told.1 here) in
       let l = f.0 in
-      subst (StepEnds (steps.Scanning scan)) (sym told.0.0) (inr (omega (arith, l)), f.1)
+      subst (StepEnds (steps.AtChunk cursor)) (sym told.0.0) (inr (omega (arith, l)), f.1)
   step_ends (steps.Settling chunk settle) answer read told =
       let e = settle_ends mode initial words words' bare (slot_of chunk) settle answer read.1 told in
       let end : Settled = settle_after settle (slot_of chunk) mode initial answer in
       let ask = settle_ask settle (slot_of chunk) in
-      let here : At = words_at.Done chunk.scan.to chunk.scan.at in
-      let due : IsDueRead mode words' chunk.scan = record {
+      let here : At = words_at.Done chunk.cursor.to chunk.cursor.at in
+      let due : IsDueRead mode words' chunk.cursor = record {
         some = read.0.some;
         root = stays_at words words' answer ask told words_at.Root (settle_puts settle (slot_of chunk) words_at.Root tt) ∙ read.0.root;
         due = stays_at words words' answer ask told here (settle_puts settle (slot_of chunk) here tt) ∙ read.0.due;
@@ -209,11 +209,11 @@ module _ (mode : ResizeMode) (initial number : ℕ) (words words' : At → ℕ) 
       let f = settled_within mode words' chunk end due e.1 in
       subst (λ y. Nears answer (left_of_stepped y) ((chunk.end - chunk.at - 1) * 2 ^ 68 + left_of_settle settle + 2) × IsSteppedRead mode words' y) (sym (step_settles mode initial number chunk settle answer))
       (nearer answer (left_of_settled end) (left_of_settle settle) _ _ e.0 (λ less. let l = f.0 in omega (arith, l, less)), f.1)
-  step_ends (steps.Advancing scan) answer read told =
-      let here : At = words_at.Done scan.to scan.at in
+  step_ends (steps.Advancing cursor) answer read told =
+      let here : At = words_at.Done cursor.to cursor.at in
       let done : (answer ≡ answers.Call Exchanged) × IsPut words here 1 words' = exchange_done _ _ (words here) 0 read.0.due told in
-      let still : IsScanRead mode words' (record scan { copied = true }) = record { some = read.0.some; root = done.1.others words_at.Root (λ e. cc) ∙ read.0.root; alive = alive_after scan.from scan.to read.1 (done.1.others (words_at.Aborted scan.to) (λ e. cc)) } in
-      subst (StepEnds (steps.Advancing scan)) (sym done.0) (inl tt, (next_goes mode words' (record scan { copied = true }) still).1)
+      let still : IsCursorRead mode words' (record cursor { copied = true }) = record { some = read.0.some; root = done.1.others words_at.Root (λ e. cc) ∙ read.0.root; alive = alive_after cursor.from cursor.to read.1 (done.1.others (words_at.Aborted cursor.to) (λ e. cc)) } in
+      subst (StepEnds (steps.Advancing cursor)) (sym done.0) (inl tt, (next_goes mode words' (record cursor { copied = true }) still).1)
   step_ends (steps.Promoting from to) answer read told =
       let done : (answer ≡ answers.Call Exchanged) × IsPut words words_at.Root to words' = exchange_done _ _ (words words_at.Root) from read told in
       subst (StepEnds (steps.Promoting from to)) (sym done.0) (inl tt, tt)

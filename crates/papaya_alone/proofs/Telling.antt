@@ -7,8 +7,8 @@ use Rattle.papaya_ask.specs.declared.copy_ask.CopyAsk.{CopyAsk}
 use Rattle.papaya_ask.specs.declared.copy_ask.CopyAsk.TheVariants.{Load, Exchange, SizeOf, HashOf, SamePair, Count, MakeTable, LoadHint, WriteHint}
 use Rattle.papaya_chain.specs.declared.ask.Answer.{Answer}
 use Rattle.papaya_chain.specs.declared.ask.Answer.TheVariants as answers
-use Rattle.papaya_rests.specs.Alone.{IsPut, IsSame}
-use Rattle.papaya_rests.proofs.RestsLearn.{by_test}
+use Rattle.papaya_call_law.specs.Alone.{IsPut, IsSame}
+use Rattle.papaya_call_law.proofs.ReliesLearn.{by_test}
 use Rattle.papaya_alone.specs.Budget.{Budget, IsSpent, SpendsCopy}
 use Rattle.papaya_alone.specs.Prompt.{IsCopyPrompt, IsMaking}
 

@@ -17,8 +17,8 @@ use Rattle.papaya_chain.specs.declared.machine.Phase.{Phase}
 use Rattle.papaya_chain.specs.declared.machine.Phase.TheVariants.{Calling, Linking, Copying as Copying_root}
 use Rattle.papaya_copy.specs.declared.copying.Copying.{Copying}
 use Rattle.papaya_copy.specs.declared.copying.Copying.TheVariants as copyings
-use Rattle.papaya_rests.specs.Alone.{IsNumberRead, IsRead}
-use Rattle.papaya_chain_rests.specs.Rests.{left_by}
+use Rattle.papaya_call_law.specs.Alone.{IsNumberRead, IsRead}
+use Rattle.papaya_chain_law.specs.Relies.{left_by}
 use Rattle.papaya_alone.specs.Current.{IsCopyingRead, IsIncremental, IsLinkRead}
 use Rattle.papaya_alone.specs.Rank.{table_of}
 

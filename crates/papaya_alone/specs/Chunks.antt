@@ -49,10 +49,10 @@ module _ (words : At → ℕ) (to chunks due : ℕ) where
   WillCopyStep steps.AtRoot = Unit {0}
   WillCopyStep (steps.Aiming t behind) = Unit {0}
   WillCopyStep (steps.Sizing t n) = n ≡ to
-  WillCopyStep (steps.Scanning scan) = (scan.to ≡ to)
-      × MatchBool scan.copied (due_of words to chunks < due) (Unit {0})
-  WillCopyStep (steps.Settling chunk settle) = chunk.scan.to ≡ to
-  WillCopyStep (steps.Advancing scan) = scan.to ≡ to
+  WillCopyStep (steps.AtChunk cursor) = (cursor.to ≡ to)
+      × MatchBool cursor.copied (due_of words to chunks < due) (Unit {0})
+  WillCopyStep (steps.Settling chunk settle) = chunk.cursor.to ≡ to
+  WillCopyStep (steps.Advancing cursor) = cursor.to ≡ to
   WillCopyStep (steps.Promoting t n) = n ≡ to
   WillCopyStep _ = ⊥
 

@@ -25,7 +25,7 @@ use Rattle.papaya_copy.specs.declared.settle.Settle.TheVariants as settles
 use Rattle.papaya_copy.specs.declared.settle.Settled.{Settled}
 use Rattle.papaya_copy.specs.declared.settle.Settled.TheVariants as settled
 use Rattle.papaya_copy.specs.declared.settle.Slot.{Slot}
-use Rattle.papaya_copy.specs.declared.step.Scan.{Scan}
+use Rattle.papaya_copy.specs.declared.step.Cursor.{Cursor}
 use Rattle.papaya_copy.specs.declared.step.Step.{Step}
 use Rattle.papaya_copy.specs.declared.step.Step.TheVariants as steps
 use Rattle.papaya_copy.specs.declared.step.Stepped.{Stepped}
@@ -99,16 +99,16 @@ module _ (mode : ResizeMode) (words : At → ℕ) where
   IsSettledRead slot _ = Unit {0}
 
   -- the table whose chunks' words are loaded is the root
-  pub record IsScanRead (scan : Scan) : Type 0 where
-    pub some : 0 < scan.slots
-    pub root : words words_at.Root ≡ scan.from
-    pub alive : IsAlive mode words scan.to
+  pub record IsCursorRead (cursor : Cursor) : Type 0 where
+    pub some : 0 < cursor.slots
+    pub root : words words_at.Root ≡ cursor.from
+    pub alive : IsAlive mode words cursor.to
 
   -- and the word of this chunk says that it is not copied
-  pub record IsDueRead (scan : Scan) : Type 0 where
-    pub some : 0 < scan.slots
-    pub root : words words_at.Root ≡ scan.from
-    pub due : words (words_at.Done scan.to scan.at) ≡ 0
+  pub record IsDueRead (cursor : Cursor) : Type 0 where
+    pub some : 0 < cursor.slots
+    pub root : words words_at.Root ≡ cursor.from
+    pub due : words (words_at.Done cursor.to cursor.at) ≡ 0
 
   -- the table that is copied is the root, and the chunk that is copied was not copied before
   abbrev pub IsStepRead : Step → Type 0
@@ -117,16 +117,17 @@ module _ (mode : ResizeMode) (words : At → ℕ) where
   IsStepRead (steps.Linking from link) = (words words_at.Root ≡ from) × IsLinkRead words link
   IsStepRead (steps.Judging from to) = words words_at.Root ≡ from
   IsStepRead (steps.Sizing from to) = (words words_at.Root ≡ from) × IsAlive mode words to
-  IsStepRead (steps.Scanning scan) = IsScanRead scan
-  IsStepRead (steps.Settling chunk settle) = IsDueRead chunk.scan
+  IsStepRead (steps.AtChunk cursor) = IsCursorRead cursor
+  IsStepRead (steps.Settling chunk settle) = IsDueRead chunk.cursor
       × IsSettleRead (slot_of chunk) settle
-  IsStepRead (steps.Advancing scan) = IsDueRead scan × IsAlive mode words scan.to
+  IsStepRead (steps.Advancing cursor) = IsDueRead cursor × IsAlive mode words cursor.to
   IsStepRead (steps.Promoting from to) = words words_at.Root ≡ from
 
   abbrev pub IsSteppedRead : Stepped → Type 0
   IsSteppedRead (stepped.On step) = IsStepRead step
   IsSteppedRead (stepped.Root root) = words words_at.Root ≡ root
-  IsSteppedRead (stepped.Further chunk) = IsDueRead chunk.scan × IsAlive mode words chunk.scan.to
+  IsSteppedRead (stepped.Further chunk) = IsDueRead chunk.cursor
+      × IsAlive mode words chunk.cursor.to
   IsSteppedRead _ = Unit {0}
 
   -- a slot of its own is copied without blocking alone

@@ -11,7 +11,7 @@ pub mod Ahead
 pub mod Limits
 -- a call that resizes the map
 pub mod Resizers
--- a call that visits a table
-pub mod Visitors
+-- a call that scans a table
+pub mod Scanners
 -- one caller's chunks end a resize
 pub mod Chunks

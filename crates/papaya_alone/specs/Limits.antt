@@ -10,7 +10,7 @@ use Rattle.papaya_chain.specs.declared.ask.Ask.TheVariants as asks
 use Rattle.papaya_chain.specs.declared.ask.Answer.{Answer}
 use Rattle.papaya_chain.specs.declared.ask.Answer.TheVariants as answers
 use Rattle.papaya_chain.specs.declared.machine.Machine.{Machine}
-use Rattle.papaya_rests.specs.Says.{MakesPair}
+use Rattle.papaya_call_law.specs.Says.{MakesPair}
 
 -- a call has something logged for its next pair: its key, a value, or the pair
 abbrev pub IsLogAsk : Call_ask → Type 0

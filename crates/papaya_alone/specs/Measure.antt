@@ -21,7 +21,7 @@ use Rattle.papaya_copy.specs.declared.settle.Settle.TheVariants as settles
 use Rattle.papaya_copy.specs.declared.settle.Settled.{Settled}
 use Rattle.papaya_copy.specs.declared.settle.Settled.TheVariants as settled
 use Rattle.papaya_copy.specs.declared.step.Chunk.{Chunk}
-use Rattle.papaya_copy.specs.declared.step.Scan.{Scan}
+use Rattle.papaya_copy.specs.declared.step.Cursor.{Cursor}
 use Rattle.papaya_copy.specs.declared.step.Step.{Step}
 use Rattle.papaya_copy.specs.declared.step.Step.TheVariants as steps
 use Rattle.papaya_copy.specs.declared.step.Stepped.{Stepped}
@@ -76,10 +76,10 @@ left_of_settled (settled.On settle) = left_of_settle settle
 left_of_settled (settled.Unfit table) = 2 * 2 ^ 102
 left_of_settled _ = 0
 
--- the words of chunks that a scan may load after this one
-abbrev pub words_left : Scan → ℕ
-words_left scan = if scan.wrapped then scan.start - scan.at
-    else scan.len - scan.begun + scan.start + 1
+-- the words of chunks that a cursor may load after this one
+abbrev pub words_left : Cursor → ℕ
+words_left cursor = if cursor.wrapped then cursor.start - cursor.at
+    else cursor.len - cursor.begun + cursor.start + 1
 
 -- the slots of a chunk from this one on
 abbrev pub left_of_chunk : Chunk → Settle → ℕ
@@ -92,9 +92,9 @@ left_of_step (steps.Aiming from behind) = 2 ^ 102 + 6 + 2 * further behind
 left_of_step (steps.Linking from link) = left_of_link link
 left_of_step (steps.Judging from to) = 2 ^ 102 + 7 + 2 * further to
 left_of_step (steps.Sizing from to) = 2 ^ 102 + 2
-left_of_step (steps.Scanning scan) = scan.len * 2 ^ 68 + 2 ^ 68 + words_left scan + 3
+left_of_step (steps.AtChunk cursor) = cursor.len * 2 ^ 68 + 2 ^ 68 + words_left cursor + 3
 left_of_step (steps.Settling chunk settle) = left_of_chunk chunk settle
-left_of_step (steps.Advancing scan) = 1
+left_of_step (steps.Advancing cursor) = 1
 left_of_step (steps.Promoting from to) = 1
 
 abbrev pub left_of_stepped : Stepped → ℕ

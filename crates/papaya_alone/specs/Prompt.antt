@@ -18,8 +18,8 @@ use Rattle.papaya_chain.specs.declared.ask.Answer.{Answer}
 use Rattle.papaya_chain.specs.declared.ask.Answer.TheVariants as answers
 use Rattle.papaya_law.specs.Class.{IsOn}
 use Rattle.papaya_law.specs.Exchange.{Setting, State}
-use Rattle.papaya_rests.specs.Alone.{IsPut, IsSame, IsSaying}
-use Rattle.papaya_rests.specs.Alone as calls
+use Rattle.papaya_call_law.specs.Alone.{IsPut, IsSame, IsSaying}
+use Rattle.papaya_call_law.specs.Alone as calls
 
 -- the tables that were opened or linked have numbers of so many bits, and sizes of tables
 pub record IsBounded {K P : Type 0} (g : Setting K P) (s : State P) : Type 0 where

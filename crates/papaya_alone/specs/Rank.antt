@@ -9,7 +9,7 @@ use Rattle.papaya_call.specs.declared.compute.Purpose.{Purpose}
 use Rattle.papaya_call.specs.declared.compute.Purpose.TheVariants.{Fill, Replace, Again}
 use Rattle.papaya_call.specs.declared.machine.Machine.{Machine as Call_machine}
 use Rattle.papaya_call.specs.declared.machine.State.{State}
-use Rattle.papaya_call.specs.declared.machine.State.TheVariants.{AtRoot, Making, Opening, Searching, Writing, Offering, Showing, Pairing, Putting, Burying, Counting, Noting, Uncounting, Leaving, Growing, Ended}
+use Rattle.papaya_call.specs.declared.machine.State.TheVariants.{AtRoot, Making, Opening, Searching, Writing, Offering, Showing, Pairing, Putting, Deleting, Counting, Noting, Uncounting, Leaving, Growing, Ended}
 use Rattle.papaya_call.specs.declared.made.Made.{Made}
 use Rattle.papaya_call.specs.Machine.{needed}
 use Rattle.papaya_chain.specs.declared.machine.Machine.{Machine}
@@ -21,7 +21,7 @@ use Rattle.papaya_copy.specs.declared.copying.Copying.{Copying}
 use Rattle.papaya_copy.specs.declared.copying.Copying.TheVariants as copyings
 use Rattle.papaya_copy.specs.declared.step.Step.{Step}
 use Rattle.papaya_copy.specs.declared.step.Step.TheVariants as steps
-use Rattle.papaya_rests.specs.Alone.{left_to_pair, left_to_write}
+use Rattle.papaya_call_law.specs.Alone.{left_to_pair, left_to_write}
 use Rattle.papaya_alone.specs.Budget.{Budget}
 use Rattle.papaya_alone.specs.Measure.{further, left_of_link, left_of_settle, left_of_step}
 
@@ -65,7 +65,7 @@ rank_in made (Offering gap) = rank 2 (hops_of gap) (2 ^ 68 + 10)
 rank_in made (Showing removal) = rank 1 0 9
 rank_in made (Pairing purpose) = rank_to_serve made purpose
 rank_in made (Putting put) = rank 1 0 1
-rank_in made (Burying removal) = rank 1 0 1
+rank_in made (Deleting removal) = rank 1 0 1
 rank_in made (Counting claimed) = rank 0 0 2
 rank_in made (Noting claimed) = rank 0 0 1
 rank_in made (Uncounting n) = rank 0 0 1
@@ -84,9 +84,9 @@ rank_at_root root _ = rank 1 0 (2 * 2 ^ 102)
 -- over
 abbrev pub rank_of_step : (root : ℕ) → Aim → Step → ℕ
 rank_of_step root aim steps.AtRoot = rank_at_root root aim
-rank_of_step root aim (steps.Scanning scan) = if scan.copied
-    then rank 5 0 (left_of_step (steps.Scanning scan))
-    else rank 1 0 (left_of_step (steps.Scanning scan))
+rank_of_step root aim (steps.AtChunk cursor) = if cursor.copied
+    then rank 5 0 (left_of_step (steps.AtChunk cursor))
+    else rank 1 0 (left_of_step (steps.AtChunk cursor))
 rank_of_step root aim step = rank 1 0 (left_of_step step)
 
 abbrev pub rank_of_copying : (root : ℕ) → Copying → ℕ

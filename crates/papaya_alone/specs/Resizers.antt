@@ -16,7 +16,7 @@ use Rattle.papaya_chain.specs.declared.resizer.Room.{Room}
 use Rattle.papaya_chain.specs.declared.resizer.State.{State}
 use Rattle.papaya_chain.specs.declared.resizer.State.TheVariants as stages
 use Rattle.papaya_chain.specs.Room.{entries_of}
-use Rattle.papaya_rests.specs.Copier.{aim_of}
+use Rattle.papaya_call_law.specs.Copier.{aim_of}
 use Rattle.papaya_alone.specs.Budget.{Budget}
 use Rattle.papaya_alone.specs.Current.{IsCopyingRead, IsLinkRead}
 use Rattle.papaya_alone.specs.Measure.{left_of_copying, left_of_link}

@@ -9,15 +9,15 @@ ghost use Rattle.papaya_law.specs.Allows.{AllAllowed};
 ghost use Rattle.papaya_law.specs.Code.{Coding, IsHashed};
 ghost use Rattle.papaya_law.specs.Exchange.{Setting, State, Exchange, run, start};
 ghost use Rattle.papaya_law.specs.Invariant.{IsKeeping};
-ghost use Rattle.papaya_rests.specs.Copier.{HasWords, RestsCopying, link_in_copying};
-ghost use Rattle.papaya_rests.specs.Told.{word_of};
+ghost use Rattle.papaya_call_law.specs.Copier.{HasWords, ReliesCopying, link_in_copying};
+ghost use Rattle.papaya_call_law.specs.Told.{word_of};
 ghost use Rattle.papaya_chain.specs.Resizer.{IsStandingResizer, after as resizer_after};
 ghost use Rattle.papaya_chain.specs.Resizer.{ask_of as resizer_ask, begun, reply_of};
 ghost use Rattle.papaya_chain.specs.Machine.{IsStanding, after, ask_of, copying_after, follows_of, kind_of_ask, started};
-ghost use Rattle.papaya_chain_rests.specs.Goes.{link_in};
-ghost use Rattle.papaya_chain_rests.specs.Resizers.{IsStageTold, RestsResizer, link_of};
-ghost use Rattle.papaya_chain_rests.specs.Rests.{Rests};
-ghost use Rattle.papaya_chain_rests.specs.Told.{Hands, IsCopyTold, IsTold};
+ghost use Rattle.papaya_chain_law.specs.Goes.{link_in};
+ghost use Rattle.papaya_chain_law.specs.Resizers.{IsStageTold, ReliesResizer, link_of};
+ghost use Rattle.papaya_chain_law.specs.Relies.{Relies};
+ghost use Rattle.papaya_chain_law.specs.Told.{IsCopyTold, IsTold, LoadedPairs};
 ghost use Rattle.papaya_alone.specs.Ahead.{IsCurrent};
 ghost use Rattle.papaya_alone.specs.Budget.{Budget, IsSpent, Spends, SpendsCopy};
 ghost use Rattle.papaya_alone.specs.Resizers.{HasResized, IsResizerRead, resizer_measure};
@@ -38,26 +38,26 @@ use papaya_chain::resizer::{Resize, Resizer};
 pub fn alone_copiers<K, P>()
     ensures nearer { (g : Setting K P) (c : Coding K P) → IsHashed g c
         → (s : State P) (m : K → Option P) → IsKeeping g s m → IsBounded g s
-        → (mode : ResizeMode) (initial number : ℕ) (hands : Hands P) (copying : Copying)
-        → RestsCopying g c s hands.call.last hands.kept copying
+        → (mode : ResizeMode) (initial number : ℕ) (loaded : LoadedPairs P) (copying : Copying)
+        → ReliesCopying g c s loaded.call.last loaded.kept copying
         → HasWords g (link_in_copying copying)
         → IsCopyingRead mode (word_of g c s) copying
-        → (answer : Answer) (es : List (Exchange P)) (hands' : Hands P)
-        → IsCopyTold g c s (copying_kind copying) (copying_follows copying) hands
-        (copying_ask copying) answer es hands' → (before later : Budget)
+        → (answer : Answer) (es : List (Exchange P)) (loaded' : LoadedPairs P)
+        → IsCopyTold g c s (copying_kind copying) (copying_follows copying) loaded
+        (copying_ask copying) answer es loaded' → (before later : Budget)
         → SpendsCopy (copying_ask copying) answer before later
         → IsSpent before later ⊎ ((later ≡ before)
         × (left_of_copied (copying_after copying mode initial number answer)
         < left_of_copying copying)) }
     ensures current { (g : Setting K P) (c : Coding K P) → IsHashed g c
         → (s : State P) (m : K → Option P) → IsKeeping g s m → IsBounded g s
-        → (mode : ResizeMode) (initial number : ℕ) (hands : Hands P) (copying : Copying)
-        → RestsCopying g c s hands.call.last hands.kept copying
+        → (mode : ResizeMode) (initial number : ℕ) (loaded : LoadedPairs P) (copying : Copying)
+        → ReliesCopying g c s loaded.call.last loaded.kept copying
         → HasWords g (link_in_copying copying)
         → IsCopyingRead mode (word_of g c s) copying
-        → (answer : Answer) (es : List (Exchange P)) (hands' : Hands P)
-        → IsCopyTold g c s (copying_kind copying) (copying_follows copying) hands
-        (copying_ask copying) answer es hands' → IsCopiedRead mode (word_of g c (run es s))
+        → (answer : Answer) (es : List (Exchange P)) (loaded' : LoadedPairs P)
+        → IsCopyTold g c s (copying_kind copying) (copying_follows copying) loaded
+        (copying_ask copying) answer es loaded' → IsCopiedRead mode (word_of g c (run es s))
         (copying_after copying mode initial number answer) }
 {}
 
@@ -70,24 +70,24 @@ pub fn alone_calls<K, P>()
         → IsCurrent words (started task hash mode initial number limit) }
     ensures nearer { (g : Setting K P) (c : Coding K P) → IsHashed g c
         → (begun since : List (Exchange P)) → AllAllowed g start (begun ++ since)
-        → IsBounded g (run (begun ++ since) start) → (k : K) (m : Machine) (hands : Hands P)
-        → Rests g c begun since k m hands → HasWords g (link_in m.phase)
+        → IsBounded g (run (begun ++ since) start) → (k : K) (m : Machine) (loaded : LoadedPairs P)
+        → Relies g c begun since k m loaded → HasWords g (link_in m.phase)
         → IsCurrent (word_of g c (run (begun ++ since) start)) m
-        → (answer : Answer) (es : List (Exchange P)) (hands' : Hands P)
-        → IsTold g c k (run (begun ++ since) start) (kind_of_ask m) (follows_of m) hands (ask_of m)
-        answer es hands' → IsServedAsk m.call.task (ask_of m) answer → (before later : Budget)
+        → (answer : Answer) (es : List (Exchange P)) (loaded' : LoadedPairs P)
+        → IsTold g c k (run (begun ++ since) start) (kind_of_ask m) (follows_of m) loaded (ask_of m)
+        answer es loaded' → IsServedAsk m.call.task (ask_of m) answer → (before later : Budget)
         → Spends (kind_of_ask m) (ask_of m) answer before later → later.exchanges < 2 ^ 128
         → IsStanding (after m answer)
         → measure later (run (begun ++ (since ++ es)) start).root (after m answer)
         < measure before (run (begun ++ since) start).root m }
     ensures current { (g : Setting K P) (c : Coding K P) → IsHashed g c
         → (begun since : List (Exchange P)) → AllAllowed g start (begun ++ since)
-        → IsBounded g (run (begun ++ since) start) → (k : K) (m : Machine) (hands : Hands P)
-        → Rests g c begun since k m hands → HasWords g (link_in m.phase)
+        → IsBounded g (run (begun ++ since) start) → (k : K) (m : Machine) (loaded : LoadedPairs P)
+        → Relies g c begun since k m loaded → HasWords g (link_in m.phase)
         → IsCurrent (word_of g c (run (begun ++ since) start)) m
-        → (answer : Answer) (es : List (Exchange P)) (hands' : Hands P)
-        → IsTold g c k (run (begun ++ since) start) (kind_of_ask m) (follows_of m) hands (ask_of m)
-        answer es hands' → IsServedAsk m.call.task (ask_of m) answer
+        → (answer : Answer) (es : List (Exchange P)) (loaded' : LoadedPairs P)
+        → IsTold g c k (run (begun ++ since) start) (kind_of_ask m) (follows_of m) loaded (ask_of m)
+        answer es loaded' → IsServedAsk m.call.task (ask_of m) answer
         → IsCurrent (word_of g c (run (begun ++ (since ++ es)) start)) (after m answer) }
 {}
 
@@ -98,11 +98,11 @@ pub fn alone_resizers<K, P>()
         (initial number : ℕ) → IsResizerRead words (begun resize mode initial number) }
     ensures nearer { (g : Setting K P) (c : Coding K P) → IsHashed g c
         → (s : State P) (m : K → Option P) → IsKeeping g s m → IsBounded g s
-        → (resizer : Resizer) (hands : Hands P) → RestsResizer g c s resizer hands
+        → (resizer : Resizer) (loaded : LoadedPairs P) → ReliesResizer g c s resizer loaded
         → HasWords g (link_of resizer.state)
         → IsResizerRead (word_of g c s) resizer
-        → (answer : Answer) (es : List (Exchange P)) (hands' : Hands P)
-        → IsStageTold g c s resizer.state hands answer es hands' → (ask : CopyAsk)
+        → (answer : Answer) (es : List (Exchange P)) (loaded' : LoadedPairs P)
+        → IsStageTold g c s resizer.state loaded answer es loaded' → (ask : CopyAsk)
         → resizer_ask resizer ≡ Some ask → (before later : Budget)
         → SpendsCopy ask answer before later → later.exchanges < 2 ^ 128
         → IsStandingResizer (resizer_after resizer answer)
@@ -110,18 +110,18 @@ pub fn alone_resizers<K, P>()
         < resizer_measure before s.root resizer }
     ensures current { (g : Setting K P) (c : Coding K P) → IsHashed g c
         → (s : State P) (m : K → Option P) → IsKeeping g s m → IsBounded g s
-        → (resizer : Resizer) (hands : Hands P) → RestsResizer g c s resizer hands
+        → (resizer : Resizer) (loaded : LoadedPairs P) → ReliesResizer g c s resizer loaded
         → HasWords g (link_of resizer.state)
         → IsResizerRead (word_of g c s) resizer
-        → (answer : Answer) (es : List (Exchange P)) (hands' : Hands P)
-        → IsStageTold g c s resizer.state hands answer es hands'
+        → (answer : Answer) (es : List (Exchange P)) (loaded' : LoadedPairs P)
+        → IsStageTold g c s resizer.state loaded answer es loaded'
         → IsResizerRead (word_of g c (run es s)) (resizer_after resizer answer) }
     ensures ends { (g : Setting K P) (c : Coding K P) → IsHashed g c
         → (s : State P) (m : K → Option P) → IsKeeping g s m → IsBounded g s
-        → (resizer : Resizer) (hands : Hands P) → RestsResizer g c s resizer hands
+        → (resizer : Resizer) (loaded : LoadedPairs P) → ReliesResizer g c s resizer loaded
         → IsResizerRead (word_of g c s) resizer
-        → (answer : Answer) (es : List (Exchange P)) (hands' : Hands P)
-        → IsStageTold g c s resizer.state hands answer es hands'
+        → (answer : Answer) (es : List (Exchange P)) (loaded' : LoadedPairs P)
+        → IsStageTold g c s resizer.state loaded answer es loaded'
         → reply_of (resizer_after resizer answer) ≡ Some Reply_done
         → HasResized (word_of g c (run es s)) g.size answer resizer.resize }
 {}

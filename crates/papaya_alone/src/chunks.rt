@@ -6,12 +6,12 @@ ghost use Rattle.papaya_ask.specs.declared.call.Reply.TheVariants.{Done as Reply
 ghost use Rattle.papaya_law.specs.Code.{Coding, IsHashed};
 ghost use Rattle.papaya_law.specs.Exchange.{Setting, State, Exchange, run};
 ghost use Rattle.papaya_law.specs.Invariant.{IsKeeping};
-ghost use Rattle.papaya_rests.specs.Copier.{HasWords};
-ghost use Rattle.papaya_rests.specs.Told.{word_of};
+ghost use Rattle.papaya_call_law.specs.Copier.{HasWords};
+ghost use Rattle.papaya_call_law.specs.Told.{word_of};
 ghost use Rattle.papaya_chain.specs.declared.resizer.Resize.TheVariants.{Chunk};
 ghost use Rattle.papaya_chain.specs.Resizer.{after, begun, reply_of};
-ghost use Rattle.papaya_chain_rests.specs.Resizers.{IsStageTold, RestsResizer, link_of};
-ghost use Rattle.papaya_chain_rests.specs.Told.{Hands};
+ghost use Rattle.papaya_chain_law.specs.Resizers.{IsStageTold, ReliesResizer, link_of};
+ghost use Rattle.papaya_chain_law.specs.Told.{LoadedPairs};
 ghost use Rattle.papaya_alone.specs.Chunks.{AllFallShort, AllLeaveRoot, HasCopied, IsDue};
 ghost use Rattle.papaya_alone.specs.Chunks.{WillCopy, chunks_of};
 ghost use Rattle.papaya_alone.specs.Prompt.{IsBounded};
@@ -30,12 +30,12 @@ pub fn alone_chunks<K, P>()
         → WillCopy words size from to slots due (begun Chunk (Incremental slots) initial number) }
     ensures goes_on { (g : Setting K P) (c : Coding K P) → IsHashed g c
         → (s : State P) (m : K → Option P) → IsKeeping g s m → IsBounded g s
-        → (resizer : Resizer) (hands : Hands P) → RestsResizer g c s resizer hands
+        → (resizer : Resizer) (loaded : LoadedPairs P) → ReliesResizer g c s resizer loaded
         → HasWords g (link_of resizer.state)
         → IsResizerRead (word_of g c s) resizer → (from to slots due : ℕ)
         → WillCopy (word_of g c s) g.size from to slots due resizer
-        → (answer : Answer) (es : List (Exchange P)) (hands' : Hands P)
-        → IsStageTold g c s resizer.state hands answer es hands'
+        → (answer : Answer) (es : List (Exchange P)) (loaded' : LoadedPairs P)
+        → IsStageTold g c s resizer.state loaded answer es loaded'
         → WillCopy (word_of g c (run es s)) g.size from to slots due (after resizer answer) }
     ensures ends { (words : At → ℕ) (size : ℕ → ℕ) (from to slots due : ℕ) (resizer : Resizer)
         → WillCopy words size from to slots due resizer → reply_of resizer ≡ Some Reply_done

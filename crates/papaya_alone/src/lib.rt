@@ -7,4 +7,4 @@
 pub mod alone;
 pub mod chunks;
 pub mod limits;
-pub mod visitors;
+pub mod scanners;

@@ -4,15 +4,15 @@ use Rattle.std.specs.Int.{IsPowerOfTwo}
 use Rattle.papaya_words.specs.Word.{kind_of, pair_of, may_hold}
 use Rattle.papaya_words.specs.Probe.{place}
 use Rattle.papaya_words.specs.declared.word.Kind.{Kind}
-use Rattle.papaya_words.specs.declared.word.Kind.TheVariants.{Empty as Is_empty, Copied, Buried, Closed}
+use Rattle.papaya_words.specs.declared.word.Kind.TheVariants.{Empty as Is_empty, Copied, Tombstone, Closed}
 use Rattle.papaya_ask.specs.declared.ask.At.TheVariants.{Slot}
 use Rattle.papaya_ask.specs.declared.ask.Ask.{Ask}
 use Rattle.papaya_ask.specs.declared.ask.Ask.TheVariants.{Load, LoadHint, SameKey, SizeOf}
 use Rattle.papaya_ask.specs.declared.search.Place.{Place}
 use Rattle.papaya_ask.specs.declared.search.Search.{Search}
 use Rattle.papaya_ask.specs.declared.search.Search.TheVariants.{Sizing, Looking, Reading, Comparing}
-use Rattle.papaya_ask.specs.declared.search.Seen.{Seen}
-use Rattle.papaya_ask.specs.declared.search.Seen.TheVariants.{On, Empty, Here, Over}
+use Rattle.papaya_ask.specs.declared.search.Probed.{Probed}
+use Rattle.papaya_ask.specs.declared.search.Probed.TheVariants.{On, Empty, Here, Over}
 
 -- the size of a table: a power of two slots, and how many places after the first a search looks at
 pub record IsSize (slots last : ℕ) : Type 0 where
@@ -33,11 +33,11 @@ IsSearching (Looking at) = IsWithin at
 IsSearching (Reading at) = IsWithin at
 IsSearching (Comparing at word) = IsWithin at
 
-abbrev pub IsSeen : Seen → Type 0
-IsSeen (On search) = IsSearching search
-IsSeen (Empty at) = IsWithin at
-IsSeen (Here at word) = IsWithin at
-IsSeen (Over table) = Unit {0}
+abbrev pub IsProbed : Probed → Type 0
+IsProbed (On search) = IsSearching search
+IsProbed (Empty at) = IsWithin at
+IsProbed (Here at word) = IsWithin at
+IsProbed (Over table) = Unit {0}
 
 -- what a search asks
 abbrev pub ask_of : Search → Ask
@@ -65,26 +65,26 @@ next_place at = record at {
 }
 
 -- the key is not at this place: the search goes on, or is over
-abbrev pub go_on : Place → Seen
+abbrev pub go_on : Place → Probed
 go_on at = if nat_lt at.probe.len at.limit then On (Looking (next_place at)) else Over at.table
 
 -- the hint of a place: where it says nothing, or is the key's, the word is loaded
-abbrev pub hinted : Place → (hash hint : ℕ) → Seen
+abbrev pub hinted : Place → (hash hint : ℕ) → Probed
 hinted at hash hint = if may_hold hint hash then On (Reading at) else go_on at
 
 -- what a word of this kind tells
-abbrev pub look_at : Kind → Place → (word : ℕ) → Seen
+abbrev pub look_at : Kind → Place → (word : ℕ) → Probed
 look_at Is_empty at word = Empty at
-look_at Buried at word = go_on at
+look_at Tombstone at word = go_on at
 look_at Closed at word = go_on at
 look_at _ at word = On (Comparing at word)
 
 -- what the word that stands at a place tells
-abbrev pub look : Place → (word : ℕ) → Seen
+abbrev pub look : Place → (word : ℕ) → Probed
 look at word = look_at (kind_of word) at word
 
 -- a matching key of a pair in a word of this kind: a pair that was copied is looked for further on
-abbrev pub match_at : Kind → Place → ℕ → Seen
+abbrev pub match_at : Kind → Place → ℕ → Probed
 match_at Copied at word = Over at.table
 match_at _ at word = Here at word
 
@@ -95,13 +95,13 @@ at_size (Looking at) hash slots limit = Looking at
 at_size (Reading at) hash slots limit = Reading at
 at_size (Comparing at word) hash slots limit = Comparing at word
 
-abbrev pub at_word : Search → (hash word : ℕ) → Seen
+abbrev pub at_word : Search → (hash word : ℕ) → Probed
 at_word (Looking at) hash word = hinted at hash word
 at_word (Reading at) hash word = look at word
 at_word (Sizing table) hash word = On (Sizing table)
 at_word (Comparing at found) hash word = On (Comparing at found)
 
-abbrev pub at_yes : Search → Bool → Seen
+abbrev pub at_yes : Search → Bool → Probed
 at_yes (Comparing at word) true = match_at (kind_of word) at word
 at_yes (Comparing at word) false = go_on at
 at_yes (Sizing table) same = On (Sizing table)

@@ -1,6 +1,6 @@
 //! The search of one table for a key.
 ghost use Rattle.std.specs.Prelude.{◌≡◌, ◌<◌, ◌^◌};
-ghost use Rattle.papaya_ask.specs.Search.{IsSize, IsWithin, IsSearching, IsSeen, first_place, go_on, hinted, look, ask_of, at_size, at_word, at_yes};
+ghost use Rattle.papaya_ask.specs.Search.{IsSize, IsWithin, IsSearching, IsProbed, first_place, go_on, hinted, look, ask_of, at_size, at_word, at_yes};
 
 use crate::ask::{Ask, At};
 use papaya_words::probe::Probe;
@@ -35,7 +35,7 @@ pub enum Search {
 
 /// Where an answer led a search.
 #[derive(Clone, Copy)]
-pub enum Seen {
+pub enum Probed {
     /// The search goes on.
     On(Search),
     /// Nothing was ever at this place, so the key is not here.
@@ -64,28 +64,28 @@ impl Place {
 
     /// The key is not at this place, so the next one is looked at, while there is one.
     #[inline(always)]
-    fn go_on(mut self) -> Seen
+    fn go_on(mut self) -> Probed
         requires { IsWithin self }
         ensures value { result ≡ go_on self }
-        ensures seen { IsSeen result }
+        ensures seen { IsProbed result }
     {
         if self.probe.len < self.limit {
             self.probe.next(self.len - 1);
-            Seen::On(Search::Looking(self))
+            Probed::On(Search::Looking(self))
         } else {
-            Seen::Over(self.table)
+            Probed::Over(self.table)
         }
     }
 
     /// This hint stands at the place. One of another key, or of a slot that is shut, saves the word.
     #[inline(always)]
-    pub fn hinted(self, hash: u64, found: u64) -> Seen
+    pub fn hinted(self, hash: u64, found: u64) -> Probed
         requires { IsWithin self }
         ensures value { result ≡ hinted self hash found }
-        ensures seen { IsSeen result }
+        ensures seen { IsProbed result }
     {
         if may_hold(found, hash) {
-            Seen::On(Search::Reading(self))
+            Probed::On(Search::Reading(self))
         } else {
             self.go_on()
         }
@@ -93,15 +93,15 @@ impl Place {
 
     /// This word stands at the place.
     #[inline(always)]
-    pub fn look(self, word: u64) -> Seen
+    pub fn look(self, word: u64) -> Probed
         requires { IsWithin self }
         ensures value { result ≡ look self word }
-        ensures seen { IsSeen result }
+        ensures seen { IsProbed result }
     {
         match Word(word).kind() {
-            Kind::Empty => Seen::Empty(self),
-            Kind::Live | Kind::Marked | Kind::Copied => Seen::On(Search::Comparing(self, word)),
-            Kind::Buried | Kind::Closed => self.go_on(),
+            Kind::Empty => Probed::Empty(self),
+            Kind::Live | Kind::Marked | Kind::Copied => Probed::On(Search::Comparing(self, word)),
+            Kind::Tombstone | Kind::Closed => self.go_on(),
         }
     }
 }
@@ -136,36 +136,36 @@ impl Search {
 
     /// This word, or this hint, was loaded.
     #[inline(always)]
-    pub fn at_word(self, hash: u64, word: u64) -> Seen
+    pub fn at_word(self, hash: u64, word: u64) -> Probed
         requires { IsSearching self }
         ensures value { result ≡ at_word self hash word }
-        ensures seen { IsSeen result }
+        ensures seen { IsProbed result }
     {
         match self {
             Search::Looking(place) => place.hinted(hash, word),
             Search::Reading(place) => place.look(word),
-            search => Seen::On(search),
+            search => Probed::On(search),
         }
     }
 
     /// The keys match, or they do not. A pair that was copied has to be looked for further on.
     #[inline(always)]
-    pub fn at_yes(self, yes: bool) -> Seen
+    pub fn at_yes(self, yes: bool) -> Probed
         requires { IsSearching self }
         ensures value { result ≡ at_yes self yes }
-        ensures seen { IsSeen result }
+        ensures seen { IsProbed result }
     {
         match self {
             Search::Comparing(place, word) => {
                 if !yes {
                     place.go_on()
                 } else if Word(word).kind() == Kind::Copied {
-                    Seen::Over(place.table)
+                    Probed::Over(place.table)
                 } else {
-                    Seen::Here(place, word)
+                    Probed::Here(place, word)
                 }
             }
-            search => Seen::On(search),
+            search => Probed::On(search),
         }
     }
 }

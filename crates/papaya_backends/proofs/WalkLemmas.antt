@@ -8,8 +8,8 @@ use Rattle.std.proofs.lemmas.List.Sorted.{All-permutation}
 use mathlib.Core.List.{IsPrefix}
 use Rattle.papaya_book.proofs.Logs.{prefix_trans}
 use Rattle.papaya_lookup.specs.History.{IsLegalHistory, key_of}
-use Rattle.papaya_sweep.specs.Meeting.{HadPair}
-use Rattle.papaya_sweep.specs.Walked.{Gives, Walked}
+use Rattle.papaya_scan.specs.Meeting.{HadPair}
+use Rattle.papaya_scan.specs.Walked.{Gives, Walked}
 use Rattle.papaya_lines.specs.Walk.{IsByKey}
 use Rattle.papaya_backends.specs.Shared.{Had, Seen, WereHad}
 

@@ -12,7 +12,7 @@ use Rattle.papaya_lookup.specs.History.{Change, key_of}
 use Rattle.papaya_change.specs.Changes.{IsPut}
 use Rattle.papaya_change.specs.RemovalAnswers.{IsRemoved}
 use Rattle.papaya_change.specs.Writing.{IsMemoryOrCapacity}
-use Rattle.papaya_sweep.specs.Meeting.{HadPair}
+use Rattle.papaya_scan.specs.Meeting.{HadPair}
 use Rattle.papaya_map.specs.Plain.{IsOfHistory}
 use Rattle.papaya_map.specs.Storing.{IsUpdated}
 use Rattle.papaya_lines.specs.Closures.{follower}

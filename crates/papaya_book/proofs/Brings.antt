@@ -13,7 +13,7 @@ use Rattle.papaya_law.specs.Code.{Coding}
 use Rattle.papaya_law.specs.Exchange.{Setting, State, after, at_put, start}
 use Rattle.papaya_law.specs.Grows.{AllSized, Entry, IsLawfulPlan, Plan, chunks_in, exchanges, places_in, setting_in, size_in}
 use Rattle.papaya_words.specs.declared.probe.ResizeMode.{ResizeMode}
-use Rattle.papaya_rests.specs.Told.{IsWritten, word_of}
+use Rattle.papaya_call_law.specs.Told.{IsWritten, word_of}
 use Rattle.papaya_law.proofs.Logs.{log_grows, lawful_in}
 use Rattle.papaya_book.specs.declared.rule.entry.Begun.{Begun}
 use Rattle.papaya_book.specs.declared.rule.entry.Named.{Named}
@@ -27,7 +27,7 @@ use Rattle.papaya_book.specs.Logs.{Stored, brought, coding_of, comes, dealt, ent
 use Rattle.papaya_book.specs.Makers.{Brings, CanBring, IsMade, key_of, table_of}
 use Rattle.papaya_book.specs.Rows.{row_len}
 use Rattle.papaya_book.specs.Rule.{IsBlank, IsKept, IsLawfulLog, IsOfMap, IsPlaced, flag, seal_at, word_in}
-use Rattle.papaya_book.specs.Trade.{Answered, LeavesRow, Moved}
+use Rattle.papaya_book.specs.Offer.{Answered, LeavesRow, Moved}
 use Rattle.papaya_book.specs.Sheets.{Sheet}
 use Rattle.papaya_book.proofs.Cells.{cell_other, cell_same, home_still, same_or_not}
 use Rattle.papaya_book.proofs.Comes.{IsNew, blank_zero, get_within, no_seal, no_shared, old_or_new, root_or_not, seal_later, table_then, table_there, word_sizes}
@@ -54,7 +54,7 @@ not_counting g c g' s (steps.Link t v) w is may same =
     let none = may.last in absurd (omega arith)
 not_counting g c g' s (steps.Claim t x p) w is may same = absurd (cc is)
 not_counting g c g' s (steps.Replace t x p q) w is may same = absurd (cc is)
-not_counting g c g' s (steps.Bury t x p) w is may same = absurd (cc is)
+not_counting g c g' s (steps.Delete t x p) w is may same = absurd (cc is)
 not_counting g c g' s (steps.Mark t x p) w is may same = absurd (cc is)
 not_counting g c g' s (steps.Close t x) w is may same = absurd (cc is)
 not_counting g c g' s (steps.Place t x p) w is may same = absurd (cc is)

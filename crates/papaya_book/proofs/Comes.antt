@@ -8,7 +8,7 @@ use Rattle.papaya_ask.specs.declared.ask.At.TheVariants.{Root, Next, Aborted, Do
 use Rattle.papaya_law.specs.Code.{Coding, code}
 use Rattle.papaya_law.specs.Exchange.{Empty, Setting, State}
 use Rattle.papaya_law.specs.Grows.{Plan, planned}
-use Rattle.papaya_rests.specs.Told.{word_of}
+use Rattle.papaya_call_law.specs.Told.{word_of}
 use Rattle.papaya_book.specs.Sheets.{Sheet}
 use Rattle.papaya_book.specs.declared.rule.entry.Named.{Named}
 use Rattle.papaya_book.specs.declared.rule.entry.Named.TheVariants as names
@@ -71,7 +71,7 @@ word_sizes h size size' places places' chunks chunks' c s (Slot t x) = named_wor
     named_word (Rattle.papaya_law.specs.Exchange.Live p) = refl
     named_word (Rattle.papaya_law.specs.Exchange.Marked p) = refl
     named_word (Rattle.papaya_law.specs.Exchange.Copied p) = refl
-    named_word (Rattle.papaya_law.specs.Exchange.Buried p) = refl
+    named_word (Rattle.papaya_law.specs.Exchange.Tombstone p) = refl
 
 module _ {K V : Type 0} (es : List (Step K V)) (e : Step K V) (w : Where Sheet) (with_it : comes e ≡ names.Table w) where
   -- the table of a number after the table came

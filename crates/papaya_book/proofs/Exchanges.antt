@@ -10,7 +10,7 @@ use Rattle.papaya_law.specs.Allows.{Allows}
 use Rattle.papaya_law.specs.Exchange.{Setting, after}
 use Rattle.papaya_law.specs.Grows.{IsLawfulPlan}
 use Rattle.papaya_words.specs.declared.probe.ResizeMode.{ResizeMode}
-use Rattle.papaya_rests.specs.Told.{IsWritten, word_of}
+use Rattle.papaya_call_law.specs.Told.{IsWritten, word_of}
 use Rattle.papaya_book.specs.declared.rule.entry.Begun.{Begun}
 use Rattle.papaya_book.specs.declared.rule.entry.Named.{Named}
 use Rattle.papaya_book.specs.declared.rule.entry.Step.{Step}
@@ -19,7 +19,7 @@ use Rattle.papaya_book.specs.declared.rule.entry.Event.TheVariants.{Begin, Stepp
 use Rattle.papaya_book.specs.Logs.{Stored, brought, coding_of, comes, dealt, exchange_of, key_at, kind_of, made_of, name_in, place_of, plan_of, seals_of, setting_of, state_of, steps_of, word_names}
 use Rattle.papaya_book.specs.Rows.{row_len}
 use Rattle.papaya_book.specs.Rule.{IsKept, IsLawfulLog, IsPlaced, flag, seal_at, word_in}
-use Rattle.papaya_book.specs.Trade.{Answered, LeavesRow, MovesRow, Moved}
+use Rattle.papaya_book.specs.Offer.{Answered, LeavesRow, MovesRow, Moved}
 use Rattle.papaya_book.specs.Plays.{CanExchange, MayStep, Tries}
 use Rattle.papaya_book.proofs.Cells.{cell_other, cell_same, home_still, same_or_not}
 use Rattle.papaya_book.proofs.Logs.{IsQuiet, name-append, name_later, or_nothing, seals-append, answered_left, same_seal, steps-append, with_quiet}

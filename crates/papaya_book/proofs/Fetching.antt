@@ -16,7 +16,7 @@ use Rattle.papaya_book.specs.Logs.{coding_of, name_in, place_of, setting_of, ste
 use Rattle.papaya_book.specs.Makers.{table_of}
 use Rattle.papaya_book.specs.Rule.{IsKept, IsLawfulLog, word_in}
 use Rattle.papaya_book.specs.Sheets.{Sheet}
-use Rattle.papaya_book.specs.Trade.{Answered, LeavesRow, Moved}
+use Rattle.papaya_book.specs.Offer.{Answered, LeavesRow, Moved}
 use Rattle.papaya_book.proofs.Loaded.{IsFoundTable, found_table, table_since}
 use Rattle.papaya_book.proofs.Loads.{row_still, same_cells, shows}
 use Rattle.papaya_book.proofs.Names.{number_answer}

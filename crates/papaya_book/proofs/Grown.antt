@@ -9,7 +9,7 @@ use Rattle.papaya_law.specs.Code.{Coding, code}
 use Rattle.papaya_law.specs.Exchange.{Setting, State, after, start}
 use Rattle.papaya_law.specs.Grows.{AllSized, Entry, IsLawfulPlan, Plan, brings, exchanges, setting_in}
 use Rattle.papaya_words.specs.declared.probe.ResizeMode.{ResizeMode}
-use Rattle.papaya_rests.specs.Told.{IsWritten, word_of}
+use Rattle.papaya_call_law.specs.Told.{IsWritten, word_of}
 use Rattle.papaya_law.proofs.Codes.{code_empty}
 use Rattle.papaya_law.proofs.Logs.{log_grows, lawful_in}
 use Rattle.papaya_book.specs.declared.rule.entry.Begun.{Begun}
@@ -31,7 +31,7 @@ root_stays : {K V : Type 0} (g : Setting K (Stored K V)) (s : State (Stored K V)
 root_stays g s (steps.Open w) a q h = absurd q
 root_stays g s (steps.Claim t x p) a q h = h
 root_stays g s (steps.Replace t x p p') a q h = h
-root_stays g s (steps.Bury t x p) a q h = h
+root_stays g s (steps.Delete t x p) a q h = h
 root_stays g s (steps.Link t w) a q h = absurd q
 root_stays g s (steps.Mark t x p) a q h = h
 root_stays g s (steps.Close t x) a q h = h

@@ -8,7 +8,7 @@ use Rattle.papaya_book.specs.declared.rule.entry.Event.{Event}
 use Rattle.papaya_book.specs.declared.rule.entry.Named.{Named}
 use Rattle.papaya_book.specs.declared.rule.entry.Named.TheVariants as names
 use Rattle.papaya_book.specs.declared.rule.entry.Step.{Step}
-use Rattle.papaya_book.specs.declared.rule.own.Given.{Given}
+use Rattle.papaya_book.specs.declared.rule.own.CapacityCause.{CapacityCause}
 use Rattle.papaya_book.specs.Calls.{IsTable}
 use Rattle.papaya_book.specs.Limits.{HasNoRoom, slots_brought, tables_by, tables_of}
 use Rattle.papaya_book.specs.Logs.{Member, comes, number_of, or_else, steps_of, table_if, table_in}
@@ -36,7 +36,7 @@ pub member_since : (len : ℕ) (tables tables' : List ℕ) → IsPrefix tables t
 member_since len tables tables' pre h = subst (Member len) pre.1 (member_first len tables pre.0 h)
 
 -- where there was no room there is none, whatever tables came since
-pub room_since : (initial : ℕ) (tables tables' : List ℕ) (given : List Given) → IsPrefix tables tables' → HasNoRoom initial tables given → HasNoRoom initial tables' given
+pub room_since : (initial : ℕ) (tables tables' : List ℕ) (given : List CapacityCause) → IsPrefix tables tables' → HasNoRoom initial tables given → HasNoRoom initial tables' given
 room_since initial tables tables' given pre (inl full) = inl full
 room_since initial tables tables' given pre (inr long) = inr (record {
   count = long.count;

@@ -1,7 +1,7 @@
 -- tokens of boxcar logs
 pub mod Made
 -- offers that hand tokens to the book
-pub mod Trades
+pub mod Offers
 -- longer logs
 pub mod Logs
 pub mod Names

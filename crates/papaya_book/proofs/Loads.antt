@@ -8,7 +8,7 @@ use Rattle.papaya_book.specs.declared.rule.entry.Event.{Event}
 use Rattle.papaya_book.specs.declared.rule.entry.Event.TheVariants.{Begin, Called, Dealt, Draw, Stepped, Wish}
 use Rattle.papaya_book.specs.Logs.{dealt, key_at, name_in, place_of, setting_of, state_of, steps_of, word_names}
 use Rattle.papaya_book.specs.Rule.{IsKept, word_in}
-use Rattle.papaya_book.specs.Trade.{Answered, LeavesRow, MovesRow, Moved}
+use Rattle.papaya_book.specs.Offer.{Answered, LeavesRow, MovesRow, Moved}
 use Rattle.papaya_book.specs.Plays.{Looked, Looks}
 use Rattle.papaya_book.proofs.Logs.{key_later, steps-append}
 use Rattle.papaya_book.proofs.Names.{word_answer}

@@ -20,7 +20,7 @@ use Rattle.papaya_book.specs.declared.rule.entry.Event.{Event}
 use Rattle.papaya_book.specs.declared.rule.entry.Event.TheVariants.{Wish, Begin, Called, Draw, Dealt, Stepped}
 use Rattle.papaya_book.specs.Logs.{Stored, Entered, brought, comes, entries_of, entry_of, exchange_of, exchanges_of, in_table, key_at, name_in, name_of, number_of, or_else, owner, plan_of, seal_of, seals_of, setting_of, setting_with, state_of, step_of, steps_of, table_if, table_in}
 use Rattle.papaya_book.specs.Rule.{seal_at}
-use Rattle.papaya_book.specs.Trade.{Answered}
+use Rattle.papaya_book.specs.Offer.{Answered}
 
 pub prefix_trans : {A : Type 0} (xs ys zs : List A) → IsPrefix xs ys → IsPrefix ys zs → IsPrefix xs zs
 prefix_trans xs ys zs p q = (p.0 ++ q.0, sym (append_assoc xs p.0 q.0) ∙ (ap (λ (w : List _). w ++ q.0) p.1 ∙ q.1))
@@ -124,7 +124,7 @@ module _ {K V : Type 0} where
   brings_none (steps.Open w) t q = absurd q
   brings_none (steps.Claim u x p) t q = refl
   brings_none (steps.Replace u x p p') t q = refl
-  brings_none (steps.Bury u x p) t q = refl
+  brings_none (steps.Delete u x p) t q = refl
   brings_none (steps.Link u w) t q = absurd q
   brings_none (steps.Mark u x p) t q = refl
   brings_none (steps.Close u x) t q = refl

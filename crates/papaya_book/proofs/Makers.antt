@@ -22,7 +22,7 @@ use Rattle.papaya_book.specs.Logs.{Stored, Entered, brought, dealt, entry_of, in
 use Rattle.papaya_book.specs.Makers.{AreDealt, Calls, Deals}
 use Rattle.papaya_book.specs.Rows.{row_len}
 use Rattle.papaya_book.specs.Rule.{IsBlank, IsKept, IsLawfulLog, IsOfMap, IsPlaced, IsSealOf, flag, seal_at, word_in}
-use Rattle.papaya_book.specs.Trade.{MovesRow, Moved}
+use Rattle.papaya_book.specs.Offer.{MovesRow, Moved}
 use Rattle.papaya_book.proofs.Cells.{cell_left, cell_other, cell_past, cell_same, home_still, same_or_not}
 use Rattle.papaya_book.proofs.Loads.{same_cells, shows}
 use Rattle.papaya_book.proofs.Logs.{entered_last, get_right, name-append, name_later, name_since, or_nothing, owner_later, seals-append, steps_same}
@@ -100,7 +100,7 @@ module _ {K V S : Type 0} (eq : K → K → Bool) (hash : S → K → ℕ) where
     same_word : (at : At) → word_in eq hash h.begun log' at ≡ word_in eq hash h.begun log at
     same_word at =
         let plan = plan_of {V = V} eq (hash h.begun.hasher) h.begun.mode h.begun.limit in
-        ap (λ (es : List (Step K V)). Rattle.papaya_rests.specs.Told.word_of (setting_in plan (map entry_of es)) (Rattle.papaya_book.specs.Logs.coding_of (hash h.begun.hasher)) (Rattle.papaya_law.specs.Exchange.run (exchanges (map entry_of es)) start) at) same_steps
+        ap (λ (es : List (Step K V)). Rattle.papaya_call_law.specs.Told.word_of (setting_in plan (map entry_of es)) (Rattle.papaya_book.specs.Logs.coding_of (hash h.begun.hasher)) (Rattle.papaya_law.specs.Exchange.run (exchanges (map entry_of es)) start) at) same_steps
 
     owned_still : (at : At) (k : ℕ) → key_at (steps_of log) at ≡ Some k → IsOfMap at ⊎ (IsSealOf k (seal_at (steps_of log') at) ⊎ (owner k log' ≡ seal_at (steps_of log') at))
     owned_still at k x =

@@ -8,7 +8,7 @@ use Rattle.papaya_ask.specs.declared.ask.At.TheVariants.{Root, Next, Aborted, Do
 use Rattle.papaya_ask.specs.declared.ask.StepKind.TheVariants as kinds
 use Rattle.papaya_law.specs.Code.{Coding}
 use Rattle.papaya_law.specs.Exchange.{Setting, State, Open, after}
-use Rattle.papaya_rests.specs.Told.{word_of}
+use Rattle.papaya_call_law.specs.Told.{word_of}
 use Rattle.papaya_book.specs.Sheets.{AllOf, Sheet, word_named}
 use Rattle.papaya_book.specs.declared.rule.entry.Begun.{Begun}
 use Rattle.papaya_book.specs.declared.rule.entry.Event.{Event}

@@ -4,16 +4,16 @@ use Rattle.papaya_ask.specs.declared.ask.At.{At}
 use Rattle.papaya_ask.specs.declared.ask.StepKind.{StepKind}
 use Rattle.papaya_ask.specs.declared.ask.StepKind.TheVariants as kinds
 use Rattle.papaya_law.specs.Exchange.{Exchange, State}
-use Rattle.papaya_rests.specs.Copier.{IsCopyAsked}
+use Rattle.papaya_call_law.specs.Copier.{IsCopyAsked}
 use Rattle.papaya_book.specs.Logs.{Stored}
-use Rattle.papaya_book.specs.Plays.{IsCallAsked, IsWished, Numbered, hands_of}
+use Rattle.papaya_book.specs.Plays.{IsCallAsked, IsWished, Numbered, loaded_of}
 
 -- a kind of exchange that calls ask for
 abbrev pub IsOfCall : Option StepKind → Type 0
 IsOfCall (Some kinds.Open) = Unit {0}
 IsOfCall (Some kinds.Claim) = Unit {0}
 IsOfCall (Some kinds.Replace) = Unit {0}
-IsOfCall (Some kinds.Bury) = Unit {0}
+IsOfCall (Some kinds.Delete) = Unit {0}
 IsOfCall (Some kinds.Take) = Unit {0}
 IsOfCall _ = ⊥
 
@@ -31,12 +31,12 @@ IsOfCopy _ = ⊥
 
 module _ {K V : Type 0} (at : At) (new : ℕ) (s : State (Stored K V)) (made : Option (Stored K V)) (e : Exchange (Stored K V)) where
   -- a wish of such a kind is a call's
-  pub call_wished : (kind : Option StepKind) → IsOfCall kind → IsWished kind at new s made e → IsCallAsked kind at new s (hands_of made) e
+  pub call_wished : (kind : Option StepKind) → IsOfCall kind → IsWished kind at new s made e → IsCallAsked kind at new s (loaded_of made) e
   call_wished None is h = absurd is
   call_wished (Some kinds.Open) is h = ⊎_elim (λ i. i) (λ i. absurd i) h
   call_wished (Some kinds.Claim) is h = ⊎_elim (λ i. i) (λ i. absurd i) h
   call_wished (Some kinds.Replace) is h = ⊎_elim (λ i. i) (λ i. absurd i) h
-  call_wished (Some kinds.Bury) is h = ⊎_elim (λ i. i) (λ i. absurd i) h
+  call_wished (Some kinds.Delete) is h = ⊎_elim (λ i. i) (λ i. absurd i) h
   call_wished (Some kinds.Take) is h = ⊎_elim (λ i. i) (λ i. absurd i) h
   call_wished (Some kinds.Link) is h = absurd is
   call_wished (Some kinds.Mark) is h = absurd is
@@ -53,7 +53,7 @@ module _ {K V : Type 0} (at : At) (new : ℕ) (s : State (Stored K V)) (made : O
   copy_wished (Some kinds.Open) is h = absurd is
   copy_wished (Some kinds.Claim) is h = absurd is
   copy_wished (Some kinds.Replace) is h = absurd is
-  copy_wished (Some kinds.Bury) is h = absurd is
+  copy_wished (Some kinds.Delete) is h = absurd is
   copy_wished (Some kinds.Take) is h = absurd is
   copy_wished (Some kinds.Link) is h = ⊎_elim (λ i. absurd i) (λ i. i) h
   copy_wished (Some kinds.Mark) is h = ⊎_elim (λ i. absurd i) (λ i. i) h

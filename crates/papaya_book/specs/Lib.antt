@@ -16,7 +16,7 @@ pub mod Hinted
 pub mod Plays
 pub mod Makers
 pub mod Fetches
-pub mod Trade
+pub mod Offer
 pub mod Own
 pub mod Limits
 -- how a map resizes

@@ -8,18 +8,18 @@ use Rattle.papaya_book.specs.declared.rule.entry.Event.{Event}
 use Rattle.papaya_book.specs.declared.rule.entry.Named.{Named}
 use Rattle.papaya_book.specs.declared.rule.entry.Named.TheVariants as names
 use Rattle.papaya_book.specs.declared.rule.entry.Step.{Step}
-use Rattle.papaya_book.specs.declared.rule.own.Given.{Given}
-use Rattle.papaya_book.specs.declared.rule.own.Given.TheVariants.{Pair, Sum, Table}
+use Rattle.papaya_book.specs.declared.rule.own.CapacityCause.{CapacityCause}
+use Rattle.papaya_book.specs.declared.rule.own.CapacityCause.TheVariants.{Pair, Sum, Table}
 
 -- no word can name it
-abbrev pub IsPastLimit : Given → Type 0
+abbrev pub IsPastLimit : CapacityCause → Type 0
 IsPastLimit (Pair n) = MAX_LOG_LEN ≤ n
 IsPastLimit (Table n) = MAX_TABLES ≤ n
 IsPastLimit (Sum n) = ⊥
 
 -- A log is full: it gave this number, which is past its limit.
-abbrev pub IsFull : List Given → Type 0
-IsFull given = (number : Given) × (given ≡ number ∷ []) × IsPastLimit number
+abbrev pub IsFull : List CapacityCause → Type 0
+IsFull given = (number : CapacityCause) × (given ≡ number ∷ []) × IsPastLimit number
 
 -- how many slots each table has that came into the book, oldest first
 abbrev pub slots_brought : {K V : Type 0} → Named K V → List ℕ
@@ -39,7 +39,7 @@ HasTableFrom least tables = (len : ℕ) × (least ≤ len) × Member len tables
 
 -- A next table would be longer than a table may be: it would follow one of these, by this sum of the
 -- count and the map's initial capacity.
-pub record IsTooLong (initial : ℕ) (tables : List ℕ) (given : List Given) : Type 0 where
+pub record IsTooLong (initial : ℕ) (tables : List ℕ) (given : List CapacityCause) : Type 0 where
   pub count : ℕ
   pub given_is : given ≡ Sum count ∷ []
   pub len : ℕ
@@ -49,7 +49,7 @@ pub record IsTooLong (initial : ℕ) (tables : List ℕ) (given : List Given) : 
   pub long : 2 ^ 32 < length_after len count initial unfit
 
 -- there is no room for what a call would make: a log is full, or a table would be too long
-abbrev pub HasNoRoom : (initial : ℕ) → (tables : List ℕ) → List Given → Type 0
+abbrev pub HasNoRoom : (initial : ℕ) → (tables : List ℕ) → List CapacityCause → Type 0
 HasNoRoom initial tables given = IsFull given ⊎ IsTooLong initial tables given
 
 -- the map has a limit on pairs, and so many numbers for pairs were taken

@@ -5,7 +5,7 @@ use base.Stored.{Coded, coded×, coded_ℕ, coded_via}
 use Rattle.boxcar.specs.Table.{Shelves, id_at}
 
 -- A key, and where it lies: beside its pair's value, or at the pair that brought it. Of that one
--- this tells the bucket of the log of pairs, and the bucket's name.
+-- this tells the bucket of the arena of pairs, and the bucket's name.
 pub record KeyHeld (K : Type 0) : Type 0 where
   pub value : K
   pub at : Option (ℕ × ℕ)

@@ -8,9 +8,9 @@ use Rattle.papaya_ask.specs.declared.ask.StepKind.{StepKind}
 use Rattle.papaya_ask.specs.declared.ask.StepKind.TheVariants as kinds
 use Rattle.papaya_law.specs.Allows.{Allows}
 use Rattle.papaya_law.specs.Code.{Coding}
-use Rattle.papaya_law.specs.Exchange.{Exchange, Open, Claim, Replace, Bury, Take, Live, State, after}
-use Rattle.papaya_rests.specs.Copier.{IsCopyAsked}
-use Rattle.papaya_rests.specs.Told.{IsOwnWord, IsWritten, Hands}
+use Rattle.papaya_law.specs.Exchange.{Exchange, Open, Claim, Replace, Delete, Take, Live, State, after}
+use Rattle.papaya_call_law.specs.Copier.{IsCopyAsked}
+use Rattle.papaya_call_law.specs.Told.{IsOwnWord, IsWritten, LoadedPairs}
 use Rattle.papaya_book.specs.declared.rule.entry.Named.{Named}
 use Rattle.papaya_book.specs.declared.rule.entry.Begun.{Begun}
 use Rattle.papaya_book.specs.declared.rule.entry.Step.{Step}
@@ -24,9 +24,9 @@ abbrev pub made_list : {P : Type 0} → Option P → List P
 made_list None = []
 made_list (Some q) = q ∷ []
 
--- the hands of a call that has made this pair
-abbrev pub hands_of : {P : Type 0} → Option P → Hands P
-hands_of made = record { last = None; made = made_list made }
+-- the pairs of a call that has made this one
+abbrev pub loaded_of : {P : Type 0} → Option P → LoadedPairs P
+loaded_of made = record { last = None; made = made_list made }
 
 -- a pair is put in
 abbrev pub IsPutting : Option StepKind → Type 0
@@ -39,23 +39,23 @@ Numbered = coding_of (λ k. 0)
 -- The exchange of the law that a call asks for, whatever the call's key: a pair that comes is one that
 -- the call made, and has the key of the one that it replaces.
 abbrev pub IsCallAsked : {K V : Type 0} → Option StepKind → At → ℕ → State (Stored K V)
-    → Hands (Stored K V) → Exchange (Stored K V) → Type 0
-IsCallAsked (Some kinds.Open) places.Root new s hands e = e ≡ Open new
-IsCallAsked {K} {V} (Some kinds.Claim) (places.Slot t x) new s hands e = (q : Stored K V)
-    × IsOwnWord Numbered hands new q × (e ≡ Claim t x q)
-IsCallAsked {K} {V} (Some kinds.Replace) (places.Slot t x) new s hands e = (p : Stored K V)
-    × (q : Stored K V) × (s.slot t x ≡ Live p) × IsOwnWord Numbered hands new q
+    → LoadedPairs (Stored K V) → Exchange (Stored K V) → Type 0
+IsCallAsked (Some kinds.Open) places.Root new s loaded e = e ≡ Open new
+IsCallAsked {K} {V} (Some kinds.Claim) (places.Slot t x) new s loaded e = (q : Stored K V)
+    × IsOwnWord Numbered loaded new q × (e ≡ Claim t x q)
+IsCallAsked {K} {V} (Some kinds.Replace) (places.Slot t x) new s loaded e = (p : Stored K V)
+    × (q : Stored K V) × (s.slot t x ≡ Live p) × IsOwnWord Numbered loaded new q
     × (q.value.key.value ≡ p.value.key.value) × (e ≡ Replace t x p q)
-IsCallAsked {K} {V} (Some kinds.Bury) (places.Slot t x) new s hands e = (p : Stored K V)
-    × (s.slot t x ≡ Live p) × (e ≡ Bury t x p)
-IsCallAsked (Some kinds.Take) places.Made new s hands e = e ≡ Take s.made
-IsCallAsked _ _ new s hands e = ⊥
+IsCallAsked {K} {V} (Some kinds.Delete) (places.Slot t x) new s loaded e = (p : Stored K V)
+    × (s.slot t x ≡ Live p) × (e ≡ Delete t x p)
+IsCallAsked (Some kinds.Take) places.Made new s loaded e = e ≡ Take s.made
+IsCallAsked _ _ new s loaded e = ⊥
 
 -- The exchange of the law that is asked for: by a call, with a pair that it made, or for a copy, with
 -- the pair that is carried.
 abbrev pub IsWished : {K V : Type 0} → Option StepKind → At → ℕ → State (Stored K V)
     → Option (Stored K V) → Exchange (Stored K V) → Type 0
-IsWished kind at new s made e = IsCallAsked kind at new s (hands_of made) e
+IsWished kind at new s made e = IsCallAsked kind at new s (loaded_of made) e
     ⊎ IsCopyAsked Numbered kind at new s made e
 
 module _ {K V S : Type 0} (eq : K → K → Bool) (hash : S → K → ℕ) where

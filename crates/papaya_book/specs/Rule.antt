@@ -7,7 +7,7 @@ use Rattle.papaya_ask.specs.declared.ask.At.TheVariants.{Root, Next, Aborted, Do
 use Rattle.papaya_law.specs.Exchange.{Empty, State, start}
 use Rattle.papaya_law.specs.Allows.{AllAllowed}
 use Rattle.papaya_law.specs.Grows.{AllSized}
-use Rattle.papaya_rests.specs.Told.{word_of}
+use Rattle.papaya_call_law.specs.Told.{word_of}
 use Rattle.papaya_book.specs.declared.rule.entry.Named.{Named}
 use Rattle.papaya_book.specs.declared.rule.entry.Named.TheVariants as names
 use Rattle.papaya_book.specs.declared.rule.entry.Begun.{Begun}

@@ -27,10 +27,10 @@ use crate::book::parts::Parts;
 use crate::keyed::Keyed;
 use crate::rule::entry::Stored;
 use crate::rule::law::Found;
+use crate::rule::offer;
+use crate::rule::offer::{Offer, Seen};
 use crate::rule::steps::{Look, Put, Sought, Try, Wish};
 use crate::rule::token::token;
-use crate::rule::trade;
-use crate::rule::trade::{Sight, Trade};
 use crate::slot::Cell;
 use crate::table::Table;
 use papaya_ask::ask::At;
@@ -46,8 +46,8 @@ pub struct Book<K: Hash + Eq, V, S: BuildHasher> {
     pub root: Cell<K, V, S>,
     pub maker: Cell<K, V, S>,
     pub made: Cell<K, V, S>,
-    pub begun: Sight<K, V, S>,
-    pub origin: Sight<K, V, S>,
+    pub begun: Seen<K, V, S>,
+    pub origin: Seen<K, V, S>,
     ghost chunked: { IsChunked parts.mode } by { IsChunked-prop parts.mode },
     ghost root_is: { root ≡ word_named begun.book 0 },
     ghost maker_is: { maker ≡ word_named begun.book 1 },
@@ -61,13 +61,13 @@ pub struct Book<K: Hash + Eq, V, S: BuildHasher> {
 impl<K: Hash + Eq, V, S: BuildHasher> Book<K, V, S> {
     ghost use Rattle.papaya_book.specs.Books.{CanPut, CanTry, IsIn, IsLawfulLog, IsNext, IsRead, IsRoot, IsSlot, IsSlotWord, Puts, Tries};
 
-    /// One atomic load: the word that stands there. The trade gains what it names.
+    /// One atomic load: the word that stands there. The offer gains what it names.
     pub fn read(
         &self,
         word: &Cell<K, V, S>,
         sought: &Sought,
-        sight: &mut Sight<K, V, S>,
-    ) -> (u64, Trade<K, V, S>)
+        sight: &mut Seen<K, V, S>,
+    ) -> (u64, Offer<K, V, S>)
         requires book { sight.old.book ≡ self.now.begun.book }
         requires word { word.now ≡ word_named self.now.begun.book word.now.key }
         requires key { key_at (steps_of sight.old.log) sought.now.at ≡ Some word.now.key }
@@ -77,9 +77,9 @@ impl<K: Hash + Eq, V, S: BuildHasher> Book<K, V, S> {
             result.1.state }
     {
         sight.learn(&self.begun);
-        let mut trade = trade::bare::<K, V, S, Sought, Look>(sight, sought);
-        let found = word.load::<Look, Found<K, V>>(sight, &mut trade);
-        (found, trade)
+        let mut offer = offer::bare::<K, V, S, Sought, Look>(sight, sought);
+        let found = word.load::<Look, Found<K, V>>(sight, &mut offer);
+        (found, offer)
     }
 
     /// One atomic exchange with which nothing comes: the word found there.
@@ -89,8 +89,8 @@ impl<K: Hash + Eq, V, S: BuildHasher> Book<K, V, S> {
         wish: &Wish,
         old: u64,
         new: u64,
-        sight: &mut Sight<K, V, S>,
-    ) -> (u64, Trade<K, V, S>)
+        sight: &mut Seen<K, V, S>,
+    ) -> (u64, Offer<K, V, S>)
         requires book { sight.old.book ≡ self.now.begun.book }
         requires word { word.now ≡ word_named self.now.begun.book word.now.key }
         requires key { key_at (steps_of sight.old.log) wish.now.at ≡ Some word.now.key }
@@ -101,12 +101,12 @@ impl<K: Hash + Eq, V, S: BuildHasher> Book<K, V, S> {
             result.0 sight.new.log result.1.state }
     {
         sight.learn(&self.begun);
-        let mut trade = trade::bare::<K, V, S, Wish, Try>(sight, wish);
+        let mut offer = offer::bare::<K, V, S, Wish, Try>(sight, wish);
         let mut pen = sight.no_pen();
         let found = word.compare_exchange::<Try, Found<K, V>>(
-            old, new, sight, &mut trade, &mut pen,
+            old, new, sight, &mut offer, &mut pen,
         );
-        (found, trade)
+        (found, offer)
     }
 
     /// One atomic exchange with which the pair comes that the call has made: the word found there.
@@ -116,8 +116,8 @@ impl<K: Hash + Eq, V, S: BuildHasher> Book<K, V, S> {
         wish: &Put<K, V>,
         old: u64,
         new: u64,
-        sight: &mut Sight<K, V, S>,
-    ) -> (u64, Trade<K, V, S>)
+        sight: &mut Seen<K, V, S>,
+    ) -> (u64, Offer<K, V, S>)
         requires book { sight.old.book ≡ self.now.begun.book }
         requires word { word.now ≡ word_named self.now.begun.book word.now.key }
         requires key { key_at (steps_of sight.old.log) wish.now.at ≡ Some word.now.key }
@@ -129,12 +129,12 @@ impl<K: Hash + Eq, V, S: BuildHasher> Book<K, V, S> {
             sight.new.log result.1.state }
     {
         sight.learn(&self.begun);
-        let mut trade = trade::with_pair::<K, V, S, Put<K, V>, Try>(sight, wish, tell(wish.made));
+        let mut offer = offer::with_pair::<K, V, S, Put<K, V>, Try>(sight, wish, tell(wish.made));
         let mut pen = sight.no_pen();
         let found = word.compare_exchange::<Try, Found<K, V>>(
-            old, new, sight, &mut trade, &mut pen,
+            old, new, sight, &mut offer, &mut pen,
         );
-        (found, trade)
+        (found, offer)
     }
 
     /// One atomic load of a table's slot: the word, and what gains the token of the pair that it
@@ -145,8 +145,8 @@ impl<K: Hash + Eq, V, S: BuildHasher> Book<K, V, S> {
         table: &Table<K, V, S>,
         number: u64,
         place: usize,
-        sight: &mut Sight<K, V, S>,
-    ) -> (u64, Trade<K, V, S>)
+        sight: &mut Seen<K, V, S>,
+    ) -> (u64, Offer<K, V, S>)
         requires book { sight.old.book ≡ self.now.begun.book }
         requires table { IsTable sight.old.log number table.now }
         requires place { place < length table.now.slots }
@@ -168,7 +168,7 @@ impl<K: Hash + Eq, V, S: BuildHasher> Book<K, V, S> {
         table: &Table<K, V, S>,
         number: u64,
         place: usize,
-        sight: &mut Sight<K, V, S>,
+        sight: &mut Seen<K, V, S>,
     ) -> (u64, Option<Stored<K, V>>)
         requires book { sight.old.book ≡ self.now.begun.book }
         requires table { IsTable sight.old.log number table.now }
@@ -178,12 +178,12 @@ impl<K: Hash + Eq, V, S: BuildHasher> Book<K, V, S> {
         ensures slot { IsSlot ⟦<S as Keyed<K>>⟧.keys self.now number place result.0 sight.new.log
             result.1 }
     {
-        let (found, trade) = self.slot_word(table, number, place, sight);
-        (found, pair_in(found, trade))
+        let (found, offer) = self.slot_word(table, number, place, sight);
+        (found, pair_in(found, offer))
     }
 
     /// One atomic load of the root: its number, and its table.
-    pub fn root<'a>(&'a self, sight: &mut Sight<K, V, S>) -> (u64, Option<&'a Table<K, V, S>>)
+    pub fn root<'a>(&'a self, sight: &mut Seen<K, V, S>) -> (u64, Option<&'a Table<K, V, S>>)
         requires book { sight.old.book ≡ self.now.begun.book }
         ensures book { sight.new.book ≡ sight.old.book }
         ensures seen { IsPrefix sight.old.log sight.new.log }
@@ -191,11 +191,11 @@ impl<K: Hash + Eq, V, S: BuildHasher> Book<K, V, S> {
     {
         sight.learn(&self.begun);
         let sought = Sought { at: At::Root };
-        let (found, trade) = self.read(&self.root, &sought, sight);
+        let (found, offer) = self.read(&self.root, &sought, sight);
         if found == 0 {
             return (0, None);
         }
-        let known = trade::table_known(trade.into_gain());
+        let known = offer::table_known(offer.into_gain());
         let token = token(known, (found - 1) as usize);
         (found, Some(self.parts.tables.value(&token)))
     }
@@ -205,7 +205,7 @@ impl<K: Hash + Eq, V, S: BuildHasher> Book<K, V, S> {
         &'a self,
         table: &Table<K, V, S>,
         number: u64,
-        sight: &mut Sight<K, V, S>,
+        sight: &mut Seen<K, V, S>,
     ) -> (u64, Option<&'a Table<K, V, S>>)
         requires book { sight.old.book ≡ self.now.begun.book }
         requires table { IsTable sight.old.log number table.now }
@@ -218,17 +218,17 @@ impl<K: Hash + Eq, V, S: BuildHasher> Book<K, V, S> {
         let sought = Sought {
             at: At::Next(number),
         };
-        let (found, trade) = self.read(table.next(), &sought, sight);
+        let (found, offer) = self.read(table.next(), &sought, sight);
         if found == 0 {
             return (0, None);
         }
-        let known = trade::table_known(trade.into_gain());
+        let known = offer::table_known(offer.into_gain());
         let token = token(known, (found - 1) as usize);
         (found, Some(self.parts.tables.value(&token)))
     }
 
     /// What the book was opened with, and what it says by now.
-    pub fn learn(&self, sight: &mut Sight<K, V, S>)
+    pub fn learn(&self, sight: &mut Seen<K, V, S>)
         requires book { sight.old.book ≡ self.now.begun.book }
         ensures book { sight.new.book ≡ sight.old.book }
         ensures seen { IsPrefix sight.old.log sight.new.log }

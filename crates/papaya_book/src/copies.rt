@@ -9,7 +9,7 @@ ghost use Rattle.papaya_book.specs.Logs.{pair_named};
 ghost use Rattle.papaya_book.specs.declared.rule.entry.Named.TheVariants.{Table as TableNamed};
 
 use crate::rule::entry::Stored;
-use crate::rule::own::{Given, Own};
+use crate::rule::own::{CapacityCause, OwnSteps};
 use crate::table::Table;
 use crate::window::Window;
 use boxcar::Pushed;
@@ -143,7 +143,7 @@ impl<'a, K: Hash + Eq, V, S: BuildHasher> Window<'a, K, V, S> {
         follows: u64,
         size: (usize, usize),
         chunks: usize,
-        given: &mut Own<Given>,
+        given: &mut OwnSteps<CapacityCause>,
     ) -> Result<(Pushed<Table<K, V, S>>, Pen), Refused>
         requires size { IsSize size.0 size.1 }
         ensures sees { Sees self.old self.new }

@@ -2,9 +2,9 @@
 //! copy by a shard's callers begins, so that they seldom meet at one chunk.
 ghost use Rattle.std.specs.Prelude.{◌≡◌, ◌<◌, ◌≤◌, [], ◌∷◌, Err, IfErr, IfOk, IfSome, length};
 ghost use Rattle.std.specs.Int.{IsNextPowerOfTwo};
-ghost use Rattle.papaya_book.specs.declared.rule.own.Given.TheVariants as numbers;
+ghost use Rattle.papaya_book.specs.declared.rule.own.CapacityCause.TheVariants as numbers;
 
-use crate::rule::own::{Given, Own};
+use crate::rule::own::{CapacityCause, OwnSteps};
 use crossbeam_utils::CachePadded;
 use papaya_words::limits::MAX_SHARDS;
 use papaya_words::probe::Refused;
@@ -87,12 +87,12 @@ impl Count {
     }
 
     /// The sum, and what shows that the count gave it.
-    pub fn given_sum(&self) -> (usize, Own<Given>)
+    pub fn given_sum(&self) -> (usize, OwnSteps<CapacityCause>)
         ensures { result.1.done ≡ numbers.Sum result.0 ∷ [] }
     {
         let sum = self.sum();
-        let given = Given::Sum(sum);
-        (sum, Own::only(&given))
+        let given = CapacityCause::Sum(sum);
+        (sum, OwnSteps::only(&given))
     }
 }
 

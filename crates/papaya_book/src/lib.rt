@@ -2,7 +2,7 @@
 //!
 //! Read [`rule`] first: what the log says ([`rule::entry`]), when an exchange is allowed
 //! ([`rule::law`]), and how the tokens of pairs and tables pass between a step and the book. Then
-//! [`book`]: loads and exchanges as calls, the log of pairs, and tables that are made and opened
+//! [`book`]: loads and exchanges as calls, the arena of pairs, and tables that are made and opened
 //! while others act.
 //!
 //! Whatever the kind of an exchange, the same two steps try it: one with which nothing comes or a

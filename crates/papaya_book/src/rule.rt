@@ -2,8 +2,8 @@
 
 pub mod entry;
 pub mod law;
+pub mod offer;
 pub mod own;
 pub mod pair;
 pub mod steps;
 pub mod token;
-pub mod trade;

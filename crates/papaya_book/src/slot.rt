@@ -3,7 +3,7 @@ ghost use Rattle.std.specs.Prelude.{◌≡◌};
 
 use crate::rule::entry::{Event, Named};
 use crate::rule::law::Law;
-use crate::rule::trade::Sight;
+use crate::rule::offer::Seen;
 use logbook::Word;
 use papaya_hint::hint::Hint;
 use std::hash::{BuildHasher, Hash};
@@ -38,7 +38,7 @@ impl<K: Hash + Eq, V, S: BuildHasher> Model for Slot<K, V, S> {
 
 impl<K: Hash + Eq, V, S: BuildHasher> Slot<K, V, S> {
     /// The slot of this word, whose hint says nothing yet.
-    pub fn new(word: Cell<K, V, S>, sight: &Sight<K, V, S>) -> Slot<K, V, S>
+    pub fn new(word: Cell<K, V, S>, sight: &Seen<K, V, S>) -> Slot<K, V, S>
         requires { sight.now.book ≡ word.book }
         ensures { result ≡ word }
     {

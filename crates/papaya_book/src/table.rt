@@ -49,14 +49,14 @@ impl<K: Hash + Eq, V, S: BuildHasher> Table<K, V, S> {
         self.slots.len()
     }
 
-    /// How many places a search visits after the first.
+    /// How many places a search looks at after the first.
     pub fn limit(&self) -> usize
         ensures { result ≡ self.now.limit }
     {
         self.limit
     }
 
-    /// How many slots the table has, and how many places a search visits after the first.
+    /// How many slots the table has, and how many places a search looks at after the first.
     pub fn size(&self) -> (usize, usize)
         ensures len { result.0 ≡ length self.now.slots }
         ensures limit { result.1 ≡ self.now.limit }
@@ -92,7 +92,7 @@ impl<K: Hash + Eq, V, S: BuildHasher> Table<K, V, S> {
     }
 
     /// Waits until no other thread makes the next table, and keeps the others waiting until the guard
-    /// goes. No lookup takes it, and no contract rests on it.
+    /// goes. No lookup takes it, and no contract relies on it.
     pub fn lock_next<R: Wait>(&self, rt: &R) -> MutexGuard<'_, ()> {
         self.making.lock(rt)
     }

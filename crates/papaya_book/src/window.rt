@@ -6,8 +6,8 @@ use crate::book::Book;
 use crate::book::kept::KeptRoot;
 use crate::keyed::Keyed;
 use crate::rule::entry::{Step, Stored};
-use crate::rule::own::{Given, Own, with_last};
-use crate::rule::trade::{Sight, Trade};
+use crate::rule::offer::{Offer, Seen};
+use crate::rule::own::{CapacityCause, OwnSteps, with_last};
 use crate::table::Table;
 use boxcar::Pushed;
 use logbook::Pen;
@@ -22,8 +22,8 @@ use std::sync::Wait;
 #[derive(Drop)]
 pub struct Window<'a, K: Hash + Eq, V, S: Keyed<K>> {
     pub book: &'a Book<K, V, S>,
-    pub sight: Sight<K, V, S>,
-    pub own: Own<Step<K, V>>,
+    pub sight: Seen<K, V, S>,
+    pub own: OwnSteps<Step<K, V>>,
     kept: KeptRoot<'a, K, V, S>,
     ghost same_book: { sight.book ≡ book.now.begun.book },
     ghost kept_book: { kept ≡ book.now.begun.book },
@@ -45,8 +45,8 @@ impl<'a, K: Hash + Eq, V, S: BuildHasher> Window<'a, K, V, S> {
     pub fn new(
         book: &'a Book<K, V, S>,
         kept: &KeptRoot<'a, K, V, S>,
-        sight: &Sight<K, V, S>,
-        own: &Own<Step<K, V>>,
+        sight: &Seen<K, V, S>,
+        own: &OwnSteps<Step<K, V>>,
     ) -> Window<'a, K, V, S>
         requires kept { kept.now ≡ book.now.begun.book }
         requires seen { sight.now.book ≡ book.now.begun.book }
@@ -144,7 +144,7 @@ impl<'a, K: Hash + Eq, V, S: BuildHasher> Window<'a, K, V, S> {
         table: &Table<K, V, S>,
         number: u64,
         place: usize,
-    ) -> (u64, Trade<K, V, S>)
+    ) -> (u64, Offer<K, V, S>)
         requires table { IsTable self.old number table.now }
         requires place { place < length table.now.slots }
         ensures sees { Sees self.old self.new }
@@ -244,7 +244,7 @@ impl<'a, K: Hash + Eq, V, S: BuildHasher> Window<'a, K, V, S> {
         len: usize,
         limit: usize,
         chunks: usize,
-        given: &mut Own<Given>,
+        given: &mut OwnSteps<CapacityCause>,
     ) -> Result<(Pushed<Table<K, V, S>>, Pen), Refused>
         requires size { IsSize len limit }
         ensures sees { Sees self.old self.new }

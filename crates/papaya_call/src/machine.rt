@@ -1,6 +1,6 @@
 //! The machine of a call: what it asks, and what it does with each answer.
 ghost use Rattle.std.specs.Prelude.{◌≡◌, ◌<◌, ◌≤◌, ◌^◌};
-ghost use Rattle.papaya_ask.specs.Search.{IsSize, IsSeen, IsWithin};
+ghost use Rattle.papaya_ask.specs.Search.{IsSize, IsProbed, IsWithin};
 ghost use Rattle.papaya_ask.specs.declared.call.Task.{Task};
 ghost use Rattle.papaya_call.specs.Compute.{IsGap};
 ghost use Rattle.papaya_words.specs.Mode.{IsChunked};
@@ -15,7 +15,7 @@ use crate::remove::Removal;
 use crate::write::{Claimed, Write};
 use papaya_ask::ask::{Answer, Ask, At, OpKind, StepKind};
 use papaya_ask::call::{Reply, Task};
-use papaya_ask::search::{Place, Search, Seen};
+use papaya_ask::search::{Place, Probed, Search};
 use papaya_words::limits::{FIRST_TABLE_LEN, FIRST_TABLE_LIMIT};
 use papaya_words::probe::{Refused, ResizeMode};
 use papaya_words::word::{Kind, Word};
@@ -42,12 +42,12 @@ pub enum State {
     /// It writes the pair that it made so.
     Putting(Put),
     /// Its closure would have this pair removed, and it removes it.
-    Burying(Removal),
+    Deleting(Removal),
     /// Its pair was claimed, and is to be counted.
     Counting(Claimed),
     /// Its pair was claimed and counted, and it writes the hint of its key.
     Noting(Claimed),
-    /// The pair of this number was buried, and is to be counted out.
+    /// The pair of this number was deleted, and is to be counted out.
     Uncounting(u64),
     /// Its key is not in this table, and it loads the number of the next.
     Leaving(u64),
@@ -123,7 +123,7 @@ impl Machine {
             State::Showing(removal) => removal.show(),
             State::Pairing(purpose) => self.made.ask(purpose.in_place_of()),
             State::Putting(put) => put.write.put(put.pair),
-            State::Burying(removal) => removal.ask(),
+            State::Deleting(removal) => removal.ask(),
             State::Counting(_) => Ask::AddToShard(1),
             State::Noting(claimed) => claimed.note(self.hash),
             State::Uncounting(_) => Ask::AddToShard(-1),
@@ -147,7 +147,7 @@ impl Machine {
             },
             State::Pairing(_) => self.made.kind(),
             State::Putting(put) => Some(put.write.kind()),
-            State::Burying(_) => Some(StepKind::Bury),
+            State::Deleting(_) => Some(StepKind::Delete),
             _ => None,
         }
     }
@@ -212,7 +212,7 @@ impl Machine {
             },
             State::Pairing(_) => self.made = self.made.taken(),
             State::Putting(put) => self.state = self.written(put.write, put.pair),
-            State::Burying(removal) => self.state = State::Uncounting(removal.pair()),
+            State::Deleting(removal) => self.state = State::Uncounting(removal.pair()),
             _ => {}
         }
     }
@@ -264,12 +264,12 @@ impl Machine {
             },
             State::Pairing(_) => self.told(word),
             State::Putting(put) => self.state = self.goes(put.write.place.look(word)),
-            State::Burying(removal) => self.state = self.beaten(removal, word),
+            State::Deleting(removal) => self.state = self.beaten(removal, word),
             _ => {}
         }
     }
 
-    /// A burial found this word in the place of its own. Where another call buried the pair of a
+    /// A deletion found this word in the place of its own. Where another call deleted the pair of a
     /// removal, the key was absent then.
     #[inline(always)]
     fn beaten(&self, removal: Removal, word: u64) -> State
@@ -278,7 +278,7 @@ impl Machine {
         ensures value { result ≡ beaten self.now removal word }
         ensures standing { IsStandingState self.now.task result }
     {
-        if Word(word).kind() == Kind::Buried && self.task != Task::Compute {
+        if Word(word).kind() == Kind::Tombstone && self.task != Task::Compute {
             return State::Ended(Reply::Absent);
         }
         self.goes(removal.place.look(word))
@@ -294,7 +294,7 @@ impl Machine {
             State::Searching(search) => self.goes(search.at_yes(yes)),
             State::Showing(removal) if self.task == Task::RemoveIf => {
                 if yes {
-                    State::Burying(removal)
+                    State::Deleting(removal)
                 } else {
                     State::Ended(Reply::Kept(removal.pair()))
                 }
@@ -408,20 +408,20 @@ impl Machine {
 
     /// What the search saw leads here.
     #[inline(always)]
-    fn goes(&self, seen: Seen) -> State
-        requires seen { IsSeen seen }
+    fn goes(&self, seen: Probed) -> State
+        requires seen { IsProbed seen }
         requires standing { IsStanding self.now }
         ensures value { result ≡ goes self.now seen }
         ensures standing { IsStandingState self.now.task result }
     {
         match seen {
-            Seen::On(search) => State::Searching(search),
-            Seen::Empty(place) => match self.task {
+            Probed::On(search) => State::Searching(search),
+            Probed::Empty(place) => match self.task {
                 Task::Insert { .. } => State::Writing(Write { place, old: 0 }),
                 Task::Get | Task::RemoveIf | Task::Compute => self.absent(Gap::At(place)),
             },
-            Seen::Here(place, word) => self.found(place, word),
-            Seen::Over(table) => match self.task {
+            Probed::Here(place, word) => self.found(place, word),
+            Probed::Over(table) => match self.task {
                 Task::Insert { .. } => State::Growing(Need::Room(table)),
                 Task::Get | Task::RemoveIf | Task::Compute => self.passes(table),
             },

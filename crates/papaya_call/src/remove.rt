@@ -34,7 +34,7 @@ impl Removal {
         Ask::ShowPair(self.pair())
     }
 
-    /// Buries the pair: its number stays in the slot.
+    /// Deletes the pair: its number stays in the slot.
     #[inline(always)]
     pub fn ask(self) -> Ask
         ensures { result ≡ removal_ask self }
@@ -43,7 +43,7 @@ impl Removal {
         Ask::Exchange(
             At::Slot(self.place.table, self.place.probe.i),
             self.word,
-            Word::buried(word.pair()).0,
+            Word::tombstone(word.pair()).0,
         )
     }
 }

@@ -1,5 +1,5 @@
 pub mod Machine
 pub mod Room
 pub mod Resizer
--- a call that visits a table
-pub mod Visitor
+-- a call that scans a table
+pub mod Scanner

@@ -198,7 +198,7 @@ impl Machine {
 impl Machine {
     /// The call goes on for itself.
     #[inline(always)]
-    #[tactic(auto, using(crate::proofs::Settings::settings_stay))]
+    #[tactic(auto, using(crate::proofs::Settings::settings_stable))]
     fn step(&mut self, answer: CallAnswer)
         requires standing { IsStanding self.old }
         requires fit { IsCallFit answer }
@@ -330,7 +330,7 @@ impl Machine {
         }
     }
 
-    /// The copy of the root leads here: to a further table, or with `Blocking` to the root as it is
+    /// The copy of the root leads here: to a next table, or with `Blocking` to the root as it is
     /// now, at which the call begins anew. No call copies a chunk for its own sake.
     #[inline]
     fn copied(&mut self, copied: Copied)

@@ -1,4 +1,4 @@
--- After each answer a changing call rests again, and holds what it was told of last.
+-- After each answer a changing call relies on what holds again, and holds what it was told of last.
 use Rattle.std.proofs.Common.{◌≡◌, ◌⊎◌, inl, inr, ⊎_elim, ℕ, ◌+◌, ◌<◌, ◌==◌, Bool, true, false, if◌then◌else◌, MatchOption, Option, None, Some, List, [], ◌++◌, length, append-nil, refl, sym, ap, ◌∙◌, subst, arith}
 use Rattle.std.proofs.lemmas.Bool.{eq-eqb, ne_eqb}
 use Rattle.std.specs.Cmp.{IsEquivalence}
@@ -13,7 +13,7 @@ use Rattle.papaya_ask.specs.declared.ask.Ask.{Ask}
 use Rattle.papaya_ask.specs.declared.ask.Ask.TheVariants.{Load, LoadHint, WriteHint, SizeOf, SameKey, AddToShard}
 use Rattle.papaya_ask.specs.declared.ask.Answer.{Answer}
 use Rattle.papaya_ask.specs.declared.ask.Answer.TheVariants.{Word as Word_read, Size, Yes, Ok as Ok_done}
-use Rattle.papaya_rests.specs.Followed.{IsAtTable, IsCounting, table_asked, told_table}
+use Rattle.papaya_call_law.specs.Followed.{IsAtTable, IsCounting, table_asked, told_table}
 use Rattle.papaya_law.specs.Allows.{AllAllowed}
 use Rattle.papaya_law.specs.Code.{IsHashed}
 use Rattle.papaya_law.specs.Exchange.{Setting, run, start}
@@ -26,24 +26,24 @@ use Rattle.papaya_chain.specs.declared.machine.Machine.{Machine}
 use Rattle.papaya_chain.specs.declared.machine.Phase.{Phase}
 use Rattle.papaya_chain.specs.declared.machine.Phase.TheVariants as phases
 use Rattle.papaya_chain.specs.Machine.{after, ask_of, kind_of_ask, started}
-use Rattle.papaya_chain_rests.specs.Goes.{link_in}
-use Rattle.papaya_chain_rests.specs.Told.{Hands}
-use Rattle.papaya_chain_rests.proofs.Names.{call_asks}
+use Rattle.papaya_chain_law.specs.Goes.{link_in}
+use Rattle.papaya_chain_law.specs.Told.{LoadedPairs}
+use Rattle.papaya_chain_law.proofs.Names.{call_asks}
 use Rattle.papaya_words.specs.declared.probe.ResizeMode.{ResizeMode}
 use Rattle.papaya_words.specs.declared.probe.ResizeMode.TheVariants.{Incremental, Blocking}
-use Rattle.papaya_rests.specs.Copier.{HasWords}
-use Rattle.papaya_rests.specs.Rests.{IsModeOf, change_after, change_in}
-use Rattle.papaya_rests.specs.Told.{IsOneOf, IsTold, or_last, told_of, word_of}
-use Rattle.papaya_rests.specs.Told as told_calls
-use Rattle.papaya_rests.proofs.Followed.{counts_after, table_named}
-use Rattle.papaya_rests.proofs.RestsHints.{machine_may_hint}
-use Rattle.papaya_rests.proofs.RestsLearnPairs.{wanted_rests}
-use Rattle.papaya_rests.proofs.RestsNames.{IsNamed, ask_named, hint_named, slot_named}
+use Rattle.papaya_call_law.specs.Copier.{HasWords}
+use Rattle.papaya_call_law.specs.Relies.{IsModeOf, change_after, change_in}
+use Rattle.papaya_call_law.specs.Told.{IsOneOf, IsTold, or_last, told_of, word_of}
+use Rattle.papaya_call_law.specs.Told as told_calls
+use Rattle.papaya_call_law.proofs.Followed.{counts_after, table_named}
+use Rattle.papaya_call_law.proofs.ReliesHints.{machine_may_hint}
+use Rattle.papaya_call_law.proofs.ReliesLearnPairs.{wanted_relies}
+use Rattle.papaya_call_law.proofs.ReliesNames.{IsNamed, ask_named, hint_named, slot_named}
 use Rattle.papaya_book.specs.Sheets.{Sheet}
 use Rattle.papaya_book.specs.declared.rule.entry.Begun.{Begun}
 use Rattle.papaya_book.specs.declared.rule.entry.Event.{Event}
 use Rattle.papaya_book.specs.Calls.{IsTable}
-use Rattle.papaya_change.specs.Changing.{HasChanged, IsBringing, IsCalling, IsForm, IsFresh, hands_with}
+use Rattle.papaya_change.specs.Changing.{HasChanged, IsBringing, IsCalling, IsForm, IsFresh, loaded_with}
 use Rattle.papaya_change.specs.Driver.{IsHeldAt, IsLoaded}
 use Rattle.papaya_book.specs.Hashes.{hash_of}
 use Rattle.papaya_book.specs.Hinted.{IsSlotHint}
@@ -51,9 +51,9 @@ use Rattle.papaya_book.specs.Limits.{tables_of}
 use Rattle.papaya_book.specs.Logs.{Stored, coding_of, exchanges_of, is_blocking, pair_named, setting_of, state_of, steps_of}
 use Rattle.papaya_lookup.specs.Lookups.{coding_for, setting_for}
 use Rattle.papaya_book.specs.Rule.{IsLawfulLog, IsPlaced}
-use Rattle.papaya_lookup.proofs.Driving.{IsResting, word_wide}
-use Rattle.papaya_change.proofs.OwnSteps.{IsBarren, own_at, own_barren, own_changes, own_counts, own_links, own_told}
-use Rattle.papaya_change.proofs.Resting.{ChainResting, resting_later, resting_told}
+use Rattle.papaya_lookup.proofs.Driving.{IsRelying, word_wide}
+use Rattle.papaya_change.proofs.StepsOfOwn.{IsBarren, own_at, own_barren, own_changes, own_counts, own_links, own_told}
+use Rattle.papaya_change.proofs.Relying.{ChainRelying, relying_later, relying_told}
 use Rattle.papaya_book.proofs.Loaded.{table_since}
 use Rattle.papaya_book.proofs.Logs.{prefix_trans, table_came}
 use Rattle.papaya_lookup.proofs.Readings.{IsQuery, allowed_with, coding, fed, hashed_with, hint_with, hint_without, key_form, setting}
@@ -75,8 +75,8 @@ module _ {K V S : Type 0} where
   numbered log n sheet came = let e = (table_came (steps_of log) n came.0 came.1).1 in ne_eqb n 0 (λ z. omega arith)
 
   -- the table that was loaded is held, or the one of before where there is none
-  held_loaded : (log : List (Event K V S)) (name : Book) (n word : ℕ) (table loaded : Option (Bor Sheet)) → MatchOption table (n ≡ 0) (λ r. IsTable log n r.now) → MatchOption loaded (word ≡ 0) (λ r. IsTable log word r.now × (r.now.book ≡ name))
-      → MatchOption (or_last loaded table) ((if word == 0 then n else word) ≡ 0) (λ r. IsTable log (if word == 0 then n else word) r.now)
+  held_loaded : (log : List (Event K V S)) (name : Book) (n word : ℕ) (table as_loaded : Option (Bor Sheet)) → MatchOption table (n ≡ 0) (λ r. IsTable log n r.now) → MatchOption as_loaded (word ≡ 0) (λ r. IsTable log word r.now × (r.now.book ≡ name))
+      → MatchOption (or_last as_loaded table) ((if word == 0 then n else word) ≡ 0) (λ r. IsTable log (if word == 0 then n else word) r.now)
   held_loaded log name n word table None h none = rw (eq-eqb word 0 none) h
   held_loaded log name n word table (Some r) h came = rw (numbered log word r.now came.0) came.0
 
@@ -107,9 +107,9 @@ module _ {K V S : Type 0} (eq : K → K → Bool) (hash : S → K → ℕ) (b : 
     seen = ([], append-nil log);
     since = [];
     is = append-nil (exchanges_of log);
-    rests = record {
+    relies = record {
       cut = λ x. refl;
-      call = record { hash = hash_is; mode = mode_is b.mode; made = record { keys = λ q none. absurd none; limit = refl; number_is = wanted_rests (setting_for eq hash b matches by log) (coding_for hash b.hasher by) (exchanges_of log) [] k b.limit; own_is = tt; of_is = tt; fill_is = tt; choice_is = tt }; stage = tt };
+      call = record { hash = hash_is; mode = mode_is b.mode; made = record { keys = λ q none. absurd none; limit = refl; number_is = wanted_relies (setting_for eq hash b matches by log) (coding_for hash b.hasher by) (exchanges_of log) [] k b.limit; own_is = tt; of_is = tt; fill_is = tt; choice_is = tt }; stage = tt };
       phase = tt;
     };
     number = 0;
@@ -140,8 +140,8 @@ module _ {K V S H : Type 0} (eq : K → K → Bool) (input : K → List (List �
   abbrev pub Calling : List (Event K V S) → Machine → Option (Bor Sheet) → (last kept : Option (Stored K V)) → List (Stored K V) → (taken put : Option (Stored K V)) → Option (Where Sheet × Pen) → Type 0
   Calling log m table last kept made taken put fresh = IsCalling eq hash b name matches by k begun log m table last kept made taken put fresh
 
-  abbrev pub Resting : List (Event K V S) → Machine → Hands (Stored K V) → Type 0
-  Resting log m hands = ChainResting eq input build write finish classes respects b matches by form k (exchanges_of begun) log m hands
+  abbrev pub Relying : List (Event K V S) → Machine → LoadedPairs (Stored K V) → Type 0
+  Relying log m loaded = ChainRelying eq input build write finish classes respects b matches by form k (exchanges_of begun) log m loaded
 
   -- the setting of a log, and the coding
   abbrev pub Wide : List (Event K V S) → Setting (Option K) (Stored K V)
@@ -154,16 +154,16 @@ module _ {K V S H : Type 0} (eq : K → K → Bool) (input : K → List (List �
   hashed log l = hashed_with eq input build write finish classes respects b matches query lawful log l
 
   -- the pairs that a call itself was told of
-  abbrev pub call_hands : (last : Option (Stored K V)) → List (Stored K V) → told_calls.Hands (Stored K V)
-  call_hands last made = record { last = last; made = made }
+  abbrev pub call_loaded : (last : Option (Stored K V)) → List (Stored K V) → told_calls.LoadedPairs (Stored K V)
+  call_loaded last made = record { last = last; made = made }
 
-  -- what a call rests on
-  pub rests_of : (log : List (Event K V S)) (m : Machine) (table : Option (Bor Sheet)) (last kept : Option (Stored K V)) (made : List (Stored K V)) (taken put : Option (Stored K V)) (fresh : Option (Where Sheet × Pen)) → Calling log m table last kept made taken put fresh → Resting log m (hands_with last kept made)
-  rests_of log m table last kept made taken put fresh r = record { since = r.since; is = r.is; rests = r.rests }
+  -- what a call relies on
+  pub relies_of : (log : List (Event K V S)) (m : Machine) (table : Option (Bor Sheet)) (last kept : Option (Stored K V)) (made : List (Stored K V)) (taken put : Option (Stored K V)) (fresh : Option (Where Sheet × Pen)) → Calling log m table last kept made taken put fresh → Relying log m (loaded_with last kept made)
+  relies_of log m table last kept made taken put fresh r = record { since = r.since; is = r.is; relies = r.relies }
 
   -- and its call, whatever it is set aside for
-  pub call_rests : (log : List (Event K V S)) (m : Machine) (table : Option (Bor Sheet)) (last kept : Option (Stored K V)) (made : List (Stored K V)) (taken put : Option (Stored K V)) (fresh : Option (Where Sheet × Pen)) → Calling log m table last kept made taken put fresh → IsResting eq input build write finish classes respects b matches query lawful k (exchanges_of begun) log m.call (call_hands last made)
-  call_rests log m table last kept made taken put fresh r = record { since = r.since; is = r.is; rests = r.rests.call }
+  pub call_relies : (log : List (Event K V S)) (m : Machine) (table : Option (Bor Sheet)) (last kept : Option (Stored K V)) (made : List (Stored K V)) (taken put : Option (Stored K V)) (fresh : Option (Where Sheet × Pen)) → Calling log m table last kept made taken put fresh → IsRelying eq input build write finish classes respects b matches query lawful k (exchanges_of begun) log m.call (call_loaded last made)
+  call_relies log m table last kept made taken put fresh r = record { since = r.since; is = r.is; relies = r.relies.call }
 
   module _ (log : List (Event K V S)) (m : Machine) (table : Option (Bor Sheet)) (last kept : Option (Stored K V)) (made : List (Stored K V)) (taken put : Option (Stored K V)) (fresh : Option (Where Sheet × Pen)) (r : Calling log m table last kept made taken put fresh) where
     abbrev may : AllAllowed (Wide log) start (exchanges_of begun ++ r.since)
@@ -174,7 +174,7 @@ module _ {K V S H : Type 0} (eq : K → K → Bool) (input : K → List (List �
     NamedOn ask = IsNamed (Wide log) Coded (hashed log r.lawful) (exchanges_of begun) r.since may k ask
 
     named_on : (ask : Ask) → ask_of m ≡ Call ask → NamedOn ask
-    named_on ask e = subst NamedOn (call_asks m ask e).1 (ask_named (Wide log) Coded (hashed log r.lawful) (exchanges_of begun) r.since may k (call_hands last made) m.call.task m.call.hash m.call.made m.call.state r.rests.call.stage)
+    named_on ask e = subst NamedOn (call_asks m ask e).1 (ask_named (Wide log) Coded (hashed log r.lawful) (exchanges_of begun) r.since may k (call_loaded last made) m.call.task m.call.hash m.call.made m.call.state r.relies.call.stage)
 
     -- the table that it names is the one told of last
     named_last : (ask : Ask) → ask_of m ≡ Call ask → (t : ℕ) → table_asked ask ≡ Some t → t ≡ r.number
@@ -217,12 +217,12 @@ module _ {K V S H : Type 0} (eq : K → K → Bool) (input : K → List (List �
     -- and a hint that is written may be the slot's
     pub hint_may : (t x n : ℕ) → ask_of m ≡ Call (WriteHint t x n) → IsSlotHint eq hash b t x n log
     hint_may t x n e =
-        let wide = machine_may_hint (Wide log) Coded (exchanges_of begun) r.since k m.call (call_hands last made) r.rests.call t x n (call_asks m (WriteHint t x n) e).1 in
+        let wide = machine_may_hint (Wide log) Coded (exchanges_of begun) r.since k m.call (call_loaded last made) r.relies.call t x n (call_asks m (WriteHint t x n) e).1 in
         let here : IsHint (Wide log) Coded (state_of log) t x n = subst (λ (es : List _). IsHint (Wide log) Coded (run es start) t x n) r.is wide in
         record { lawful = r.lawful; is = hint_without (setting_of eq (hash b.hasher) b.mode b.limit log) (coding_of (hash b.hasher)) matches by ((state_of log).slot t x) n here }
 
     -- where a load names a place that calls load
-    pub load_table : (at : At) → ask_of m ≡ Call (Load at) → Rattle.papaya_rests.specs.Followed.MayAsk m.call.task (calls.kind_of_ask m.call) (Load at) → IsHeldAt at log table
+    pub load_table : (at : At) → ask_of m ≡ Call (Load at) → Rattle.papaya_call_law.specs.Followed.MayAsk m.call.task (calls.kind_of_ask m.call) (Load at) → IsHeldAt at log table
     load_table Root e asks = tt
     load_table (Next t) e asks = next_table t e
     load_table (Slot t x) e asks = slot_table t x (inl e)
@@ -236,19 +236,19 @@ module _ {K V S H : Type 0} (eq : K → K → Bool) (input : K → List (List �
     own = call_asks m ask asks
 
     abbrev pub Tells : (last' : Option (Stored K V)) → List (Stored K V) → Type 0
-    Tells last' made' = IsTold (Wide log) Coded k (state_of before) (kind_of_ask m) (call_hands last made) ask answer (exchanges_of more.0) (call_hands last' made')
+    Tells last' made' = IsTold (Wide log) Coded k (state_of before) (kind_of_ask m) (call_loaded last made) ask answer (exchanges_of more.0) (call_loaded last' made')
 
     module _ (last' : Option (Stored K V)) (made' : List (Stored K V)) (tells : Tells last' made') where
-      -- it rests again
-      on : Resting log (after m (answers.Call answer)) (hands_with last' kept made')
+      -- it relies on what holds again
+      on : Relying log (after m (answers.Call answer)) (loaded_with last' kept made')
       on =
-          let mid = resting_later eq input build write finish classes respects b matches by form k (exchanges_of begun) v r.lawful m (hands_with last kept made) (rests_of v m table last kept made taken put fresh r) before lb pre in
-          resting_told eq input build write finish classes respects b matches by form k (exchanges_of begun) before lb m (hands_with last kept made) mid log l more (answers.Call answer) (λ e. subst (λ (z : Phase). HasWords (Wide log) (link_in z)) (sym own.0) tt) (hands_with last' kept made')
-          (own_told m own.0 answer (Wide log) Coded k (state_of before) (hands_with last kept made) (exchanges_of more.0) (call_hands last' made') ask own.1 tells)
+          let mid = relying_later eq input build write finish classes respects b matches by form k (exchanges_of begun) v r.lawful m (loaded_with last kept made) (relies_of v m table last kept made taken put fresh r) before lb pre in
+          relying_told eq input build write finish classes respects b matches by form k (exchanges_of begun) before lb m (loaded_with last kept made) mid log l more (answers.Call answer) (λ e. subst (λ (z : Phase). HasWords (Wide log) (link_in z)) (sym own.0) tt) (loaded_with last' kept made')
+          (own_told m own.0 answer (Wide log) Coded k (state_of before) (loaded_with last kept made) (exchanges_of more.0) (call_loaded last' made') ask own.1 tells)
 
       changes : change_in (after m (answers.Call answer)).call.state ≡ change_after (kind_of_ask m) ask answer (change_in m.call.state)
       changes =
-          own_changes m own.0 answer (Wide log) Coded (hashed log l) k r.rests.call.hash (state_of before) (hands_with last kept made) (exchanges_of more.0) (call_hands last' made') ask own.1 tells
+          own_changes m own.0 answer (Wide log) Coded (hashed log l) k r.relies.call.hash (state_of before) (loaded_with last kept made) (exchanges_of more.0) (call_loaded last' made') ask own.1 tells
 
       -- and is under way with what it holds then
       pub answered : (table' : Option (Bor Sheet)) (taken' put' : Option (Stored K V)) (fresh' : Option (Where Sheet × Pen)) → MatchOption table' (told_table ask answer r.number ≡ 0) (λ t. IsTable log (told_table ask answer r.number) t.now)
@@ -260,7 +260,7 @@ module _ {K V S H : Type 0} (eq : K → K → Bool) (input : K → List (List �
         seen = prefix_trans begun v log r.seen (prefix_trans v before log pre more);
         since = on.since;
         is = on.is;
-        rests = on.rests;
+        relies = on.relies;
         number = told_table ask answer r.number;
         at_table = λ still. subst (λ (a : Ask). IsAtTable (told_table a answer r.number) (after m (answers.Call answer)).call.state) own.1 (own_at m own.0 answer r.number (r.at_table own.0) still);
         holds_table = holds;
@@ -277,7 +277,7 @@ module _ {K V S H : Type 0} (eq : K → K → Bool) (input : K → List (List �
   module _ (log log' : List (Event K V S)) (pre : IsPrefix log log') (l' : IsLawfulLog eq hash b log') (m : Machine) (table : Option (Bor Sheet)) (last kept : Option (Stored K V)) (made : List (Stored K V)) (taken put : Option (Stored K V)) (fresh : Option (Where Sheet × Pen)) (r : Calling log m table last kept made taken put fresh) where
     -- An answer that is true of the log's words, with which nothing is exchanged and nothing was changed before.
     pub record IsQuiet (ask : Ask) (answer : Answer) (last' : Option (Stored K V)) (made' : List (Stored K V)) (fresh' : Option (Where Sheet × Pen)) : Type 0 where
-      pub told : IsTold (Wide log') Coded k (state_of log') (kind_of_ask m) (call_hands last made) ask answer [] (call_hands last' made')
+      pub told : IsTold (Wide log') Coded k (state_of log') (kind_of_ask m) (call_loaded last made) ask answer [] (call_loaded last' made')
       pub same : change_after (kind_of_ask m) ask answer (change_in m.call.state) ≡ change_in m.call.state
       pub busy : IsCounting ask → ⊥
       pub brings : (n : ℕ) → IsBringing (ask_of (after m (answers.Call answer))) n → IsFresh b name log' n fresh'
@@ -299,25 +299,25 @@ module _ {K V S H : Type 0} (eq : K → K → Bool) (input : K → List (List �
 
     -- a place was loaded
     pub loads : (at : At) (word : ℕ) (table' : Option (Bor Sheet)) (last' : Option (Stored K V)) → ask_of m ≡ Call (Load at) → IsLoaded eq hash b name at word log' table table' last last' → Calling log' (after m (answers.Call (Word_read word))) table' last' kept made taken put fresh
-    loads Root word table' last' asks (loaded, is, table_is, same) =
+    loads Root word table' last' asks (as_loaded, is, table_is, same) =
         let w : word_of (Wide log') Coded (state_of log') Root ≡ word = word_wide eq input build write finish classes respects b matches query lawful k (exchanges_of begun) log' log' Root ∙ is.is in
-        quiet (Load Root) asks (Word_read word) last' made table' fresh (record { told = (ap Word_read (sym w), refl, ap (λ (z : Option (Stored K V)). call_hands z made) same); same = refl; busy = λ z. z; brings = barren (Load Root) asks tt (Word_read word) fresh })
-        (subst (λ (z : Option (Bor Sheet)). MatchOption z ((if word == 0 then r.number else word) ≡ 0) (λ t. IsTable log' (if word == 0 then r.number else word) t.now)) (sym table_is) (held_loaded log' name r.number word table loaded still is.names)) (subst (λ (z : Option (Stored K V)). IsPlaced b (Some name) (pair_named z)) (sym same) r.last_placed) r.made_placed
-    loads (Next t) word table' last' asks (loaded, is, table_is, same) =
+        quiet (Load Root) asks (Word_read word) last' made table' fresh (record { told = (ap Word_read (sym w), refl, ap (λ (z : Option (Stored K V)). call_loaded z made) same); same = refl; busy = λ z. z; brings = barren (Load Root) asks tt (Word_read word) fresh })
+        (subst (λ (z : Option (Bor Sheet)). MatchOption z ((if word == 0 then r.number else word) ≡ 0) (λ t. IsTable log' (if word == 0 then r.number else word) t.now)) (sym table_is) (held_loaded log' name r.number word table as_loaded still is.names)) (subst (λ (z : Option (Stored K V)). IsPlaced b (Some name) (pair_named z)) (sym same) r.last_placed) r.made_placed
+    loads (Next t) word table' last' asks (as_loaded, is, table_is, same) =
         let w : word_of (Wide log') Coded (state_of log') (Next t) ≡ word = word_wide eq input build write finish classes respects b matches query lawful k (exchanges_of begun) log' log' (Next t) ∙ is.is in
-        quiet (Load (Next t)) asks (Word_read word) last' made table' fresh (record { told = (ap Word_read (sym w), refl, ap (λ (z : Option (Stored K V)). call_hands z made) same); same = refl; busy = λ z. z; brings = barren (Load (Next t)) asks tt (Word_read word) fresh })
-        (subst (λ (z : Option (Bor Sheet)). MatchOption z ((if word == 0 then r.number else word) ≡ 0) (λ t. IsTable log' (if word == 0 then r.number else word) t.now)) (sym table_is) (held_loaded log' name r.number word table loaded still is.names)) (subst (λ (z : Option (Stored K V)). IsPlaced b (Some name) (pair_named z)) (sym same) r.last_placed) r.made_placed
+        quiet (Load (Next t)) asks (Word_read word) last' made table' fresh (record { told = (ap Word_read (sym w), refl, ap (λ (z : Option (Stored K V)). call_loaded z made) same); same = refl; busy = λ z. z; brings = barren (Load (Next t)) asks tt (Word_read word) fresh })
+        (subst (λ (z : Option (Bor Sheet)). MatchOption z ((if word == 0 then r.number else word) ≡ 0) (λ t. IsTable log' (if word == 0 then r.number else word) t.now)) (sym table_is) (held_loaded log' name r.number word table as_loaded still is.names)) (subst (λ (z : Option (Stored K V)). IsPlaced b (Some name) (pair_named z)) (sym same) r.last_placed) r.made_placed
     loads (Slot t x) word table' last' asks (pair, is, same, table_is) =
         let w : word_of (Wide log') Coded (state_of log') (Slot t x) ≡ word = word_wide eq input build write finish classes respects b matches query lawful k (exchanges_of begun) log' log' (Slot t x) ∙ is.is in
-        let hands : call_hands last' made ≡ told_of (state_of log') (Slot t x) (call_hands last made) = ap (λ (z : Option (Stored K V)). call_hands z made) (same ∙ ap (λ (z : Option (Stored K V)). or_last z last) (sym is.names)) in
-        quiet (Load (Slot t x)) asks (Word_read word) last' made table' fresh (record { told = (ap Word_read (sym w), refl, hands); same = refl; busy = λ z. z; brings = barren (Load (Slot t x)) asks tt (Word_read word) fresh })
+        let loaded : call_loaded last' made ≡ told_of (state_of log') (Slot t x) (call_loaded last made) = ap (λ (z : Option (Stored K V)). call_loaded z made) (same ∙ ap (λ (z : Option (Stored K V)). or_last z last) (sym is.names)) in
+        quiet (Load (Slot t x)) asks (Word_read word) last' made table' fresh (record { told = (ap Word_read (sym w), refl, loaded); same = refl; busy = λ z. z; brings = barren (Load (Slot t x)) asks tt (Word_read word) fresh })
         (subst (λ (z : Option (Bor Sheet)). MatchOption z (r.number ≡ 0) (λ t. IsTable log' r.number t.now)) (sym table_is) still)
         (subst (λ (z : Option (Stored K V)). IsPlaced b (Some name) (pair_named z)) (sym same) (placed_last b name pair last is.placed r.last_placed)) r.made_placed
     loads (Aborted t) word table' last' asks h = absurd h
     loads (Done t c) word table' last' asks h = absurd h
     loads Made_word word table' last' asks (is, table_is, same) =
         let w : word_of (Wide log') Coded (state_of log') Made_word ≡ word = word_wide eq input build write finish classes respects b matches query lawful k (exchanges_of begun) log' log' Made_word ∙ is.is in
-        quiet (Load Made_word) asks (Word_read word) last' made table' fresh (record { told = (ap Word_read (sym w), refl, ap (λ (z : Option (Stored K V)). call_hands z made) same); same = refl; busy = λ z. z; brings = barren (Load Made_word) asks tt (Word_read word) fresh })
+        quiet (Load Made_word) asks (Word_read word) last' made table' fresh (record { told = (ap Word_read (sym w), refl, ap (λ (z : Option (Stored K V)). call_loaded z made) same); same = refl; busy = λ z. z; brings = barren (Load Made_word) asks tt (Word_read word) fresh })
         (subst (λ (z : Option (Bor Sheet)). MatchOption z (r.number ≡ 0) (λ t. IsTable log' r.number t.now)) (sym table_is) still) (subst (λ (z : Option (Stored K V)). IsPlaced b (Some name) (pair_named z)) (sym same) r.last_placed) r.made_placed
 
     -- a hint was loaded

@@ -34,7 +34,7 @@ use Rattle.papaya_lookup.proofs.Readings.{IsQuery}
 use Rattle.papaya_change.specs.Changes.{IsChangeOf}
 use Rattle.papaya_change.specs.Changing.{HasChanged, IsCalling}
 use Rattle.papaya_change.specs.Seeking.{IsInsertingAt, insertion_at}
-use Rattle.papaya_change.proofs.Changing.{barren, call_hands, call_rests, counted, hint_may, quiet, slot_table}
+use Rattle.papaya_change.proofs.Changing.{barren, call_loaded, call_relies, counted, hint_may, quiet, slot_table}
 use Rattle.papaya_change.proofs.Exchanging.{exchanged}
 use Rattle.papaya_change.proofs.Written.{own_query}
 
@@ -125,8 +125,8 @@ module _ {K V S H : Type 0} (eq : K → K → Bool) (input : K → List (List �
     -- the pair may be put in
     pub put_can : pair_of new ≡ q.index → CanExchange eq hash b (Slot at.table at.probe.i) (Some steps.Claim) 0 new (Some q) (names.Pair q) log
     put_can number =
-        can_put eq input build write finish classes respects b (eq key) (input key) query (Some key) (exchanges_of begun) log paired.lawful m.call (call_hands eq input build write finish classes respects b (eq key) (input key) query (Some key) name begun r.2 (q ∷ []))
-        (call_rests eq input build write finish classes respects b (eq key) (input key) query (Some key) name begun log m (Some lent) r.2 None (q ∷ []) None None None paired) at.table at.probe.i 0 new refl (inl refl) q (λ claims. ap (λ z. Some z) key_is, λ replaces. absurd (cc replaces)) number
+        can_put eq input build write finish classes respects b (eq key) (input key) query (Some key) (exchanges_of begun) log paired.lawful m.call (call_loaded eq input build write finish classes respects b (eq key) (input key) query (Some key) name begun r.2 (q ∷ []))
+        (call_relies eq input build write finish classes respects b (eq key) (input key) query (Some key) name begun log m (Some lent) r.2 None (q ∷ []) None None None paired) at.table at.probe.i 0 new refl (inl refl) q (λ claims. ap (λ z. Some z) key_is, λ replaces. absurd (cc replaces)) number
 
     -- it was put in
     module _ (log' : List (Event K V S)) (found : ℕ) (before : Option (Stored K V)) (tried : IsSlotTried eq hash b name at.table at.probe.i (Some steps.Claim) 0 new (Some q) (names.Pair q) log found log' before) (is : (found == 0) ≡ true) where

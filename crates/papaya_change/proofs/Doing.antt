@@ -24,11 +24,11 @@ use Rattle.papaya_chain.specs.declared.ask.Ask.TheVariants as asked
 use Rattle.papaya_chain.specs.declared.machine.Machine.{Machine as Chain}
 use Rattle.papaya_chain.specs.declared.machine.Phase.TheVariants.{Calling}
 use Rattle.papaya_chain.specs.Machine as chains
-use Rattle.papaya_chain_rests.specs.Rests.{left_by}
-use Rattle.papaya_chain_rests.proofs.Names.{call_asks}
-use Rattle.papaya_chain_rests.proofs.Replies.{aside_asks}
+use Rattle.papaya_chain_law.specs.Relies.{left_by}
+use Rattle.papaya_chain_law.proofs.Names.{call_asks}
+use Rattle.papaya_chain_law.proofs.Replies.{aside_asks}
 use Rattle.papaya_call.specs.declared.machine.State.{State}
-use Rattle.papaya_call.specs.declared.machine.State.TheVariants.{AtRoot, Making, Opening, Searching, Writing, Offering, Showing, Pairing, Putting, Burying, Counting, Noting, Uncounting, Leaving, Growing, Ended}
+use Rattle.papaya_call.specs.declared.machine.State.TheVariants.{AtRoot, Making, Opening, Searching, Writing, Offering, Showing, Pairing, Putting, Deleting, Counting, Noting, Uncounting, Leaving, Growing, Ended}
 use Rattle.papaya_call.specs.declared.compute.Purpose.{Purpose}
 use Rattle.papaya_call.specs.Compute.{in_place_of, offered}
 use Rattle.papaya_call.specs.Machine.{after, ask_of, asks, decided, judged}
@@ -36,11 +36,11 @@ use Rattle.papaya_call.specs.Write.{claimed_by, served_ask, serves}
 use Rattle.papaya_ask.specs.Search.{look as look_seen, at_word as search_loaded, at_yes as search_compared}
 use Rattle.papaya_law.specs.Exchange.{Exchange as Law_exchange}
 use Rattle.papaya_law.specs.Grows.{exchanges}
-use Rattle.papaya_rests.specs.Followed.{IsCounting}
-use Rattle.papaya_rests.specs.Rests.{change_in, change_of_reply}
-use Rattle.papaya_rests.proofs.Followed.{counts_after}
-use Rattle.papaya_rests.proofs.Makings.{HoldsOfPairAsks, IsPairAsk, IsWriteAsk, pair_holds, pairing_asks, pairing_leads, unserved_leads, write_asks, write_then, write_then_is}
-use Rattle.papaya_rests.proofs.Leads.{HoldsOfLeads, beaten_leads, goes_leads, left_leads, provides_leads, root_leads}
+use Rattle.papaya_call_law.specs.Followed.{IsCounting}
+use Rattle.papaya_call_law.specs.Relies.{change_in, change_of_reply}
+use Rattle.papaya_call_law.proofs.Followed.{counts_after}
+use Rattle.papaya_call_law.proofs.Makings.{HoldsOfPairAsks, IsPairAsk, IsWriteAsk, pair_holds, pairing_asks, pairing_leads, unserved_leads, write_asks, write_then, write_then_is}
+use Rattle.papaya_call_law.proofs.Leads.{HoldsOfLeads, beaten_leads, goes_leads, left_leads, provides_leads, root_leads}
 use Rattle.papaya_book.specs.declared.keyed.Keyed as keyed
 use Rattle.papaya_book.specs.declared.rule.entry.Event.{Event}
 use Rattle.papaya_book.specs.declared.rule.entry.Step.{Step}
@@ -53,7 +53,7 @@ use Rattle.papaya_lookup.specs.History.{Change, Makes, changes_by, changes_of, h
 use Rattle.papaya_lookup.proofs.Histories.{changes-append}
 use Rattle.papaya_change.specs.Changing.{HasChanged}
 use Rattle.papaya_change.specs.Doing.{Answers, exchanged, has_changed, was_made}
-use Rattle.papaya_change.proofs.OwnSteps.{own_went}
+use Rattle.papaya_change.proofs.StepsOfOwn.{own_went}
 
 -- nothing is changed yet
 abbrev IsUnchanged : State → Type 0
@@ -71,7 +71,7 @@ leads_unchanged = record {
   showing = λ removal. refl;
   pairing = λ purpose. refl;
   putting = λ put. refl;
-  burying = λ removal. refl;
+  deleting = λ removal. refl;
   leaving = λ t. refl;
   growing = λ t. refl;
 }
@@ -164,9 +164,9 @@ module _ (m : Machine) where
   step made (Putting put) (Found_instead word) = goes_leads IsUnchanged leads_unchanged m.task m.mode m.remembered (look_seen put.write.place word)
   step made (Putting put) Exchanged = (refl, written_changed (put.write.old == 0) (claimed_by put.write put.pair) (Rattle.papaya_words.specs.Word.pair_of put.write.old) put.pair)
   step made (Putting put) answer = refl
-  step made (Burying removal) (Found_instead word) = beaten_leads IsUnchanged leads_unchanged (record m { made = made; state = Burying removal }) removal word
-  step made (Burying removal) Exchanged = (refl, refl)
-  step made (Burying removal) answer = refl
+  step made (Deleting removal) (Found_instead word) = beaten_leads IsUnchanged leads_unchanged (record m { made = made; state = Deleting removal }) removal word
+  step made (Deleting removal) Exchanged = (refl, refl)
+  step made (Deleting removal) answer = refl
   step made (Counting n) Ok_done = refl
   step made (Noting n) Ok_done = refl
   step made (Counting n) answer = refl
@@ -377,7 +377,7 @@ replied_in made hash (Offering gap) reply e = absurd (cc e)
 replied_in made hash (Showing removal) reply e = absurd (cc e)
 replied_in made hash (Pairing purpose) reply e = absurd (subst IsPairAsk e (pairing_asks made purpose))
 replied_in made hash (Putting put) reply e = absurd (cc e)
-replied_in made hash (Burying removal) reply e = absurd (cc e)
+replied_in made hash (Deleting removal) reply e = absurd (cc e)
 replied_in made hash (Counting n) reply e = absurd (cc e)
 replied_in made hash (Noting n) reply e = absurd (cc e)
 replied_in made hash (Uncounting n) reply e = absurd (cc e)

@@ -1,4 +1,4 @@
--- After an exchange that it asked for a changing call rests again, and its change ends the log.
+-- After an exchange that it asked for a changing call relies on what holds again, and its change ends the log.
 use Rattle.std.proofs.Common.{◌≡◌, ℕ, ◌==◌, Bool, true, false, MatchBool, MatchOption, Option, None, Some, List, [], ◌∷◌, ◌++◌, refl, sym, ap, ◌∙◌, subst}
 use Rattle.std.proofs.lemmas.Bool.{eqb-true}
 use Rattle.std.specs.Cmp.{IsEquivalence}
@@ -18,14 +18,14 @@ use Rattle.papaya_chain.specs.declared.ask.Answer.TheVariants as answers
 use Rattle.papaya_chain.specs.declared.ask.Ask.TheVariants.{Call}
 use Rattle.papaya_chain.specs.declared.machine.Machine.{Machine}
 use Rattle.papaya_chain.specs.Machine.{after, ask_of, kind_of_ask}
-use Rattle.papaya_chain_rests.proofs.Names.{call_asks}
+use Rattle.papaya_chain_law.proofs.Names.{call_asks}
 use Rattle.papaya_law.specs.Allows.{AllAllowed, Allows}
 use Rattle.papaya_law.specs.Code.{Coding, code}
-use Rattle.papaya_law.specs.Exchange.{Exchange, Setting, Word, Live, Bury, start}
+use Rattle.papaya_law.specs.Exchange.{Exchange, Setting, Word, Live, Delete, start}
 use Rattle.papaya_law.specs.Further.{same_with}
 use Rattle.papaya_law.specs.Invariant.{named}
-use Rattle.papaya_rests.specs.Rests.{change_of_kind}
-use Rattle.papaya_rests.specs.Told.{Hands, IsAsked, IsOneOf, IsTold, or_last, told_of, word_of}
+use Rattle.papaya_call_law.specs.Relies.{change_of_kind}
+use Rattle.papaya_call_law.specs.Told.{IsAsked, IsOneOf, IsTold, LoadedPairs, or_last, told_of, word_of}
 use Rattle.papaya_law.proofs.Codes.{code_pair}
 use Rattle.papaya_law.proofs.Moments.{allowed_rest}
 use Rattle.papaya_book.specs.Sheets.{Sheet}
@@ -40,21 +40,21 @@ use Rattle.papaya_change.specs.Changing.{HasChanged, HasItsKey, IsOfCall}
 use Rattle.papaya_book.specs.Hashes.{hash_of}
 use Rattle.papaya_lookup.specs.History.{change_of, key_of}
 use Rattle.papaya_book.specs.Logs.{Stored, coding_of, comes, exchange_of, exchanges_of, pair_named, setting_of, state_of}
-use Rattle.papaya_book.specs.Plays.{IsCallAsked, IsMeant, hands_of}
+use Rattle.papaya_book.specs.Plays.{IsCallAsked, IsMeant, loaded_of}
 use Rattle.papaya_book.specs.Rule.{IsLawfulLog, word_in}
-use Rattle.papaya_change.proofs.Changing.{Calling, Coded, Wide, answered, barren, call_hands, held_later, placed_last, quiet}
-use Rattle.papaya_change.proofs.OwnSteps.{asked_by_call, own_kind_is}
+use Rattle.papaya_change.proofs.Changing.{Calling, Coded, Wide, answered, barren, call_loaded, held_later, placed_last, quiet}
+use Rattle.papaya_change.proofs.StepsOfOwn.{asked_by_call, own_kind_is}
 use Rattle.papaya_lookup.proofs.Driving.{asked_by_made, one_made, word_wide}
 use Rattle.papaya_book.proofs.Logs.{exchanges_of-append, prefix_trans}
 use Rattle.papaya_lookup.proofs.Readings.{IsQuery}
 use Rattle.papaya_book.proofs.Settings.{is_hashed}
 
--- nothing comes with a burial
-nothing_comes : {K V : Type 0} (e : Step K V) (t x : ℕ) (p : Stored K V) → exchange_of e ≡ Bury t x p → comes e ≡ names.Nothing
+-- nothing comes with a deletion
+nothing_comes : {K V : Type 0} (e : Step K V) (t x : ℕ) (p : Stored K V) → exchange_of e ≡ Delete t x p → comes e ≡ names.Nothing
 nothing_comes (steps.Open w) t x p is = absurd (cc is)
 nothing_comes (steps.Claim u y q) t x p is = absurd (cc is)
 nothing_comes (steps.Replace u y q r) t x p is = absurd (cc is)
-nothing_comes (steps.Bury u y q) t x p is = refl
+nothing_comes (steps.Delete u y q) t x p is = refl
 nothing_comes (steps.Link u w) t x p is = absurd (cc is)
 nothing_comes (steps.Mark u y q) t x p is = refl
 nothing_comes (steps.Close u y) t x p is = refl
@@ -113,7 +113,7 @@ module _ {K V S H : Type 0} (eq : K → K → Bool) (input : K → List (List �
     none_put change class is none = subst (IsPutAs change class) (sym is) none
 
     -- an exchange that was asked for as a change of this kind is one, and puts in what was handed over
-    pub changes : (kind : Option StepKind) → IsCallAsked kind (Slot t x) new (state_of before) (hands_of put) e → (kind ≡ Some kinds.Claim → (q : Stored K V) → put ≡ Some q → Some (key_of q) ≡ k) → ((q : Stored K V) → put ≡ Some q → IsOfCall eq k (key_of q)) → (change : Option ℕ × Option ℕ) → change_of_kind kind old new ≡ Some change → HasChanged eq k begun log pair put change
+    pub changes : (kind : Option StepKind) → IsCallAsked kind (Slot t x) new (state_of before) (loaded_of put) e → (kind ≡ Some kinds.Claim → (q : Stored K V) → put ≡ Some q → Some (key_of q) ≡ k) → ((q : Stored K V) → put ≡ Some q → IsOfCall eq k (key_of q)) → (change : Option ℕ × Option ℕ) → change_of_kind kind old new ≡ Some change → HasChanged eq k begun log pair put change
     changes (Some kinds.Claim) (q, own, is) claims class change said =
         let has : put ≡ Some q = one_made put q own.made in
         let may = subst (Allows (plain log) (state_of before)) is allowed in
@@ -142,7 +142,7 @@ module _ {K V S H : Type 0} (eq : K → K → Bool) (input : K → List (List �
           taken_is = taken_of change (key_of p) p some (sym (ap (λ (z : Option ℕ × Option ℕ). z.0) two) ∙ ap (λ n. Some n) (numbered (Live p) live p refl)) refl;
           put_is = put_of change (key_of p) q has (sym (ap (λ (z : Option ℕ × Option ℕ). z.1) two) ∙ ap (λ n. Some n) (sym own.named)) may.same (record { is = subst (λ (o : Option (Stored K V)). MatchOption o (Some (key_of q) ≡ k) (λ p. key_of q ≡ key_of p)) (sym some) kept; same = class q has });
         }
-    changes (Some kinds.Bury) (p, live, is) claims class change said =
+    changes (Some kinds.Delete) (p, live, is) claims class change said =
         let some : pair ≡ Some p = sym names ∙ ap named live in
         let no_put : put ≡ None = none_handed put (sym handed ∙ nothing_comes by t x p is) in
         let two : (Some (pair_of old), None) ≡ change = cc said in record {
@@ -181,8 +181,8 @@ module _ {K V S H : Type 0} (eq : K → K → Bool) (input : K → List (List �
   abbrev C : Coding (Option K) (Stored K V)
   C = Coded eq input build write finish classes respects b matches query lawful k name begun
 
-  abbrev hands : (last : Option (Stored K V)) → List (Stored K V) → Hands (Stored K V)
-  hands last made = call_hands eq input build write finish classes respects b matches query lawful k name begun last made
+  abbrev loaded : (last : Option (Stored K V)) → List (Stored K V) → LoadedPairs (Stored K V)
+  loaded last made = call_loaded eq input build write finish classes respects b matches query lawful k name begun last made
 
   -- a pair that the call made is of its class
   of_call : (own : Option K) (q : Stored K V) → same_with eq matches own (Some (key_of q)) ≡ true → IsOfCall eq own (key_of q)
@@ -211,13 +211,13 @@ module _ {K V S H : Type 0} (eq : K → K → Bool) (input : K → List (List �
         let here : (word_of (G log) C (state_of before) (Slot t x) == old) ≡ true = ap (λ (n : ℕ). n == old) (word_there before log (Slot t x) ∙ s.tried.is) ∙ is in
         let kind = kind_of_ask m in
         let plainly = asked_by_call kind (own_kind_is m (call_asks m (Ask_exchange (Slot t x) old new) asks).0) (Slot t x) new (state_of before) put' e done.1.asked in
-        let asked : IsAsked (G log) C k kind (Slot t x) new (state_of before) (hands last made) e =
-        asked_by_made (G log) C k (λ p. refl) (λ p q same. ap (λ z. Some z) same) (hands_of put') (hands last made) (λ q one. own q (one_made put' q one)) kind (Slot t x) new (state_of before) e (λ claim q one. claims claim q (one_made put' q one)) plainly in
-        let told : IsTold (G log) C k (state_of before) kind (hands last made) (Ask_exchange (Slot t x) old new) Exchanged (e ∷ []) (hands last made) = rw here (refl, (e, asked, refl), refl) in
+        let asked : IsAsked (G log) C k kind (Slot t x) new (state_of before) (loaded last made) e =
+        asked_by_made (G log) C k (λ p. refl) (λ p q same. ap (λ z. Some z) same) (loaded_of put') (loaded last made) (λ q one. own q (one_made put' q one)) kind (Slot t x) new (state_of before) e (λ claim q one. claims claim q (one_made put' q one)) plainly in
+        let told : IsTold (G log) C k (state_of before) kind (loaded last made) (Ask_exchange (Slot t x) old new) Exchanged (e ∷ []) (loaded last made) = rw here (refl, (e, asked, refl), refl) in
         let since = prefix_trans v before log s.tried.since more in
         answered eq input build write finish classes respects b matches query lawful k name begun v before log s.tried.lawful s.tried.now s.tried.since more m table last kept made taken put fresh r (Ask_exchange (Slot t x) old new) asks Exchanged last made told table pair put' fresh
         (held_later v log since r.number table r.holds_table) r.last_placed r.made_placed s.placed
-        (λ change f. changes eq input build write finish classes respects b k begun before log (prefix_trans begun v before r.seen s.tried.since) s.tried.lawful s.tried.now done.0 grown t x old new (s.tried.is ∙ found_is) put' pair done.1.with_it s.names kind plainly claims (λ q has. of_call k q (r.rests.call.made.keys q (own q has))) change f)
+        (λ change f. changes eq input build write finish classes respects b k begun before log (prefix_trans begun v before r.seen s.tried.since) s.tried.lawful s.tried.now done.0 grown t x old new (s.tried.is ∙ found_is) put' pair done.1.with_it s.names kind plainly claims (λ q has. of_call k q (r.relies.call.made.keys q (own q has))) change f)
         (barren eq input build write finish classes respects b matches query lawful k name begun v log since s.tried.now m table last kept made taken put fresh r (Ask_exchange (Slot t x) old new) asks tt Exchanged fresh)
 
     -- it was lost
@@ -229,9 +229,9 @@ module _ {K V S H : Type 0} (eq : K → K → Bool) (input : K → List (List �
         let pre : IsPrefix v log = subst (IsPrefix v) (sym same) s.tried.since in
         let here : word_of (G log) C (state_of log) (Slot t x) ≡ found = word_there log log (Slot t x) ∙ word in
         let differs : (word_of (G log) C (state_of log) (Slot t x) == old) ≡ false = ap (λ (n : ℕ). n == old) here ∙ is in
-        let hands_is : hands (or_last pair last) made ≡ told_of (state_of log) (Slot t x) (hands last made) =
-        ap (λ (z : Option (Stored K V)). hands (or_last z last) made) (sym s.names ∙ ap (λ (z : List (Event K V S)). named ((state_of z).slot t x)) (sym same)) in
-        let told : IsTold (G log) C k (state_of log) (kind_of_ask m) (hands last made) (Ask_exchange (Slot t x) old new) (Found_instead found) [] (hands (or_last pair last) made) = rw differs (ap Found_instead (sym here), refl, hands_is) in
+        let loaded_is : loaded (or_last pair last) made ≡ told_of (state_of log) (Slot t x) (loaded last made) =
+        ap (λ (z : Option (Stored K V)). loaded (or_last z last) made) (sym s.names ∙ ap (λ (z : List (Event K V S)). named ((state_of z).slot t x)) (sym same)) in
+        let told : IsTold (G log) C k (state_of log) (kind_of_ask m) (loaded last made) (Ask_exchange (Slot t x) old new) (Found_instead found) [] (loaded (or_last pair last) made) = rw differs (ap Found_instead (sym here), refl, loaded_is) in
         quiet eq input build write finish classes respects b matches query lawful k name begun v log pre s.tried.now m table last kept made taken put fresh r (Ask_exchange (Slot t x) old new) asks (Found_instead found) (or_last pair last) made table fresh
         (record {
           told = told;

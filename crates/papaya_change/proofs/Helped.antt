@@ -20,13 +20,13 @@ use Rattle.papaya_chain.specs.declared.ask.Ask.TheVariants.{Call}
 use Rattle.papaya_chain.specs.declared.machine.Machine.{Machine}
 use Rattle.papaya_chain.specs.declared.machine.Phase.TheVariants.{Calling}
 use Rattle.papaya_chain.specs.Machine.{ask_of}
-use Rattle.papaya_chain_rests.proofs.Names.{call_asks}
-use Rattle.papaya_chain_rests.proofs.Replies.{anew}
-use Rattle.papaya_chain_rests.specs.Rests.{left_by}
-use Rattle.papaya_rests.specs.Rests.{change_in}
-use Rattle.papaya_rests.specs.Says.{HasValue, IsAnswered, Said, ShowsIn, ShowsPairs, StandsOn, said_in, said_to_choose, said_to_fill}
-use Rattle.papaya_rests.proofs.RestsReplyRefused.{machine_reason}
-use Rattle.papaya_book.specs.declared.rule.own.Given.{Given}
+use Rattle.papaya_chain_law.proofs.Names.{call_asks}
+use Rattle.papaya_chain_law.proofs.Replies.{anew}
+use Rattle.papaya_chain_law.specs.Relies.{left_by}
+use Rattle.papaya_call_law.specs.Relies.{change_in}
+use Rattle.papaya_call_law.specs.Says.{HasValue, IsAnswered, Said, ShowsIn, ShowsPairs, StandsOn, said_in, said_to_choose, said_to_fill}
+use Rattle.papaya_call_law.proofs.ReliesReplyRefused.{machine_reason}
+use Rattle.papaya_book.specs.declared.rule.own.CapacityCause.{CapacityCause}
 use Rattle.papaya_book.specs.Limits.{HasNoRoom}
 use Rattle.papaya_book.specs.declared.keyed.Keyed as keyed
 use Rattle.papaya_book.specs.declared.window.Window.{Window}
@@ -39,11 +39,11 @@ use Rattle.papaya_change.specs.Writing.{IsMemoryCapacityOrLimit, IsMemoryOrCapac
 use Rattle.papaya_change.proofs.Doing.{left_unchanged}
 
 -- why a copy ended a call: there was no memory, or no room
-abbrev pub IsCopyEnd : (initial : ℕ) → (tables : List ℕ) → List Given → Cause → Type 0
+abbrev pub IsCopyEnd : (initial : ℕ) → (tables : List ℕ) → List CapacityCause → Cause → Type 0
 IsCopyEnd initial tables given cause = (cause ≡ Memory) ⊎ ((cause ≡ Capacity) × HasNoRoom initial tables given)
 
 -- the call as it is after a copy
-pub record IsKept (m m' : Machine) (tables : List ℕ) (given : List Given) : Type 0 where
+pub record IsKept (m m' : Machine) (tables : List ℕ) (given : List CapacityCause) : Type 0 where
   pub task : m'.call.task ≡ m.call.task
   pub made : m'.call.made ≡ m.call.made
   pub initial : m'.call.initial ≡ m.call.initial
@@ -82,7 +82,7 @@ refused_silent (Insert replace) refused = refl
 refused_silent RemoveIf refused = refl
 refused_silent Compute refused = refl
 
-module _ (m m' : Machine) (tables : List ℕ) (given : List Given) (t : ℕ) (left : left_by m.call.state ≡ Some t) (call : Call_machine) (is : m'.call ≡ call) where
+module _ (m m' : Machine) (tables : List ℕ) (given : List CapacityCause) (t : ℕ) (left : left_by m.call.state ≡ Some t) (call : Call_machine) (is : m'.call ≡ call) where
   -- a call that was set aside, where it is this one now
   kept_by : call.task ≡ m.call.task → call.made ≡ m.call.made → call.initial ≡ m.call.initial → call.remembered ≡ m.call.remembered → change_in call.state ≡ None → ShowsPairs call → (HasValue m.call → HasValue call) → said_in call.task call.state ≡ None
       → ((cause : Cause) → calls.ask_of call ≡ Done (Refused cause) → IsCopyEnd m.call.initial tables given cause) → IsKept m m' tables given
@@ -105,7 +105,7 @@ anew_unrefused call root cause e =
     (λ rest. ⊎_elim (λ (full : (cause ≡ Capacity) × ((need : Need) × (AtRoot ≡ Growing need))). let f = full.1.1 in cc f) (λ others. ⊎_elim (λ over. over.2) (λ none. let f = none.1.1 in cc f) others) rest)
     (machine_reason (record call { state = AtRoot }) cause (Word_read root) (λ reply f. cc f) e)
 
-module _ (m m' : Machine) (tables : List ℕ) (given : List Given) where
+module _ (m m' : Machine) (tables : List ℕ) (given : List CapacityCause) where
   kept_on : HasGoneOn m m' → IsKept m m' tables given
   kept_on h = kept_by m m' tables given h.from h.left (record m.call { state = Searching (Sizing h.table) }) h.call refl refl refl refl refl tt (values_left m.call h.from h.left (Searching (Sizing h.table))) refl (λ cause e. absurd (cc e))
 
@@ -164,7 +164,7 @@ module _ {K V S H : Type 0} (c c' : Driver K V S H) (tables : List ℕ) (calling
   room_kept before pre was e = ends_so (λ d. HasNoRoom d.machine.call.initial tables d.given.done) Capacity (λ h. room_since c.machine.call.initial before tables c.given.done pre (was h)) (λ h. ⊎_elim (λ memory. absurd (cc memory)) (λ full. full.1) h) e
 
 -- what a call did goes on while it is set aside
-module _ {K V S H : Type 0} {d : keyed.Ghosts S K H} (m m' : Machine) (tables : List ℕ) (given : List Given) (calling : m'.phase ≡ Calling) (helped : HasHelped m m' tables given) (a w w' : Window K V S H d) where
+module _ {K V S H : Type 0} {d : keyed.Ghosts S K H} (m m' : Machine) (tables : List ℕ) (given : List CapacityCause) (calling : m'.phase ≡ Calling) (helped : HasHelped m m' tables given) (a w w' : Window K V S H d) where
   unchanged_does : has_changed m ≡ false → w'.own ≡ w.own → Does (has_changed m) a w → Does (has_changed m') a w'
   unchanged_does none same does =
       let before : Does false a w = subst (λ (z : Bool). Does z a w) none does in

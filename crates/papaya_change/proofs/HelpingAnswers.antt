@@ -21,18 +21,18 @@ use Rattle.papaya_chain.specs.declared.ask.Answer.TheVariants as answers
 use Rattle.papaya_chain.specs.declared.ask.Ask.{Ask}
 use Rattle.papaya_chain.specs.declared.ask.Ask.TheVariants as asks
 use Rattle.papaya_chain.specs.Machine.{IsStanding, after, ask_of, follows_of, kind_of_ask}
-use Rattle.papaya_chain_rests.specs.Goes.{link_in}
-use Rattle.papaya_chain_rests.specs.Told.{IsCopyTold}
-use Rattle.papaya_chain_rests.proofs.LinkMade.{IsMadeLink, is_made, link_tried, machine_linking, machine_links, made_is}
-use Rattle.papaya_chain_rests.proofs.LinkStates.{In}
+use Rattle.papaya_chain_law.specs.Goes.{link_in}
+use Rattle.papaya_chain_law.specs.Told.{IsCopyTold}
+use Rattle.papaya_chain_law.proofs.LinkMade.{IsMadeLink, is_made, link_tried, machine_linking, machine_links, made_is}
+use Rattle.papaya_chain_law.proofs.LinkStates.{In}
 use Rattle.papaya_law.specs.Class.{IsOn}
 use Rattle.papaya_law.specs.Exchange.{Exchange, run, start}
 use Rattle.papaya_law.specs.Hints.{IsHint}
-use Rattle.papaya_rests.specs.Copier.{HasWords}
-use Rattle.papaya_rests.specs.Told.{or_last}
+use Rattle.papaya_call_law.specs.Copier.{HasWords}
+use Rattle.papaya_call_law.specs.Told.{or_last}
 use Rattle.papaya_book.specs.declared.rule.entry.Begun.{Begun}
 use Rattle.papaya_book.specs.declared.rule.entry.Event.{Event}
-use Rattle.papaya_book.specs.declared.rule.own.Given.TheVariants.{Sum}
+use Rattle.papaya_book.specs.declared.rule.own.CapacityCause.TheVariants.{Sum}
 use Rattle.papaya_book.specs.Calls.{HasCome, IsTable, IsTried}
 use Rattle.papaya_book.specs.Makers.{IsMade}
 use Rattle.papaya_book.specs.Plays.{CanExchange}
@@ -48,13 +48,13 @@ use Rattle.papaya_book.proofs.Lengths.{table_slots}
 use Rattle.papaya_book.proofs.TableSizes.{sizes}
 use Rattle.papaya_lookup.proofs.Readings.{hint_with}
 use Rattle.papaya_change.specs.declared.driver.Driver.{Driver}
-use Rattle.papaya_change.specs.Changing.{HasChunks, IsBringing, IsDriven, IsForm, IsFresh, IsReadyAs, hands_with}
+use Rattle.papaya_change.specs.Changing.{HasChunks, IsBringing, IsDriven, IsForm, IsFresh, IsReadyAs, loaded_with}
 use Rattle.papaya_change.specs.Copier.{marked_or}
 use Rattle.papaya_change.specs.Helping.{HasCopied, IsGivenBy, IsLoadedFor, IsSetAside, IsTriedFor}
-use Rattle.papaya_change.proofs.HelpingRests.{copied, leads, new_hand, same_hand}
+use Rattle.papaya_change.proofs.HelpingRelies.{copied, leads, new_hand, same_hand}
 use Rattle.papaya_change.proofs.HelpingFollows.{follows_on}
-use Rattle.papaya_change.proofs.HelpingPlaces.{HasComeFor, all_there, came_for, chain_came, resting, slot_within}
-use Rattle.papaya_change.proofs.Resting.{coded, wide}
+use Rattle.papaya_change.proofs.HelpingPlaces.{HasComeFor, all_there, came_for, chain_came, relying, slot_within}
+use Rattle.papaya_change.proofs.Relying.{coded, wide}
 use Rattle.papaya_change.proofs.HelpingExchanges.{C, G, can_copy, can_link, grown, linked_words, lost, tried_link, word_there}
 
 -- a pair that a call holds is in the logs
@@ -81,9 +81,9 @@ module _ {K V S H : Type 0} (eq : K → K → Bool) (input : K → List (List �
   -- so has the one that is to get a next table
   pub follows_came : (slots limit chunks : ℕ) → ask_of c.machine ≡ asks.Copy (copies.MakeTable slots limit chunks) → HasCome v (follows_of c.machine)
   follows_came slots limit chunks asked =
-      let rest = resting eq input build write finish classes respects b name matches fed form k begun v c.machine c.table c.last c.kept made c.taken c.put c.fresh r in
+      let rest = relying eq input build write finish classes respects b name matches fed form k begun v c.machine c.table c.last c.kept made c.taken c.put c.fresh r in
       chain_came v (follows_of c.machine) (subst (λ (z : List (Exchange (Stored K V))). IsOn (run z start).first (run z start).next (follows_of c.machine)) rest.is
-      (follows_on (wide eq input build write finish classes respects b matches fed form k (exchanges_of begun) v) (coded eq input build write finish classes respects b matches fed form k (exchanges_of begun)) slots limit chunks (exchanges_of begun) rest.since k c.machine (hands_with c.last c.kept made) rest.rests asked))
+      (follows_on (wide eq input build write finish classes respects b matches fed form k (exchanges_of begun) v) (coded eq input build write finish classes respects b matches fed form k (exchanges_of begun)) slots limit chunks (exchanges_of begun) rest.since k c.machine (loaded_with c.last c.kept made) rest.relies asked))
 
   -- and has the slot
   pub load_low : (t x : ℕ) → ask_of c.machine ≡ asks.Copy (copies.Load (Slot t x)) → (log : List (Event K V S)) → IsPrefix v log → (sheet : Sheet) → IsTable log t sheet → x < length sheet.slots
@@ -175,7 +175,7 @@ module _ {K V S H : Type 0} (eq : K → K → Bool) (input : K → List (List �
 
   -- what was true of the words before an exchange, or of all
   abbrev Tells : List (Event K V S) → (before log : List (Event K V S)) → IsPrefix before log → CopyAsk → Answer → (last kept : Option (Stored K V)) → Type 0
-  Tells setting before log pre ask answer last kept = IsCopyTold (Gs setting) Cs (state_of before) (kind_of_ask c.machine) (follows_of c.machine) (hands_with c.last c.kept made) ask answer (exchanges_of pre.0) (hands_with last kept made)
+  Tells setting before log pre ask answer last kept = IsCopyTold (Gs setting) Cs (state_of before) (kind_of_ask c.machine) (follows_of c.machine) (loaded_with c.last c.kept made) ask answer (exchanges_of pre.0) (loaded_with last kept made)
 
   -- where a size was told, a table of so many slots has come
   abbrev IsSizeTold : List (Event K V S) → Answer → Type 0
@@ -187,7 +187,7 @@ module _ {K V S H : Type 0} (eq : K → K → Bool) (input : K → List (List �
     answered : c'.taken ≡ c.taken → c'.put ≡ c.put → IsPlaced b (Some name) (pair_named c'.last) → IsPlaced b (Some name) (pair_named c'.kept)
         → In (IsMadeLink (IsReadyAs b name log c'.fresh)) (link_in (after c.machine answer).phase) → IsSizeTold log answer → Leaves log c' answer
     answered taken put placed placed' hand size = record {
-      rests = subst (λ (o : Option (Stored K V)). IsSetAside eq hashes b name matches fed k begun log (after c.machine answer) c'.last c'.kept made o c'.put c'.fresh) (sym taken)
+      relies = subst (λ (o : Option (Stored K V)). IsSetAside eq hashes b name matches fed k begun log (after c.machine answer) c'.last c'.kept made o c'.put c'.fresh) (sym taken)
           (subst (λ (o : Option (Stored K V)). IsSetAside eq hashes b name matches fed k begun log (after c.machine answer) c'.last c'.kept made c.taken o c'.fresh) (sym put)
           (copied eq input build write finish classes respects b name matches fed form k begun v c.machine c.table c.last c.kept made c.taken c.put c.fresh r standing ask asked before since l₀ log l pre answer words c'.last c'.kept c'.fresh c'.given.done by told placed placed' hand size));
       leads = leads eq input build write finish classes respects b name matches fed form k begun v c.machine c.table c.last c.kept made c.taken c.put c.fresh r standing ask asked before since l₀ log l pre answer words c'.last c'.kept c'.fresh c'.given.done by told;
@@ -208,16 +208,16 @@ module _ {K V S H : Type 0} (eq : K → K → Bool) (input : K → List (List �
         answered ask asked log pre l log l ([], append-nil log) answer (λ e. absurd (still e)) c' by told taken put placed placed' (kept_hand ask asked log pre answer none c' fresh) size
 
   -- a word was loaded
-  pub loaded : (at : At) → ask_of c.machine ≡ asks.Copy (copies.Load at) → (log : List (Event K V S)) → IsPrefix v log → (word : ℕ) (c' : Driver K V S H) → c' ≡ record c { last = c'.last } → IsLoadedFor eq hashes b name at word log c.last c'.last → Leaves log c' (answers.Call (Word_read word))
-  loaded at asked log pre word c' rest is =
+  pub as_loaded : (at : At) → ask_of c.machine ≡ asks.Copy (copies.Load at) → (log : List (Event K V S)) → IsPrefix v log → (word : ℕ) (c' : Driver K V S H) → c' ≡ record c { last = c'.last } → IsLoadedFor eq hashes b name at word log c.last c'.last → Leaves log c' (answers.Call (Word_read word))
+  as_loaded at asked log pre word c' rest is =
       let here = word_there eq input build write finish classes respects b name matches fed form k begun v c.machine c.table c.last c.kept made c.taken c.put c.fresh r log log at ∙ is.is in
       quiet (copies.Load at) asked log is.lawful pre (answers.Call (Word_read word)) c' tt
-      (ap (λ (n : ℕ). answers.Call (Word_read n)) (sym here), refl, (λ i. hands_with (is.last_is i) ((ap (λ (d : Driver K V S H). d.kept) rest) i) made))
+      (ap (λ (n : ℕ). answers.Call (Word_read n)) (sym here), refl, (λ i. loaded_with (is.last_is i) ((ap (λ (d : Driver K V S H). d.kept) rest) i) made))
       (ap (λ (d : Driver K V S H). d.taken) rest) (ap (λ (d : Driver K V S H). d.put) rest) (ap (λ (d : Driver K V S H). d.fresh) rest) (is.placed r.last_placed) (subst (λ (o : Option (Stored K V)). IsPlaced b (Some name) (pair_named o)) (sym (ap (λ (d : Driver K V S H). d.kept) rest)) r.kept_placed) (λ e. cc e) (λ n e. cc e) (λ slots limit e. absurd (cc e))
 
   -- nothing of the call moved
-  still : (c' : Driver K V S H) → c' ≡ c → hands_with c'.last c'.kept made ≡ hands_with c.last c.kept made
-  still c' same = ap (λ (d : Driver K V S H). hands_with d.last d.kept made) same
+  still : (c' : Driver K V S H) → c' ≡ c → loaded_with c'.last c'.kept made ≡ loaded_with c.last c.kept made
+  still c' same = ap (λ (d : Driver K V S H). loaded_with d.last d.kept made) same
 
   quiet_still : (ask : CopyAsk) → ask_of c.machine ≡ asks.Copy ask → (log : List (Event K V S)) → IsLawfulLog eq hashes b log → IsPrefix v log → (answer : Answer) → IsGivenBy answer c.given.done → Tells log log log ([], append-nil log) ask answer c.last c.kept → (answer ≡ answers.Call Exchanged → ⊥) → ((n : ℕ) → answer ≡ answers.Call (Made_number n) → ⊥) → IsSizeTold log answer → (c' : Driver K V S H) → c' ≡ c → Leaves log c' answer
   quiet_still ask asked log l pre answer by told still none size c' same = subst (λ (d : Driver K V S H). Leaves log d answer) (sym same) (quiet ask asked log l pre answer c by told refl refl refl r.last_placed r.kept_placed still none size)
@@ -245,7 +245,7 @@ module _ {K V S H : Type 0} (eq : K → K → Bool) (input : K → List (List �
   pub hashed : (n : ℕ) → ask_of c.machine ≡ asks.Copy (copies.HashOf n) → (word : ℕ) → ((p : Stored K V) → c.last ≡ Some p → word ≡ hashes b.hasher p.value.key.value) → (c' : Driver K V S H) → c' ≡ record c { kept = c'.kept } → c'.kept ≡ c.last → Leaves v c' (answers.Hash word)
   hashed n asked word is c' rest carries =
       quiet (copies.HashOf n) asked v r.lawful ([], append-nil v) (answers.Hash word) c' tt
-      (λ p e number. ap answers.Hash (is p e), refl, (λ i. hands_with ((ap (λ (d : Driver K V S H). d.last) rest) i) (carries i) made))
+      (λ p e number. ap answers.Hash (is p e), refl, (λ i. loaded_with ((ap (λ (d : Driver K V S H). d.last) rest) i) (carries i) made))
       (ap (λ (d : Driver K V S H). d.taken) rest) (ap (λ (d : Driver K V S H). d.put) rest) (ap (λ (d : Driver K V S H). d.fresh) rest)
       (subst (λ (o : Option (Stored K V)). IsPlaced b (Some name) (pair_named o)) (sym (ap (λ (d : Driver K V S H). d.last) rest)) r.last_placed) (subst (λ (o : Option (Stored K V)). IsPlaced b (Some name) (pair_named o)) (sym carries) r.last_placed) (λ e. cc e) (λ i e. cc e) (λ slots limit e. absurd (cc e))
 
@@ -256,7 +256,7 @@ module _ {K V S H : Type 0} (eq : K → K → Bool) (input : K → List (List �
   -- the count was summed
   pub counted : ask_of c.machine ≡ asks.Copy copies.Count → (sum : ℕ) (c' : Driver K V S H) → c' ≡ record c { given = c'.given } → c'.given.done ≡ Sum sum ∷ [] → Leaves v c' (answers.Count sum)
   counted asked sum c' rest given =
-      quiet copies.Count asked v r.lawful ([], append-nil v) (answers.Count sum) c' given ((sum, refl), (refl, ap (λ (d : Driver K V S H). hands_with d.last d.kept made) rest))
+      quiet copies.Count asked v r.lawful ([], append-nil v) (answers.Count sum) c' given ((sum, refl), (refl, ap (λ (d : Driver K V S H). loaded_with d.last d.kept made) rest))
       (ap (λ (d : Driver K V S H). d.taken) rest) (ap (λ (d : Driver K V S H). d.put) rest) (ap (λ (d : Driver K V S H). d.fresh) rest)
       (subst (λ (o : Option (Stored K V)). IsPlaced b (Some name) (pair_named o)) (sym (ap (λ (d : Driver K V S H). d.last) rest)) r.last_placed) (subst (λ (o : Option (Stored K V)). IsPlaced b (Some name) (pair_named o)) (sym (ap (λ (d : Driver K V S H). d.kept) rest)) r.kept_placed) (λ e. cc e) (λ i e. cc e) (λ slots limit e. absurd (cc e))
 
@@ -276,14 +276,14 @@ module _ {K V S H : Type 0} (eq : K → K → Bool) (input : K → List (List �
     -- a table was made
     pub tabled : (n : ℕ) → follows_of c.machine < n → IsReadyAs b name log c'.fresh n chunks → Leaves log c' (answers.Call (Made_number n))
     tabled n past fresh =
-        answered (copies.MakeTable slots limit chunks) asked log pre l log l ([], append-nil log) (answers.Call (Made_number n)) (λ e. absurd (cc e)) c' tt (inr (n, past, refl), (refl, ap (λ (d : Driver K V S H). hands_with d.last d.kept made) rest))
+        answered (copies.MakeTable slots limit chunks) asked log pre l log l ([], append-nil log) (answers.Call (Made_number n)) (λ e. absurd (cc e)) c' tt (inr (n, past, refl), (refl, ap (λ (d : Driver K V S H). loaded_with d.last d.kept made) rest))
         (ap (λ (d : Driver K V S H). d.taken) rest) (ap (λ (d : Driver K V S H). d.put) rest) placed_last placed_kept
         (new_hand eq input build write finish classes respects b name matches fed form k begun v c.machine c.table c.last c.kept made c.taken c.put c.fresh r standing (copies.MakeTable slots limit chunks) asked log slots limit chunks refl c'.fresh n fresh) (λ many least e. absurd (cc e))
 
     -- or it was refused
     pub unmade : (refused : Refused) → (refused ≡ Memory) ⊎ ((refused ≡ Capacity) × IsFull c'.given.done) → c'.fresh ≡ c.fresh → Leaves log c' (answers.Call (Was_refused refused))
     unmade refused why same =
-        quiet (copies.MakeTable slots limit chunks) asked log l pre (answers.Call (Was_refused refused)) c' why (inl (refused, refl), (refl, ap (λ (d : Driver K V S H). hands_with d.last d.kept made) rest))
+        quiet (copies.MakeTable slots limit chunks) asked log l pre (answers.Call (Was_refused refused)) c' why (inl (refused, refl), (refl, ap (λ (d : Driver K V S H). loaded_with d.last d.kept made) rest))
         (ap (λ (d : Driver K V S H). d.taken) rest) (ap (λ (d : Driver K V S H). d.put) rest) same placed_last placed_kept (λ e. cc e) (λ i e. cc e) (λ many least e. absurd (cc e))
 
   module _ (at : At) (old new : ℕ) (asked : ask_of c.machine ≡ asks.Copy (copies.Exchange at old new)) (found : ℕ) (log : List (Event K V S)) (pair : Option (Stored K V)) (t : IsTriedFor eq hashes b name at (kind_of_ask c.machine) old new c.kept c.fresh v found log pair) (c' : Driver K V S H) where

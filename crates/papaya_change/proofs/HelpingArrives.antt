@@ -17,16 +17,16 @@ use Rattle.papaya_ask.specs.declared.ask.Answer.TheVariants.{Word as Word_read}
 use Rattle.papaya_call.specs.Machine as call_machine
 use Rattle.papaya_chain.specs.declared.machine.Machine.{Machine}
 use Rattle.papaya_chain.specs.declared.machine.Phase.TheVariants.{Calling}
-use Rattle.papaya_chain_rests.specs.Rests.{left_by}
-use Rattle.papaya_chain_rests.proofs.Replies.{anew}
+use Rattle.papaya_chain_law.specs.Relies.{left_by}
+use Rattle.papaya_chain_law.proofs.Replies.{anew}
 use Rattle.papaya_law.specs.Class.{IsOn}
 use Rattle.papaya_law.specs.Exchange.{Exchange, run, start}
-use Rattle.papaya_rests.specs.Followed.{IsAtTable}
-use Rattle.papaya_rests.specs.Rests.{RestsStage}
-use Rattle.papaya_rests.proofs.RestsNames.{ask_named}
+use Rattle.papaya_call_law.specs.Followed.{IsAtTable}
+use Rattle.papaya_call_law.specs.Relies.{ReliesStage}
+use Rattle.papaya_call_law.proofs.ReliesNames.{ask_named}
 use Rattle.papaya_book.specs.declared.rule.entry.Begun.{Begun}
 use Rattle.papaya_book.specs.declared.rule.entry.Event.{Event}
-use Rattle.papaya_book.specs.declared.rule.own.Given.{Given}
+use Rattle.papaya_book.specs.declared.rule.own.CapacityCause.{CapacityCause}
 use Rattle.papaya_book.specs.Calls.{HasCome, IsTable}
 use Rattle.papaya_book.specs.Hashes.{hash_of}
 use Rattle.papaya_book.specs.Limits.{HasNoRoom, tables_of}
@@ -36,12 +36,12 @@ use Rattle.papaya_book.specs.Sheets.{Sheet}
 use Rattle.papaya_book.proofs.Lengths.{room_since, tables_since}
 use Rattle.papaya_book.proofs.Loaded.{table_since}
 use Rattle.papaya_book.proofs.Logs.{prefix_trans}
-use Rattle.papaya_change.specs.Changing.{IsCalling, IsForm, hands_with}
+use Rattle.papaya_change.specs.Changing.{IsCalling, IsForm, loaded_with}
 use Rattle.papaya_change.specs.Helping.{HasBegunAnew, HasGoneOn, HasHelped, IsAside, IsEntering, IsLed, IsSetAside, WasRefused}
-use Rattle.papaya_change.proofs.HelpingRests.{fresh_later}
+use Rattle.papaya_change.proofs.HelpingRelies.{fresh_later}
 use Rattle.papaya_change.proofs.HelpingPlaces.{chain_came}
 use Rattle.papaya_change.proofs.Sized.{counting_since}
-use Rattle.papaya_change.proofs.Resting.{ChainResting, coded, hashed_in, resting_later, resting_may, wide}
+use Rattle.papaya_change.proofs.Relying.{ChainRelying, coded, hashed_in, relying_later, relying_may, wide}
 
 module _ {K V S H : Type 0} (eq : K → K → Bool) (input : K → List (List ℕ)) (build : S → H) (write : H → List ℕ → H) (finish : H → ℕ) (classes : IsEquivalence eq) (respects : (x y : K) → eq x y ≡ true → input x ≡ input y)
     (b : Begun K V S) (name : Book) (matches : K → Bool) (fed : ℕ) (form : IsForm eq (hash_of input build write finish) b matches fed) (k : Option K) (begun log : List (Event K V S)) (m : Machine) (last kept : Option (Stored K V)) (made : List (Stored K V)) (taken put : Option (Stored K V)) (fresh : Option (Where Sheet × Pen))
@@ -55,19 +55,19 @@ module _ {K V S H : Type 0} (eq : K → K → Bool) (input : K → List (List �
   abbrev C : Rattle.papaya_law.specs.Code.Coding (Option K) (Stored K V)
   C = coded eq input build write finish classes respects b matches fed form k (exchanges_of begun)
 
-  abbrev rests_now : ChainResting eq input build write finish classes respects b matches fed form k (exchanges_of begun) log m (hands_with last kept made)
-  rests_now = record { since = moved.since; is = moved.is; rests = moved.rests }
+  abbrev relies_now : ChainRelying eq input build write finish classes respects b matches fed form k (exchanges_of begun) log m (loaded_with last kept made)
+  relies_now = record { since = moved.since; is = moved.is; relies = moved.relies }
 
   -- the table that it is to look in has come
   pub entering_came : (n : ℕ) → IsEntering m n → HasCome log n
   entering_came n is =
-      let stage = subst (RestsStage (G log) C (exchanges_of begun) moved.since k (hands_with last kept made).call m.call.task) is.1 moved.rests.call.stage in
+      let stage = subst (ReliesStage (G log) C (exchanges_of begun) moved.since k (loaded_with last kept made).call m.call.task) is.1 moved.relies.call.stage in
       let on = ask_named (G log) C (hashed_in eq input build write finish classes respects b matches fed form k (exchanges_of begun) log moved.lawful) (exchanges_of begun) moved.since
-      (resting_may eq input build write finish classes respects b matches fed form k (exchanges_of begun) log moved.lawful m (hands_with last kept made) rests_now) k (hands_with last kept made).call m.call.task m.call.hash m.call.made (Searching (Sizing n)) stage in
+      (relying_may eq input build write finish classes respects b matches fed form k (exchanges_of begun) log moved.lawful m (loaded_with last kept made) relies_now) k (loaded_with last kept made).call m.call.task m.call.hash m.call.made (Searching (Sizing n)) stage in
       chain_came log n (subst (λ (z : List (Exchange (Stored K V))). IsOn (run z start).first (run z start).next n) moved.is on)
 
   -- before this the call was set aside
-  module _ (v : List (Event K V S)) (was : Machine) (table : Option (Bor Sheet)) (last₀ kept₀ taken₀ put₀ : Option (Stored K V)) (fresh₀ : Option (Where Sheet × Pen)) (r : IsCalling eq hash b name matches fed k begun v was table last₀ kept₀ made taken₀ put₀ fresh₀) (tables : List ℕ) (given : List Given) (leads : IsAside was m ⊎ IsLed was m tables given) (pre : IsPrefix v log)
+  module _ (v : List (Event K V S)) (was : Machine) (table : Option (Bor Sheet)) (last₀ kept₀ taken₀ put₀ : Option (Stored K V)) (fresh₀ : Option (Where Sheet × Pen)) (r : IsCalling eq hash b name matches fed k begun v was table last₀ kept₀ made taken₀ put₀ fresh₀) (tables : List ℕ) (given : List CapacityCause) (leads : IsAside was m ⊎ IsLed was m tables given) (pre : IsPrefix v log)
       (log' : List (Event K V S)) (pre' : IsPrefix log log') (l' : IsLawfulLog eq hash b log') (table' : Option (Bor Sheet)) (held : (n : ℕ) → IsEntering m n → MatchOption table' ⊥ (λ z. IsTable log' n z.now)) (still : ((n : ℕ) → IsEntering m n → ⊥) → table' ≡ table) where
     -- the table that it holds then
     pub record Lands : Type 0 where
@@ -112,12 +112,12 @@ module _ {K V S H : Type 0} (eq : K → K → Bool) (input : K → List (List �
     -- it is under way again
     pub arrived : IsCalling eq hash b name matches fed k begun log' m table' last kept made taken put fresh
     arrived =
-        let later = resting_later eq input build write finish classes respects b matches fed form k (exchanges_of begun) log moved.lawful m (hands_with last kept made) rests_now log' l' pre' in record {
+        let later = relying_later eq input build write finish classes respects b matches fed form k (exchanges_of begun) log moved.lawful m (loaded_with last kept made) relies_now log' l' pre' in record {
           lawful = l';
           seen = prefix_trans begun log log' moved.seen pre';
           since = later.since;
           is = later.is;
-          rests = later.rests;
+          relies = later.relies;
           number = lands.number;
           at_table = lands.at_table;
           holds_table = lands.holds;
@@ -132,10 +132,10 @@ module _ {K V S H : Type 0} (eq : K → K → Bool) (input : K → List (List �
         }
 
 -- where answers for a copy have led a call
-abbrev pub HasReached : Machine → Machine → (tables : List ℕ) → List Given → Type 0
+abbrev pub HasReached : Machine → Machine → (tables : List ℕ) → List CapacityCause → Type 0
 HasReached m m' tables given = (m' ≡ m) ⊎ IsAside m m' ⊎ IsLed m m' tables given
 
-module _ (first m m' : Machine) (tables : List ℕ) (given : List Given) (same : m.call ≡ first.call) where
+module _ (first m m' : Machine) (tables : List ℕ) (given : List CapacityCause) (same : m.call ≡ first.call) where
   -- one step after others that left the call as it was
   aside_further : IsAside m m' → IsAside first m'
   aside_further a = record { from = a.from; left = ap (λ (d : Call_machine). left_by d.state) (sym same) ∙ a.left; call = a.call ∙ same; busy = a.busy }
@@ -159,13 +159,13 @@ module _ (first m m' : Machine) (tables : List ℕ) (given : List Given) (same :
   further (inr led) = inr (inr (led_further led))
 
 -- after each answer, to a machine whose call is where it was
-pub reached_past : (first m mid m' : Machine) (tables tables' : List ℕ) (given given' : List Given) → HasReached first m tables given → (m.phase ≡ Calling → ⊥) → mid.call ≡ m.call → IsAside mid m' ⊎ IsLed mid m' tables' given' → HasReached first m' tables' given'
+pub reached_past : (first m mid m' : Machine) (tables tables' : List ℕ) (given given' : List CapacityCause) → HasReached first m tables given → (m.phase ≡ Calling → ⊥) → mid.call ≡ m.call → IsAside mid m' ⊎ IsLed mid m' tables' given' → HasReached first m' tables' given'
 reached_past first m mid m' tables tables' given given' (inl same) busy call leads = further first mid m' tables' given' (call ∙ ap (λ (d : Machine). d.call) same) leads
 reached_past first m mid m' tables tables' given given' (inr (inl aside)) busy call leads = further first mid m' tables' given' (call ∙ aside.call) leads
 reached_past first m mid m' tables tables' given given' (inr (inr led)) busy call leads = absurd (busy led.calling)
 
 -- it is there still when more tables have come
-module _ (m m' : Machine) (tables tables' : List ℕ) (given : List Given) (pre : IsPrefix tables tables') where
+module _ (m m' : Machine) (tables tables' : List ℕ) (given : List CapacityCause) (pre : IsPrefix tables tables') where
   refused_since : WasRefused m m' tables given → WasRefused m m' tables' given
   refused_since ends = record {
     from = ends.from;
@@ -186,7 +186,7 @@ module _ (m m' : Machine) (tables tables' : List ℕ) (given : List Given) (pre 
   reached_since (inr (inr led)) = inr (inr (record { calling = led.calling; where_to = led_since led.where_to }))
 
 -- and at the end
-pub helped : (first m : Machine) (tables : List ℕ) (given : List Given) → HasReached first m tables given → m.phase ≡ Calling → HasHelped first m tables given
+pub helped : (first m : Machine) (tables : List ℕ) (given : List CapacityCause) → HasReached first m tables given → m.phase ≡ Calling → HasHelped first m tables given
 helped first m tables given (inl same) calling = inl same
 helped first m tables given (inr (inl aside)) calling = absurd (aside.busy calling)
 helped first m tables given (inr (inr led)) calling = inr led.where_to

@@ -1,4 +1,4 @@
--- A call that is set aside may be answered what it asks for a copy, and each answer leaves it resting.
+-- A call that is set aside may be answered what it asks for a copy, and each answer leaves it relying on what holds.
 use Rattle.std.proofs.Common.{◌≡◌, ◌⊎◌, inl, inr, ⊎_elim, ℕ, ◌<◌, ◌==◌, Bool, true, false, if◌then◌else◌, MatchBool, Option, List, [], append-nil, refl, sym, ap, ◌∙◌, subst}
 use Rattle.std.specs.Cmp.{IsEquivalence}
 use mathlib.Core.List.{IsPrefix}
@@ -16,11 +16,11 @@ use Rattle.papaya_chain.specs.declared.ask.Answer.{Answer}
 use Rattle.papaya_chain.specs.declared.ask.Answer.TheVariants as answers
 use Rattle.papaya_chain.specs.declared.ask.Ask.TheVariants as asks
 use Rattle.papaya_chain.specs.Machine.{IsStanding, after, ask_of, follows_of, kind_of_ask}
-use Rattle.papaya_chain_rests.specs.Goes.{link_in}
-use Rattle.papaya_chain_rests.proofs.LinkMade.{IsMadeLink}
-use Rattle.papaya_chain_rests.proofs.LinkStates.{In}
-use Rattle.papaya_rests.specs.Copier.{AreThere, IsThere}
-use Rattle.papaya_rests.specs.Told.{or_last}
+use Rattle.papaya_chain_law.specs.Goes.{link_in}
+use Rattle.papaya_chain_law.proofs.LinkMade.{IsMadeLink}
+use Rattle.papaya_chain_law.proofs.LinkStates.{In}
+use Rattle.papaya_call_law.specs.Copier.{AreThere, IsThere}
+use Rattle.papaya_call_law.specs.Told.{or_last}
 use Rattle.papaya_book.specs.declared.rule.entry.Begun.{Begun}
 use Rattle.papaya_book.specs.declared.rule.entry.Event.{Event}
 use Rattle.papaya_book.specs.Hashes.{hash_of}
@@ -32,7 +32,7 @@ use Rattle.papaya_change.specs.declared.driver.Driver.{Driver}
 use Rattle.papaya_change.specs.Changing.{IsDriven, IsForm, IsReadyAs}
 use Rattle.papaya_change.specs.Copier.{AnswersExchange, AnswersTo, CanAnswerTo, CanExchangeFor, HasMade, IsHandLeft, IsReached, copier_of, marked_or, with_copier}
 use Rattle.papaya_change.specs.Helping.{HasCopied, IsTriedFor}
-use Rattle.papaya_change.proofs.HelpingAnswers.{beaten, compared, counted, exchanged, follows_came, hand_kept, hand_tried, hashed, hinted, linking, loaded, may_try, noted, ready, size_came, sized, tabled, try_came, unmade}
+use Rattle.papaya_change.proofs.HelpingAnswers.{as_loaded, beaten, compared, counted, exchanged, follows_came, hand_kept, hand_tried, hashed, hinted, linking, may_try, noted, ready, size_came, sized, tabled, try_came, unmade}
 use Rattle.papaya_change.proofs.HelpingExchanges.{C, G, can_link}
 use Rattle.papaya_change.proofs.HelpingPlaces.{all_there, chain_came, may_note}
 
@@ -126,9 +126,9 @@ module _ {K V S H : Type 0} (eq : K → K → Bool) (input : K → List (List �
     tried_on : (at : At) (old new : ℕ) → ask_of c.machine ≡ asks.Copy (copies.Exchange at old new) → (answer : Answer) → AnswersExchange eq hash b name at (kind_of_ask c.machine) old new v (copier_of c) log h answer → Leaves log answer
     tried_on at old new asked answer a = subst (Leaves log) (sym a.is) (ended at old new asked a.found a.tried.pair a.tried.tried (a.found == old) refl (ap (λ (z : Copier K V S H). z.kept) a.rest) a.tried.last_is a.hand)
 
-    -- each answer leaves the call resting
+    -- each answer leaves the call relying on what holds
     pub copied : (ask : CopyAsk) → ask_of c.machine ≡ asks.Copy ask → (answer : Answer) → AnswersTo eq hash b name ask (kind_of_ask c.machine) (follows_of c.machine) v (copier_of c) log h answer → Leaves log answer
-    copied (copies.Load at) asked answer a = subst (Leaves log) (sym a.is) (loaded eq input build write finish classes respects b name matches fed form k begun made v c r standing at asked log pre a.word c' (ap (with_copier c) a.rest) a.loaded)
+    copied (copies.Load at) asked answer a = subst (Leaves log) (sym a.is) (as_loaded eq input build write finish classes respects b name matches fed form k begun made v c r standing at asked log pre a.word c' (ap (with_copier c) a.rest) a.as_loaded)
     copied (copies.Exchange at old new) asked answer a = tried_on at old new asked answer a
     copied (copies.LoadHint t x) asked answer a = subst (Leaves log) (sym a.is) (hinted eq input build write finish classes respects b name matches fed form k begun made v c r standing t x asked log pre a.hint a.hinted c' (ap (with_copier c) a.rest))
     copied (copies.WriteHint t x n) asked answer a = subst (Leaves log) (sym a.is) (noted eq input build write finish classes respects b name matches fed form k begun made v c r standing t x n asked log a.lawful pre c' (ap (with_copier c) a.rest))

@@ -19,10 +19,10 @@ use Rattle.papaya_chain.specs.declared.ask.Answer.TheVariants as answers
 use Rattle.papaya_chain.specs.declared.ask.Ask.TheVariants as asks
 use Rattle.papaya_chain.specs.declared.machine.Machine.{Machine}
 use Rattle.papaya_chain.specs.Machine.{ask_of, follows_of, kind_of_ask}
-use Rattle.papaya_chain_rests.specs.Goes.{link_in}
-use Rattle.papaya_chain_rests.specs.Told.{IsCopyTold}
-use Rattle.papaya_chain_rests.proofs.LinkMade.{machine_linking, machine_links}
-use Rattle.papaya_chain_rests.proofs.Names.{copies_may}
+use Rattle.papaya_chain_law.specs.Goes.{link_in}
+use Rattle.papaya_chain_law.specs.Told.{IsCopyTold}
+use Rattle.papaya_chain_law.proofs.LinkMade.{machine_linking, machine_links}
+use Rattle.papaya_chain_law.proofs.Names.{copies_may}
 use Rattle.papaya_law.specs.Allows.{Allows}
 use Rattle.papaya_law.specs.Class.{IsOn}
 use Rattle.papaya_law.specs.Code.{Coding}
@@ -31,9 +31,9 @@ use Rattle.papaya_law.specs.Exchange as law
 use Rattle.papaya_law.specs.Invariant.{named}
 use Rattle.papaya_law.proofs.Alike.{alike_back, allows_alike}
 use Rattle.papaya_law.proofs.Further.{key_alike}
-use Rattle.papaya_rests.specs.Copier.{HasWords, IsCopyAsked, last_after, told_last}
-use Rattle.papaya_rests.specs.Told.{IsWritten, or_last, word_of}
-use Rattle.papaya_rests.proofs.FurtherWords.{key_word}
+use Rattle.papaya_call_law.specs.Copier.{HasWords, IsCopyAsked, last_after, told_last}
+use Rattle.papaya_call_law.specs.Told.{IsWritten, or_last, word_of}
+use Rattle.papaya_call_law.proofs.FurtherWords.{key_word}
 use Rattle.papaya_book.specs.declared.rule.entry.Begun.{Begun}
 use Rattle.papaya_book.specs.declared.rule.entry.Event.{Event}
 use Rattle.papaya_book.specs.declared.rule.entry.Event.TheVariants.{Stepped}
@@ -54,12 +54,12 @@ use Rattle.papaya_book.proofs.Settings.{is_hashed}
 use Rattle.papaya_book.proofs.TableSizes.{words_of}
 use Rattle.papaya_book.proofs.Wishes.{IsOfCopy, copy_wished}
 use Rattle.papaya_lookup.proofs.Driving.{word_same}
-use Rattle.papaya_change.specs.Changing.{HasChunks, IsCalling, IsForm, hands_with}
+use Rattle.papaya_change.specs.Changing.{HasChunks, IsCalling, IsForm, loaded_with}
 use Rattle.papaya_change.specs.Copier.{marked_or}
 use Rattle.papaya_change.specs.Helping.{IsOwnTable, IsTriedFor, pair_at}
 use Rattle.papaya_change.proofs.HelpingFollows.{machine_rises}
-use Rattle.papaya_change.proofs.HelpingPlaces.{all_there, chain_came, resting}
-use Rattle.papaya_change.proofs.Resting.{ChainResting, coded, hashed_in, hashed_with, may_with, plain_with, resting_later, resting_may, rests_with, wide, wide_with}
+use Rattle.papaya_change.proofs.HelpingPlaces.{all_there, chain_came, relying}
+use Rattle.papaya_change.proofs.Relying.{ChainRelying, coded, hashed_in, hashed_with, may_with, plain_with, relies_with, relying_later, relying_may, wide, wide_with}
 
 -- an exchange of another kind marks none
 pub unmarked : {P : Type 0} (kind : Option StepKind) (pair last : Option P) → (kind ≡ Some kinds.Mark → ⊥) → last ≡ marked_or kind pair last
@@ -229,14 +229,14 @@ module _ {K V S H : Type 0} (eq : K → K → Bool) (input : K → List (List �
 
   -- where a table is about to be linked, none has come under its number, over a longer log too
   module _ (t n chunks : ℕ) (about : link_in m.phase ≡ Some (links.Linking t n chunks)) where
-    abbrev rest : ChainResting eq input build write finish classes respects b matches fed form k (exchanges_of begun) v m (hands_with last kept made)
-    rest = resting eq input build write finish classes respects b name matches fed form k begun v m table last kept made taken put fresh r
+    abbrev rest : ChainRelying eq input build write finish classes respects b matches fed form k (exchanges_of begun) v m (loaded_with last kept made)
+    rest = relying eq input build write finish classes respects b name matches fed form k begun v m table last kept made taken put fresh r
 
     there : IsOn (state_of v).first (state_of v).next t
     there = all_there eq input build write finish classes respects b name matches fed form k begun v m table last kept made taken put fresh r (Ask_exchange (Next t) 0 n) (machine_linking m t n chunks about).0
 
     rises : t < n
-    rises = machine_rises (G v) C t n chunks (exchanges_of begun) rest.since k m (hands_with last kept made) rest.rests about
+    rises = machine_rises (G v) C t n chunks (exchanges_of begun) rest.since k m (loaded_with last kept made) rest.relies about
 
     not_come : (log : List (Event K V S)) → IsPrefix v log → IsLawfulLog eq hash b log → word_in eq hash b log (Next t) ≡ 0 → table_in (steps_of log) n ≡ None
     not_come log pre l stands =
@@ -260,12 +260,12 @@ module _ {K V S H : Type 0} (eq : K → K → Bool) (input : K → List (List �
 
     pub granted : ((t : ℕ) → at ≡ Next t → ⊥) → (log : List (Event K V S)) → IsPrefix v log → IsLawfulLog eq hash b log → word_in eq hash b log at ≡ old → IsGranted log
     granted other log pre l stands =
-        let now : ChainResting eq input build write finish classes respects b matches fed form k (exchanges_of begun) log m (hands_with last kept made) =
-        resting_later eq input build write finish classes respects b matches fed form k (exchanges_of begun) v r.lawful m (hands_with last kept made) (resting eq input build write finish classes respects b name matches fed form k begun v m table last kept made taken put fresh r) log l pre in
-        let may = resting_may eq input build write finish classes respects b matches fed form k (exchanges_of begun) log l m (hands_with last kept made) now in
+        let now : ChainRelying eq input build write finish classes respects b matches fed form k (exchanges_of begun) log m (loaded_with last kept made) =
+        relying_later eq input build write finish classes respects b matches fed form k (exchanges_of begun) v r.lawful m (loaded_with last kept made) (relying eq input build write finish classes respects b name matches fed form k begun v m table last kept made taken put fresh r) log l pre in
+        let may = relying_may eq input build write finish classes respects b matches fed form k (exchanges_of begun) log l m (loaded_with last kept made) now in
         let there : word_of (G log) C (run (exchanges_of begun ++ now.since) start) at ≡ old =
         subst (λ (z : List (Exchange (Stored K V))). word_of (G log) C (run z start) at ≡ old) (sym now.is) (word_there log log at ∙ stands) in
-        let done = copies_may (G log) C (hashed_in eq input build write finish classes respects b matches fed form k (exchanges_of begun) log l) (exchanges_of begun) now.since may k m (hands_with last kept made) now.rests (words_where (G log) (link_in m.phase) (λ behind n chunks e. absurd (unlinked other behind n chunks e))) at old new asked there in
+        let done = copies_may (G log) C (hashed_in eq input build write finish classes respects b matches fed form k (exchanges_of begun) log l) (exchanges_of begun) now.since may k m (loaded_with last kept made) now.relies (words_where (G log) (link_in m.phase) (λ behind n chunks e. absurd (unlinked other behind n chunks e))) at old new asked there in
         let by = done.0 in
         let wide_asked : IsCopyAsked C (kind_of_ask m) at new (state_of log) kept by = subst (λ (z : List (Exchange (Stored K V))). IsCopyAsked C (kind_of_ask m) at new (run z start) kept by) now.is done.1 in
         let wide_allows : Allows (G log) (state_of log) by = subst (λ (z : List (Exchange (Stored K V))). Allows (G log) (run z start) by) now.is done.2 in
@@ -313,7 +313,7 @@ module _ {K V S H : Type 0} (eq : K → K → Bool) (input : K → List (List �
       After z = MatchBool z ((e : Step K V) × IsWished (kind_of_ask m) at new (state_of t.before) kept (exchange_of e) × IsOwnTable fresh (comes e) × (log ≡ t.before ++ Stepped e ∷ [])) (log ≡ t.before)
 
       -- the log goes on from what was there before
-      pub grown : (found == old) ≡ true → (pre : IsPrefix t.before log) × IsCopyTold (G log) C (state_of t.before) (kind_of_ask m) (follows_of m) (hands_with last kept made) (Ask_exchange at old new) (answers.Call Exchanged) (exchanges_of pre.0) (hands_with (marked_or (kind_of_ask m) pair last) kept made)
+      pub grown : (found == old) ≡ true → (pre : IsPrefix t.before log) × IsCopyTold (G log) C (state_of t.before) (kind_of_ask m) (follows_of m) (loaded_with last kept made) (Ask_exchange at old new) (answers.Call Exchanged) (exchanges_of pre.0) (loaded_with (marked_or (kind_of_ask m) pair last) kept made)
       grown is =
           let done = subst After is t.after in
           let e = exchange_of done.0 in
@@ -322,7 +322,7 @@ module _ {K V S H : Type 0} (eq : K → K → Bool) (input : K → List (List �
           let here : (word_of (G log) C (state_of t.before) at == old) ≡ true = ap (λ (n : ℕ). n == old) (word_there t.before log at ∙ t.is) ∙ is in
           let wide_asked : IsCopyAsked C (kind_of_ask m) at new (state_of t.before) kept e = copy_alike Numbered C (λ z. refl) new (state_of t.before) kept e (kind_of_ask m) at asked' in
           let told : last_after e last ≡ marked_or (kind_of_ask m) pair last = last_marked Numbered new (state_of t.before) kept e (kind_of_ask m) at asked' last ∙ ap (λ (z : Option (Stored K V)). marked_or (kind_of_ask m) z last) t.names in
-          ((Stepped done.0 ∷ [], sym done.3), rw here (refl, (e, wide_asked, refl, ap (λ (z : Option (Stored K V)). hands_with z kept made) (sym told))))
+          ((Stepped done.0 ∷ [], sym done.3), rw here (refl, (e, wide_asked, refl, ap (λ (z : Option (Stored K V)). loaded_with z kept made) (sym told))))
 
       -- where a table was linked, the setting has its words by now
       pub linked_words : (found == old) ≡ true → HasWords (G log) (link_in m.phase)
@@ -343,13 +343,13 @@ module _ {K V S H : Type 0} (eq : K → K → Bool) (input : K → List (List �
           let came : table_in (steps_of log) n ≡ Some step.0 = subst (λ (i : ℕ). table_in (steps_of log) i ≡ Some step.0) step.2 (link_words t.before log behind step.0 (done.3 ∙ ap (λ (x : Step K V). t.before ++ Stepped x ∷ []) step.1) (ap (table_in (steps_of t.before)) step.2 ∙ none)) in
           eq_le (words_of (steps_of log) n step.0 came ∙ many))
 
-      pub lost : (found == old) ≡ false → (pre : IsPrefix t.before log) × IsCopyTold (G log) C (state_of t.before) (kind_of_ask m) (follows_of m) (hands_with last kept made) (Ask_exchange at old new) (answers.Call (Found_instead found)) (exchanges_of pre.0) (hands_with (or_last pair last) kept made)
+      pub lost : (found == old) ≡ false → (pre : IsPrefix t.before log) × IsCopyTold (G log) C (state_of t.before) (kind_of_ask m) (follows_of m) (loaded_with last kept made) (Ask_exchange at old new) (answers.Call (Found_instead found)) (exchanges_of pre.0) (loaded_with (or_last pair last) kept made)
       lost is =
           let same = subst After is t.after in
           let word : word_of (G log) C (state_of t.before) at ≡ found = word_there t.before log at ∙ t.is in
           let differs : (word_of (G log) C (state_of t.before) at == old) ≡ false = ap (λ (n : ℕ). n == old) word ∙ is in
           let told : told_last (state_of t.before) at last ≡ or_last pair last = told_pair (state_of t.before) at last ∙ ap (λ (z : Option (Stored K V)). or_last z last) t.names in
-          (([], append-nil t.before ∙ sym same), rw differs (ap (λ (n : ℕ). answers.Call (Found_instead n)) (sym word), refl, ap (λ (z : Option (Stored K V)). hands_with z kept made) (sym told)))
+          (([], append-nil t.before ∙ sym same), rw differs (ap (λ (n : ℕ). answers.Call (Found_instead n)) (sym word), refl, ap (λ (z : Option (Stored K V)). loaded_with z kept made) (sym told)))
 
   module _ (t old new : ℕ) (asked : ask_of m ≡ asks.Copy (Ask_exchange (Next t) old new)) (kind : kind_of_ask m ≡ Some kinds.Link) (none : old ≡ 0) (chunks : ℕ) (about : link_in m.phase ≡ Some (links.Linking t new chunks)) (words : HasChunks fresh chunks) (w : Where Sheet) (seal : Pen) (is : fresh ≡ Some (w, seal)) (number : number_of w ≡ new) where
     module _ (longer : List (Event K V S)) (pre : IsPrefix v longer) (l : IsLawfulLog eq hash b longer) (stands : word_in eq hash b longer (Next t) ≡ 0) where
@@ -362,8 +362,8 @@ module _ {K V S H : Type 0} (eq : K → K → Bool) (input : K → List (List �
       abbrev wide' : Setting (Option K) (Stored K V)
       wide' = wide_with eq input build write finish classes respects b matches fed form k (exchanges_of begun) w longer l absent
 
-      now : ChainResting eq input build write finish classes respects b matches fed form k (exchanges_of begun) longer m (hands_with last kept made)
-      now = resting_later eq input build write finish classes respects b matches fed form k (exchanges_of begun) v r.lawful m (hands_with last kept made) (resting eq input build write finish classes respects b name matches fed form k begun v m table last kept made taken put fresh r) longer l pre
+      now : ChainRelying eq input build write finish classes respects b matches fed form k (exchanges_of begun) longer m (loaded_with last kept made)
+      now = relying_later eq input build write finish classes respects b matches fed form k (exchanges_of begun) v r.lawful m (loaded_with last kept made) (relying eq input build write finish classes respects b name matches fed form k begun v m table last kept made taken put fresh r) longer l pre
 
       -- it has the words that were asked for
       has_words : HasWords wide' (link_in m.phase)
@@ -378,8 +378,8 @@ module _ {K V S H : Type 0} (eq : K → K → Bool) (input : K → List (List �
       done_with =
           subst (λ (z : List (Exchange (Stored K V))). (e : Exchange (Stored K V)) × IsCopyAsked C (kind_of_ask m) (Next t) new (run z start) kept e × Allows wide' (run z start) e × IsWritten wide' C (run z start) (Next t) new (after_exchange (run z start) e)) now.is
           (copies_may wide' C (hashed_with eq input build write finish classes respects b matches fed form k (exchanges_of begun) w longer l absent) (exchanges_of begun) now.since
-          (may_with eq input build write finish classes respects b matches fed form k (exchanges_of begun) w longer l absent m (hands_with last kept made) now) k m (hands_with last kept made)
-          (rests_with eq input build write finish classes respects b matches fed form k (exchanges_of begun) w longer l absent m (hands_with last kept made) now) has_words (Next t) old new asked there_now)
+          (may_with eq input build write finish classes respects b matches fed form k (exchanges_of begun) w longer l absent m (loaded_with last kept made) now) k m (loaded_with last kept made)
+          (relies_with eq input build write finish classes respects b matches fed form k (exchanges_of begun) w longer l absent m (loaded_with last kept made) now) has_words (Next t) old new asked there_now)
 
       by : done_with.0 ≡ law.Link t (number_of w)
       by = subst (λ (z : Option StepKind). IsCopyAsked C z (Next t) new (state_of longer) kept done_with.0) kind done_with.1 ∙ ap (law.Link t) (sym number)

@@ -13,7 +13,7 @@ use Rattle.papaya_chain.specs.declared.machine.Phase.TheVariants.{Calling, Linki
 use Rattle.papaya_chain.specs.Machine.{after, ask_of, asks_in}
 use Rattle.papaya_book.specs.declared.rule.entry.Begun.{Begun}
 use Rattle.papaya_book.specs.declared.rule.entry.Event.{Event}
-use Rattle.papaya_book.specs.declared.rule.own.Given.{Given}
+use Rattle.papaya_book.specs.declared.rule.own.CapacityCause.{CapacityCause}
 use Rattle.papaya_book.specs.Calls.{HasCome, IsTable}
 use Rattle.papaya_book.specs.Hashes.{hash_of}
 use Rattle.papaya_book.specs.Limits.{tables_of}
@@ -53,16 +53,16 @@ module _ {K V S H : Type 0} (eq : K → K → Bool) (input : K → List (List �
     copied_now = copies can.0 can.1 can.2 can.3 can.4 can.5 driven
 
     pub lawful_now : IsLawfulLog eq hash b log
-    lawful_now = copied_now.rests.lawful
+    lawful_now = copied_now.relies.lawful
 
     -- the table in which it is to look has come
     pub come_now : (n : ℕ) → IsEntering m n → HasCome log n
-    come_now n is = entering_came eq input build write finish classes respects b name can.0 can.1 can.2 can.3 can.4 log (after c.machine answer) c₁.last c₁.kept can.5 c₁.taken c₁.put c₁.fresh copied_now.rests n (to n is)
+    come_now n is = entering_came eq input build write finish classes respects b name can.0 can.1 can.2 can.3 can.4 log (after c.machine answer) c₁.last c₁.kept can.5 c₁.taken c₁.put c₁.fresh copied_now.relies n (to n is)
 
     -- then it may have entered a table
     module _ (c₂ : Driver K V S H) (is : c₂ ≡ record c₁ { machine = m; table = c₂.table }) where
       -- it is one answer further
-      pub reached_now : (was : Machine) (tables : List ℕ) (given : List Given) → HasReached c₀.machine was tables given → (ask : CopyAsk) → ask_of was ≡ Copy ask → c.machine.call ≡ was.call → (log' : List (Event K V S)) → IsPrefix log log' → HasReached c₀.machine c₂.machine (tables_of log') c₂.given.done
+      pub reached_now : (was : Machine) (tables : List ℕ) (given : List CapacityCause) → HasReached c₀.machine was tables given → (ask : CopyAsk) → ask_of was ≡ Copy ask → c.machine.call ≡ was.call → (log' : List (Event K V S)) → IsPrefix log log' → HasReached c₀.machine c₂.machine (tables_of log') c₂.given.done
       reached_now was tables given reached ask asked same log' pre' =
           subst (λ (z : Driver K V S H). HasReached c₀.machine z.machine (tables_of log') z.given.done) (sym is)
           (subst (λ (z : Machine). HasReached c₀.machine z (tables_of log') c₁.given.done) (sym goes_to)
@@ -78,7 +78,7 @@ module _ {K V S H : Type 0} (eq : K → K → Bool) (input : K → List (List �
           subst (λ (z : Driver K V S H). GoesOn eq hash b name v₀ c₀ log' z) (sym (is ∙ ap (λ (z : Machine). record c₁ { machine = z; table = c₂.table }) goes_to))
           (λ matches fed form k begun made r.
           let now = goes matches fed form k begun made r in let moved = copies matches fed form k begun made now in
-          arrived eq input build write finish classes respects b name matches fed form k begun log (after c.machine answer) c₁.last c₁.kept made c₁.taken c₁.put c₁.fresh moved.rests v c.machine c.table c.last c.kept c.taken c.put c.fresh now (tables_of log) c₁.given.done moved.leads pre log' pre' l' c₂.table held' still')
+          arrived eq input build write finish classes respects b name matches fed form k begun log (after c.machine answer) c₁.last c₁.kept made c₁.taken c₁.put c₁.fresh moved.relies v c.machine c.table c.last c.kept c.taken c.put c.fresh now (tables_of log) c₁.given.done moved.leads pre log' pre' l' c₂.table held' still')
 
 -- a machine that does not ask for a copy asks for its call
 calls_in : (call : Call_machine) (phase : Phase) → ((ask : CopyAsk) → asks_in call phase ≡ Copy ask → ⊥) → phase ≡ Calling

@@ -29,15 +29,15 @@ use Rattle.papaya_law.specs.Code.{Coding, IsHashed}
 use Rattle.papaya_law.specs.Exchange.{Exchange, Setting, State, run, start}
 use Rattle.papaya_law.specs.Meaning.{map_left}
 use Rattle.papaya_law.proofs.OneMap.{keeping}
-use Rattle.papaya_rests.specs.Copier.{HasWords, RestsCopied, RestsCopying, aim_of}
-use Rattle.papaya_chain_rests.specs.Goes.{WasNotMade, WouldBeTooLong, link_in}
-use Rattle.papaya_chain_rests.specs.Rests.{Rests, RestsPhase, left_by}
-use Rattle.papaya_chain_rests.specs.Told.{Hands, IsTold}
-use Rattle.papaya_chain_rests.proofs.CopyTold.{copying_learns}
-use Rattle.papaya_chain_rests.proofs.Order.{in_order}
-use Rattle.papaya_chain_rests.proofs.Outcomes.{not_chunk}
-use Rattle.papaya_chain_rests.proofs.Refusals.{chain_refused}
-use Rattle.papaya_book.specs.declared.rule.own.Given.{Given}
+use Rattle.papaya_call_law.specs.Copier.{HasWords, ReliesCopied, ReliesCopying, aim_of}
+use Rattle.papaya_chain_law.specs.Goes.{WasNotMade, WouldBeTooLong, link_in}
+use Rattle.papaya_chain_law.specs.Relies.{Relies, ReliesPhase, left_by}
+use Rattle.papaya_chain_law.specs.Told.{IsTold, LoadedPairs}
+use Rattle.papaya_chain_law.proofs.CopyTold.{copying_learns}
+use Rattle.papaya_chain_law.proofs.Order.{in_order}
+use Rattle.papaya_chain_law.proofs.Outcomes.{not_chunk}
+use Rattle.papaya_chain_law.proofs.Refusals.{chain_refused}
+use Rattle.papaya_book.specs.declared.rule.own.CapacityCause.{CapacityCause}
 use Rattle.papaya_book.specs.Limits.{HasNoRoom}
 use Rattle.papaya_change.specs.Changing.{IsCountingOf, IsSizedBy}
 use Rattle.papaya_change.specs.Helping.{IsAside, IsGivenBy, IsLed}
@@ -51,14 +51,14 @@ not_calling m (Copying_root copying) ask is e = cc is
 pub busy : (m : Machine) (ask : CopyAsk) → ask_of m ≡ asks.Copy ask → m.phase ≡ Calling → ⊥
 busy m ask e is = not_calling m m.phase ask is e
 
-module _ {K P : Type 0} (g : Setting K P) (c : Coding K P) (hashed : IsHashed g c) (begun since : List (Exchange P)) (may : AllAllowed g start (begun ++ since)) (k : K) (m : Machine) (hands : Hands P) (r : Rests g c begun since k m hands) (standing : IsStanding m)
-    (ask : CopyAsk) (asked : ask_of m ≡ asks.Copy ask) (answer : Answer) (words : answer ≡ answers.Call Exchanged → HasWords g (link_in m.phase)) (es : List (Exchange P)) (hands' : Hands P) (told : IsTold g c k (run (begun ++ since) start) (kind_of_ask m) (follows_of m) hands (ask_of m) answer es hands') (tables : List ℕ) (counts : IsCountingOf tables m) (given : List Given) (by : IsGivenBy answer given) where
+module _ {K P : Type 0} (g : Setting K P) (c : Coding K P) (hashed : IsHashed g c) (begun since : List (Exchange P)) (may : AllAllowed g start (begun ++ since)) (k : K) (m : Machine) (loaded : LoadedPairs P) (r : Relies g c begun since k m loaded) (standing : IsStanding m)
+    (ask : CopyAsk) (asked : ask_of m ≡ asks.Copy ask) (answer : Answer) (words : answer ≡ answers.Call Exchanged → HasWords g (link_in m.phase)) (es : List (Exchange P)) (loaded' : LoadedPairs P) (told : IsTold g c k (run (begun ++ since) start) (kind_of_ask m) (follows_of m) loaded (ask_of m) answer es loaded') (tables : List ℕ) (counts : IsCountingOf tables m) (given : List CapacityCause) (by : IsGivenBy answer given) where
   -- the state after all exchanges
   abbrev now : State P
   now = run (begun ++ since) start
 
   -- the table that the call goes on from
-  left_in : (phase : Phase) → RestsPhase g c begun since k m hands phase → asks_in m.call phase ≡ asks.Copy ask → (t : ℕ) × (left_by m.call.state ≡ Some t)
+  left_in : (phase : Phase) → ReliesPhase g c begun since k m loaded phase → asks_in m.call phase ≡ asks.Copy ask → (t : ℕ) × (left_by m.call.state ≡ Some t)
   left_in Calling at e = absurd cc
   left_in (Linking link) at e = (Rattle.papaya_copy.specs.Link.follows link, at.left)
   left_in (Copying_root copying) (inl at) e = (at.table, at.left)
@@ -75,7 +75,7 @@ module _ {K P : Type 0} (g : Setting K P) (c : Coding K P) (hashed : IsHashed g 
   IsWhy refused = (refused ≡ Memory) ⊎ ((refused ≡ Capacity) × HasNoRoom m.call.initial tables given)
 
   why : (refused : Refused) → after m answer ≡ refuses m refused → IsWhy refused
-  why refused e = elim (chain_refused g c k now m answer refused hands es hands' told (in_order g c begun since k m hands now answer es hands' r told) not_replied (ap ask_of e)) [
+  why refused e = elim (chain_refused g c k now m answer refused loaded es loaded' told (in_order g c begun since k m loaded now answer es loaded' r told) not_replied (ap ask_of e)) [
     | inl own ↦ absurd (busy m ask asked own.own.phase)
     | inr table ↦ of_table table.why
   ]
@@ -130,24 +130,24 @@ module _ {K P : Type 0} (g : Setting K P) (c : Coding K P) (hashed : IsHashed g 
   copied_left (copied.Refused refused) more e = refused_on refused e
 
   -- no call copies a chunk for its own sake
-  more_than : (copying : Copying) (end : Copied) → (aim_of copying ≡ aims.Chunk → ⊥) → RestsCopied g c (run es now) hands'.call.last hands'.kept (aim_of copying) end → end ≡ copied.Chunk → ⊥
-  more_than copying end not_only is e = not_only (subst (RestsCopied g c (run es now) hands'.call.last hands'.kept (aim_of copying)) e is)
+  more_than : (copying : Copying) (end : Copied) → (aim_of copying ≡ aims.Chunk → ⊥) → ReliesCopied g c (run es now) loaded'.call.last loaded'.kept (aim_of copying) end → end ≡ copied.Chunk → ⊥
+  more_than copying end not_only is e = not_only (subst (ReliesCopied g c (run es now) loaded'.call.last loaded'.kept (aim_of copying)) e is)
 
-  aimed : (copying : Copying) → RestsPhase g c begun since k m hands (Copying_root copying) → aim_of copying ≡ aims.Chunk → ⊥
+  aimed : (copying : Copying) → ReliesPhase g c begun since k m loaded (Copying_root copying) → aim_of copying ≡ aims.Chunk → ⊥
   aimed copying (inl at) e = not_chunk m.call.state _ (sym at.aim ∙ e)
   aimed copying (inr at) e = let f : aims.All at.met ≡ aims.Chunk = sym at.aim ∙ e in cc f
 
-  copies : (copying : Copying) → RestsPhase g c begun since k m hands (Copying_root copying) → RestsCopying g c now hands.call.last hands.kept copying
-  copies copying (inl at) = at.rests
-  copies copying (inr at) = at.rests
+  copies : (copying : Copying) → ReliesPhase g c begun since k m loaded (Copying_root copying) → ReliesCopying g c now loaded.call.last loaded.kept copying
+  copies copying (inl at) = at.relies
+  copies copying (inr at) = at.relies
 
-  left_for : (phase : Phase) → m.phase ≡ phase → RestsPhase g c begun since k m hands phase → IsTold g c k now (kind_in m.call phase) (follows_in phase) hands (asks_in m.call phase) answer es hands' → Left (after_in m answer phase)
+  left_for : (phase : Phase) → m.phase ≡ phase → ReliesPhase g c begun since k m loaded phase → IsTold g c k now (kind_in m.call phase) (follows_in phase) loaded (asks_in m.call phase) answer es loaded' → Left (after_in m answer phase)
   left_for Calling e at h = absurd (busy m ask asked e)
   left_for (Linking link) e at h = linked_left (link_after link m.call.mode m.call.initial answer) (ap (after_in m answer) e)
   left_for (Copying_root copying) e at h =
       copied_left (copying_after copying m.call.mode m.call.initial m.number answer)
       (more_than copying (copying_after copying m.call.mode m.call.initial m.number answer) (aimed copying at)
-      (copying_learns g c hashed now (map_left g (begun ++ since)) (keeping g hashed.lawful (begun ++ since) may) m.call.mode r.call.mode r.cut m.call.initial m.number hands copying (copies copying at) answer (λ x. subst (λ (z : Phase). HasWords g (link_in z)) e (words x)) es hands' h).1)
+      (copying_learns g c hashed now (map_left g (begun ++ since)) (keeping g hashed.lawful (begun ++ since) may) m.call.mode r.call.mode r.cut m.call.initial m.number loaded copying (copies copying at) answer (λ x. subst (λ (z : Phase). HasWords g (link_in z)) e (words x)) es loaded' h).1)
       (ap (after_in m answer) e)
 
   pub leaves : Left (after m answer)

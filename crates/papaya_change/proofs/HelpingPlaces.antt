@@ -13,11 +13,11 @@ use Rattle.papaya_ask.specs.declared.copy_ask.CopyAsk.TheVariants as copies
 use Rattle.papaya_chain.specs.declared.ask.Ask.TheVariants as asks
 use Rattle.papaya_chain.specs.declared.machine.Machine.{Machine}
 use Rattle.papaya_chain.specs.Machine.{ask_of}
-use Rattle.papaya_chain_rests.proofs.Names.{copies_may_hint, copies_there}
+use Rattle.papaya_chain_law.proofs.Names.{copies_guarantee_hint, copies_there}
 use Rattle.papaya_law.specs.Class.{IsOn}
 use Rattle.papaya_law.specs.Exchange.{Exchange, run, start}
 use Rattle.papaya_law.specs.Hints.{IsHint}
-use Rattle.papaya_rests.specs.Copier.{AreThere, IsThere}
+use Rattle.papaya_call_law.specs.Copier.{AreThere, IsThere}
 use Rattle.papaya_book.specs.declared.rule.entry.Begun.{Begun}
 use Rattle.papaya_book.specs.declared.rule.entry.Event.{Event}
 use Rattle.papaya_book.specs.Calls.{HasCome, IsTable}
@@ -29,8 +29,8 @@ use Rattle.papaya_book.proofs.Found.{on_came}
 use Rattle.papaya_book.proofs.Loaded.{table_since}
 use Rattle.papaya_book.proofs.TableSizes.{sizes}
 use Rattle.papaya_lookup.proofs.Readings.{hint_without}
-use Rattle.papaya_change.specs.Changing.{IsCalling, IsForm, hands_with}
-use Rattle.papaya_change.proofs.Resting.{ChainResting, coded, hashed_in, resting_may, wide}
+use Rattle.papaya_change.specs.Changing.{IsCalling, IsForm, loaded_with}
+use Rattle.papaya_change.proofs.Relying.{ChainRelying, coded, hashed_in, relying_may, wide}
 
 module _ {K V S : Type 0} where
   -- one number, one table
@@ -44,9 +44,9 @@ module _ {K V S : Type 0} where
 module _ {K V S H : Type 0} (eq : K → K → Bool) (input : K → List (List ℕ)) (build : S → H) (write : H → List ℕ → H) (finish : H → ℕ) (classes : IsEquivalence eq) (respects : (x y : K) → eq x y ≡ true → input x ≡ input y)
     (b : Begun K V S) (name : Book) (matches : K → Bool) (fed : ℕ) (form : IsForm eq (hash_of input build write finish) b matches fed) (k : Option K) (begun log : List (Event K V S)) (m : Machine) (table : Option (Bor Sheet)) (last kept : Option (Stored K V)) (made : List (Stored K V)) (taken put : Option (Stored K V)) (fresh : Option (Where Sheet × Pen))
     (r : IsCalling eq (hash_of input build write finish) b name matches fed k begun log m table last kept made taken put fresh) where
-  -- what the call rests on
-  abbrev pub resting : ChainResting eq input build write finish classes respects b matches fed form k (exchanges_of begun) log m (hands_with last kept made)
-  resting = record { since = r.since; is = r.is; rests = r.rests }
+  -- what the call relies on
+  abbrev pub relying : ChainRelying eq input build write finish classes respects b matches fed form k (exchanges_of begun) log m (loaded_with last kept made)
+  relying = record { since = r.since; is = r.is; relies = r.relies }
 
   abbrev g : Rattle.papaya_law.specs.Exchange.Setting (Option K) (Stored K V)
   g = wide eq input build write finish classes respects b matches fed form k (exchanges_of begun) log
@@ -59,14 +59,14 @@ module _ {K V S H : Type 0} (eq : K → K → Bool) (input : K → List (List �
   all_there ask e =
       subst (λ (z : List (Exchange (Stored K V))). AreThere g c (run z start) last kept ask) r.is
       (copies_there g c (hashed_in eq input build write finish classes respects b matches fed form k (exchanges_of begun) log r.lawful) (exchanges_of begun) r.since
-      (resting_may eq input build write finish classes respects b matches fed form k (exchanges_of begun) log r.lawful m (hands_with last kept made) resting) k m (hands_with last kept made) r.rests ask e)
+      (relying_may eq input build write finish classes respects b matches fed form k (exchanges_of begun) log r.lawful m (loaded_with last kept made) relying) k m (loaded_with last kept made) r.relies ask e)
 
   -- and a hint that it writes may be there
   pub may_note : (t x n : ℕ) → ask_of m ≡ asks.Copy (copies.WriteHint t x n) → IsSlotHint eq (hash_of input build write finish) b t x n log
   may_note t x n e =
       let hash = hash_of input build write finish b.hasher in
-      let wide_hint = copies_may_hint g c (hashed_in eq input build write finish classes respects b matches fed form k (exchanges_of begun) log r.lawful) (exchanges_of begun) r.since
-      (resting_may eq input build write finish classes respects b matches fed form k (exchanges_of begun) log r.lawful m (hands_with last kept made) resting) k m (hands_with last kept made) r.rests t x n e in
+      let wide_hint = copies_guarantee_hint g c (hashed_in eq input build write finish classes respects b matches fed form k (exchanges_of begun) log r.lawful) (exchanges_of begun) r.since
+      (relying_may eq input build write finish classes respects b matches fed form k (exchanges_of begun) log r.lawful m (loaded_with last kept made) relying) k m (loaded_with last kept made) r.relies t x n e in
       let here : IsHint g c (state_of log) t x n = subst (λ (z : List (Exchange (Stored K V))). IsHint g c (run z start) t x n) r.is wide_hint in
       record { lawful = r.lawful; is = hint_without (setting_of eq hash b.mode b.limit log) (coding_of hash) matches fed ((state_of log).slot t x) n here }
 

@@ -1,4 +1,4 @@
--- A call that is set aside rests after each answer by which its copy is led on, whatever runs.
+-- A call that is set aside relies on what holds after each answer by which its copy is led on, whatever runs.
 use Rattle.std.proofs.Common.{◌≡◌, ℕ, Bool, true, Option, Some, List, [], ◌∷◌, append-nil, refl, sym, ap, ◌∙◌, subst}
 use Rattle.std.specs.Cmp.{IsEquivalence}
 use mathlib.Core.List.{IsPrefix}
@@ -28,7 +28,7 @@ use Rattle.papaya_change.proofs.ResizingStages.{stage_fits}
 
 -- the call, as its copy stands here
 abbrev pub driver_at : {K V S H : Type 0} → Driver K V S H → Stop K V S H → Driver K V S H
-driver_at c s = record (with_copier c s.hands) { machine = record c.machine { phase = Copying_root s.copying } }
+driver_at c s = record (with_copier c s.loaded) { machine = record c.machine { phase = Copying_root s.copying } }
 
 -- a machine whose copy stands there
 pub standing_at : {K V S H : Type 0} (c : Driver K V S H) (s : Stop K V S H) → IsStanding c.machine → IsStandingCopying s.copying → IsStanding (driver_at c s).machine
@@ -39,36 +39,36 @@ module _ {K V S H : Type 0} (eq : K → K → Bool) (input : K → List (List �
   hash = hash_of input build write finish
 
   module _ (matches : K → Bool) (fed : ℕ) (form : IsForm eq (hash_of input build write finish) b matches fed) (k : Option K) (begun : List (Event K V S)) (made : List (Stored K V)) where
-    abbrev Rests : Stop K V S H → Type 0
-    Rests s = IsDriven eq hash b name matches fed k begun s.log made (driver_at c s)
+    abbrev Relies : Stop K V S H → Type 0
+    Relies s = IsDriven eq hash b name matches fed k begun s.log made (driver_at c s)
 
     -- one answer leads on
-    turned : (s t : Stop K V S H) → IsTurn eq hash b name c.machine.call.mode s t → IsStandingCopying s.copying → Rests s → Rests t
+    turned : (s t : Stop K V S H) → IsTurn eq hash b name c.machine.call.mode s t → IsStandingCopying s.copying → Relies s → Relies t
     turned s t turn stands r =
         let d = driver_at c s in
-        let moved = copied eq input build write finish classes respects b name matches fed form k begun made s.log d r (standing_at c s standing stands) t.log turn.since t.hands (copying_ask s.copying) refl turn.answer turn.answers in
+        let moved = copied eq input build write finish classes respects b name matches fed form k begun made s.log d r (standing_at c s standing stands) t.log turn.since t.loaded (copying_ask s.copying) refl turn.answer turn.answers in
         let on : after d.machine turn.answer ≡ (driver_at c t).machine = ap (after_copied d.machine) (turn.on c.machine.call.initial c.machine.number) in
         let busy : (n : ℕ) → IsEntering (after d.machine turn.answer) n → ⊥ = λ n e. away n (subst (λ (m : Machine). IsEntering m n) on e) in
         subst (λ (m : Machine). IsDriven eq hash b name matches fed k begun t.log made (record (driver_at c t) { machine = m })) on
-        (arrived eq input build write finish classes respects b name matches fed form k begun t.log (after d.machine turn.answer) t.hands.last t.hands.kept made c.taken c.put t.hands.fresh moved.rests
-        s.log d.machine c.table s.hands.last s.hands.kept c.taken c.put s.hands.fresh r (tables_of t.log) t.hands.given.done moved.leads turn.since t.log ([], append-nil t.log) moved.rests.lawful c.table (λ n e. absurd (busy n e)) (λ none. refl))
+        (arrived eq input build write finish classes respects b name matches fed form k begun t.log (after d.machine turn.answer) t.loaded.last t.loaded.kept made c.taken c.put t.loaded.fresh moved.relies
+        s.log d.machine c.table s.loaded.last s.loaded.kept c.taken c.put s.loaded.fresh r (tables_of t.log) t.loaded.given.done moved.leads turn.since t.log ([], append-nil t.log) moved.relies.lawful c.table (λ n e. absurd (busy n e)) (λ none. refl))
       where
         away : (n : ℕ) → IsEntering (driver_at c t).machine n → ⊥
         away n e = let f : Copying_root t.copying ≡ Calling = e.0 in cc f
 
-    walked : (ts : List (Stop K V S H)) (s t : Stop K V S H) → IsPath eq hash b name c.machine.call.mode ts s t → IsStandingCopying s.copying → Rests s → IsStandingCopying t.copying × Rests t
-    walked [] s t p stands r = subst (λ (z : Stop K V S H). IsStandingCopying z.copying × Rests z) (sym p) (stands, r)
+    walked : (ts : List (Stop K V S H)) (s t : Stop K V S H) → IsPath eq hash b name c.machine.call.mode ts s t → IsStandingCopying s.copying → Relies s → IsStandingCopying t.copying × Relies t
+    walked [] s t p stands r = subst (λ (z : Stop K V S H). IsStandingCopying z.copying × Relies z) (sym p) (stands, r)
     walked (x ∷ ts) s t p stands r = walked ts x t p.1 p.0.standing (turned s x p.0 stands r)
 
     -- and some lead on
-    pub led : (s t : Stop K V S H) → Leads eq hash b name c.machine.call.mode s t → IsStandingCopying s.copying → Rests s → IsStandingCopying t.copying × Rests t
+    pub led : (s t : Stop K V S H) → Leads eq hash b name c.machine.call.mode s t → IsStandingCopying s.copying → Relies s → IsStandingCopying t.copying × Relies t
     led s t l stands r = walked l.0 s t l.1 stands r
 
-    answers_now : (t : Stop K V S H) → IsStandingCopying t.copying → Rests t → CanAnswerAt eq hash b name c.machine.call.mode t
+    answers_now : (t : Stop K V S H) → IsStandingCopying t.copying → Relies t → CanAnswerAt eq hash b name c.machine.call.mode t
     answers_now t stands r = can_answer eq input build write finish classes respects b name matches fed form k begun made t.log (driver_at c t) r (copying_ask t.copying) refl (stage_fits (stages.Copying 0 t.copying) stands (copying_ask t.copying) refl)
 
     -- so what is asked on the way may be answered
-    pub may_lead : (s : Stop K V S H) → IsStandingCopying s.copying → Rests s → CanLead eq hash b name c.machine.call.mode s
+    pub may_lead : (s : Stop K V S H) → IsStandingCopying s.copying → Relies s → CanLead eq hash b name c.machine.call.mode s
     may_lead s stands r = λ t l. let there = led s t l stands r in answers_now t there.0 there.1
 
   -- the copy for a call that is under way may be led on from here
@@ -77,7 +77,7 @@ module _ {K V S H : Type 0} (eq : K → K → Bool) (input : K → List (List �
 
   module _ (s s' : Stop K V S H) (stands : IsStandingCopying s.copying) (answer : Answer) (e : Ends eq hash b name c.machine.call.mode s s' answer) where
     abbrev last : Stop K V S H
-    last = record { copying = s'.copying; log = e.log; hands = e.hands }
+    last = record { copying = s'.copying; log = e.log; loaded = e.loaded }
 
     -- it goes on to the last answer
     pub goes : GoesOn eq hash b name s.log (driver_at c s) e.log (driver_at c last)
@@ -86,4 +86,4 @@ module _ {K V S H : Type 0} (eq : K → K → Bool) (input : K → List (List �
     -- and by it
     pub goes_by : IsStandingCopying s'.copying → Copies eq hash b name e.log (driver_at c last) s'.log (driver_at c s') answer
     goes_by stands' matches fed form k begun made r =
-        copied eq input build write finish classes respects b name matches fed form k begun made e.log (driver_at c last) r (standing_at c last standing stands') s'.log e.since s'.hands (copying_ask s'.copying) refl answer e.answers
+        copied eq input build write finish classes respects b name matches fed form k begun made e.log (driver_at c last) r (standing_at c last standing stands') s'.log e.since s'.loaded (copying_ask s'.copying) refl answer e.answers

@@ -1,4 +1,4 @@
--- After each answer an insertion rests again. It makes pairs of its value, with its own key or with one that it met, and puts in no others.
+-- After each answer an insertion relies on what holds again. It makes pairs of its value, with its own key or with one that it met, and puts in no others.
 use Rattle.std.proofs.Common.{◌≡◌, ◌⊎◌, inl, inr, ⊎_elim, ℕ, ◌==◌, Bool, true, false, MatchBool, Option, None, Some, List, [], ◌∷◌, append-nil, refl, sym, ap, ◌∙◌, subst}
 use Rattle.std.specs.Cmp.{IsEquivalence}
 use mathlib.Core.List.{IsPrefix}
@@ -24,17 +24,17 @@ use Rattle.papaya_chain.specs.declared.ask.Ask.TheVariants.{Call}
 use Rattle.papaya_chain.specs.declared.machine.Machine.{Machine}
 use Rattle.papaya_chain.specs.declared.machine.Phase.TheVariants.{Calling}
 use Rattle.papaya_chain.specs.Machine.{IsStanding, after, after_in, ask_of, kind_of_ask, started}
-use Rattle.papaya_chain_rests.proofs.Names.{call_asks}
-use Rattle.papaya_chain_rests.proofs.Replies.{chain_task}
-use Rattle.papaya_rests.specs.Followed.{MayAsk}
+use Rattle.papaya_chain_law.proofs.Names.{call_asks}
+use Rattle.papaya_chain_law.proofs.Replies.{chain_task}
+use Rattle.papaya_call_law.specs.Followed.{MayAsk}
 use Rattle.papaya_call.specs.Machine.{IsComputer, IsWriter, made_in}
 use Rattle.papaya_call.specs.Machine as calls
 use Rattle.papaya_law.specs.Code.{Coding}
 use Rattle.papaya_law.specs.Exchange.{Setting}
-use Rattle.papaya_rests.specs.Rests.{IsAtLimit, RestsStage}
-use Rattle.papaya_rests.specs.Says.{MakesPair}
-use Rattle.papaya_rests.specs.Told.{Hands, IsOneOf}
-use Rattle.papaya_rests.proofs.Followed.{asked_of_task}
+use Rattle.papaya_call_law.specs.Relies.{IsAtLimit, ReliesStage}
+use Rattle.papaya_call_law.specs.Says.{MakesPair}
+use Rattle.papaya_call_law.specs.Told.{IsOneOf, LoadedPairs}
+use Rattle.papaya_call_law.proofs.Followed.{asked_of_task}
 use Rattle.papaya_book.specs.declared.rule.entry.Begun.{Begun}
 use Rattle.papaya_book.specs.declared.rule.entry.Event.{Event}
 use Rattle.papaya_change.specs.declared.insertion.Insertion.{Insertion}
@@ -52,7 +52,7 @@ use Rattle.papaya_book.specs.Limits.{HasNoRoom, IsSpent, tables_of}
 use Rattle.papaya_change.specs.Writing.{CanPut, HasKeyAt, IsMemoryCapacityOrLimit, IsUnsaid, IsWritingOn, MayStand, TellsTaken, held_value}
 use Rattle.papaya_lookup.proofs.AskedPairs.{IsServed, asked_served}
 use Rattle.papaya_lookup.proofs.KeptKeys.{key_at_stays, met_key}
-use Rattle.papaya_change.proofs.OwnSteps.{own_kind, own_order}
+use Rattle.papaya_change.proofs.StepsOfOwn.{own_kind, own_order}
 use Rattle.papaya_change.proofs.MadeStays.{keeps_then, of_made, own_made, pairs_write}
 use Rattle.papaya_change.proofs.Refusals.{refused_for, shows_none, unsaid_cause, unsaid_room}
 use Rattle.papaya_change.proofs.Spent.{limit_spent, unsaid_limit}
@@ -110,7 +110,7 @@ module _ {K V S H : Type 0} (eq : K → K → Bool) (input : K → List (List �
             put_is = put;
             refuses = λ cause e. refused IsMemoryCapacityOrLimit answer standing calling open_still (λ c h. inl (unsaid_cause given answer unsaid c h)) (λ over. inr refl) cause (ap ask_of (sym same) ∙ e);
             crowded = λ e. refused (λ cause. cause ≡ Capacity → HasNoRoom next.call.initial (tables_of log') given) answer standing calling open_still (unsaid_room next.call.initial (tables_of log') given answer unsaid) (λ over f. absurd (cc f)) Capacity (ap ask_of (sym same) ∙ e) refl;
-            spent = λ e. refused (λ cause. cause ≡ Limit → IsSpent b.limit log') answer standing calling open_still (unsaid_limit (IsSpent b.limit log') given answer unsaid) (λ over f. limit_spent eq hash b log' l' m.call answer r.writing.calling.rests.call.made.limit tells over) Limit (ap ask_of (sym same) ∙ e) refl;
+            spent = λ e. refused (λ cause. cause ≡ Limit → IsSpent b.limit log') answer standing calling open_still (unsaid_limit (IsSpent b.limit log') given answer unsaid) (λ over f. limit_spent eq hash b log' l' m.call answer r.writing.calling.relies.call.made.limit tells over) Limit (ap ask_of (sym same) ∙ e) refl;
           },
           on.1,
         )
@@ -133,8 +133,8 @@ module _ {K V S H : Type 0} (eq : K → K → Bool) (input : K → List (List �
         kept log' pre w answer machine (λ v e. r.value_is v (ap held_value (sym left) ∙ e))
         (λ p e. ⊎_elim (λ same. r.put_is p (sym same ∙ e)) (λ is. let both : Some q ≡ Some p = sym is ∙ e in let one : q ≡ p = cc both in ap (λ (z : Stored K V). z.value.value) (sym one) ∙ value_is) put) standing calling open_still unpairing tells unsaid on
 
-    abbrev hands : Hands (Stored K V)
-    hands = record { last = x.writer.call.last; made = r.made }
+    abbrev loaded : LoadedPairs (Stored K V)
+    loaded = record { last = x.writer.call.last; made = r.made }
 
     abbrev g : Setting (Option K) (Stored K V)
     g = setting_for eq hash b (eq key) (hash b.hasher key) log
@@ -142,12 +142,12 @@ module _ {K V S H : Type 0} (eq : K → K → Bool) (input : K → List (List �
     abbrev c : Coding (Option K) (Stored K V)
     c = coding_for hash b.hasher (hash b.hasher key)
 
-    stage : RestsStage g c (exchanges_of begun) r.writing.calling.since (Some key) hands (Insert true) m.call.state
-    stage = subst (λ (t : Task). RestsStage g c (exchanges_of begun) r.writing.calling.since (Some key) hands t m.call.state) r.task_is r.writing.calling.rests.call.stage
+    stage : ReliesStage g c (exchanges_of begun) r.writing.calling.since (Some key) loaded (Insert true) m.call.state
+    stage = subst (λ (t : Task). ReliesStage g c (exchanges_of begun) r.writing.calling.since (Some key) loaded t m.call.state) r.task_is r.writing.calling.relies.call.stage
 
     -- it makes a pair for a write
     writes : MakesPair (calls.ask_of m.call) → (write : Write) × (m.call.state ≡ Writing write)
-    writes makes = pairs_write g c (exchanges_of begun) r.writing.calling.since (Some key) hands true m.call.hash m.call.made m.call.state stage makes
+    writes makes = pairs_write g c (exchanges_of begun) r.writing.calling.since (Some key) loaded true m.call.hash m.call.made m.call.state stage makes
 
     -- the pair was logged
     module _ (w : Writer K V S H) (q : Stored K V) (n : ℕ) (number : n ≡ q.index) (machine : w.call.machine ≡ m) (had : held_value x.writer.value ≡ Some q.value.value) (left : held_value w.value ≡ held_value x.writer.value) (put : w.call.put ≡ x.writer.call.put) (standing : IsStanding m) (calling : m.phase ≡ Calling)
@@ -227,7 +227,7 @@ module _ {K V S H : Type 0} (eq : K → K → Bool) (input : K → List (List �
           -- the pair that it met last is the one that the write is to take the place of
           met_there : (to : Write) → m.call.state ≡ Writing to → (to.old == 0) ≡ false → (p : Stored K V) × (x.writer.call.last ≡ Some p) × HasKeyAt log to.place.table to.place.probe.i (key_of p)
           met_there to is full =
-              let at = subst (RestsStage g c (exchanges_of begun) r.writing.calling.since (Some key) hands (Insert true)) is stage in
+              let at = subst (ReliesStage g c (exchanges_of begun) r.writing.calling.since (Some key) loaded (Insert true)) is stage in
               ⊎_elim
               (λ none. absurd (let f = sym full ∙ ap (λ (z : ℕ). z == 0) none in cc f))
               (λ o. (o.1.pair, o.1.last, met_key eq hash b (eq key) (hash b.hasher key) (exchanges_of begun) r.writing.calling.since (Some key) log r.writing.calling.is to.place to.old o.1.pair o.1.met))

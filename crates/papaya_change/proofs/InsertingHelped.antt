@@ -7,7 +7,7 @@ use Rattle.papaya_words.specs.declared.probe.Refused.TheVariants.{Limit}
 use Rattle.papaya_ask.specs.declared.ask.Ask.TheVariants.{Done}
 use Rattle.papaya_ask.specs.declared.call.Reply.TheVariants.{Refused}
 use Rattle.papaya_chain.specs.declared.machine.Phase.TheVariants.{Calling}
-use Rattle.papaya_chain_rests.proofs.Names.{call_asks}
+use Rattle.papaya_chain_law.proofs.Names.{call_asks}
 use Rattle.papaya_book.specs.declared.rule.entry.Begun.{Begun}
 use Rattle.papaya_book.specs.declared.rule.entry.Event.{Event}
 use Rattle.papaya_book.specs.Hashes.{hash_of}

@@ -11,10 +11,10 @@ use Rattle.papaya_ask.specs.declared.call.Task.{Task}
 use Rattle.papaya_ask.specs.declared.call.Task.TheVariants.{Insert}
 use Rattle.papaya_chain.specs.declared.ask.Ask.TheVariants.{Call}
 use Rattle.papaya_chain.specs.Machine.{ask_of}
-use Rattle.papaya_chain_rests.proofs.Names.{call_asks}
-use Rattle.papaya_rests.specs.Told.{Hands}
-use Rattle.papaya_rests.specs.Rests.{IsReply, change_in, change_of_reply}
-use Rattle.papaya_rests.proofs.RestsHeld.{machine_replies}
+use Rattle.papaya_chain_law.proofs.Names.{call_asks}
+use Rattle.papaya_call_law.specs.Told.{LoadedPairs}
+use Rattle.papaya_call_law.specs.Relies.{IsReply, change_in, change_of_reply}
+use Rattle.papaya_call_law.proofs.ReliesHeld.{machine_replies}
 use Rattle.papaya_book.specs.declared.rule.entry.Begun.{Begun}
 use Rattle.papaya_book.specs.declared.rule.entry.Event.{Event}
 use Rattle.papaya_change.specs.declared.insertion.Insertion.{Insertion}
@@ -52,8 +52,8 @@ module _ {K V S H : Type 0} (eq : K → K → Bool) (input : K → List (List �
   its_class class other of_class same = classes.congr class other key of_class ∙ (classes.symm other key ∙ same)
 
   module _ (log : List (Event K V S)) (x : Insertion K V S H) (r : Ins log x) where
-    abbrev hands : Hands (Stored K V)
-    hands = record { last = x.writer.call.last; made = r.made }
+    abbrev loaded : LoadedPairs (Stored K V)
+    loaded = record { last = x.writer.call.last; made = r.made }
 
     -- a change that puts in a number puts in a pair
     some_put : (class : K) (change : Option ℕ × Option ℕ) (n : ℕ) → change.1 ≡ Some n → (put : Option (Stored K V)) → MatchOption put (change.1 ≡ None) (λ q. (change.1 ≡ Some q.index) × (eq class (key_of q) ≡ true) × HasItsKey eq (Some key) x.writer.call.taken q) → (q : Stored K V) × (put ≡ Some q) × (eq class (key_of q) ≡ true) × HasItsKey eq (Some key) x.writer.call.taken q
@@ -77,7 +77,7 @@ module _ {K V S H : Type 0} (eq : K → K → Bool) (input : K → List (List �
         }
 
     -- a reply that is no refusal is a change
-    put_reply : (reply : Reply) → IsReply (Wide eq input build write finish classes respects b (eq key) (input key) query (Some key) name begun log) (Coded eq input build write finish classes respects b (eq key) (input key) query (Some key) name begun) (exchanges_of begun) r.writing.calling.since (Some key) hands (Insert true) reply
+    put_reply : (reply : Reply) → IsReply (Wide eq input build write finish classes respects b (eq key) (input key) query (Some key) name begun log) (Coded eq input build write finish classes respects b (eq key) (input key) query (Some key) name begun) (exchanges_of begun) r.writing.calling.since (Some key) loaded (Insert true) reply
         → ((refused : _) → reply ≡ Refused refused → ⊥) → (change : Option ℕ × Option ℕ) × (n : ℕ) × (change.1 ≡ Some n) × (change_of_reply reply ≡ Some change)
     put_reply Absent fits some = absurd fits
     put_reply (Found n) fits some = absurd fits
@@ -94,8 +94,8 @@ module _ {K V S H : Type 0} (eq : K → K → Bool) (input : K → List (List �
     put_replied reply asks some answer taken =
         let g = Wide eq input build write finish classes respects b (eq key) (input key) query (Some key) name begun log in
         let c = Coded eq input build write finish classes respects b (eq key) (input key) query (Some key) name begun in
-        let all = machine_replies g c (exchanges_of begun) r.writing.calling.since (Some key) hands x.writer.call.machine.call r.writing.calling.rests.call reply (call_asks x.writer.call.machine (Done reply) asks).1 in
-        let fits = subst (λ (z : Task). IsReply g c (exchanges_of begun) r.writing.calling.since (Some key) hands z reply) r.task_is all.0 in
+        let all = machine_replies g c (exchanges_of begun) r.writing.calling.since (Some key) loaded x.writer.call.machine.call r.writing.calling.relies.call reply (call_asks x.writer.call.machine (Done reply) asks).1 in
+        let fits = subst (λ (z : Task). IsReply g c (exchanges_of begun) r.writing.calling.since (Some key) loaded z reply) r.task_is all.0 in
         let done = put_reply reply fits some in
         put_changed done.0 done.1 done.2 (all.1 ∙ done.3) answer taken
 
@@ -104,8 +104,8 @@ module _ {K V S H : Type 0} (eq : K → K → Bool) (input : K → List (List �
     has_put reply asks some =
         let g = Wide eq input build write finish classes respects b (eq key) (input key) query (Some key) name begun log in
         let c = Coded eq input build write finish classes respects b (eq key) (input key) query (Some key) name begun in
-        let all = machine_replies g c (exchanges_of begun) r.writing.calling.since (Some key) hands x.writer.call.machine.call r.writing.calling.rests.call reply (call_asks x.writer.call.machine (Done reply) asks).1 in
-        let fits = subst (λ (z : Task). IsReply g c (exchanges_of begun) r.writing.calling.since (Some key) hands z reply) r.task_is all.0 in
+        let all = machine_replies g c (exchanges_of begun) r.writing.calling.since (Some key) loaded x.writer.call.machine.call r.writing.calling.relies.call reply (call_asks x.writer.call.machine (Done reply) asks).1 in
+        let fits = subst (λ (z : Task). IsReply g c (exchanges_of begun) r.writing.calling.since (Some key) loaded z reply) r.task_is all.0 in
         ap is_some (all.1 ∙ (put_reply reply fits some).3)
 
     -- it took out this pair

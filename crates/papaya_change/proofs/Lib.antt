@@ -1,6 +1,6 @@
 -- changing calls
-pub mod Resting
-pub mod OwnSteps
+pub mod Relying
+pub mod StepsOfOwn
 pub mod Changing
 pub mod Doing
 pub mod Exchanging
@@ -21,7 +21,7 @@ pub mod InsertingHelped
 pub mod Seeking
 pub mod Claiming
 pub mod Replacing
-pub mod Burying
+pub mod Deleting
 pub mod Trading
 pub mod Logged
 pub mod Onward
@@ -42,7 +42,7 @@ pub mod Numbered
 pub mod HelpingLeads
 pub mod HelpingExchanges
 pub mod Copiers
-pub mod HelpingRests
+pub mod HelpingRelies
 pub mod HelpingAnswers
 pub mod HelpingCopies
 pub mod HelpingArrives
@@ -50,7 +50,7 @@ pub mod HelpingGoes
 -- calls that resize
 pub mod ResizingStages
 pub mod ResizingRooms
-pub mod ResizingRests
+pub mod ResizingRelies
 pub mod ResizingAnswers
 pub mod ResizingOpens
 -- slots that are copied one after another

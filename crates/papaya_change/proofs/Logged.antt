@@ -11,8 +11,8 @@ use Rattle.papaya_chain.specs.Machine.{ask_of}
 use Rattle.papaya_law.specs.Code.{Coding}
 use Rattle.papaya_law.specs.Exchange.{Exchange, Setting, run, start}
 use Rattle.papaya_law.specs.Later.{IsOfKey}
-use Rattle.papaya_rests.specs.Rests.{RestsFill, RestsOf}
-use Rattle.papaya_rests.specs.Told.{Hands, IsOneOf}
+use Rattle.papaya_call_law.specs.Relies.{ReliesFill, ReliesOf}
+use Rattle.papaya_call_law.specs.Told.{IsOneOf, LoadedPairs}
 use Rattle.papaya_book.specs.declared.keyed.Keyed as keyed
 use Rattle.papaya_book.specs.declared.rule.entry.Begun.{Begun}
 use Rattle.papaya_book.specs.declared.rule.entry.Event.{Event}
@@ -45,26 +45,26 @@ module _ {K V S : Type 0} (eq : K → K → Bool) (hash : S → K → ℕ) (b : 
   abbrev c : Coding (Option K) (Stored K V)
   c = coding_for hash b.hasher (hash b.hasher key)
 
-  abbrev hands : Hands (Stored K V)
-  hands = record { last = None; made = q ∷ [] }
+  abbrev loaded : LoadedPairs (Stored K V)
+  loaded = record { last = None; made = q ∷ [] }
 
   -- its call, which has made the pair
-  calls : (log : List (Event K V S)) → IsLawfulLog eq hash b log → (initial : ℕ) (own : Option ℕ) (of : Option Of) → RestsFill (g log) c (exchanges_of log) [] (Some key) hands own → RestsOf (g log) c (exchanges_of log) [] (Some key) hands of
+  calls : (log : List (Event K V S)) → IsLawfulLog eq hash b log → (initial : ℕ) (own : Option ℕ) (of : Option Of) → ReliesFill (g log) c (exchanges_of log) [] (Some key) loaded own → ReliesOf (g log) c (exchanges_of log) [] (Some key) loaded of
       → IsCalling eq hash b name (eq key) (hash b.hasher key) (Some key) log log (insertion_at (hash b.hasher key) b.mode initial (made_with own of) AtRoot) None None None (q ∷ []) None None None
   calls log l initial own of own_is of_is = let r = begins_calling eq hash b name (eq key) (hash b.hasher key) (Some key) refl log l (Insert true) initial in record {
     lawful = l;
     seen = r.seen;
     since = [];
     is = append-nil (exchanges_of log);
-    rests = record {
+    relies = record {
       cut = λ x. refl;
       call = record {
         hash = refl;
-        mode = r.rests.call.mode;
+        mode = r.relies.call.mode;
         made = record {
           keys = λ p one. subst (λ (z : Stored K V). eq key (key_of z) ≡ true) (sym (own_pair p one)) class;
           limit = refl;
-          number_is = r.rests.call.made.number_is;
+          number_is = r.relies.call.made.number_is;
           own_is = own_is;
           of_is = of_is;
           fill_is = tt;

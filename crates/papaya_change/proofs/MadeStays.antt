@@ -17,7 +17,7 @@ use Rattle.papaya_call.specs.declared.made.Number.{Number}
 use Rattle.papaya_call.specs.declared.made.Number.TheVariants.{Wanted, Free, Taken}
 use Rattle.papaya_call.specs.declared.machine.Machine.{Machine}
 use Rattle.papaya_call.specs.declared.machine.State.{State as Stage}
-use Rattle.papaya_call.specs.declared.machine.State.TheVariants.{AtRoot, Making, Opening, Searching, Writing, Offering, Showing, Pairing, Putting, Burying, Counting, Noting, Uncounting, Leaving, Growing, Ended}
+use Rattle.papaya_call.specs.declared.machine.State.TheVariants.{AtRoot, Making, Opening, Searching, Writing, Offering, Showing, Pairing, Putting, Deleting, Counting, Noting, Uncounting, Leaving, Growing, Ended}
 use Rattle.papaya_call.specs.declared.write.Write.{Write}
 use Rattle.papaya_call.specs.Compute.{in_place_of}
 use Rattle.papaya_call.specs.Made.{answered, grown, grown_as, number_ask, of_ask, of_grown, own_ask, own_grown, pair_ask, paired, taken_as, told, told_as, told_limit}
@@ -29,11 +29,11 @@ use Rattle.papaya_chain.specs.declared.machine.Phase.TheVariants.{Calling}
 use Rattle.papaya_chain.specs.Machine as chains
 use Rattle.papaya_law.specs.Code.{Coding}
 use Rattle.papaya_law.specs.Exchange.{Exchange, Setting}
-use Rattle.papaya_rests.specs.Rests.{RestsStage}
-use Rattle.papaya_rests.specs.Says.{MakesPair}
-use Rattle.papaya_rests.specs.Told.{Hands}
-use Rattle.papaya_rests.proofs.Makings.{makes_pair, pair_made}
-use Rattle.papaya_change.proofs.OwnSteps.{own_settings}
+use Rattle.papaya_call_law.specs.Relies.{ReliesStage}
+use Rattle.papaya_call_law.specs.Says.{MakesPair}
+use Rattle.papaya_call_law.specs.Told.{LoadedPairs}
+use Rattle.papaya_call_law.proofs.Makings.{makes_pair, pair_made}
+use Rattle.papaya_change.proofs.StepsOfOwn.{own_settings}
 
 -- the same pairs were made
 pub record Keeps (made next : Made) : Type 0 where
@@ -214,9 +214,9 @@ keeps m (Was_refused refused) none = same m.made
 pub keeps_then : (m : Chain) → m.phase ≡ Calling → (answer : Answer) → ((n : ℕ) → answer ≡ Made_number n → MakesPair (ask_of m.call) → ⊥) → Keeps m.call.made (chains.after m (answers.Call answer)).call.made
 keeps_then m calling answer none = ⊎_elim (λ own. subst (Keeps m.call.made) (sym own) (keeps m.call answer none)) (λ still. subst (Keeps m.call.made) (sym still) (same m.call.made)) (own_settings m calling answer).1
 
-module _ {K P : Type 0} (g : Setting K P) (c : Coding K P) (begun since : List (Exchange P)) (k : K) (hands : Hands P) (replace : Bool) (hash : ℕ) where
+module _ {K P : Type 0} (g : Setting K P) (c : Coding K P) (begun since : List (Exchange P)) (k : K) (loaded : LoadedPairs P) (replace : Bool) (hash : ℕ) where
   -- an insertion that asks for a pair writes it next
-  pub pairs_write : (made : Made) (s : Stage) → RestsStage g c begun since k hands (Insert replace) s → MakesPair (asks made hash s) → (write : Write) × (s ≡ Writing write)
+  pub pairs_write : (made : Made) (s : Stage) → ReliesStage g c begun since k loaded (Insert replace) s → MakesPair (asks made hash s) → (write : Write) × (s ≡ Writing write)
   pairs_write made AtRoot r makes = absurd makes
   pairs_write made Making r makes = absurd makes
   pairs_write made (Opening t) r makes = absurd makes
@@ -229,7 +229,7 @@ module _ {K P : Type 0} (g : Setting K P) (c : Coding K P) (begun since : List (
   pairs_write made (Showing removal) r makes = absurd makes
   pairs_write made (Pairing purpose) r makes = absurd r.0
   pairs_write made (Putting put) r makes = absurd makes
-  pairs_write made (Burying removal) r makes = absurd makes
+  pairs_write made (Deleting removal) r makes = absurd makes
   pairs_write made (Counting i) r makes = absurd makes
   pairs_write made (Noting i) r makes = absurd makes
   pairs_write made (Uncounting i) r makes = absurd makes

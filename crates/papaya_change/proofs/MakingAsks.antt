@@ -24,9 +24,9 @@ use Rattle.papaya_chain.specs.declared.resizer.State.{State as Stage}
 use Rattle.papaya_chain.specs.declared.resizer.State.TheVariants as stages
 use Rattle.papaya_chain.specs.Machine.{ask_of, asks_in}
 use Rattle.papaya_chain.specs.Resizer as resizers
-use Rattle.papaya_rests.specs.Copier.{link_in_carry, link_in_copying, link_in_settle, link_in_step}
-use Rattle.papaya_chain_rests.specs.Goes.{link_in}
-use Rattle.papaya_chain_rests.specs.Resizers.{link_of}
+use Rattle.papaya_call_law.specs.Copier.{link_in_carry, link_in_copying, link_in_settle, link_in_step}
+use Rattle.papaya_chain_law.specs.Goes.{link_in}
+use Rattle.papaya_chain_law.specs.Resizers.{link_of}
 
 module _ (behind slots limit chunks : ℕ) where
   carry_asks : (goes : Carry) (marked : ℕ) → link_in_carry goes ≡ Some (links.Making behind slots limit chunks) → carry_ask goes marked ≡ MakeTable slots limit chunks

@@ -1,4 +1,4 @@
--- At which chunk a call begins to copy is no matter for what it rests on.
+-- At which chunk a call begins to copy is no matter for what it relies on.
 use Rattle.std.proofs.Common.{◌≡◌, inl, inr, ℕ, Bool, Option, Some, List, refl}
 use denote.Bor.{Bor}
 use Rattle.logbook.specs.Pages.{Book}
@@ -8,8 +8,8 @@ use Rattle.papaya_chain.specs.declared.machine.Machine.{Machine}
 use Rattle.papaya_chain.specs.declared.machine.Phase.{Phase}
 use Rattle.papaya_chain.specs.declared.machine.Phase.TheVariants.{Calling, Linking, Copying as Copying_root}
 use Rattle.papaya_chain.specs.Machine.{IsStanding}
-use Rattle.papaya_chain_rests.specs.Rests.{Rests, RestsPhase, left_by}
-use Rattle.papaya_chain_rests.specs.Told.{Hands}
+use Rattle.papaya_chain_law.specs.Relies.{Relies, ReliesPhase, left_by}
+use Rattle.papaya_chain_law.specs.Told.{LoadedPairs}
 use Rattle.papaya_law.specs.Code.{Coding}
 use Rattle.papaya_law.specs.Exchange.{Exchange, Setting}
 use Rattle.papaya_book.specs.declared.rule.entry.Begun.{Begun}
@@ -18,7 +18,7 @@ use Rattle.papaya_book.specs.Logs.{Stored, exchanges_of}
 use Rattle.papaya_book.specs.Sheets.{Sheet}
 use Rattle.papaya_change.specs.declared.driver.Driver.{Driver}
 use Rattle.papaya_lookup.specs.Lookups.{coding_for, setting_for}
-use Rattle.papaya_change.specs.Changing.{CanGoOn, GoesOn, IsCalling, hands_with}
+use Rattle.papaya_change.specs.Changing.{CanGoOn, GoesOn, IsCalling, loaded_with}
 use Rattle.papaya_change.specs.Helping.{IsAside}
 
 -- the machine, with another number
@@ -28,18 +28,18 @@ with_number m n = record m { number = n }
 pub stands_numbered : (m : Machine) (n : ℕ) → IsStanding m → IsStanding (with_number m n)
 stands_numbered m n s = record { call = s.call; chunked = s.chunked; initial = s.initial; phase = s.phase }
 
-module _ {K P : Type 0} (g : Setting K P) (c : Coding K P) (begun since : List (Exchange P)) (k : K) (m : Machine) (hands : Hands P) (n : ℕ) where
-  phase_numbered : (phase : Phase) → RestsPhase g c begun since k m hands phase → RestsPhase g c begun since k (with_number m n) hands phase
+module _ {K P : Type 0} (g : Setting K P) (c : Coding K P) (begun since : List (Exchange P)) (k : K) (m : Machine) (loaded : LoadedPairs P) (n : ℕ) where
+  phase_numbered : (phase : Phase) → ReliesPhase g c begun since k m loaded phase → ReliesPhase g c begun since k (with_number m n) loaded phase
   phase_numbered Calling at = tt
-  phase_numbered (Linking link) at = record { mode = at.mode; changes = at.changes; left = at.left; rests = at.rests }
-  phase_numbered (Copying_root copying) (inl at) = inl (record { mode = at.mode; changes = at.changes; table = at.table; left = at.left; next = at.next; aim = at.aim; rests = at.rests })
-  phase_numbered (Copying_root copying) (inr at) = inr (record { mode = at.mode; changes = at.changes; table = at.table; left = at.left; met = at.met; aim = at.aim; rests = at.rests })
+  phase_numbered (Linking link) at = record { mode = at.mode; changes = at.changes; left = at.left; relies = at.relies }
+  phase_numbered (Copying_root copying) (inl at) = inl (record { mode = at.mode; changes = at.changes; table = at.table; left = at.left; next = at.next; aim = at.aim; relies = at.relies })
+  phase_numbered (Copying_root copying) (inr at) = inr (record { mode = at.mode; changes = at.changes; table = at.table; left = at.left; met = at.met; aim = at.aim; relies = at.relies })
 
-  rests_numbered : Rests g c begun since k m hands → Rests g c begun since k (with_number m n) hands
-  rests_numbered r = record { cut = r.cut; call = r.call; phase = phase_numbered m.phase r.phase }
+  relies_numbered : Relies g c begun since k m loaded → Relies g c begun since k (with_number m n) loaded
+  relies_numbered r = record { cut = r.cut; call = r.call; phase = phase_numbered m.phase r.phase }
 
   -- one that was set aside had come to a table
-  left_in : (phase : Phase) → RestsPhase g c begun since k m hands phase → (phase ≡ Calling → ⊥) → (t : ℕ) × (left_by m.call.state ≡ Some t)
+  left_in : (phase : Phase) → ReliesPhase g c begun since k m loaded phase → (phase ≡ Calling → ⊥) → (t : ℕ) × (left_by m.call.state ≡ Some t)
   left_in Calling at aside = absurd (aside refl)
   left_in (Linking link) at aside = (Rattle.papaya_copy.specs.Link.follows link, at.left)
   left_in (Copying_root copying) (inl at) aside = (at.table, at.left)
@@ -54,7 +54,7 @@ module _ {K V S : Type 0} (eq : K → K → Bool) (hash : S → K → ℕ) (b : 
       seen = r.seen;
       since = r.since;
       is = r.is;
-      rests = rests_numbered (setting_for eq hash b matches fed log) (coding_for hash b.hasher fed) (exchanges_of begun) r.since k m (hands_with last kept made) n r.rests;
+      relies = relies_numbered (setting_for eq hash b matches fed log) (coding_for hash b.hasher fed) (exchanges_of begun) r.since k m (loaded_with last kept made) n r.relies;
       number = r.number;
       at_table = r.at_table;
       holds_table = r.holds_table;
@@ -77,5 +77,5 @@ module _ {K V S : Type 0} (eq : K → K → Bool) (hash : S → K → ℕ) (b : 
     pub aside_numbered : CanGoOn eq hash b name log c → (c.machine.phase ≡ Calling → ⊥) → IsAside c.machine (with_number c.machine n)
     aside_numbered can aside =
         let r = can.6 in
-        let left = left_in (setting_for eq hash b can.0 can.1 log) (coding_for hash b.hasher can.1) (exchanges_of can.4) r.since can.3 c.machine (hands_with c.last c.kept can.5) n c.machine.phase r.rests.phase aside in
+        let left = left_in (setting_for eq hash b can.0 can.1 log) (coding_for hash b.hasher can.1) (exchanges_of can.4) r.since can.3 c.machine (loaded_with c.last c.kept can.5) n c.machine.phase r.relies.phase aside in
         record { from = left.0; left = left.1; call = refl; busy = aside }

@@ -21,26 +21,26 @@ use Rattle.papaya_change.specs.Writing.{HasKey, HasValue, held_value}
 module _ {K V S : Type 0} (eq : K → K → Bool) (hash : S → K → ℕ) (b : Begun K V S) (name : Book) (key : K) (begun log : List (Event K V S)) (n : ℕ) (table : Bor Sheet) (r : IsInsertingAt eq hash b name key begun log (Growing (Room n)) None table.now) where
   -- its call, in a map of any initial capacity, which was told of no pair
   onward : (initial : ℕ) → IsCalling eq hash b name (eq key) (hash b.hasher key) (Some key) begun log (insertion_at (hash b.hasher key) b.mode initial (nothing_made b.limit) (Growing (Room n))) (Some table) None None [] None None None
-  onward initial = let it = r.4 in let rests = it.rests in record {
+  onward initial = let it = r.4 in let relies = it.relies in record {
     lawful = it.lawful;
     seen = it.seen;
     since = it.since;
     is = it.is;
-    rests = record {
-      cut = rests.cut;
+    relies = record {
+      cut = relies.cut;
       call = record {
-        hash = rests.call.hash;
-        mode = rests.call.mode;
+        hash = relies.call.hash;
+        mode = relies.call.mode;
         made = record {
-          keys = rests.call.made.keys;
-          limit = rests.call.made.limit;
-          number_is = rests.call.made.number_is;
+          keys = relies.call.made.keys;
+          limit = relies.call.made.limit;
+          number_is = relies.call.made.number_is;
           own_is = tt;
           of_is = tt;
           fill_is = tt;
           choice_is = tt;
         };
-        stage = rests.call.stage;
+        stage = relies.call.stage;
       };
       phase = tt;
     };

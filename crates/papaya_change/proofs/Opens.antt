@@ -1,4 +1,4 @@
--- After it tried to open a table a call rests again, and holds the root's table.
+-- After it tried to open a table a call relies on what holds again, and holds the root's table.
 use Rattle.std.proofs.Common.{◌≡◌, ◌⊎◌, inl, inr, ℕ, ◌==◌, Bool, true, false, Option, None, Some, List, [], ◌∷◌, ◌++◌, refl, sym, ap, ◌∙◌, subst}
 use Rattle.std.specs.Cmp.{IsEquivalence}
 use mathlib.Core.List.{IsPrefix}
@@ -17,8 +17,8 @@ use Rattle.papaya_chain.specs.declared.ask.Ask.TheVariants.{Call}
 use Rattle.papaya_chain.specs.declared.machine.Machine.{Machine}
 use Rattle.papaya_chain.specs.Machine.{after, ask_of, kind_of_ask}
 use Rattle.papaya_law.specs.Exchange.{Exchange, Open}
-use Rattle.papaya_rests.specs.Rests.{change_of_kind}
-use Rattle.papaya_rests.specs.Told.{Hands, IsAsked, IsTold, word_of}
+use Rattle.papaya_call_law.specs.Relies.{change_of_kind}
+use Rattle.papaya_call_law.specs.Told.{IsAsked, IsTold, LoadedPairs, word_of}
 use Rattle.papaya_book.specs.Sheets.{Sheet}
 use Rattle.papaya_book.specs.declared.rule.entry.Begun.{Begun}
 use Rattle.papaya_book.specs.declared.rule.entry.Event.{Event}
@@ -29,8 +29,8 @@ use Rattle.papaya_book.specs.Calls.{IsTable, IsTried}
 use Rattle.papaya_change.specs.Changing.{IsBringing, IsFresh}
 use Rattle.papaya_book.specs.Hashes.{hash_of}
 use Rattle.papaya_book.specs.Logs.{Stored, exchange_of, exchanges_of, state_of}
-use Rattle.papaya_change.proofs.Changing.{Calling, Coded, Wide, answered, call_hands, quiet}
-use Rattle.papaya_change.proofs.OwnSteps.{asked_by_call, opened_once}
+use Rattle.papaya_change.proofs.Changing.{Calling, Coded, Wide, answered, call_loaded, quiet}
+use Rattle.papaya_change.proofs.StepsOfOwn.{asked_by_call, opened_once}
 use Rattle.papaya_lookup.proofs.Driving.{word_wide}
 use Rattle.papaya_book.proofs.Logs.{exchanges_of-append, prefix_trans}
 use Rattle.papaya_lookup.proofs.Readings.{IsQuery}
@@ -56,8 +56,8 @@ module _ {K V S H : Type 0} (eq : K → K → Bool) (input : K → List (List �
     abbrev C : Rattle.papaya_law.specs.Code.Coding (Option K) (Stored K V)
     C = Coded eq input build write finish classes respects b matches query lawful k name begun
 
-    abbrev hands : Hands (Stored K V)
-    hands = call_hands eq input build write finish classes respects b matches query lawful k name begun last made
+    abbrev loaded : LoadedPairs (Stored K V)
+    loaded = call_loaded eq input build write finish classes respects b matches query lawful k name begun last made
 
     -- it was opened
     pub opened : (found == 0) ≡ true → IsTable log n lent.now → Under log (after m (answers.Call Exchanged)) (Some lent) last kept made taken put fresh'
@@ -68,8 +68,8 @@ module _ {K V S H : Type 0} (eq : K → K → Bool) (input : K → List (List �
         let grown : exchanges_of log ≡ exchanges_of before ++ e ∷ [] = ap exchanges_of done.2 ∙ exchanges_of-append before (Stepped done.0 ∷ []) in
         let more : IsPrefix before log = (Stepped done.0 ∷ [], sym done.2) in
         let here : (word_of G C (state_of before) Root == 0) ≡ true = ap (λ (i : ℕ). i == 0) (word_wide eq input build write finish classes respects b matches query lawful k (exchanges_of begun) before log Root ∙ t.is) ∙ is in
-        let asked : IsAsked G C k (kind_of_ask m) Root n (state_of before) hands e = subst (λ (z : Option StepKind). IsAsked G C k z Root n (state_of before) hands e) (sym kind) (asked_by_call (Some kinds.Open) tt Root n (state_of before) None e done.1.asked) in
-        let told : IsTold G C k (state_of before) (kind_of_ask m) hands (Ask_exchange Root 0 n) Exchanged (e ∷ []) hands = rw here (refl, (e, asked, refl), refl) in
+        let asked : IsAsked G C k (kind_of_ask m) Root n (state_of before) loaded e = subst (λ (z : Option StepKind). IsAsked G C k z Root n (state_of before) loaded e) (sym kind) (asked_by_call (Some kinds.Open) tt Root n (state_of before) None e done.1.asked) in
+        let told : IsTold G C k (state_of before) (kind_of_ask m) loaded (Ask_exchange Root 0 n) Exchanged (e ∷ []) loaded = rw here (refl, (e, asked, refl), refl) in
         let since = prefix_trans v before log t.since more in
         answered eq input build write finish classes respects b matches query lawful k name begun v before log t.lawful t.now t.since more m table last kept made taken put fresh r (Ask_exchange Root 0 n) asks Exchanged last made told (Some lent) taken put fresh'
         holds r.last_placed r.made_placed r.taken_placed
@@ -83,6 +83,6 @@ module _ {K V S H : Type 0} (eq : K → K → Bool) (input : K → List (List �
         let pre : IsPrefix v log = subst (IsPrefix v) (sym same) t.since in
         let here : word_of G C (state_of log) Root ≡ found = word_wide eq input build write finish classes respects b matches query lawful k (exchanges_of begun) log log Root ∙ (ap (λ (z : List (Event K V S)). (state_of z).root) same ∙ t.is) in
         let differs : (word_of G C (state_of log) Root == 0) ≡ false = ap (λ (i : ℕ). i == 0) here ∙ is in
-        let told : IsTold G C k (state_of log) (kind_of_ask m) hands (Ask_exchange Root 0 n) (Found_instead found) [] hands = rw differs (ap Found_instead (sym here), refl, refl) in
+        let told : IsTold G C k (state_of log) (kind_of_ask m) loaded (Ask_exchange Root 0 n) (Found_instead found) [] loaded = rw differs (ap Found_instead (sym here), refl, refl) in
         quiet eq input build write finish classes respects b matches query lawful k name begun v log pre t.now m table last kept made taken put fresh r (Ask_exchange Root 0 n) asks (Found_instead found) last made (Some lent) fresh'
         (record { told = told; same = refl; busy = λ z. z; brings = unbrought m n asks (Found_instead found) (inr (found, refl)) log fresh' }) holds r.last_placed r.made_placed

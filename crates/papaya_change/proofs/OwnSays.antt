@@ -10,13 +10,13 @@ use Rattle.papaya_chain.specs.declared.ask.Answer.TheVariants as answers
 use Rattle.papaya_chain.specs.declared.machine.Machine.{Machine}
 use Rattle.papaya_chain.specs.declared.machine.Phase.TheVariants.{Calling}
 use Rattle.papaya_chain.specs.Machine.{IsStanding, after, after_in}
-use Rattle.papaya_chain_rests.proofs.Replies.{chain_shows}
-use Rattle.papaya_rests.specs.Says.{HasValue, IsSaidBy, Said, ShowsPairs, StandsOn}
-use Rattle.papaya_rests.proofs.SaysSaid.{machine_said}
-use Rattle.papaya_rests.proofs.SaysValues.{machine_values}
-use Rattle.papaya_rests.proofs.Silent.{IsSilent, stood_before}
+use Rattle.papaya_chain_law.proofs.Replies.{chain_shows}
+use Rattle.papaya_call_law.specs.Says.{HasValue, IsSaidBy, Said, ShowsPairs, StandsOn}
+use Rattle.papaya_call_law.proofs.SaysSaid.{machine_said}
+use Rattle.papaya_call_law.proofs.SaysValues.{machine_values}
+use Rattle.papaya_call_law.proofs.Silent.{IsSilent, stood_before}
 use Rattle.papaya_change.proofs.Helped.{stands_before, values_left}
-use Rattle.papaya_change.proofs.OwnSteps.{own_order, own_went}
+use Rattle.papaya_change.proofs.StepsOfOwn.{own_order, own_went}
 
 module _ (m : Machine) (calling : m.phase ≡ Calling) where
   -- one that showed pairs that are there shows such pairs

@@ -23,15 +23,15 @@ use Rattle.papaya_chain.specs.declared.ask.Ask.TheVariants.{Call}
 use Rattle.papaya_chain.specs.declared.machine.Machine.{Machine}
 use Rattle.papaya_chain.specs.declared.machine.Phase.TheVariants.{Calling}
 use Rattle.papaya_chain.specs.Machine.{IsStanding, after, ask_of}
-use Rattle.papaya_chain_rests.proofs.Names.{call_asks}
-use Rattle.papaya_rests.specs.Followed.{MayAsk}
-use Rattle.papaya_rests.specs.Rests.{IsAtLimit, IsNumberAsk}
-use Rattle.papaya_rests.proofs.Followed.{asked_of_task}
-use Rattle.papaya_rests.proofs.RestsReplyRefused.{machine_reason}
-use Rattle.papaya_book.specs.declared.rule.own.Given.{Given}
+use Rattle.papaya_chain_law.proofs.Names.{call_asks}
+use Rattle.papaya_call_law.specs.Followed.{MayAsk}
+use Rattle.papaya_call_law.specs.Relies.{IsAtLimit, IsNumberAsk}
+use Rattle.papaya_call_law.proofs.Followed.{asked_of_task}
+use Rattle.papaya_call_law.proofs.ReliesReplyRefused.{machine_reason}
+use Rattle.papaya_book.specs.declared.rule.own.CapacityCause.{CapacityCause}
 use Rattle.papaya_book.specs.Limits.{HasNoRoom}
 use Rattle.papaya_change.specs.Writing.{IsMemoryOrCapacity, IsUnsaid}
-use Rattle.papaya_change.proofs.OwnSteps.{aside_asks_none, calling_asks, grown_leaves, own_went}
+use Rattle.papaya_change.proofs.StepsOfOwn.{aside_asks_none, calling_asks, grown_leaves, own_went}
 
 -- only a compute shows that there is none
 pub shows_none : (m : Machine) → IsStanding m → ask_of m ≡ Call ShowNone → IsComputer m.call.task
@@ -46,7 +46,7 @@ number_inserts task kind _ number may = absurd number
 pub limit_inserts : (m : Machine) → IsStanding m → (answer : Answer) → IsAtLimit m.call answer → MayInsert m.call.task
 limit_inserts m standing answer over = number_inserts m.call.task (calls.kind_of_ask m.call) (calls.ask_of m.call) over.4 (asked_of_task m.call standing.call)
 
--- a call that needs a further table is not ended by another answer than the number of one
+-- a call that needs a next table is not ended by another answer than the number of one
 grown_stays : (m : Call_machine) (made : Made) (need : Need) (answer : Answer) (reply : Reply) → calls.ask_of (calls.after (record m { made = made; state = Growing need }) answer) ≡ Done reply → (word : ℕ) × (answer ≡ Word_read word)
 grown_stays m made need (Word_read word) reply e = (word, refl)
 grown_stays m made need Exchanged reply e = absurd cc
@@ -62,7 +62,7 @@ module _ (m : Machine) (calling : m.phase ≡ Calling) (answer : Answer) where
   abbrev m' : Machine
   m' = after m (answers.Call answer)
 
-  -- one that needs a further table is not ended by an answer of its own
+  -- one that needs a next table is not ended by an answer of its own
   grown_goes : (need : Need) → m.call.state ≡ Growing need → (reply : Reply) → calls.ask_of (calls.after m.call answer) ≡ Done reply → ask_of m' ≡ Call (Done reply) → ⊥
   grown_goes need grows reply ended e =
       let word = grown_stays m.call m.call.made need answer reply (subst (λ s. calls.ask_of (calls.after (record m.call { state = s }) answer) ≡ Done reply) grows ended) in
@@ -98,9 +98,9 @@ module _ (m : Machine) (calling : m.phase ≡ Calling) (answer : Answer) where
       ⊎_elim (told cause) (λ others. ⊎_elim (λ over. subst holds (sym over.0) (spent over.1)) (λ none. absurd (never none.1)) others) (own_refused open_still cause e)
 
 -- where no closure had a part in it, there was no memory, or no number left
-pub unsaid_cause : (given : List Given) (answer : Answer) → IsUnsaid given answer → (cause : Cause) → answer ≡ Was_refused cause → IsMemoryOrCapacity cause
+pub unsaid_cause : (given : List CapacityCause) (answer : Answer) → IsUnsaid given answer → (cause : Cause) → answer ≡ Was_refused cause → IsMemoryOrCapacity cause
 unsaid_cause given answer unsaid cause e = ⊎_elim (λ memory. inl memory) (λ full. inr full.0) (unsaid cause e)
 
 -- and a log is full, where there was room for no more
-pub unsaid_room : (initial : ℕ) (tables : List ℕ) (given : List Given) (answer : Answer) → IsUnsaid given answer → (cause : Cause) → answer ≡ Was_refused cause → cause ≡ Capacity → HasNoRoom initial tables given
+pub unsaid_room : (initial : ℕ) (tables : List ℕ) (given : List CapacityCause) (answer : Answer) → IsUnsaid given answer → (cause : Cause) → answer ≡ Was_refused cause → cause ≡ Capacity → HasNoRoom initial tables given
 unsaid_room initial tables given answer unsaid cause e full = ⊎_elim (λ memory. let f = sym memory ∙ full in absurd (cc f)) (λ h. inl h.1) (unsaid cause e)

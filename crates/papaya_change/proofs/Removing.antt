@@ -1,4 +1,4 @@
--- After each answer a removal rests again, and what its machine stands on was said of the pair shown last.
+-- After each answer a removal relies on what holds again, and what its machine stands on was said of the pair shown last.
 use Rattle.std.proofs.Common.{◌≡◌, inl, inr, ⊎_elim, ℕ, ◌==◌, Bool, true, false, MatchBool, MatchOption, Option, None, Some, List, [], ◌∷◌, length, append-nil, refl, sym, ap, ◌∙◌, subst}
 use Rattle.std.proofs.lemmas.Bool.{cases_Bool}
 use Rattle.std.specs.Cmp.{IsEquivalence}
@@ -24,20 +24,20 @@ use Rattle.papaya_chain.specs.declared.ask.Ask.TheVariants.{Call}
 use Rattle.papaya_chain.specs.declared.machine.Machine.{Machine}
 use Rattle.papaya_chain.specs.declared.machine.Phase.TheVariants.{Calling}
 use Rattle.papaya_chain.specs.Machine.{IsStanding, after, ask_of, kind_of_ask}
-use Rattle.papaya_chain_rests.proofs.Names.{call_asks}
-use Rattle.papaya_chain_rests.proofs.Replies.{chain_task}
-use Rattle.papaya_rests.specs.Followed.{MayAsk}
+use Rattle.papaya_chain_law.proofs.Names.{call_asks}
+use Rattle.papaya_chain_law.proofs.Replies.{chain_task}
+use Rattle.papaya_call_law.specs.Followed.{MayAsk}
 use Rattle.papaya_call.specs.Machine.{IsComputer, IsFit}
 use Rattle.papaya_call.specs.Machine as calls
-use Rattle.papaya_rests.specs.Told.{Hands}
-use Rattle.papaya_rests.specs.Rests.{WasAtMoment}
-use Rattle.papaya_rests.specs.Told.{or_last}
-use Rattle.papaya_rests.specs.Says.{Agrees, ShowsPairs, StandsOn}
+use Rattle.papaya_call_law.specs.Told.{LoadedPairs}
+use Rattle.papaya_call_law.specs.Relies.{WasAtMoment}
+use Rattle.papaya_call_law.specs.Told.{or_last}
+use Rattle.papaya_call_law.specs.Says.{Agrees, ShowsPairs, StandsOn}
 use Rattle.papaya_ask.specs.Search.{IsSize}
-use Rattle.papaya_rests.proofs.RestsHeld as held
-use Rattle.papaya_rests.proofs.RestsHeld.{IsShowing}
-use Rattle.papaya_rests.proofs.Followed.{asked_of_task}
-use Rattle.papaya_rests.proofs.SaysOver.{unsaid}
+use Rattle.papaya_call_law.proofs.ReliesHeld as held
+use Rattle.papaya_call_law.proofs.ReliesHeld.{IsShowing}
+use Rattle.papaya_call_law.proofs.Followed.{asked_of_task}
+use Rattle.papaya_call_law.proofs.SaysOver.{unsaid}
 use Rattle.papaya_book.specs.Sheets.{Sheet}
 use Rattle.papaya_book.specs.declared.rule.entry.Begun.{Begun}
 use Rattle.papaya_book.specs.declared.rule.entry.Event.{Event}
@@ -55,13 +55,13 @@ use Rattle.papaya_book.specs.Logs.{Stored, exchanges_of, pair_named}
 use Rattle.papaya_change.specs.Removing.{IsRemoving, IsRemovingOn}
 use Rattle.papaya_book.specs.Rule.{IsPlaced}
 use Rattle.papaya_change.specs.Showings.{WasHeld}
-use Rattle.papaya_change.proofs.Changing.{Coded, Wide, barren, call_hands, call_rests, counted, compared, hint_table, hinted, load_table, loaded_lawful, loads, quiet, size_table, sized, slot_table}
+use Rattle.papaya_change.proofs.Changing.{Coded, Wide, barren, call_loaded, call_relies, counted, compared, hint_table, hinted, load_table, loaded_lawful, loads, quiet, size_table, sized, slot_table}
 use Rattle.papaya_change.proofs.OwnSays.{own_said, own_shows, own_stood}
-use Rattle.papaya_change.proofs.OwnSteps.{own_kind, own_order}
+use Rattle.papaya_change.proofs.StepsOfOwn.{own_kind, own_order}
 use Rattle.papaya_call.specs.Machine.{MayInsert}
 use Rattle.papaya_change.proofs.Refusals.{limit_inserts, refused_for, shows_none}
-use Rattle.papaya_rests.proofs.Silent.{IsSilent, not_done}
-use Rattle.papaya_lookup.proofs.Driving.{can_bury}
+use Rattle.papaya_call_law.proofs.Silent.{IsSilent, not_done}
+use Rattle.papaya_lookup.proofs.Driving.{can_delete}
 use Rattle.papaya_change.proofs.Exchanging.{exchanged, lost}
 use Rattle.papaya_lookup.proofs.Histories.{history_since}
 use Rattle.papaya_lookup.proofs.Readings.{IsQuery, fed, hashed_with}
@@ -93,8 +93,8 @@ module _ {K V S H F : Type 0} (eq : K → K → Bool) (input : K → List (List 
     held_later log' pre p h = held_wider eq matches (history_of begun) (history_of begun) (history_of log) (history_of log') ([], append-nil (history_of begun)) (history_since log log' pre) (Some p) h
 
     -- the pairs that its call was told of
-    abbrev hands : Hands (Stored K V)
-    hands = call_hands eq input build write finish classes respects b matches query lawful None name begun x.call.last []
+    abbrev loaded : LoadedPairs (Stored K V)
+    loaded = call_loaded eq input build write finish classes respects b matches query lawful None name begun x.call.last []
 
     module _ (standing : IsStanding m) where
       -- no answer of its own has it refused: it asks for nothing to be made
@@ -170,7 +170,7 @@ module _ {K V S H F : Type 0} (eq : K → K → Bool) (input : K → List (List 
       compared_last n asks =
           let s = Wide eq input build write finish classes respects b matches query lawful None name begun log in
           let c = Coded eq input build write finish classes respects b matches query lawful None name begun in
-          let told = held.machine_told s c (exchanges_of begun) r.calling.since None hands m.call r.calling.rests.call n (call_asks m (SameKey n) asks).1 in
+          let told = held.machine_told s c (exchanges_of begun) r.calling.since None loaded m.call r.calling.relies.call n (call_asks m (SameKey n) asks).1 in
           told_of told.0 told.1
 
       -- so was a pair that is shown
@@ -179,7 +179,7 @@ module _ {K V S H F : Type 0} (eq : K → K → Bool) (input : K → List (List 
           let s = Wide eq input build write finish classes respects b matches query lawful None name begun log in
           let c = Coded eq input build write finish classes respects b matches query lawful None name begun in
           let hashed = hashed_with eq input build write finish classes respects b matches query lawful log r.calling.lawful in
-          let shows = held.machine_shows s c hashed (exchanges_of begun) r.calling.since None hands m.call r.calling.rests.call n (call_asks m (ShowPair n) asks).1 in
+          let shows = held.machine_shows s c hashed (exchanges_of begun) r.calling.since None loaded m.call r.calling.relies.call n (call_asks m (ShowPair n) asks).1 in
           told_of shows.0 shows.1
 
       -- the pair last told of was compared
@@ -201,7 +201,7 @@ module _ {K V S H F : Type 0} (eq : K → K → Bool) (input : K → List (List 
           let s = Wide eq input build write finish classes respects b matches query lawful None name begun log in
           let c = Coded eq input build write finish classes respects b matches query lawful None name begun in
           let hashed = hashed_with eq input build write finish classes respects b matches query lawful log r.calling.lawful in
-          let shows : (i : ℕ) → calls.ask_of m.call ≡ ShowPair i → IsShowing s c hashed (exchanges_of begun) r.calling.since None hands i = λ i e. held.machine_shows s c hashed (exchanges_of begun) r.calling.since None hands m.call r.calling.rests.call i e in
+          let shows : (i : ℕ) → calls.ask_of m.call ≡ ShowPair i → IsShowing s c hashed (exchanges_of begun) r.calling.since None loaded i = λ i e. held.machine_shows s c hashed (exchanges_of begun) r.calling.since None loaded m.call r.calling.relies.call i e in
           let is : (i : ℕ) → calls.ask_of m.call ≡ ShowPair i → p.index ≡ i = λ i e. let one : (shows i e).0 ≡ p = cc ((shows i e).1, last) in ap (λ (z : Stored K V). z.index) (sym one) ∙ (shows i e).2 in
           let one : (shows n own.1).0 ≡ p = cc ((shows n own.1).1, last) in
           let was = subst (λ (z : Stored K V). WasAtMoment s c (exchanges_of begun) r.calling.since None (Some z)) one (shows n own.1).4 in
@@ -233,40 +233,40 @@ module _ {K V S H F : Type 0} (eq : K → K → Bool) (input : K → List (List 
 
       module _ (t i old new : ℕ) (tries : ask_of m ≡ Call (Ask_exchange (Slot t i) old new)) where
         -- the slot is one of the table that is held
-        pub bury_held : IsHeldAt (Slot t i) log x.call.table
-        bury_held = slot_table eq input build write finish classes respects b matches query lawful None name begun log m x.call.table x.call.last x.call.kept [] x.call.taken x.call.put x.call.fresh r.calling t i (inr (old, new, tries))
+        pub delete_held : IsHeldAt (Slot t i) log x.call.table
+        delete_held = slot_table eq input build write finish classes respects b matches query lawful None name begun log m x.call.table x.call.last x.call.kept [] x.call.taken x.call.put x.call.fresh r.calling t i (inr (old, new, tries))
 
-        -- a removal's exchange of a slot buries
+        -- a removal's exchange of a slot deletes
         its_own : (m.phase ≡ Calling) × (calls.ask_of m.call ≡ Ask_exchange (Slot t i) old new)
         its_own = call_asks m (Ask_exchange (Slot t i) old new) tries
 
-        bury_kind : calls.kind_of_ask m.call ≡ Some kinds.Bury
-        bury_kind =
+        delete_kind : calls.kind_of_ask m.call ≡ Some kinds.Delete
+        delete_kind =
             ⊎_elim (λ h. absurd (h.0)) (λ h. h.1) (subst (λ (a : Ask). MayAsk RemoveIf (calls.kind_of_ask m.call) a) its_own.1 (subst (λ (z : Task). MayAsk z (calls.kind_of_ask m.call) (calls.ask_of m.call)) r.task_is (asked_of_task m.call standing.call)))
 
-        pub bury_can : CanExchange eq hash b (Slot t i) (kind_of_ask m) old new None names.Nothing log
-        bury_can =
+        pub delete_can : CanExchange eq hash b (Slot t i) (kind_of_ask m) old new None names.Nothing log
+        delete_can =
             subst (λ (z : Option StepKind). CanExchange eq hash b (Slot t i) z old new None names.Nothing log) (sym (own_kind m its_own.0))
-            (can_bury eq input build write finish classes respects b matches query lawful None (exchanges_of begun) log r.calling.lawful m.call hands (call_rests eq input build write finish classes respects b matches query lawful None name begun log m x.call.table x.call.last x.call.kept [] x.call.taken x.call.put x.call.fresh r.calling) t i old new its_own.1 bury_kind)
+            (can_delete eq input build write finish classes respects b matches query lawful None (exchanges_of begun) log r.calling.lawful m.call loaded (call_relies eq input build write finish classes respects b matches query lawful None name begun log m x.call.table x.call.last x.call.kept [] x.call.taken x.call.put x.call.fresh r.calling) t i old new its_own.1 delete_kind)
 
         module _ (log' : List (Event K V S)) (pre : IsPrefix log log') (found : ℕ) (pair : Option (Stored K V)) (s : IsSlotTried eq hash b name t i (kind_of_ask m) old new None names.Nothing log found log' pair) where
-          -- it was buried
-          buried : (found == old) ≡ true → RemovingOn log' (record x { call = record x.call { taken = pair; put = None } }) f (Some Exchanged)
-          buried is = goes_on log' pre (record x.call { taken = pair; put = None }) Exchanged refl tt (λ cause e. cc e) (Ask_exchange (Slot t i) old new) tries tt
+          -- it was deleted
+          tombstone : (found == old) ≡ true → RemovingOn log' (record x { call = record x.call { taken = pair; put = None } }) f (Some Exchanged)
+          tombstone is = goes_on log' pre (record x.call { taken = pair; put = None }) Exchanged refl tt (λ cause e. cc e) (Ask_exchange (Slot t i) old new) tries tt
               (exchanged eq input build write finish classes respects b matches query lawful None name begun log log' m x.call.table x.call.last x.call.kept [] x.call.taken x.call.put x.call.fresh r.calling t i old new found None pair tries s (λ q none. absurd (cc none)) (λ claim q none. absurd (cc none)) is)
 
           -- it was not
-          not_buried : (found == old) ≡ false → RemovingOn log' (record x { call = record x.call { last = or_last pair x.call.last } }) f (Some (Found_instead found))
-          not_buried is = goes_on log' pre (record x.call { last = or_last pair x.call.last }) (Found_instead found) refl tt (λ cause e. cc e) (Ask_exchange (Slot t i) old new) tries tt
+          not_tombstone : (found == old) ≡ false → RemovingOn log' (record x { call = record x.call { last = or_last pair x.call.last } }) f (Some (Found_instead found))
+          not_tombstone is = goes_on log' pre (record x.call { last = or_last pair x.call.last }) (Found_instead found) refl tt (λ cause e. cc e) (Ask_exchange (Slot t i) old new) tries tt
               (lost eq input build write finish classes respects b matches query lawful None name begun log log' m x.call.table x.call.last x.call.kept [] x.call.taken x.call.put x.call.fresh r.calling t i old new found None pair tries s is)
 
           -- as the call holds it afterwards
-          abbrev AfterBury : Bool → Driver K V S H → Answer → Type 0
-          AfterBury z y answer = MatchBool z ((answer ≡ Exchanged) × (y ≡ record x.call { taken = pair; put = None })) ((answer ≡ Found_instead found) × (y ≡ record x.call { last = or_last pair x.call.last }))
+          abbrev AfterDelete : Bool → Driver K V S H → Answer → Type 0
+          AfterDelete z y answer = MatchBool z ((answer ≡ Exchanged) × (y ≡ record x.call { taken = pair; put = None })) ((answer ≡ Found_instead found) × (y ≡ record x.call { last = or_last pair x.call.last }))
 
-          pub bury_on : (y : Driver K V S H) (answer : Answer) → AfterBury (found == old) y answer → RemovingOn log' (record x { call = y }) f (Some answer)
-          bury_on y answer h =
+          pub delete_on : (y : Driver K V S H) (answer : Answer) → AfterDelete (found == old) y answer → RemovingOn log' (record x { call = y }) f (Some answer)
+          delete_on y answer h =
               ⊎_elim
-              (λ is. let g = subst (λ (z : Bool). AfterBury z y answer) is h in subst (λ (z : Driver K V S H × Answer). RemovingOn log' (record x { call = z.0 }) f (Some z.1)) (λ j. (sym g.1 j, sym g.0 j)) (buried is))
-              (λ is. let g = subst (λ (z : Bool). AfterBury z y answer) is h in subst (λ (z : Driver K V S H × Answer). RemovingOn log' (record x { call = z.0 }) f (Some z.1)) (λ j. (sym g.1 j, sym g.0 j)) (not_buried is))
+              (λ is. let g = subst (λ (z : Bool). AfterDelete z y answer) is h in subst (λ (z : Driver K V S H × Answer). RemovingOn log' (record x { call = z.0 }) f (Some z.1)) (λ j. (sym g.1 j, sym g.0 j)) (tombstone is))
+              (λ is. let g = subst (λ (z : Bool). AfterDelete z y answer) is h in subst (λ (z : Driver K V S H × Answer). RemovingOn log' (record x { call = z.0 }) f (Some z.1)) (λ j. (sym g.1 j, sym g.0 j)) (not_tombstone is))
               (cases_Bool (found == old))

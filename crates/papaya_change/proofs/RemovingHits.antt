@@ -15,7 +15,7 @@ use Rattle.papaya_ask.specs.declared.ask.StepKind.TheVariants as steps
 use Rattle.papaya_ask.specs.declared.call.Reply.TheVariants.{Kept, Removed}
 use Rattle.papaya_ask.specs.declared.call.Task.TheVariants.{RemoveIf}
 use Rattle.papaya_call.specs.declared.machine.State.{State}
-use Rattle.papaya_call.specs.declared.machine.State.TheVariants.{Burying, Showing, Uncounting}
+use Rattle.papaya_call.specs.declared.machine.State.TheVariants.{Deleting, Showing, Uncounting}
 use Rattle.papaya_call.specs.declared.remove.Removal.{Removal as Shown}
 use Rattle.papaya_call.specs.Machine.{IsStandingState, started}
 use Rattle.papaya_call.specs.Remove.{grave_word}
@@ -23,14 +23,14 @@ use Rattle.papaya_chain.specs.declared.ask.Answer.TheVariants as answers
 use Rattle.papaya_chain.specs.declared.machine.Machine.{Machine}
 use Rattle.papaya_chain.specs.declared.machine.Phase.TheVariants.{Calling}
 use Rattle.papaya_chain.specs.Machine.{IsStanding, after}
-use Rattle.papaya_rests.specs.Rests.{change_in}
-use Rattle.papaya_rests.specs.Says.{Agrees, StandsOn}
-use Rattle.papaya_rests.specs.Told.{or_last}
+use Rattle.papaya_call_law.specs.Relies.{change_in}
+use Rattle.papaya_call_law.specs.Says.{Agrees, StandsOn}
+use Rattle.papaya_call_law.specs.Told.{or_last}
 use Rattle.papaya_book.specs.declared.rule.entry.Begun.{Begun}
 use Rattle.papaya_book.specs.declared.rule.entry.Event.{Event}
 use Rattle.papaya_book.specs.declared.rule.entry.Named.TheVariants as names
-use Rattle.papaya_book.specs.declared.rule.own.Given.{Given}
-use Rattle.papaya_book.specs.declared.rule.own.Own.{Own}
+use Rattle.papaya_book.specs.declared.rule.own.CapacityCause.{CapacityCause}
+use Rattle.papaya_book.specs.declared.rule.own.OwnSteps.{OwnSteps}
 use Rattle.papaya_book.specs.Calls.{IsSlotTried, IsTable}
 use Rattle.papaya_book.specs.Hashes.{hash_of}
 use Rattle.papaya_book.specs.Logs.{Member, Stored, exchanges_of}
@@ -45,10 +45,10 @@ use Rattle.papaya_change.specs.Changing.{HasChanged, IsCalling}
 use Rattle.papaya_change.specs.RemovalAnswers.{HasShown, IsJudged, IsRemovalBy}
 use Rattle.papaya_change.specs.Showings.{AllShown, AreOf, HasSaid, WasHeld}
 use Rattle.papaya_call.specs.Made.{IsLimit, IsNumber, wanted}
-use Rattle.papaya_rests.proofs.RestsLearnPairs.{wanted_rests}
+use Rattle.papaya_call_law.proofs.ReliesLearnPairs.{wanted_relies}
 use Rattle.papaya_lookup.specs.Lookups.{coding_for, setting_for}
 use Rattle.papaya_change.proofs.Changing.{mode_is}
-use Rattle.papaya_change.proofs.Removing.{Removing, bury_can, bury_held, bury_on, counted_on, shown_on}
+use Rattle.papaya_change.proofs.Removing.{Removing, counted_on, delete_can, delete_held, delete_on, shown_on}
 use Rattle.papaya_change.proofs.RemovingReplies.{answered, removal_since}
 use Rattle.papaya_change.proofs.Showings.{all_shown, held_wider, shown_each}
 
@@ -67,7 +67,7 @@ wanted_stands None = tt
 wanted_stands (Some most) = tt
 
 -- it was given nothing
-abbrev nothing_given : Own Given
+abbrev nothing_given : OwnSteps CapacityCause
 nothing_given = record { marker = record {}; done = [] }
 
 -- a live word is no empty one
@@ -100,12 +100,12 @@ module _ {K V S H F : Type 0} (eq : K → K → Bool) (input : K → List (List 
       seen = seen;
       since = hit.since;
       is = hit.is;
-      rests = record {
+      relies = record {
         cut = λ x. refl;
         call = record {
           hash = refl;
           mode = mode_is b.mode;
-          made = record { keys = λ q none. absurd none; limit = refl; number_is = wanted_rests (setting_for eq hash b matches by log) (coding_for hash b.hasher by) (exchanges_of begun) hit.since None b.limit; own_is = tt; of_is = tt; fill_is = tt; choice_is = tt };
+          made = record { keys = λ q none. absurd none; limit = refl; number_is = wanted_relies (setting_for eq hash b matches by log) (coding_for hash b.hasher by) (exchanges_of begun) hit.since None b.limit; own_is = tt; of_is = tt; fill_is = tt; choice_is = tt };
           stage = (tt, record { pair = p; last = refl; met = hit.met; live = live; same = hit.same });
         };
         phase = tt;
@@ -178,8 +178,8 @@ module _ {K V S H F : Type 0} (eq : K → K → Bool) (input : K → List (List 
 
     -- it agrees
     module _ (g : F) (judged : judges first p true g) where
-      abbrev buries : Removal K V S H
-      buries = asked true g judged
+      abbrev deletes : Removal K V S H
+      deletes = asked true g judged
 
       abbrev t : ℕ
       t = met.place.table
@@ -187,16 +187,16 @@ module _ {K V S H F : Type 0} (eq : K → K → Bool) (input : K → List (List 
       abbrev i : ℕ
       i = met.place.probe.i
 
-      stands : IsStanding buries.call.machine
-      stands = standing (Burying place) (tt, hit.within)
+      stands : IsStanding deletes.call.machine
+      stands = standing (Deleting place) (tt, hit.within)
 
-      -- the pair may be buried
-      pub hit_can : CanExchange eq hash b (Slot t i) (Some steps.Bury) met.word (grave_word met.word) None names.Nothing log
-      hit_can = bury_can eq input build write finish classes respects b name matches query lawful judges first begun log buries g (said true g judged) stands t i met.word (grave_word met.word) refl
+      -- the pair may be deleted
+      pub hit_can : CanExchange eq hash b (Slot t i) (Some steps.Delete) met.word (grave_word met.word) None names.Nothing log
+      hit_can = delete_can eq input build write finish classes respects b name matches query lawful judges first begun log deletes g (said true g judged) stands t i met.word (grave_word met.word) refl
 
       -- the table has its slot
       pub hit_held : IsTable log t lent.now × (i < length lent.now.slots)
-      hit_held = bury_held eq input build write finish classes respects b name matches query lawful judges first begun log buries g (said true g judged) stands t i met.word (grave_word met.word) refl
+      hit_held = delete_held eq input build write finish classes respects b name matches query lawful judges first begun log deletes g (said true g judged) stands t i met.word (grave_word met.word) refl
 
       -- it was held since the search began
       pub hit_was : WasHeld eq matches (history_of begun) (history_of log) (Some p)
@@ -206,20 +206,20 @@ module _ {K V S H F : Type 0} (eq : K → K → Bool) (input : K → List (List 
           let one : s.0 ≡ p = let same = sym s.1 in cc same in
           subst (λ (z : Stored K V). WasHeld eq matches (history_of begun) (history_of log) (Some z)) one (shown_each (λ q. WasHeld eq matches (history_of begun) (history_of log) (Some q)) r.said r.held s.0 true s.3)
 
-      -- it was buried
-      module _ (log' : List (Event K V S)) (pre : IsPrefix log log') (found : ℕ) (pair : Option (Stored K V)) (s : IsSlotTried eq hash b name t i (Some steps.Bury) met.word (grave_word met.word) None names.Nothing log found log' pair) (is : (found == met.word) ≡ true) where
-        abbrev buried : Removal K V S H
-        buried = removal_with (after buries.call.machine (answers.Call Exchanged)) (Some p) pair
+      -- it was deleted
+      module _ (log' : List (Event K V S)) (pre : IsPrefix log log') (found : ℕ) (pair : Option (Stored K V)) (s : IsSlotTried eq hash b name t i (Some steps.Delete) met.word (grave_word met.word) None names.Nothing log found log' pair) (is : (found == met.word) ≡ true) where
+        abbrev tombstone : Removal K V S H
+        tombstone = removal_with (after deletes.call.machine (answers.Call Exchanged)) (Some p) pair
 
-        went : Goes log' buried g
-        went = (bury_on eq input build write finish classes respects b name matches query lawful judges first begun log buries g (said true g judged) stands t i met.word (grave_word met.word) refl log' pre found pair s (record buries.call { taken = pair; put = None }) Exchanged
-            (subst (λ (z : Bool). MatchBool z ((Exchanged ≡ Exchanged) × (record buries.call { taken = pair; put = None } ≡ record buries.call { taken = pair; put = None })) ((Exchanged ≡ Found_instead found) × (record buries.call { taken = pair; put = None } ≡ record buries.call { last = or_last pair (Some p) }))) (sym is) (refl, refl))).0
+        went : Goes log' tombstone g
+        went = (delete_on eq input build write finish classes respects b name matches query lawful judges first begun log deletes g (said true g judged) stands t i met.word (grave_word met.word) refl log' pre found pair s (record deletes.call { taken = pair; put = None }) Exchanged
+            (subst (λ (z : Bool). MatchBool z ((Exchanged ≡ Exchanged) × (record deletes.call { taken = pair; put = None } ≡ record deletes.call { taken = pair; put = None })) ((Exchanged ≡ Found_instead found) × (record deletes.call { taken = pair; put = None } ≡ record deletes.call { last = or_last pair (Some p) }))) (sym is) (refl, refl))).0
 
         abbrev pub ended : Removal K V S H
-        ended = removal_with (after buried.call.machine (answers.Call Ok_done)) (Some p) pair
+        ended = removal_with (after tombstone.call.machine (answers.Call Ok_done)) (Some p) pair
 
         counted : Goes log' ended g
-        counted = (counted_on eq input build write finish classes respects b name matches query lawful judges first begun log' buried g went (standing (Uncounting (pair_of met.word)) tt) _ refl).0
+        counted = (counted_on eq input build write finish classes respects b name matches query lawful judges first begun log' tombstone g went (standing (Uncounting (pair_of met.word)) tt) _ refl).0
 
         -- which is the call's change
         pub hit_changed : (change : Option ℕ × Option ℕ) → change_in ended.call.machine.call.state ≡ Some change → HasChanged eq None begun log' pair None change

@@ -13,11 +13,11 @@ use Rattle.papaya_ask.specs.declared.call.Task.TheVariants.{RemoveIf}
 use Rattle.papaya_chain.specs.declared.ask.Ask.TheVariants.{Call}
 use Rattle.papaya_chain.specs.declared.machine.Machine.{Machine}
 use Rattle.papaya_chain.specs.Machine.{ask_of, started}
-use Rattle.papaya_chain_rests.proofs.Names.{call_asks}
-use Rattle.papaya_rests.specs.Told.{Hands}
-use Rattle.papaya_rests.specs.Rests.{IsReply, change_in, change_of_reply}
-use Rattle.papaya_rests.specs.Says.{Agrees, Said, StandsOn, said_in, said_of_removal}
-use Rattle.papaya_rests.proofs.RestsHeld.{ended_in, machine_replies}
+use Rattle.papaya_chain_law.proofs.Names.{call_asks}
+use Rattle.papaya_call_law.specs.Told.{LoadedPairs}
+use Rattle.papaya_call_law.specs.Relies.{IsReply, change_in, change_of_reply}
+use Rattle.papaya_call_law.specs.Says.{Agrees, Said, StandsOn, said_in, said_of_removal}
+use Rattle.papaya_call_law.proofs.ReliesHeld.{ended_in, machine_replies}
 use Rattle.papaya_book.specs.declared.rule.entry.Begun.{Begun}
 use Rattle.papaya_book.specs.declared.rule.entry.Event.{Event}
 use Rattle.papaya_change.specs.declared.removal.Removal.{Removal}
@@ -60,16 +60,16 @@ module _ {K V S H F : Type 0} (eq : K → K → Bool) (input : K → List (List 
   abbrev m : Machine
   m = x.call.machine
 
-  abbrev hands : Hands (Stored K V)
-  hands = record { last = x.call.last; made = [] }
+  abbrev loaded : LoadedPairs (Stored K V)
+  loaded = record { last = x.call.last; made = [] }
 
   -- what it has replied
-  replies : (reply : Reply) → ask_of m ≡ Call (Done reply) → IsReply (Wide eq input build write finish classes respects b matches query lawful None name begun log) (Coded eq input build write finish classes respects b matches query lawful None name begun) (exchanges_of begun) r.calling.since None hands RemoveIf reply × (change_in m.call.state ≡ change_of_reply reply)
+  replies : (reply : Reply) → ask_of m ≡ Call (Done reply) → IsReply (Wide eq input build write finish classes respects b matches query lawful None name begun log) (Coded eq input build write finish classes respects b matches query lawful None name begun) (exchanges_of begun) r.calling.since None loaded RemoveIf reply × (change_in m.call.state ≡ change_of_reply reply)
   replies reply e =
       let g = Wide eq input build write finish classes respects b matches query lawful None name begun log in
       let c = Coded eq input build write finish classes respects b matches query lawful None name begun in
-      let all = machine_replies g c (exchanges_of begun) r.calling.since None hands m.call r.calling.rests.call reply (call_asks m (Done reply) e).1 in
-      (subst (λ (t : Task). IsReply g c (exchanges_of begun) r.calling.since None hands t reply) r.task_is all.0, all.1)
+      let all = machine_replies g c (exchanges_of begun) r.calling.since None loaded m.call r.calling.relies.call reply (call_asks m (Done reply) e).1 in
+      (subst (λ (t : Task). IsReply g c (exchanges_of begun) r.calling.since None loaded t reply) r.task_is all.0, all.1)
 
   -- what its reply stands on
   stands : (reply : Reply) (said : Said) → ask_of m ≡ Call (Done reply) → said_of_removal reply ≡ Some said → StandsOn m.call said
@@ -103,7 +103,7 @@ module _ {K V S H F : Type 0} (eq : K → K → Bool) (input : K → List (List 
   can_tell_kept n e = let s = was_said (Kept n) n false e refl in (s.0, s.1, subst (λ (o : Option (Stored K V)). IsPlaced b (Some name) (pair_named o)) s.1 r.shown_placed)
 
   -- it replies nothing else
-  replies_no_other : (reply : Reply) → IsNoRemoval reply → IsReply (Wide eq input build write finish classes respects b matches query lawful None name begun log) (Coded eq input build write finish classes respects b matches query lawful None name begun) (exchanges_of begun) r.calling.since None hands RemoveIf reply → ⊥
+  replies_no_other : (reply : Reply) → IsNoRemoval reply → IsReply (Wide eq input build write finish classes respects b matches query lawful None name begun log) (Coded eq input build write finish classes respects b matches query lawful None name begun) (exchanges_of begun) r.calling.since None loaded RemoveIf reply → ⊥
   replies_no_other Absent never is = never
   replies_no_other (Found n) never is = is
   replies_no_other (Inserted n) never is = is

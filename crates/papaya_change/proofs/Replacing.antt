@@ -23,8 +23,8 @@ use Rattle.papaya_chain.specs.declared.ask.Answer.TheVariants as answers
 use Rattle.papaya_chain.specs.declared.ask.Ask.TheVariants.{Call}
 use Rattle.papaya_chain.specs.declared.machine.Machine.{Machine}
 use Rattle.papaya_chain.specs.Machine.{after, ask_of, kind_of_ask}
-use Rattle.papaya_rests.specs.Rests.{MayRemove}
-use Rattle.papaya_rests.proofs.RestsHeld.{machine_shows}
+use Rattle.papaya_call_law.specs.Relies.{MayRemove}
+use Rattle.papaya_call_law.proofs.ReliesHeld.{machine_shows}
 use Rattle.papaya_book.specs.declared.rule.entry.Begun.{Begun}
 use Rattle.papaya_book.specs.declared.rule.entry.Event.{Event}
 use Rattle.papaya_book.specs.declared.rule.entry.Named.TheVariants as names
@@ -41,10 +41,10 @@ use Rattle.papaya_lookup.proofs.Histories.{changes-append, history_since}
 use Rattle.papaya_lookup.proofs.KeptKeys.{key_at_stays, met_key}
 use Rattle.papaya_lookup.proofs.Readings.{IsQuery, hashed_with}
 use Rattle.papaya_change.specs.Changes.{IsChangeOf}
-use Rattle.papaya_change.specs.Changing.{HasChanged, IsCalling, hands_with}
+use Rattle.papaya_change.specs.Changing.{HasChanged, IsCalling, loaded_with}
 use Rattle.papaya_change.specs.Seeking.{Computes, IsInsertingAt, insertion_at, seeker_at}
 use Rattle.papaya_change.specs.Writing.{HasKeyAt}
-use Rattle.papaya_change.proofs.Changing.{barren, call_hands, call_rests, quiet, slot_table}
+use Rattle.papaya_change.proofs.Changing.{barren, call_loaded, call_relies, quiet, slot_table}
 use Rattle.papaya_change.proofs.Exchanging.{exchanged}
 use Rattle.papaya_change.proofs.Written.{own_query}
 
@@ -84,8 +84,8 @@ module _ {K V S H : Type 0} (eq : K → K → Bool) (input : K → List (List �
     pub met_placed : IsPlaced b (Some name) (names.Pair p)
     met_placed = subst (λ (o : Option (Stored K V)). IsPlaced b (Some name) (pair_named o)) last_is r.4.last_placed
 
-    may : MayRemove (setting_for eq hash b (eq key) h log) (coding_for hash b.hasher h) (exchanges_of begun) r.4.since (Some key) (hands_with r.2 None []).call (record { place = at; word = word })
-    may = ⊎_elim (λ none. absurd (let f = sym full ∙ ap (λ (z : ℕ). z == 0) none in cc f)) (λ o. o.1) r.4.rests.call.stage.old
+    may : MayRemove (setting_for eq hash b (eq key) h log) (coding_for hash b.hasher h) (exchanges_of begun) r.4.since (Some key) (loaded_with r.2 None []).call (record { place = at; word = word })
+    may = ⊎_elim (λ none. absurd (let f = sym full ∙ ap (λ (z : ℕ). z == 0) none in cc f)) (λ o. o.1) r.4.relies.call.stage.old
 
     met_is : may.pair ≡ p
     met_is = let both : Some may.pair ≡ Some p = sym may.last ∙ last_is in cc both
@@ -101,8 +101,8 @@ module _ {K V S H : Type 0} (eq : K → K → Bool) (input : K → List (List �
     pub met_number : p.index ≡ pair_of word
     met_number =
         let hashed = hashed_with eq input build write finish classes respects b (eq key) (input key) query log r.4.lawful in
-        let calls = r.4.rests.call in
-        let shown = machine_shows (setting_for eq hash b (eq key) h log) (coding_for hash b.hasher h) hashed (exchanges_of begun) r.4.since (Some key) (hands_with r.2 None []).call (seeker_at Computes h b.mode 1 (nothing_made b.limit) (Showing (record { place = at; word = word }))).call
+        let calls = r.4.relies.call in
+        let shown = machine_shows (setting_for eq hash b (eq key) h log) (coding_for hash b.hasher h) hashed (exchanges_of begun) r.4.since (Some key) (loaded_with r.2 None []).call (seeker_at Computes h b.mode 1 (nothing_made b.limit) (Showing (record { place = at; word = word }))).call
         (record { hash = calls.hash; mode = calls.mode; made = calls.made; stage = (tt, may) }) (pair_of word) refl in
         let both : Some shown.0 ≡ Some p = sym shown.1 ∙ last_is in
         let one : shown.0 ≡ p = cc both in
@@ -189,8 +189,8 @@ module _ {K V S H : Type 0} (eq : K → K → Bool) (input : K → List (List �
       pub put_can : pair_of new ≡ q.index → CanExchange eq hash b (Slot at.table at.probe.i) (Some steps.Replace) word new (Some q) (names.Pair q) log
       put_can number =
           subst (λ (z : Option StepKind). CanExchange eq hash b (Slot at.table at.probe.i) z word new (Some q) (names.Pair q) log) replaces
-          (can_put eq input build write finish classes respects b (eq key) (input key) query (Some key) (exchanges_of begun) log paired.lawful m.call (call_hands eq input build write finish classes respects b (eq key) (input key) query (Some key) name begun r.2 (q ∷ []))
-          (call_rests eq input build write finish classes respects b (eq key) (input key) query (Some key) name begun log m (Some lent) r.2 None (q ∷ []) None None None paired) at.table at.probe.i word new (let e = serves_there in cc e) (inr replaces) q
+          (can_put eq input build write finish classes respects b (eq key) (input key) query (Some key) (exchanges_of begun) log paired.lawful m.call (call_loaded eq input build write finish classes respects b (eq key) (input key) query (Some key) name begun r.2 (q ∷ []))
+          (call_relies eq input build write finish classes respects b (eq key) (input key) query (Some key) name begun log m (Some lent) r.2 None (q ∷ []) None None None paired) at.table at.probe.i word new (let e = serves_there in cc e) (inr replaces) q
           (λ claims. absurd (let f = sym replaces ∙ claims in cc f), λ it. subst (HasKeyAt log at.table at.probe.i) (sym key_is) met_key_there) number)
 
       -- its key is that of the slot still, where another pair was found there

@@ -19,12 +19,12 @@ use Rattle.papaya_chain.specs.declared.resizer.Resizer.{Resizer}
 use Rattle.papaya_chain.specs.declared.resizer.State.{State as Stage}
 use Rattle.papaya_chain.specs.declared.resizer.State.TheVariants.{Opening}
 use Rattle.papaya_chain.specs.Resizer.{after, after_in, begun, begun_in, reply_in}
-use Rattle.papaya_chain_rests.specs.Resizers.{IsStageTold, link_of}
-use Rattle.papaya_chain_rests.proofs.ResizerRests.{stage_begins}
+use Rattle.papaya_chain_law.specs.Resizers.{IsStageTold, link_of}
+use Rattle.papaya_chain_law.proofs.ResizerRelies.{stage_begins}
 use Rattle.papaya_law.specs.Exchange.{Exchange}
 use Rattle.papaya_law.specs.Exchange as law
-use Rattle.papaya_rests.specs.Copier.{HasWords}
-use Rattle.papaya_rests.specs.Rests.{IsModeOf}
+use Rattle.papaya_call_law.specs.Copier.{HasWords}
+use Rattle.papaya_call_law.specs.Relies.{IsModeOf}
 use Rattle.papaya_book.specs.declared.rule.entry.Begun.{Begun}
 use Rattle.papaya_book.specs.declared.rule.entry.Event.{Event}
 use Rattle.papaya_book.specs.declared.rule.entry.Event.TheVariants.{Stepped}
@@ -39,11 +39,11 @@ use Rattle.papaya_book.specs.Rule.{IsLawfulLog}
 use Rattle.papaya_book.specs.Sheets.{Sheet}
 use Rattle.papaya_book.proofs.Wishes.{call_wished}
 use Rattle.papaya_change.specs.declared.copier.Copier.{Copier}
-use Rattle.papaya_change.specs.Changing.{IsFresh, IsReadyAs, IsSizedBy, hands_with}
+use Rattle.papaya_change.specs.Changing.{IsFresh, IsReadyAs, IsSizedBy, loaded_with}
 use Rattle.papaya_change.specs.Copier.{tried_answer}
 use Rattle.papaya_change.specs.Resizing.{IsResizing}
 use Rattle.papaya_change.proofs.ResizingAnswers.{again}
-use Rattle.papaya_change.proofs.ResizingRests.{C, G, hash}
+use Rattle.papaya_change.proofs.ResizingRelies.{C, G, hash}
 use Rattle.papaya_change.proofs.ResizingRooms.{room_begins}
 use Rattle.papaya_change.proofs.ResizingStages.{IsMadeAt}
 
@@ -79,7 +79,7 @@ module _ {K V S H : Type 0} (eq : K → K → Bool) (input : K → List (List �
   pub begins : (log : List (Event K V S)) → IsLawfulLog eq hashing b log → (resize : Resize) (initial number : ℕ) (h : Copier K V S H) → h.last ≡ None → h.kept ≡ None → IsResizing eq hashing b name log (begun resize b.mode initial number) h
   begins log l resize initial number h none none' = record {
     lawful = l;
-    rests = record { mode = mode_is b.mode; cut = λ x. refl; stage = stage_begins (G eq input build write finish classes respects b log) (C eq input build write finish classes respects b) (state_of log) (hands_with h.last h.kept []) resize };
+    relies = record { mode = mode_is b.mode; cut = λ x. refl; stage = stage_begins (G eq input build write finish classes respects b log) (C eq input build write finish classes respects b) (state_of log) (loaded_with h.last h.kept []) resize };
     last_placed = subst (λ (o : Option (Stored K V)). Rattle.papaya_book.specs.Rule.IsPlaced b (Some name) (Rattle.papaya_book.specs.Logs.pair_named o)) (sym none) tt;
     kept_placed = subst (λ (o : Option (Stored K V)). Rattle.papaya_book.specs.Rule.IsPlaced b (Some name) (Rattle.papaya_book.specs.Logs.pair_named o)) (sym none') tt;
     opens = λ n e. absurd (opens_none resize n e);
@@ -100,8 +100,8 @@ module _ {K V S H : Type 0} (eq : K → K → Bool) (input : K → List (List �
     abbrev Cs : Rattle.papaya_law.specs.Code.Coding K (Stored K V)
     Cs = C eq input build write finish classes respects b
 
-    same : hands_with h'.last h'.kept [] ≡ hands_with h.last h.kept []
-    same = ap (λ (z : Copier K V S H). hands_with z.last z.kept []) rest
+    same : loaded_with h'.last h'.kept [] ≡ loaded_with h.last h.kept []
+    same = ap (λ (z : Copier K V S H). loaded_with z.last z.kept []) rest
 
     placed : Rattle.papaya_book.specs.Rule.IsPlaced b (Some name) (Rattle.papaya_book.specs.Logs.pair_named h'.last)
     placed = subst (λ (o : Option (Stored K V)). Rattle.papaya_book.specs.Rule.IsPlaced b (Some name) (Rattle.papaya_book.specs.Logs.pair_named o)) (sym (ap (λ (z : Copier K V S H). z.last) rest)) r.last_placed
@@ -117,15 +117,15 @@ module _ {K V S H : Type 0} (eq : K → K → Bool) (input : K → List (List �
         let by : e ≡ law.Open n = call_wished Root (table.index + 1) (state_of t.before) None e (Some kinds.Open) tt done.1.asked ∙ ap law.Open number in
         let pre : IsPrefix t.before log = (Stepped done.0 ∷ [], sym done.2) in
         let none : ((state_of t.before).root == 0) ≡ true = ap (λ (i : ℕ). i == 0) t.is ∙ it in
-        let told : IsStageTold Gs Cs (state_of t.before) (Opening n) (hands_with h.last h.kept []) (answers.Call Exchanged) (exchanges_of pre.0) (hands_with h'.last h'.kept []) = rw none (refl, ap (λ (x : Exchange (Stored K V)). x ∷ []) by, same) in
-        again eq input build write finish classes respects b name v m h r t.before t.since log t.now pre (answers.Call Exchanged) (λ e. subst (λ (s : Stage). HasWords Gs (link_of s)) (sym is) tt) h' tt (subst (λ (s : Stage). IsStageTold Gs Cs (state_of t.before) s (hands_with h.last h.kept []) (answers.Call Exchanged) (exchanges_of pre.0) (hands_with h'.last h'.kept [])) (sym is) told) placed placed'
+        let told : IsStageTold Gs Cs (state_of t.before) (Opening n) (loaded_with h.last h.kept []) (answers.Call Exchanged) (exchanges_of pre.0) (loaded_with h'.last h'.kept []) = rw none (refl, ap (λ (x : Exchange (Stored K V)). x ∷ []) by, same) in
+        again eq input build write finish classes respects b name v m h r t.before t.since log t.now pre (answers.Call Exchanged) (λ e. subst (λ (s : Stage). HasWords Gs (link_of s)) (sym is) tt) h' tt (subst (λ (s : Stage). IsStageTold Gs Cs (state_of t.before) s (loaded_with h.last h.kept []) (answers.Call Exchanged) (exchanges_of pre.0) (loaded_with h'.last h'.kept [])) (sym is) told) placed placed'
         (subst (λ (s : Stage). IsMadeAt (λ i. IsFresh b name log i h'.fresh) (IsReadyAs b name log h'.fresh) (after_in m.resize m.mode m.initial m.number (answers.Call Exchanged) s)) (sym is) tt) (λ slots limit f. absurd (cc f))
     opened false it =
         let still = subst After it t.after in
         let pre : IsPrefix t.before log = ([], append-nil t.before ∙ sym still) in
         let some : ((state_of t.before).root == 0) ≡ false = ap (λ (i : ℕ). i == 0) t.is ∙ it in
-        let told : IsStageTold Gs Cs (state_of t.before) (Opening n) (hands_with h.last h.kept []) (answers.Call (Found_instead found)) [] (hands_with h'.last h'.kept []) = rw some (ap (λ (i : ℕ). answers.Call (Found_instead i)) (sym t.is), (refl, same)) in
-        again eq input build write finish classes respects b name v m h r t.before t.since log t.now pre (answers.Call (Found_instead found)) (λ e. absurd (cc e)) h' tt (subst (λ (s : Stage). IsStageTold Gs Cs (state_of t.before) s (hands_with h.last h.kept []) (answers.Call (Found_instead found)) [] (hands_with h'.last h'.kept [])) (sym is) told) placed placed'
+        let told : IsStageTold Gs Cs (state_of t.before) (Opening n) (loaded_with h.last h.kept []) (answers.Call (Found_instead found)) [] (loaded_with h'.last h'.kept []) = rw some (ap (λ (i : ℕ). answers.Call (Found_instead i)) (sym t.is), (refl, same)) in
+        again eq input build write finish classes respects b name v m h r t.before t.since log t.now pre (answers.Call (Found_instead found)) (λ e. absurd (cc e)) h' tt (subst (λ (s : Stage). IsStageTold Gs Cs (state_of t.before) s (loaded_with h.last h.kept []) (answers.Call (Found_instead found)) [] (loaded_with h'.last h'.kept [])) (sym is) told) placed placed'
         (subst (λ (s : Stage). IsMadeAt (λ i. IsFresh b name log i h'.fresh) (IsReadyAs b name log h'.fresh) (after_in m.resize m.mode m.initial m.number (answers.Call (Found_instead found)) s)) (sym is) tt) (λ slots limit f. absurd (cc f))
 
     pub tried : IsResizing eq hashing b name log (after m (tried_answer found 0)) h'

@@ -19,13 +19,13 @@ use Rattle.papaya_chain.specs.declared.resizer.State.TheVariants.{AtRoot, Making
 use Rattle.papaya_chain.specs.Machine as machine
 use Rattle.papaya_chain.specs.Resizer.{after_in, at_count, at_last, at_next, at_root, begun_in, called, copied, copies, counted, judges, linked, makes, over, told_root}
 use Rattle.papaya_chain.specs.Room.{entries_of, room_of, room_of_len}
-use Rattle.papaya_book.specs.declared.rule.own.Given.{Given}
-use Rattle.papaya_book.specs.declared.rule.own.Given.TheVariants.{Sum}
+use Rattle.papaya_book.specs.declared.rule.own.CapacityCause.{CapacityCause}
+use Rattle.papaya_book.specs.declared.rule.own.CapacityCause.TheVariants.{Sum}
 use Rattle.papaya_book.specs.Logs.{Member}
 use Rattle.papaya_change.specs.Helping.{IsGivenBy}
 use Rattle.papaya_change.specs.Resizing.{IsRoomIn, IsWantedBy}
 
-module _ (tables : List ℕ) (given : List Given) where
+module _ (tables : List ℕ) (given : List CapacityCause) where
   abbrev In : Resize → Stage → Type 0
   In resize stage = IsRoomIn resize tables given stage
 
@@ -117,17 +117,17 @@ module _ (tables : List ℕ) (given : List Given) where
   room_in resize mode initial number answer (Ended_refused refused) by size h = called_in resize mode (Ended_refused refused) answer by size h
 
 -- what one that has not ended knows is so of more tables too, whatever was given since
-room_since : (resize : Resize) (tables tables' : List ℕ) (given given' : List Given) → ((len : ℕ) → Member len tables → Member len tables') → (stage : Stage) → (stage ≡ Done → ⊥) → IsRoomIn resize tables given stage → IsRoomIn resize tables' given' stage
+room_since : (resize : Resize) (tables tables' : List ℕ) (given given' : List CapacityCause) → ((len : ℕ) → Member len tables → Member len tables') → (stage : Stage) → (stage ≡ Done → ⊥) → IsRoomIn resize tables given stage → IsRoomIn resize tables' given' stage
 room_since resize tables tables' given given' more (Counting root len) on h = more len h
 room_since resize tables tables' given given' more (Looking root len room) on h = h
 room_since resize tables tables' given given' more Done on h = absurd (on refl)
 room_since resize tables tables' given given' more other on h = tt
 
-pub room_after : (resize : Resize) (mode : ResizeMode) (initial number : ℕ) (answer : Answer) (tables tables' : List ℕ) (given given' : List Given) → ((len : ℕ) → Member len tables → Member len tables') → (stage : Stage) → (stage ≡ Done → ⊥) → IsGivenBy answer given' → ((slots limit : ℕ) → answer ≡ answers.Call (Size slots limit) → Member slots tables') → IsRoomIn resize tables given stage → IsRoomIn resize tables' given' (after_in resize mode initial number answer stage)
+pub room_after : (resize : Resize) (mode : ResizeMode) (initial number : ℕ) (answer : Answer) (tables tables' : List ℕ) (given given' : List CapacityCause) → ((len : ℕ) → Member len tables → Member len tables') → (stage : Stage) → (stage ≡ Done → ⊥) → IsGivenBy answer given' → ((slots limit : ℕ) → answer ≡ answers.Call (Size slots limit) → Member slots tables') → IsRoomIn resize tables given stage → IsRoomIn resize tables' given' (after_in resize mode initial number answer stage)
 room_after resize mode initial number answer tables tables' given given' more stage on by size h = room_in tables' given' resize mode initial number answer stage by size (room_since resize tables tables' given given' more stage on h)
 
 -- one that begins has found nothing
-pub room_begins : (resize : Resize) (tables : List ℕ) (given : List Given) → IsRoomIn resize tables given (begun_in resize)
+pub room_begins : (resize : Resize) (tables : List ℕ) (given : List CapacityCause) → IsRoomIn resize tables given (begun_in resize)
 room_begins Chunk tables given = tt
 room_begins CopyAll tables given = tt
 room_begins (Reserve more) tables given = tt

@@ -34,13 +34,13 @@ use Rattle.papaya_chain.specs.declared.resizer.State.TheVariants.{AtRoot, Making
 use Rattle.papaya_chain.specs.Machine as machine
 use Rattle.papaya_chain.specs.Resizer.{IsStandingIn, after_in, asks_in, at_count, at_last, at_next, at_root, called, copied, copies, counted, judges, kind_in, linked, makes, over, told_root}
 use Rattle.papaya_chain.specs.Room.{room_of}
-use Rattle.papaya_rests.specs.Copier.{link_in_copying}
-use Rattle.papaya_chain_rests.proofs.CopyStanding.{copying_fits, link_fits}
-use Rattle.papaya_chain_rests.proofs.LinkMade as made
-use Rattle.papaya_chain_rests.proofs.LinkMade.{IsMadeLink, copying_asks, link_asks, machine_linking}
-use Rattle.papaya_chain_rests.proofs.LinkStates as states
-use Rattle.papaya_chain_rests.proofs.LinkStates.{Copied_holds, In, IsStable, Linked_in, Of}
-use Rattle.papaya_chain_rests.specs.Resizers.{link_of}
+use Rattle.papaya_call_law.specs.Copier.{link_in_copying}
+use Rattle.papaya_chain_law.proofs.CopyStanding.{copying_fits, link_fits}
+use Rattle.papaya_chain_law.proofs.LinkMade as made
+use Rattle.papaya_chain_law.proofs.LinkMade.{IsMadeLink, copying_asks, link_asks, machine_linking}
+use Rattle.papaya_chain_law.proofs.LinkStates as states
+use Rattle.papaya_chain_law.proofs.LinkStates.{Copied_holds, In, IsStable, Linked_in, Of}
+use Rattle.papaya_chain_law.specs.Resizers.{link_of}
 
 module _ (Opened : ℕ → Type 0) (Holds : Link → Type 0) (Told New : Link → ℕ → Type 0) (stable : IsStable Holds Told New) (making : (behind slots limit chunks : ℕ) → Holds (links.Making behind slots limit chunks)) where
   -- of the table that is about to be opened, and of the making of a table

@@ -13,9 +13,9 @@ use Rattle.papaya_ask.specs.declared.ask.At.TheVariants.{Root, Slot}
 use Rattle.papaya_ask.specs.declared.search.Place.{Place}
 use Rattle.papaya_ask.specs.declared.search.Search.{Search}
 use Rattle.papaya_ask.specs.declared.search.Search.TheVariants.{Sizing, Looking, Reading, Comparing}
-use Rattle.papaya_ask.specs.declared.search.Seen.{Seen}
-use Rattle.papaya_ask.specs.declared.search.Seen.TheVariants.{On, Over, Empty as Seen_empty, Here}
-use Rattle.papaya_ask.specs.Search.{IsSeen, IsWithin, at_yes, first_place, go_on, hinted, look, look_at, match_at, next_place}
+use Rattle.papaya_ask.specs.declared.search.Probed.{Probed}
+use Rattle.papaya_ask.specs.declared.search.Probed.TheVariants.{On, Over, Empty as Seen_empty, Here}
+use Rattle.papaya_ask.specs.Search.{IsProbed, IsWithin, at_yes, first_place, go_on, hinted, look, look_at, match_at, next_place}
 use Rattle.papaya_call.specs.declared.machine.State.{State}
 use Rattle.papaya_call.specs.declared.machine.State.TheVariants.{Searching}
 use Rattle.papaya_call.specs.Compute.{nothing}
@@ -23,8 +23,8 @@ use Rattle.papaya_call.specs.Made.{nothing_made}
 use Rattle.papaya_call.specs.Machine.{at_root, computes, goes_as, replaces}
 use Rattle.papaya_chain.specs.Machine.{started}
 use Rattle.papaya_law.specs.Invariant.{named}
-use Rattle.papaya_rests.specs.Told.{or_last}
-use Rattle.papaya_rests.proofs.LoadsLeft.{chosen}
+use Rattle.papaya_call_law.specs.Told.{or_last}
+use Rattle.papaya_call_law.proofs.LoadsLeft.{chosen}
 use Rattle.papaya_book.specs.declared.rule.entry.Begun.{Begun}
 use Rattle.papaya_book.specs.declared.rule.entry.Event.{Event}
 use Rattle.papaya_book.specs.declared.rule.entry.Named.{Named}
@@ -42,12 +42,12 @@ use Rattle.papaya_lookup.proofs.Readings.{IsQuery}
 use Rattle.papaya_lookup.proofs.Turning.{compared_look, read_hinted}
 use Rattle.papaya_change.specs.Changing.{IsCalling}
 use Rattle.papaya_change.specs.Seeking.{IsSeekingAt, Seeker, Inserts, Computes, at_live, leads, left_at, left_to, met_by, seeker_at, task_of, turn_of}
-use Rattle.papaya_change.specs.declared.at_once.Turn.TheVariants.{Empty, Next, Over as OverTable}
+use Rattle.papaya_change.specs.declared.fast_path.Turn.TheVariants.{Empty, Next, Over as OverTable}
 use Rattle.papaya_change.proofs.Changing.{begins, compared, hint_table, hinted as hint_loaded, loads, sized, slot_table}
 use Rattle.papaya_change.proofs.Written.{own_query}
 
 -- where a search leads a call that saw this
-abbrev pub led_by : Seeker → ResizeMode → Seen → State
+abbrev pub led_by : Seeker → ResizeMode → Probed → State
 led_by who mode seen = goes_as (task_of who) mode nothing seen
 
 -- it looks at a root that there is
@@ -66,7 +66,7 @@ live_met who mode at word same is_same live =
     by_who Computes = ap (λ (z : Kind). computes z nothing at word) live
 
 module _ (K V : Type 0) where
-  abbrev Left : Seen → ℕ
+  abbrev Left : Probed → ℕ
   Left seen = left_to {K = K} {V = V} (turn_of seen)
 
   -- each turn leaves fewer places
@@ -84,7 +84,7 @@ module _ (K V : Type 0) where
   fewer_at kinds.Live at word low = fewer_none at low
   fewer_at kinds.Marked at word low = fewer_none at low
   fewer_at kinds.Copied at word low = fewer_none at low
-  fewer_at kinds.Buried at word low = fewer_on at low
+  fewer_at kinds.Tombstone at word low = fewer_on at low
   fewer_at kinds.Closed at word low = fewer_on at low
 
   pub fewer_look : (at : Place) (word : ℕ) → at.probe.len ≤ at.limit → Left (look at word) < left_at at
@@ -95,7 +95,7 @@ module _ (K V : Type 0) where
   fewer_match kinds.Live at word low = fewer_none at low
   fewer_match kinds.Marked at word low = fewer_none at low
   fewer_match kinds.Copied at word low = fewer_none at low
-  fewer_match kinds.Buried at word low = fewer_none at low
+  fewer_match kinds.Tombstone at word low = fewer_none at low
   fewer_match kinds.Closed at word low = fewer_none at low
 
   pub fewer_yes : (at : Place) (word : ℕ) (same : Bool) → at.probe.len ≤ at.limit → Left (at_yes (Comparing at word) same) < left_at at
@@ -103,16 +103,16 @@ module _ (K V : Type 0) where
   fewer_yes at word false low = fewer_on at low
 
   -- a place that is looked at next is one of the search
-  within_on : (goes : Search) → IsSeen (On goes) → (next : Place) → turn_of {K = K} {V = V} (On goes) ≡ Next next → IsWithin next
+  within_on : (goes : Search) → IsProbed (On goes) → (next : Place) → turn_of {K = K} {V = V} (On goes) ≡ Next next → IsWithin next
   within_on (Looking at) seen next e = let is : at ≡ next = cc e in subst IsWithin is seen
   within_on goes seen next e = absurd (cc e)
 
-  pub within_next : (seen : Seen) → IsSeen seen → (next : Place) → turn_of {K = K} {V = V} seen ≡ Next next → IsWithin next
+  pub within_next : (seen : Probed) → IsProbed seen → (next : Place) → turn_of {K = K} {V = V} seen ≡ Next next → IsWithin next
   within_next (On goes) is next e = within_on goes is next e
   within_next seen is next e = absurd (cc e)
 
   -- a place that is looked at next is of the same table
-  abbrev StaysIn : Place → Seen → Type 0
+  abbrev StaysIn : Place → Probed → Type 0
   StaysIn at seen = (next : Place) → turn_of {K = K} {V = V} seen ≡ Next next → next ≡ record at { probe = next.probe }
 
   stays_on : (at : Place) → StaysIn at (go_on at)
@@ -122,7 +122,7 @@ module _ (K V : Type 0) where
   stays_hinted at hash hint = chosen (StaysIn at) (may_hold hint hash) (On (Reading at)) (go_on at) (λ _ next e. absurd (cc e)) (λ _. stays_on at)
 
   stays_at : (kind : Kind) (at : Place) (word : ℕ) → StaysIn at (look_at kind at word)
-  stays_at kinds.Buried at word = stays_on at
+  stays_at kinds.Tombstone at word = stays_on at
   stays_at kinds.Closed at word = stays_on at
   stays_at kind at word = λ next e. absurd (cc e)
 
@@ -150,7 +150,7 @@ module _ (K V : Type 0) where
   led_over Inserts mode table state e = cc e
   led_over Computes mode table state e = absurd (cc e)
 
-  pub led_so : (who : Seeker) (mode : ResizeMode) (seen : Seen) (state : State) → leads who (turn_of {K = K} {V = V} seen) ≡ Some state → led_by who mode seen ≡ state
+  pub led_so : (who : Seeker) (mode : ResizeMode) (seen : Probed) (state : State) → leads who (turn_of {K = K} {V = V} seen) ≡ Some state → led_by who mode seen ≡ state
   led_so who mode (On goes) state e = led_on who mode goes state e
   led_so who mode (Seen_empty at) state e = led_empty who mode at state e
   led_so who mode (Over table) state e = led_over who mode table state e
@@ -160,7 +160,7 @@ module _ (K V : Type 0) where
   none_on (Looking at) = refl
   none_on goes = refl
 
-  pub none_met : (seen : Seen) → met_by (turn_of {K = K} {V = V} seen) ≡ None
+  pub none_met : (seen : Probed) → met_by (turn_of {K = K} {V = V} seen) ≡ None
   none_met (On goes) = none_on goes
   none_met (Seen_empty at) = refl
   none_met seen = refl
@@ -195,9 +195,9 @@ module _ {K V S H : Type 0} (eq : K → K → Bool) (input : K → List (List �
   root_found log pre lawful word root lent some is slots limit slots_is limit_is =
       let found : IsRoot eq hash b name word log (Some lent) = subst (IsRoot eq hash b name word log) some is in
       let first = begins eq hash b name (eq key) h (Some key) refl begun lawful (task_of who) 1 in
-      let loaded = loads eq input build write finish classes respects b (eq key) (input key) query (Some key) name begun begun log pre found.lawful (started (task_of who) h b.mode 1 0 b.limit) None None None [] None None None first Root word (Some lent) None refl (Some lent, found, refl, refl) in
+      let as_loaded = loads eq input build write finish classes respects b (eq key) (input key) query (Some key) name begun begun log pre found.lawful (started (task_of who) h b.mode 1 0 b.limit) None None None [] None None None first Root word (Some lent) None refl (Some lent, found, refl, refl) in
       let by = (table_came (steps_of log) word found.names.0.0 found.names.0.1).1 in
-      let sizing : Under log (Searching (Sizing word)) (Some lent) None = subst (λ (z : State). Under log z (Some lent) None) (sized_at who word (ne_eqb word 0 (λ z. omega (arith, by, z)))) loaded in
+      let sizing : Under log (Searching (Sizing word)) (Some lent) None = subst (λ (z : State). Under log z (Some lent) None) (sized_at who word (ne_eqb word 0 (λ z. omega (arith, by, z)))) as_loaded in
       (lent, refl, None, unmet None, sized eq input build write finish classes respects b (eq key) (input key) query (Some key) name begun log (seeker_at who h b.mode 1 (nothing_made b.limit) (Searching (Sizing word))) (Some lent) None None [] None None None sizing word lent refl slots limit slots_is limit_is refl)
 
   -- the table has a place whose hint is loaded
@@ -207,7 +207,7 @@ module _ {K V S H : Type 0} (eq : K → K → Bool) (input : K → List (List �
       (hint_table eq input build write finish classes respects b (eq key) (input key) query (Some key) name begun log (seeker_at who h b.mode 1 (nothing_made b.limit) (Searching (Looking at))) (Some lent) last None [] None None None r at.table at.probe.i (inl refl))
 
   -- where a turn met no pair, it leads the machine on as the search does
-  pub turned : (log : List (Event K V S)) (seen : Seen) (table : Sheet) → At log (led_by who b.mode seen) None table → (state : State) → leads who (turn_of {K = K} {V = V} seen) ≡ Some state → At log state (met_by (turn_of {K = K} {V = V} seen)) table
+  pub turned : (log : List (Event K V S)) (seen : Probed) (table : Sheet) → At log (led_by who b.mode seen) None table → (state : State) → leads who (turn_of {K = K} {V = V} seen) ≡ Some state → At log state (met_by (turn_of {K = K} {V = V} seen)) table
   turned log seen table r state e =
       subst (λ (o : Option (Stored K V)). At log state o table) (sym (none_met K V seen)) (subst (λ (s : State). At log s None table) (led_so K V who b.mode seen state e) r)
 
@@ -220,7 +220,7 @@ module _ {K V S H : Type 0} (eq : K → K → Bool) (input : K → List (List �
 
     -- its word is loaded next, where the hint says nothing or is the key's
     pub word_next : (a : Place) → hinted at n hint ≡ On (Reading a) → At log' (Searching (Reading at)) None table
-    word_next a e = subst (λ (s : Seen). At log' (led_by who b.mode s) None table) (read_hinted at n hint a e) hint_seen
+    word_next a e = subst (λ (s : Probed). At log' (led_by who b.mode s) None table) (read_hinted at n hint a e) hint_seen
 
   -- the table has a place whose word is loaded
   pub place_there : (log : List (Event K V S)) (at : Place) (table : Sheet) → At log (Searching (Reading at)) None table → IsTable log at.table table × (at.probe.i < length table.slots)
@@ -233,13 +233,13 @@ module _ {K V S H : Type 0} (eq : K → K → Bool) (input : K → List (List �
     abbrev there : Option (Stored K V)
     there = named ((state_of log').slot at.table at.probe.i)
 
-    loaded : Under log' (led_by who b.mode (look at word)) (Some r.0) (or_last there r.2)
-    loaded =
+    as_loaded : Under log' (led_by who b.mode (look at word)) (Some r.0) (or_last there r.2)
+    as_loaded =
         loads eq input build write finish classes respects b (eq key) (input key) query (Some key) name begun log log' pre told.read.lawful (seeker_at who h b.mode 1 (nothing_made b.limit) (Searching (Reading at))) (Some r.0) r.2 None [] None None None r.4 (Slot at.table at.probe.i) word (Some r.0) (or_last there r.2) refl
         (there, record { lawful = told.read.lawful; is = told.read.is; names = refl; placed = told.placed }, refl, refl)
 
     pub looked : At log' (led_by who b.mode (look at word)) None table
-    looked = (r.0, r.1, or_last there r.2, unmet (or_last there r.2), loaded)
+    looked = (r.0, r.1, or_last there r.2, unmet (or_last there r.2), as_loaded)
 
     -- a key is compared
     module _ (a : Place) (w : ℕ) (e : look at word ≡ On (Comparing a w)) where
@@ -259,7 +259,7 @@ module _ {K V S H : Type 0} (eq : K → K → Bool) (input : K → List (List �
           matched_under =
               let to = (compared_look (kind_of word) at word a w e).is in
               let last : or_last there r.2 ≡ Some p = ap (λ (o : Option (Stored K V)). or_last o r.2) stands in
-              let comparing : Under log' (Searching (Comparing at word)) (Some r.0) (Some p) = subst (λ (z : Seen × Option (Stored K V)). Under log' (led_by who b.mode z.0) (Some r.0) z.1) (λ i. (to i, last i)) loaded in
+              let comparing : Under log' (Searching (Comparing at word)) (Some r.0) (Some p) = subst (λ (z : Probed × Option (Stored K V)). Under log' (led_by who b.mode z.0) (Some r.0) z.1) (λ i. (to i, last i)) as_loaded in
               compared eq input build write finish classes respects b (eq key) (input key) query (Some key) name begun log' (seeker_at who h b.mode 1 (nothing_made b.limit) (Searching (Comparing at word))) (Some r.0) (Some p) None [] None None None comparing (pair_of word) same
               (λ q f. let one : p ≡ q = cc f in same_is ∙ ap (λ (z : Stored K V). eq key (key_of z)) one) refl
 

@@ -22,7 +22,7 @@ use Rattle.papaya_change.specs.declared.settling.Halt.{Halt}
 use Rattle.papaya_change.specs.declared.settling.Site.{Site}
 use Rattle.papaya_change.specs.Copier.{IsReached}
 use Rattle.papaya_change.specs.Seeking.{left_at}
-use Rattle.papaya_change.specs.Settles.{CanLead, IsPlacedAt, LeavesFrom, stop_at}
+use Rattle.papaya_change.specs.Window.Settling.{CanLead, IsPlacedAt, LeavesFrom, stop_at}
 use Rattle.papaya_change.specs.Settling.{AnswersAt, CanAnswerAt, Ends, IsTurn, Leads, LeavesSlot, Stop, at_slot, past_slot}
 use Rattle.papaya_change.proofs.Copiers.{reached_low}
 use Rattle.papaya_change.proofs.SettlingTurns.{can_later, can_then, ends_here, leads_none, leads_one, leads_then, leaves_then}
@@ -52,7 +52,7 @@ module _ {K V S H : Type 0} {d : keyed.Ghosts S K H} (w : Window K V S H d) wher
   module _ (w' : Window K V S H d) where
     -- by what is seen later too
     pub placed_on : Sees w w' → (site : Site K V S H) → IsPlacedAt w site → IsPlacedAt w' site
-    placed_on sees site placed = record { table = table_since w.sight.log w'.sight.log site.chunk.scan.from site.table.now sees.log placed.table; standing = placed.standing }
+    placed_on sees site placed = record { table = table_since w.sight.log w'.sight.log site.chunk.cursor.from site.table.now sees.log placed.table; standing = placed.standing }
 
     module _ (same : w'.book ≡ w.book) where
       pub turn_on : (mode : ResizeMode) (s t : Stop K V S H) → TurnsBy mode s t → IsTurn d.keys.eq d.keys.hash (begun_of w'.book.now.parts) w'.book.now.begun.book mode s t
@@ -75,14 +75,14 @@ module _ {K V S H : Type 0} {d : keyed.Ghosts S K H} (w : Window K V S H d) wher
       leaves_on site s t h halt turn left = leaves_then d.keys.eq d.keys.hash (begun_of w'.book.now.parts) w'.book.now.begun.book site.mode site.aim site.chunk s t w'.sight.log h halt (turn_on site.mode s t turn) left
 
       -- the slot is settled by an answer
-      pub settled_on : (site : Site K V S H) (s : Stop K V S H) (h : Copier K V S H) → TurnsBy site.mode s (record { copying = past_slot site.aim site.chunk; log = w'.sight.log; hands = h }) → LeavesFrom s w' site h None
-      settled_on site s h turn = leads_one d.keys.eq d.keys.hash (begun_of w'.book.now.parts) w'.book.now.begun.book site.mode s (record { copying = past_slot site.aim site.chunk; log = w'.sight.log; hands = h }) (turn_on site.mode s (record { copying = past_slot site.aim site.chunk; log = w'.sight.log; hands = h }) turn)
+      pub settled_on : (site : Site K V S H) (s : Stop K V S H) (h : Copier K V S H) → TurnsBy site.mode s (record { copying = past_slot site.aim site.chunk; log = w'.sight.log; loaded = h }) → LeavesFrom s w' site h None
+      settled_on site s h turn = leads_one d.keys.eq d.keys.hash (begun_of w'.book.now.parts) w'.book.now.begun.book site.mode s (record { copying = past_slot site.aim site.chunk; log = w'.sight.log; loaded = h }) (turn_on site.mode s (record { copying = past_slot site.aim site.chunk; log = w'.sight.log; loaded = h }) turn)
 
       -- or its copy is left by one
       pub left_on : (site : Site K V S H) (settle : Settle) (log : List (Event K V S)) (h h' : Copier K V S H) (answer : Answer) → IsPrefix log w'.sight.log
-          → AnswersAt d.keys.eq d.keys.hash (begun_of w.book.now.parts) w.book.now.begun.book site.mode (record { copying = at_slot site.aim site.chunk settle; log = log; hands = h }) w'.sight.log h' answer → IsStandingCopying (at_slot site.aim site.chunk settle) → IsFit answer
-          → LeavesFrom (record { copying = at_slot site.aim site.chunk settle; log = log; hands = h }) w' site h' (Some (record { settle = settle; answer = answer }))
+          → AnswersAt d.keys.eq d.keys.hash (begun_of w.book.now.parts) w.book.now.begun.book site.mode (record { copying = at_slot site.aim site.chunk settle; log = log; loaded = h }) w'.sight.log h' answer → IsStandingCopying (at_slot site.aim site.chunk settle) → IsFit answer
+          → LeavesFrom (record { copying = at_slot site.aim site.chunk settle; log = log; loaded = h }) w' site h' (Some (record { settle = settle; answer = answer }))
       left_on site settle log h h' answer pre answers standing fit =
-          let s : Stop K V S H = record { copying = at_slot site.aim site.chunk settle; log = log; hands = h } in
+          let s : Stop K V S H = record { copying = at_slot site.aim site.chunk settle; log = log; loaded = h } in
           ends_here d.keys.eq d.keys.hash (begun_of w'.book.now.parts) w'.book.now.begun.book site.mode s w'.sight.log h' answer pre
           (subst (λ (z : _). AnswersAt d.keys.eq d.keys.hash (begun_of z.now.parts) z.now.begun.book site.mode s w'.sight.log h' answer) (sym same) answers) standing fit

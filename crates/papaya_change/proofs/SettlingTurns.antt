@@ -14,7 +14,7 @@ use Rattle.papaya_ask.specs.declared.ask.StepKind.{StepKind}
 use Rattle.papaya_ask.specs.declared.ask.StepKind.TheVariants as kinds
 use Rattle.papaya_ask.specs.declared.search.Place.{Place}
 use Rattle.papaya_ask.specs.declared.search.Search.TheVariants as seeking
-use Rattle.papaya_ask.specs.declared.search.Seen.TheVariants as seen
+use Rattle.papaya_ask.specs.declared.search.Probed.TheVariants as seen
 use Rattle.papaya_ask.specs.Search.{IsWithin, first_place, next_place}
 use Rattle.papaya_ask.specs.Search as searches
 use Rattle.papaya_copy.specs.declared.carry.Carried.{Carried}
@@ -76,18 +76,18 @@ module _ {K V S H : Type 0} (eq : K → K → Bool) (hash : S → K → ℕ) (b 
     pub ends_then : (s t s' : Stop K V S H) (answer : Answer) → Leads eq hash b name mode s t → Ends eq hash b name mode t s' answer → Ends eq hash b name mode s s' answer
     ends_then s t s' answer l e = record {
       log = e.log;
-      hands = e.hands;
-      leads = leads_then s t (record { copying = s'.copying; log = e.log; hands = e.hands }) l e.leads;
+      loaded = e.loaded;
+      leads = leads_then s t (record { copying = s'.copying; log = e.log; loaded = e.loaded }) l e.leads;
       since = e.since;
       answers = e.answers;
       standing = e.standing;
       fit = e.fit;
     }
 
-    pub ends_here : (s : Stop K V S H) (log : List (Event K V S)) (h : Copier K V S H) (answer : Answer) → IsPrefix s.log log → AnswersAt eq hash b name mode s log h answer → IsStandingCopying s.copying → IsFit answer → Ends eq hash b name mode s (record { copying = s.copying; log = log; hands = h }) answer
+    pub ends_here : (s : Stop K V S H) (log : List (Event K V S)) (h : Copier K V S H) (answer : Answer) → IsPrefix s.log log → AnswersAt eq hash b name mode s log h answer → IsStandingCopying s.copying → IsFit answer → Ends eq hash b name mode s (record { copying = s.copying; log = log; loaded = h }) answer
     ends_here s log h answer since answers standing fit = record {
       log = s.log;
-      hands = s.hands;
+      loaded = s.loaded;
       leads = leads_none s;
       since = since;
       answers = answers;
@@ -97,12 +97,12 @@ module _ {K V S H : Type 0} (eq : K → K → Bool) (hash : S → K → ℕ) (b 
 
     -- the copy of a slot goes on from where an answer led it
     pub leaves_then : (aim : Aim) (chunk : Chunk) (s t : Stop K V S H) (log : List (Event K V S)) (h : Copier K V S H) (halt : Option Halt) → IsTurn eq hash b name mode s t → LeavesSlot eq hash b name mode aim chunk t log h halt → LeavesSlot eq hash b name mode aim chunk s log h halt
-    leaves_then aim chunk s t log h None turn l = leads_then s t (record { copying = past_slot aim chunk; log = log; hands = h }) (leads_one s t turn) l
-    leaves_then aim chunk s t log h (Some halt) turn e = ends_then s t (record { copying = at_slot aim chunk halt.settle; log = log; hands = h }) halt.answer (leads_one s t turn) e
+    leaves_then aim chunk s t log h None turn l = leads_then s t (record { copying = past_slot aim chunk; log = log; loaded = h }) (leads_one s t turn) l
+    leaves_then aim chunk s t log h (Some halt) turn e = ends_then s t (record { copying = at_slot aim chunk halt.settle; log = log; loaded = h }) halt.answer (leads_one s t turn) e
 
     pub leaves_led : (aim : Aim) (chunk : Chunk) (s t : Stop K V S H) (log : List (Event K V S)) (h : Copier K V S H) (halt : Option Halt) → Leads eq hash b name mode s t → LeavesSlot eq hash b name mode aim chunk t log h halt → LeavesSlot eq hash b name mode aim chunk s log h halt
-    leaves_led aim chunk s t log h None led l = leads_then s t (record { copying = past_slot aim chunk; log = log; hands = h }) led l
-    leaves_led aim chunk s t log h (Some halt) led e = ends_then s t (record { copying = at_slot aim chunk halt.settle; log = log; hands = h }) halt.answer led e
+    leaves_led aim chunk s t log h None led l = leads_then s t (record { copying = past_slot aim chunk; log = log; loaded = h }) led l
+    leaves_led aim chunk s t log h (Some halt) led e = ends_then s t (record { copying = at_slot aim chunk halt.settle; log = log; loaded = h }) halt.answer led e
 
   -- an exchange of a slot was won, or lost
   module _ (t x : ℕ) (kind : Option StepKind) (old new : ℕ) (log : List (Event K V S)) (h : Copier K V S H) (log' : List (Event K V S)) (h' : Copier K V S H) (found : ℕ) (tried : HasTried eq hash b name (Slot t x) kind (old, new) h.kept h.fresh log h.last found log' h'.last) (rest : h' ≡ record h { last = h'.last }) where
@@ -126,7 +126,7 @@ module _ {K V S H : Type 0} (eq : K → K → Bool) (hash : S → K → ℕ) (b 
         subst (AnswersExchange eq hash b name (Slot t x) kind old new log h log' h') (ap (λ (z : Bool). if z then Call Exchanged else Call (Found found)) same) told
 
 -- a slot of the chunk that is settled leads past it
-past_by : (aim : Aim) (chunk : Chunk) (mode : ResizeMode) (z : Bool) → leads aim mode (if z then Step_on (Settling (next_slot chunk) Looking) else Step_on (Advancing chunk.scan)) ≡ On (if z then at_slot aim (next_slot chunk) Looking else Stepping aim (Advancing chunk.scan))
+past_by : (aim : Aim) (chunk : Chunk) (mode : ResizeMode) (z : Bool) → leads aim mode (if z then Step_on (Settling (next_slot chunk) Looking) else Step_on (Advancing chunk.cursor)) ≡ On (if z then at_slot aim (next_slot chunk) Looking else Stepping aim (Advancing chunk.cursor))
 past_by aim chunk mode true = refl
 past_by aim chunk mode false = refl
 
@@ -136,16 +136,16 @@ past_on aim chunk mode = past_by aim chunk mode (nat_lt (chunk.at + 1) chunk.end
 pub past_standing : (aim : Aim) (chunk : Chunk) → IsStandingChunk chunk → IsStandingCopying (past_slot aim chunk)
 past_standing aim chunk standing = by_next (nat_lt (chunk.at + 1) chunk.end) refl
   where
-    by_next : (z : Bool) → nat_lt (chunk.at + 1) chunk.end ≡ z → IsStandingCopying (if z then at_slot aim (next_slot chunk) Looking else Stepping aim (Advancing chunk.scan))
-    by_next true is = (record { scan = standing.scan; at = ltb-true (chunk.at + 1) chunk.end is; within = standing.within }, tt)
-    by_next false is = standing.scan
+    by_next : (z : Bool) → nat_lt (chunk.at + 1) chunk.end ≡ z → IsStandingCopying (if z then at_slot aim (next_slot chunk) Looking else Stepping aim (Advancing chunk.cursor))
+    by_next true is = (record { cursor = standing.cursor; at = ltb-true (chunk.at + 1) chunk.end is; within = standing.within }, tt)
+    by_next false is = standing.cursor
 
 -- which is the next slot, or the end of the chunk
 pub past_next : (aim : Aim) (chunk : Chunk) → chunk.at + 1 < chunk.end → past_slot aim chunk ≡ at_slot aim (next_slot chunk) Looking
-past_next aim chunk more = ap (λ (z : Bool). if z then at_slot aim (next_slot chunk) Looking else Stepping aim (Advancing chunk.scan)) (lt-ltb (chunk.at + 1) chunk.end more)
+past_next aim chunk more = ap (λ (z : Bool). if z then at_slot aim (next_slot chunk) Looking else Stepping aim (Advancing chunk.cursor)) (lt-ltb (chunk.at + 1) chunk.end more)
 
-pub past_last : (aim : Aim) (chunk : Chunk) → (chunk.at + 1 < chunk.end → ⊥) → past_slot aim chunk ≡ Stepping aim (Advancing chunk.scan)
-past_last aim chunk none = ap (λ (z : Bool). if z then at_slot aim (next_slot chunk) Looking else Stepping aim (Advancing chunk.scan)) (not_below (nat_lt (chunk.at + 1) chunk.end) refl)
+pub past_last : (aim : Aim) (chunk : Chunk) → (chunk.at + 1 < chunk.end → ⊥) → past_slot aim chunk ≡ Stepping aim (Advancing chunk.cursor)
+past_last aim chunk none = ap (λ (z : Bool). if z then at_slot aim (next_slot chunk) Looking else Stepping aim (Advancing chunk.cursor)) (not_below (nat_lt (chunk.at + 1) chunk.end) refl)
   where
     not_below : (z : Bool) → nat_lt (chunk.at + 1) chunk.end ≡ z → nat_lt (chunk.at + 1) chunk.end ≡ false
     not_below true is = absurd (none (ltb-true (chunk.at + 1) chunk.end is))
@@ -176,19 +176,19 @@ looked_past word_kinds.Empty slot word empty live marked = absurd (empty refl)
 looked_past word_kinds.Live slot word empty live marked = absurd (live refl)
 looked_past word_kinds.Marked slot word empty live marked = absurd (marked refl)
 looked_past word_kinds.Copied slot word empty live marked = refl
-looked_past word_kinds.Buried slot word empty live marked = refl
+looked_past word_kinds.Tombstone slot word empty live marked = refl
 looked_past word_kinds.Closed slot word empty live marked = refl
 
 -- Each answer that leads the copy of a slot on.
 module _ {K V S H : Type 0} (eq : K → K → Bool) (hash : S → K → ℕ) (b : Begun K V S) (name : Book) (mode : ResizeMode) (aim : Aim) (chunk : Chunk) (standing : IsStandingChunk chunk) (log : List (Event K V S)) (h : Copier K V S H) (log' : List (Event K V S)) (h' : Copier K V S H) (since : IsPrefix log log') where
   abbrev pub before : Settle → Stop K V S H
-  before settle = record { copying = at_slot aim chunk settle; log = log; hands = h }
+  before settle = record { copying = at_slot aim chunk settle; log = log; loaded = h }
 
   abbrev pub later : Settle → Stop K V S H
-  later settle = record { copying = at_slot aim chunk settle; log = log'; hands = h' }
+  later settle = record { copying = at_slot aim chunk settle; log = log'; loaded = h' }
 
   abbrev pub past : Stop K V S H
-  past = record { copying = past_slot aim chunk; log = log'; hands = h' }
+  past = record { copying = past_slot aim chunk; log = log'; loaded = h' }
 
   abbrev Turns : Stop K V S H → Stop K V S H → Type 0
   Turns s t = IsTurn eq hash b name mode s t
@@ -198,11 +198,11 @@ module _ {K V S H : Type 0} (eq : K → K → Bool) (hash : S → K → ℕ) (b 
 
   module _ (rest : h' ≡ record h { last = h'.last }) where
     -- the slot's word says that its pair is copied
-    pub finished : (marked found : ℕ) → Slots chunk.scan.from chunk.at kinds.Finish marked (copied_as marked) found → Turns (before (Finishing marked)) past
+    pub finished : (marked found : ℕ) → Slots chunk.cursor.from chunk.at kinds.Finish marked (copied_as marked) found → Turns (before (Finishing marked)) past
     finished marked found tried = record {
       since = since;
       answer = tried_answer found marked;
-      answers = told eq hash b name chunk.scan.from chunk.at (Some kinds.Finish) marked (copied_as marked) log h log' h' found tried rest;
+      answers = told eq hash b name chunk.cursor.from chunk.at (Some kinds.Finish) marked (copied_as marked) log h log' h' found tried rest;
       on = λ initial number. either initial number (found == marked);
       standing = past_standing aim chunk standing;
     }
@@ -212,21 +212,21 @@ module _ {K V S H : Type 0} (eq : K → K → Bool) (hash : S → K → ℕ) (b 
         either initial number false = past_on aim chunk mode
 
     -- it is marked
-    pub marks : (word found : ℕ) → Slots chunk.scan.from chunk.at kinds.Mark word (marked_as word) found → found ≡ word → Turns (before (Marking word)) (later (Carrying (marked_as word) (Hashing chunk.scan.to)))
+    pub marks : (word found : ℕ) → Slots chunk.cursor.from chunk.at kinds.Mark word (marked_as word) found → found ≡ word → Turns (before (Marking word)) (later (Carrying (marked_as word) (Hashing chunk.cursor.to)))
     marks word found tried is = record {
       since = since;
       answer = Call Exchanged;
-      answers = won eq hash b name chunk.scan.from chunk.at (Some kinds.Mark) word (marked_as word) log h log' h' found tried rest is;
+      answers = won eq hash b name chunk.cursor.from chunk.at (Some kinds.Mark) word (marked_as word) log h log' h' found tried rest is;
       on = λ initial number. refl;
       standing = (standing, tt);
     }
 
     -- or shut
-    pub closes : (found : ℕ) → Slots chunk.scan.from chunk.at kinds.Close 0 5 found → found ≡ 0 → Turns (before Closing) (later Shutting)
+    pub closes : (found : ℕ) → Slots chunk.cursor.from chunk.at kinds.Close 0 5 found → found ≡ 0 → Turns (before Closing) (later Shutting)
     closes found tried is = record {
       since = since;
       answer = Call Exchanged;
-      answers = won eq hash b name chunk.scan.from chunk.at (Some kinds.Close) 0 5 log h log' h' found tried rest is;
+      answers = won eq hash b name chunk.cursor.from chunk.at (Some kinds.Close) 0 5 log h log' h' found tried rest is;
       on = λ initial number. refl;
       standing = (standing, tt);
     }
@@ -244,20 +244,20 @@ module _ {K V S H : Type 0} (eq : K → K → Bool) (hash : S → K → ℕ) (b 
     module _ (word : ℕ) where
       -- a place is empty
       pub finds : (marked byte : ℕ) (at : Place) → IsWithin at → IsLoadedFor eq hash b name (Slot at.table at.probe.i) word log' h.last h'.last → word ≡ 0 → Turns (before (Carrying marked (Reading_at byte at))) (later (Carrying marked (Placing byte at)))
-      finds marked byte at within loaded is = record {
+      finds marked byte at within as_loaded is = record {
         since = since;
         answer = Call (Word word);
-        answers = record { word = word; is = refl; loaded = loaded; rest = rest };
+        answers = record { word = word; is = refl; as_loaded = as_loaded; rest = rest };
         on = λ initial number. ap (λ (z : ℕ). leads aim mode (settled_to chunk (settled_by marked mode (carries.look byte at mode z)))) is;
         standing = (standing, within);
       }
 
-      module _ (loaded : IsLoadedFor eq hash b name (Slot chunk.scan.from chunk.at) word log' h.last h'.last) where
+      module _ (as_loaded : IsLoadedFor eq hash b name (Slot chunk.cursor.from chunk.at) word log' h.last h'.last) where
         looks_by : (kind : Kind) → kind_of word ≡ kind → (next : Settle) → look_at kind (slot_of chunk) word ≡ Settle_on next → IsStandingSettle next → Turns (before Looking) (later next)
         looks_by kind is next on stands = record {
           since = since;
           answer = Call (Word word);
-          answers = record { word = word; is = refl; loaded = loaded; rest = rest };
+          answers = record { word = word; is = refl; as_loaded = as_loaded; rest = rest };
           on = λ initial number. ap (λ (z : Kind). leads aim mode (settled_to chunk (look_at z (slot_of chunk) word))) is ∙ ap (λ (z : Settled). leads aim mode (settled_to chunk z)) on;
           standing = (standing, stands);
         }
@@ -274,7 +274,7 @@ module _ {K V S H : Type 0} (eq : K → K → Bool) (hash : S → K → ℕ) (b 
         sees_settled empty live marked = record {
           since = since;
           answer = Call (Word word);
-          answers = record { word = word; is = refl; loaded = loaded; rest = rest };
+          answers = record { word = word; is = refl; as_loaded = as_loaded; rest = rest };
           on = λ initial number. ap (λ (z : Settled). leads aim mode (settled_to chunk z)) (looked_past (kind_of word) (slot_of chunk) word empty live marked) ∙ past_on aim chunk mode;
           standing = past_standing aim chunk standing;
         }
@@ -332,7 +332,7 @@ module _ {K V S H : Type 0} (eq : K → K → Bool) (hash : S → K → ℕ) (b 
 
 module _ {K V S H : Type 0} (eq : K → K → Bool) (hash : S → K → ℕ) (b : Begun K V S) (name : Book) (mode : ResizeMode) (aim : Aim) (chunk : Chunk) (standing : IsStandingChunk chunk) (log : List (Event K V S)) (h h' : Copier K V S H) where
   -- the hash of the pair's key is known, and the pair is carried
-  pub hashes : (marked to byte : ℕ) → Carries eq hash b name h h' byte → h' ≡ record h { kept = h'.kept } → IsTurn eq hash b name mode (record { copying = at_slot aim chunk (Carrying marked (Hashing to)); log = log; hands = h }) (record { copying = at_slot aim chunk (Carrying marked (Sizing byte to)); log = log; hands = h' })
+  pub hashes : (marked to byte : ℕ) → Carries eq hash b name h h' byte → h' ≡ record h { kept = h'.kept } → IsTurn eq hash b name mode (record { copying = at_slot aim chunk (Carrying marked (Hashing to)); log = log; loaded = h }) (record { copying = at_slot aim chunk (Carrying marked (Sizing byte to)); log = log; loaded = h' })
   hashes marked to byte carried rest = record {
     since = ([], append-nil log);
     answer = Hash byte;

@@ -16,8 +16,8 @@ use Rattle.papaya_chain.specs.declared.ask.Answer.{Answer}
 use Rattle.papaya_chain.specs.declared.ask.Answer.TheVariants as answers
 use Rattle.papaya_chain.specs.declared.machine.Machine.{Machine}
 use Rattle.papaya_chain.specs.Machine.{after}
-use Rattle.papaya_chain_rests.specs.Goes.{link_in}
-use Rattle.papaya_chain_rests.proofs.LinkStates.{In, IsStable, Linked_in, Of, machine_holds}
+use Rattle.papaya_chain_law.specs.Goes.{link_in}
+use Rattle.papaya_chain_law.proofs.LinkStates.{In, IsStable, Linked_in, Of, machine_holds}
 use Rattle.papaya_book.specs.Logs.{Member}
 use Rattle.papaya_book.proofs.Lengths.{member_since}
 use Rattle.papaya_change.specs.Changing.{IsCountingOf, IsSizedBy, IsSizedLink}

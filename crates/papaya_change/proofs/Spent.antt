@@ -8,10 +8,10 @@ use Rattle.papaya_call.specs.declared.machine.Machine.{Machine}
 use Rattle.papaya_call.specs.Machine as calls
 use Rattle.papaya_law.specs.Exchange.{start}
 use Rattle.papaya_law.proofs.Numbers.{numbers_below}
-use Rattle.papaya_rests.specs.Rests.{IsAtLimit}
+use Rattle.papaya_call_law.specs.Relies.{IsAtLimit}
 use Rattle.papaya_book.specs.declared.rule.entry.Begun.{Begun}
 use Rattle.papaya_book.specs.declared.rule.entry.Event.{Event}
-use Rattle.papaya_book.specs.declared.rule.own.Given.{Given}
+use Rattle.papaya_book.specs.declared.rule.own.CapacityCause.{CapacityCause}
 use Rattle.papaya_book.specs.Limits.{IsSpent}
 use Rattle.papaya_book.specs.Logs.{exchanges_of, setting_of, state_of}
 use Rattle.papaya_book.specs.Rule.{IsLawfulLog}
@@ -30,5 +30,5 @@ module _ {K V S : Type 0} (eq : K → K → Bool) (hash : S → K → ℕ) (b : 
       subst (λ (o : Option ℕ). MatchOption o ⊥ (λ n. (state_of log).made ≡ n)) (sym has) (at_most most has (omega (arith, made_is, over)))
 
 -- what was to be made is not refused for that
-pub unsaid_limit : (Holds : Type 0) (given : List Given) (answer : Answer) → IsUnsaid given answer → (cause : Cause) → answer ≡ Was_refused cause → cause ≡ Limit → Holds
+pub unsaid_limit : (Holds : Type 0) (given : List CapacityCause) (answer : Answer) → IsUnsaid given answer → (cause : Cause) → answer ≡ Was_refused cause → cause ≡ Limit → Holds
 unsaid_limit Holds given answer unsaid cause e limit = absurd (⊎_elim (λ memory. let f = sym memory ∙ limit in cc f) (λ full. let f = sym full.0 ∙ limit in cc f) (unsaid cause e))

@@ -1,4 +1,4 @@
--- A call takes a number for a pair: it may wherever the count stands that it was told of, and after it tried to it rests again.
+-- A call takes a number for a pair: it may wherever the count stands that it was told of, and after it tried to it relies on what holds again.
 use Rattle.std.proofs.Common.{◌≡◌, ℕ, ◌==◌, Bool, true, false, MatchBool, Option, None, Some, List, [], ◌∷◌, ◌++◌, refl, sym, ap, ◌∙◌, subst}
 use Rattle.std.specs.Cmp.{IsEquivalence}
 use mathlib.Core.List.{IsPrefix}
@@ -15,11 +15,11 @@ use Rattle.papaya_chain.specs.declared.ask.Answer.TheVariants as answers
 use Rattle.papaya_chain.specs.declared.ask.Ask.TheVariants.{Call}
 use Rattle.papaya_chain.specs.declared.machine.Machine.{Machine}
 use Rattle.papaya_chain.specs.Machine.{after, ask_of, kind_of_ask}
-use Rattle.papaya_chain_rests.proofs.Names.{call_asks}
+use Rattle.papaya_chain_law.proofs.Names.{call_asks}
 use Rattle.papaya_law.specs.Code.{Coding}
 use Rattle.papaya_law.specs.Exchange.{Setting}
-use Rattle.papaya_rests.specs.Rests.{change_of_kind}
-use Rattle.papaya_rests.specs.Told.{Hands, IsAsked, IsTold, word_of}
+use Rattle.papaya_call_law.specs.Relies.{change_of_kind}
+use Rattle.papaya_call_law.specs.Told.{IsAsked, IsTold, LoadedPairs, word_of}
 use Rattle.papaya_book.specs.Sheets.{Sheet}
 use Rattle.papaya_book.specs.declared.rule.entry.Begun.{Begun}
 use Rattle.papaya_book.specs.declared.rule.entry.Event.{Event}
@@ -31,9 +31,9 @@ use Rattle.papaya_book.specs.Calls.{IsTried}
 use Rattle.papaya_book.specs.Hashes.{hash_of}
 use Rattle.papaya_book.specs.Logs.{Stored, exchange_of, exchanges_of, state_of}
 use Rattle.papaya_book.specs.Plays.{CanExchange, IsMeant, IsWished}
-use Rattle.papaya_change.proofs.Changing.{Calling, Coded, Wide, answered, barren, call_hands, call_rests, held_later, quiet}
-use Rattle.papaya_change.proofs.OwnSteps.{asked_by_call, own_kind}
-use Rattle.papaya_lookup.proofs.Driving.{IsResting, can_take}
+use Rattle.papaya_change.proofs.Changing.{Calling, Coded, Wide, answered, barren, call_loaded, call_relies, held_later, quiet}
+use Rattle.papaya_change.proofs.StepsOfOwn.{asked_by_call, own_kind}
+use Rattle.papaya_lookup.proofs.Driving.{IsRelying, can_take}
 use Rattle.papaya_book.proofs.Logs.{exchanges_of-append, prefix_trans}
 use Rattle.papaya_lookup.proofs.Readings.{IsQuery}
 
@@ -52,11 +52,11 @@ module _ {K V S H : Type 0} (eq : K → K → Bool) (input : K → List (List �
   C = Coded eq input build write finish classes respects b matches query lawful k name begun
 
   module _ (v : List (Event K V S)) (m : Machine) (table : Option (Bor Sheet)) (last kept : Option (Stored K V)) (made : List (Stored K V)) (taken put : Option (Stored K V)) (fresh : Option (Where Sheet × Pen)) (r : Under v m table last kept made taken put fresh) (old new : ℕ) (asks : ask_of m ≡ Call (Ask_exchange Made_word old new)) (kind : kind_of_ask m ≡ Some kinds.Take) where
-    abbrev hands : Hands (Stored K V)
-    hands = call_hands eq input build write finish classes respects b matches query lawful k name begun last made
+    abbrev loaded : LoadedPairs (Stored K V)
+    loaded = call_loaded eq input build write finish classes respects b matches query lawful k name begun last made
 
-    abbrev resting : IsResting eq input build write finish classes respects b matches query lawful k (exchanges_of begun) v m.call hands
-    resting = call_rests eq input build write finish classes respects b matches query lawful k name begun v m table last kept made taken put fresh r
+    abbrev relying : IsRelying eq input build write finish classes respects b matches query lawful k (exchanges_of begun) v m.call loaded
+    relying = call_relies eq input build write finish classes respects b matches query lawful k name begun v m table last kept made taken put fresh r
 
     -- it may be tried
     pub take_can : CanExchange eq hash' b Made_word (kind_of_ask m) old new None names.Nothing v
@@ -64,7 +64,7 @@ module _ {K V S H : Type 0} (eq : K → K → Bool) (input : K → List (List �
         let own = call_asks m (Ask_exchange Made_word old new) asks in
         let same = own_kind m own.0 in
         subst (λ (z : Option StepKind). CanExchange eq hash' b Made_word z old new None names.Nothing v) (sym same)
-        (can_take eq input build write finish classes respects b matches query lawful k (exchanges_of begun) v r.lawful m.call hands resting old new own.1)
+        (can_take eq input build write finish classes respects b matches query lawful k (exchanges_of begun) v r.lawful m.call loaded relying old new own.1)
 
     module _ (log : List (Event K V S)) (found : ℕ) (state : Option (Named K V)) (s : IsTried eq hash' b Made_word (kind_of_ask m) old new None names.Nothing v found log state) where
       abbrev After : Bool → Type 0
@@ -81,8 +81,8 @@ module _ {K V S H : Type 0} (eq : K → K → Bool) (input : K → List (List �
           let since = prefix_trans v before log s.since more in
           let here : (word_of (G log) C (state_of before) Made_word == old) ≡ true = ap (λ (n : ℕ). n == old) s.is ∙ is in
           let plainly = asked_by_call (Some kinds.Take) tt Made_word new (state_of before) None e (subst (λ (z : Option StepKind). IsWished z Made_word new (state_of before) None e) kind done.1.asked) in
-          let asked : IsAsked (G log) C k (kind_of_ask m) Made_word new (state_of before) hands e = subst (λ (z : Option StepKind). IsAsked (G log) C k z Made_word new (state_of before) hands e) (sym kind) plainly in
-          let told : IsTold (G log) C k (state_of before) (kind_of_ask m) hands (Ask_exchange Made_word old new) Exchanged (e ∷ []) hands = rw here (refl, (e, asked, refl), refl) in
+          let asked : IsAsked (G log) C k (kind_of_ask m) Made_word new (state_of before) loaded e = subst (λ (z : Option StepKind). IsAsked (G log) C k z Made_word new (state_of before) loaded e) (sym kind) plainly in
+          let told : IsTold (G log) C k (state_of before) (kind_of_ask m) loaded (Ask_exchange Made_word old new) Exchanged (e ∷ []) loaded = rw here (refl, (e, asked, refl), refl) in
           answered eq input build write finish classes respects b matches query lawful k name begun v before log s.lawful s.now s.since more m table last kept made taken put fresh r (Ask_exchange Made_word old new) asks Exchanged last made told table taken put fresh
           (held_later v log since r.number table r.holds_table) r.last_placed r.made_placed r.taken_placed
           (λ change f. let none : None ≡ Some change = sym (ap (λ (z : Option StepKind). change_of_kind z old new) kind) ∙ f in absurd (cc none))
@@ -95,7 +95,7 @@ module _ {K V S H : Type 0} (eq : K → K → Bool) (input : K → List (List �
           let pre : IsPrefix v log = subst (IsPrefix v) (sym same) s.since in
           let here : word_of (G log) C (state_of log) Made_word ≡ found = ap (λ (z : List (Event K V S)). (state_of z).made) same ∙ s.is in
           let differs : (word_of (G log) C (state_of log) Made_word == old) ≡ false = ap (λ (n : ℕ). n == old) here ∙ is in
-          let told : IsTold (G log) C k (state_of log) (kind_of_ask m) hands (Ask_exchange Made_word old new) (Found_instead found) [] hands = rw differs (ap Found_instead (sym here), refl, refl) in
+          let told : IsTold (G log) C k (state_of log) (kind_of_ask m) loaded (Ask_exchange Made_word old new) (Found_instead found) [] loaded = rw differs (ap Found_instead (sym here), refl, refl) in
           quiet eq input build write finish classes respects b matches query lawful k name begun v log pre s.now m table last kept made taken put fresh r (Ask_exchange Made_word old new) asks (Found_instead found) last made table fresh
           (record {
             told = told;

@@ -21,14 +21,14 @@ use Rattle.papaya_chain.specs.declared.ask.Ask.{Ask as Chain_ask}
 use Rattle.papaya_chain.specs.declared.machine.Machine.{Machine}
 use Rattle.papaya_chain.specs.declared.machine.Phase.TheVariants.{Calling}
 use Rattle.papaya_chain.specs.Machine.{IsStanding, ask_of, kind_of_ask, started}
-use Rattle.papaya_chain_rests.proofs.Names.{call_asks}
-use Rattle.papaya_rests.specs.Followed.{MayAsk}
-use Rattle.papaya_rests.specs.Rests.{IsNumberAsk}
+use Rattle.papaya_chain_law.proofs.Names.{call_asks}
+use Rattle.papaya_call_law.specs.Followed.{MayAsk}
+use Rattle.papaya_call_law.specs.Relies.{IsNumberAsk}
 use Rattle.papaya_ask.specs.declared.call.Task.{Task}
 use Rattle.papaya_call.specs.Machine as calls
 use Rattle.papaya_ask.specs.Search.{IsSize}
-use Rattle.papaya_rests.specs.Told.{IsOneOf, or_last}
-use Rattle.papaya_rests.proofs.Followed.{asked_of_task}
+use Rattle.papaya_call_law.specs.Told.{IsOneOf, or_last}
+use Rattle.papaya_call_law.proofs.Followed.{asked_of_task}
 use Rattle.papaya_book.specs.Sheets.{Sheet}
 use Rattle.papaya_change.specs.declared.driver.Driver.{Driver}
 use Rattle.papaya_book.specs.declared.rule.entry.Begun.{Begun}
@@ -47,10 +47,10 @@ use Rattle.papaya_book.specs.Plays.{CanExchange, IsPutting}
 use Rattle.papaya_book.specs.Rule.{IsLawfulLog, IsPlaced}
 use Rattle.papaya_book.specs.declared.book.pairs.KeyPart.TheVariants as keys
 use Rattle.papaya_change.specs.Writing.{HasValue, IsWriting, MayStand, TellsTaken}
-use Rattle.papaya_change.proofs.Changing.{begins as begins_calling, call_hands, call_rests, counted, hint_may, hint_table, hinted, load_table, loaded_lawful, loads, noted, size_table, sized, slot_table}
-use Rattle.papaya_change.proofs.OwnSteps.{own_kind}
+use Rattle.papaya_change.proofs.Changing.{begins as begins_calling, call_loaded, call_relies, counted, hint_may, hint_table, hinted, load_table, loaded_lawful, loads, noted, size_table, sized, slot_table}
+use Rattle.papaya_change.proofs.StepsOfOwn.{own_kind}
 use Rattle.papaya_lookup.proofs.AskedPairs.{asked_kind}
-use Rattle.papaya_lookup.proofs.Driving.{IsResting, can_bury, can_put}
+use Rattle.papaya_lookup.proofs.Driving.{IsRelying, can_delete, can_put}
 use Rattle.papaya_lookup.specs.History.{key_of}
 use Rattle.papaya_change.proofs.Exchanging.{exchanged, lost}
 use Rattle.papaya_change.proofs.Opens.{beaten}
@@ -157,7 +157,7 @@ module _ {K V S H : Type 0} (eq : K → K → Bool) (input : K → List (List �
         pub taking : CanExchange eq hash b Made_word (kind_of_ask m) old new None names.Nothing log
         taking = take_can eq input build write finish classes respects b (eq key) (input key) query (Some key) name begun log m w.call.table w.call.last w.call.kept made w.call.taken w.call.put w.call.fresh r.calling old new asks kind_take
 
-        -- after it was tried the call rests, and it was told how many are taken where another was first
+        -- after it was tried the call relies on what holds, and it was told how many are taken where another was first
         module _ (log' : List (Event K V S)) (found : ℕ) (state : Option (Named K V)) (tried : IsTried eq hash b Made_word (kind_of_ask m) old new None names.Nothing log found log' state) where
           abbrev Tells : Bool → Answer → Type 0
           Tells z answer = MatchBool z (answer ≡ Exchanged) (answer ≡ Found_instead found)
@@ -242,8 +242,8 @@ module _ {K V S H : Type 0} (eq : K → K → Bool) (input : K → List (List �
       abbrev its_own : (m.phase ≡ Calling) × (calls.ask_of m.call ≡ Ask_exchange (Slot t i) old new)
       its_own = call_asks m (Ask_exchange (Slot t i) old new) asks
 
-      abbrev resting : IsResting eq input build write finish classes respects b (eq key) (input key) query (Some key) (exchanges_of begun) log m.call (call_hands eq input build write finish classes respects b (eq key) (input key) query (Some key) name begun w.call.last made)
-      resting = call_rests eq input build write finish classes respects b (eq key) (input key) query (Some key) name begun log m w.call.table w.call.last w.call.kept made w.call.taken w.call.put w.call.fresh r.calling
+      abbrev relying : IsRelying eq input build write finish classes respects b (eq key) (input key) query (Some key) (exchanges_of begun) log m.call (call_loaded eq input build write finish classes respects b (eq key) (input key) query (Some key) name begun w.call.last made)
+      relying = call_relies eq input build write finish classes respects b (eq key) (input key) query (Some key) name begun log m w.call.table w.call.last w.call.kept made w.call.taken w.call.put w.call.fresh r.calling
 
       -- where a pair is put in, it is claimed for an empty slot, and else takes the place of another
       kind_at : IsPutting (kind_of_ask m) → kind_of_ask m ≡ Some (cond (old == 0) kinds.Claim kinds.Replace)
@@ -258,15 +258,15 @@ module _ {K V S H : Type 0} (eq : K → K → Bool) (input : K → List (List �
       put_can kind q stands number =
           let same = own_kind m its_own.0 in
           subst (λ (z : Option StepKind). CanExchange eq hash b (Slot t i) z old new (Some q) (names.Pair q) log) (sym same)
-          (can_put eq input build write finish classes respects b (eq key) (input key) query (Some key) (exchanges_of begun) log r.calling.lawful m.call (call_hands eq input build write finish classes respects b (eq key) (input key) query (Some key) name begun w.call.last made) resting t i old new its_own.1 (subst IsPutting same kind) q
+          (can_put eq input build write finish classes respects b (eq key) (input key) query (Some key) (exchanges_of begun) log r.calling.lawful m.call (call_loaded eq input build write finish classes respects b (eq key) (input key) query (Some key) name begun w.call.last made) relying t i old new its_own.1 (subst IsPutting same kind) q
           (λ claims. ap (λ z. Some z) (claims_own kind q stands (same ∙ claims)), λ replaces. replaced_as _ _ (old == 0) (kind_of_ask m) (kind_at kind) stands (same ∙ replaces)) number)
 
-      -- and a pair may be buried
-      pub bury_can : kind_of_ask m ≡ Some kinds.Bury → CanExchange eq hash b (Slot t i) (kind_of_ask m) old new None names.Nothing log
-      bury_can kind =
+      -- and a pair may be deleted
+      pub delete_can : kind_of_ask m ≡ Some kinds.Delete → CanExchange eq hash b (Slot t i) (kind_of_ask m) old new None names.Nothing log
+      delete_can kind =
           let same = own_kind m its_own.0 in
           subst (λ (z : Option StepKind). CanExchange eq hash b (Slot t i) z old new None names.Nothing log) (sym same)
-          (can_bury eq input build write finish classes respects b (eq key) (input key) query (Some key) (exchanges_of begun) log r.calling.lawful m.call (call_hands eq input build write finish classes respects b (eq key) (input key) query (Some key) name begun w.call.last made) resting t i old new its_own.1 (sym same ∙ kind))
+          (can_delete eq input build write finish classes respects b (eq key) (input key) query (Some key) (exchanges_of begun) log r.calling.lawful m.call (call_loaded eq input build write finish classes respects b (eq key) (input key) query (Some key) name begun w.call.last made) relying t i old new its_own.1 (sym same ∙ kind))
 
       -- what is put in is one of the pairs that were made, or none
       put_is_placed : (put : Option (Stored K V)) → ((q : Stored K V) → put ≡ Some q → IsOneOf made q) → IsPlaced b (Some name) (pair_named put)

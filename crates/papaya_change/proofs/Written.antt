@@ -1,4 +1,4 @@
--- After each answer a call that inserts rests again, by its key and with the pairs that it has made.
+-- After each answer a call that inserts relies on what holds again, by its key and with the pairs that it has made.
 use Rattle.std.proofs.Common.{◌≡◌, ◌⊎◌, inl, inr, ⊎_elim, ℕ, ◌<◌, ◌^◌, Bool, true, Option, Some, List, [], ◌∷◌, append-nil, refl, sym, ap, ◌∙◌, subst, arith}
 use Rattle.std.specs.Cmp.{IsEquivalence}
 use mathlib.Core.List.{IsPrefix}
@@ -14,12 +14,12 @@ use Rattle.papaya_chain.specs.declared.ask.Answer.TheVariants as answers
 use Rattle.papaya_chain.specs.declared.ask.Ask.TheVariants.{Call}
 use Rattle.papaya_chain.specs.declared.machine.Machine.{Machine}
 use Rattle.papaya_chain.specs.Machine.{after, ask_of}
-use Rattle.papaya_chain_rests.proofs.Names.{call_asks}
+use Rattle.papaya_chain_law.proofs.Names.{call_asks}
 use Rattle.papaya_book.specs.Sheets.{Sheet}
 use Rattle.papaya_book.specs.declared.rule.entry.Begun.{Begun}
 use Rattle.papaya_book.specs.declared.rule.entry.Event.{Event}
 use Rattle.papaya_book.specs.declared.rule.entry.Named.TheVariants as names
-use Rattle.papaya_book.specs.declared.rule.own.Given.{Given}
+use Rattle.papaya_book.specs.declared.rule.own.CapacityCause.{CapacityCause}
 use Rattle.papaya_change.specs.declared.writing.Writer.{Writer}
 use Rattle.papaya_change.specs.Changing.{IsBringing, IsDriven, IsFresh}
 use Rattle.papaya_book.specs.Hashes.{hash_of}
@@ -29,14 +29,14 @@ use Rattle.papaya_book.specs.Makers.{IsMade}
 use Rattle.papaya_book.specs.Rule.{IsLawfulLog, IsPlaced}
 use Rattle.papaya_book.specs.declared.book.pairs.KeyPart.{KeyPart}
 use Rattle.papaya_book.specs.declared.book.pairs.ValuePart.{ValuePart}
-use Rattle.papaya_rests.specs.Told.{IsOneOf}
+use Rattle.papaya_call_law.specs.Told.{IsOneOf}
 use Rattle.papaya_change.specs.Writing.{HasKey, HasValue, IsWriting, IsWritingOn}
 use Rattle.papaya_change.proofs.Changing.{barren, compared, held_later, quiet}
-use Rattle.papaya_change.proofs.OwnSteps.{own_brings}
+use Rattle.papaya_change.proofs.StepsOfOwn.{own_brings}
 use Rattle.papaya_lookup.proofs.Readings.{IsQuery}
 
--- what a call rests on doesn't depend on what it was given
-module _ {K V S H : Type 0} (eq : K → K → Bool) (hash : S → K → ℕ) (b : Begun K V S) (name : Book) (key : K) (made : List (Stored K V)) (begun log : List (Event K V S)) (w : Writer K V S H) (given : Rattle.papaya_book.specs.declared.rule.own.Own.Own Given) where
+-- what a call relies on doesn't depend on what it was given
+module _ {K V S H : Type 0} (eq : K → K → Bool) (hash : S → K → ℕ) (b : Begun K V S) (name : Book) (key : K) (made : List (Stored K V)) (begun log : List (Event K V S)) (w : Writer K V S H) (given : Rattle.papaya_book.specs.declared.rule.own.OwnSteps.OwnSteps CapacityCause) where
   pub with_given : (answer : Answer) → IsWritingOn eq hash b name key made begun log w answer → IsWritingOn eq hash b name key made begun log (record w { call = record w.call { given = given } }) answer
   with_given answer on = (record { calling = on.0.calling; keyed = on.0.keyed; valued = on.0.valued; put_placed = on.0.put_placed }, on.1)
 

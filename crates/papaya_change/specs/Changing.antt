@@ -1,4 +1,4 @@
--- What a changing call on the shared map holds and rests on, and what it changes.
+-- What a changing call on the shared map holds and relies on, and what it changes.
 use Rattle.std.specs.Prelude.{◌≡◌, ℕ, Bool, true, MatchOption, Option, None, Some, List, [], ◌∷◌, ◌++◌, length}
 use mathlib.Core.List.{IsPrefix}
 use denote.Bor.{Bor}
@@ -16,14 +16,14 @@ use Rattle.papaya_chain.specs.declared.ask.Ask.TheVariants.{Call, Copy}
 use Rattle.papaya_chain.specs.declared.machine.Machine.{Machine}
 use Rattle.papaya_chain.specs.declared.machine.Phase.TheVariants.{Calling}
 use Rattle.papaya_chain.specs.Machine.{ask_of}
-use Rattle.papaya_chain_rests.specs.Goes.{link_in}
-use Rattle.papaya_chain_rests.specs.Rests.{Rests}
-use Rattle.papaya_chain_rests.specs.Told.{Hands}
-use Rattle.papaya_rests.specs.Followed.{IsAtTable}
+use Rattle.papaya_chain_law.specs.Goes.{link_in}
+use Rattle.papaya_chain_law.specs.Relies.{Relies}
+use Rattle.papaya_chain_law.specs.Told.{LoadedPairs}
+use Rattle.papaya_call_law.specs.Followed.{IsAtTable}
 use Rattle.papaya_law.specs.Exchange.{Exchange}
 use Rattle.papaya_law.specs.Further.{IsLawfulKey}
-use Rattle.papaya_rests.specs.Rests.{change_in}
-use Rattle.papaya_rests.specs.Told.{IsOneOf}
+use Rattle.papaya_call_law.specs.Relies.{change_in}
+use Rattle.papaya_call_law.specs.Told.{IsOneOf}
 use Rattle.papaya_book.specs.Sheets.{Sheet}
 use Rattle.papaya_book.specs.declared.rule.entry.Begun.{Begun}
 use Rattle.papaya_book.specs.declared.rule.entry.Event.{Event}
@@ -38,8 +38,8 @@ use Rattle.papaya_lookup.specs.Lookups.{coding_for, setting_for}
 use Rattle.papaya_book.specs.Rule.{IsLawfulLog, IsPlaced}
 
 -- the pairs that a call holds, as its machine is told of them
-abbrev pub hands_with : {P : Type 0} → (last kept : Option P) (made : List P) → Hands P
-hands_with last kept made = record { call = record { last = last; made = made }; kept = kept }
+abbrev pub loaded_with : {P : Type 0} → (last kept : Option P) (made : List P) → LoadedPairs P
+loaded_with last kept made = record { call = record { last = last; made = made }; kept = kept }
 
 -- an exchange is asked for with which this table comes: it is opened, or linked
 abbrev pub IsBringing : Ask → ℕ → Type 0
@@ -114,10 +114,10 @@ pub record HasChanged {K V S : Type 0} (eq : K → K → Bool) (k : Option K)
       (λ q. (change.1 ≡ Some q.index) × (eq class (key_of q) ≡ true)
       × HasItsKey eq k taken q)
 
--- A call by the key k, or by the further one, rests on the log since it began, with the copy that it
--- is set aside for. It holds the table and the pair of which it was told last, the pair that its copy
--- carries, the pairs that it has made, and those that its change took out and put in; and a table that
--- it made, until it has tried to open or link it.
+-- A call by the key k, or by the further one, relies on the log since it began, with the copy that
+-- it is set aside for. It holds the table and the pair of which it was told last, the pair that its
+-- copy carries, the pairs that it has made, and those that its change took out and put in; and a table
+-- that it made, until it has tried to open or link it.
 pub record IsCalling {K V S : Type 0} (eq : K → K → Bool) (hash : S → K → ℕ) (b : Begun K V S)
     (name : Book) (matches : K → Bool) (fed : ℕ) (k : Option K) (begun log : List (Event K V S))
     (m : Machine) (table : Option (Bor Sheet)) (last kept : Option (Stored K V))
@@ -127,8 +127,8 @@ pub record IsCalling {K V S : Type 0} (eq : K → K → Bool) (hash : S → K �
   pub seen : IsPrefix begun log
   pub since : List (Exchange (Stored K V))
   pub is : exchanges_of begun ++ since ≡ exchanges_of log
-  pub rests : Rests (setting_for eq hash b matches fed log) (coding_for hash b.hasher fed)
-      (exchanges_of begun) since k m (hands_with last kept made)
+  pub relies : Relies (setting_for eq hash b matches fed log) (coding_for hash b.hasher fed)
+      (exchanges_of begun) since k m (loaded_with last kept made)
   pub number : ℕ
   pub at_table : m.phase ≡ Calling → IsAtTable number m.call.state
   pub holds_table : MatchOption table (number ≡ 0) (λ r. IsTable log number r.now)

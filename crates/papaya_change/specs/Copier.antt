@@ -15,11 +15,11 @@ use Rattle.papaya_ask.specs.declared.copy_ask.CopyAsk.{CopyAsk}
 use Rattle.papaya_ask.specs.declared.copy_ask.CopyAsk.TheVariants.{Count, Exchange, HashOf, Load, LoadHint, MakeTable, SamePair, SizeOf, WriteHint}
 use Rattle.papaya_chain.specs.declared.ask.Answer.{Answer}
 use Rattle.papaya_chain.specs.declared.ask.Answer.TheVariants as answers
-use Rattle.papaya_rests.specs.Told.{or_last}
+use Rattle.papaya_call_law.specs.Told.{or_last}
 use Rattle.papaya_book.specs.declared.rule.entry.Begun.{Begun}
 use Rattle.papaya_book.specs.declared.rule.entry.Event.{Event}
 use Rattle.papaya_book.specs.declared.rule.entry.Named.TheVariants as names
-use Rattle.papaya_book.specs.declared.rule.own.Given.TheVariants.{Sum}
+use Rattle.papaya_book.specs.declared.rule.own.CapacityCause.TheVariants.{Sum}
 use Rattle.papaya_book.specs.Calls.{HasCome, IsTable}
 use Rattle.papaya_book.specs.Hinted.{IsSlotHint}
 use Rattle.papaya_book.specs.Limits.{IsFull}
@@ -148,7 +148,7 @@ module _ {K V S H : Type 0} (eq : K → K → Bool) (hash : S → K → ℕ) (b 
       (log' : List (Event K V S)) (h' : Copier K V S H) (answer : Answer) : Type 0 where
     pub word : ℕ
     pub is : answer ≡ answers.Call (Word word)
-    pub loaded : IsLoadedFor eq hash b name at word log' h.last h'.last
+    pub as_loaded : IsLoadedFor eq hash b name at word log' h.last h'.last
     pub rest : h' ≡ record h { last = h'.last }
 
   -- how an exchange ended

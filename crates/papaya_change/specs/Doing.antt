@@ -6,8 +6,8 @@ use Rattle.papaya_ask.specs.declared.ask.Ask.{Ask}
 use Rattle.papaya_ask.specs.declared.ask.Ask.TheVariants.{Exchange}
 use Rattle.papaya_ask.specs.declared.ask.At.TheVariants.{Slot}
 use Rattle.papaya_chain.specs.declared.machine.Machine.{Machine}
-use Rattle.papaya_rests.specs.Followed.{IsCounting}
-use Rattle.papaya_rests.specs.Rests.{change_in}
+use Rattle.papaya_call_law.specs.Followed.{IsCounting}
+use Rattle.papaya_call_law.specs.Relies.{change_in}
 use Rattle.papaya_book.specs.declared.keyed.Keyed as keyed
 use Rattle.papaya_book.specs.declared.window.Window.{Window}
 use Rattle.papaya_book.specs.Windows.{Does}

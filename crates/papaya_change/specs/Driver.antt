@@ -4,7 +4,7 @@ use denote.Bor.{Bor}
 use Rattle.logbook.specs.Pages.{Book}
 use Rattle.papaya_ask.specs.declared.ask.At.{At}
 use Rattle.papaya_ask.specs.declared.ask.At.TheVariants.{Root, Next, Aborted, Done, Slot, Made}
-use Rattle.papaya_rests.specs.Told.{or_last}
+use Rattle.papaya_call_law.specs.Told.{or_last}
 use Rattle.papaya_book.specs.Sheets.{Sheet}
 use Rattle.papaya_book.specs.declared.rule.entry.Begun.{Begun}
 use Rattle.papaya_book.specs.declared.rule.entry.Event.{Event}
@@ -27,10 +27,13 @@ module _ {K V S : Type 0} where
   abbrev pub IsLoaded : (K → K → Bool) → (S → K → ℕ) → Begun K V S → Book → At → ℕ
       → List (Event K V S) → (table table' : Option (Bor Sheet))
       → (last last' : Option (Stored K V)) → Type 0
-  IsLoaded eq hash b name Root word log table table' last last' = (loaded : Option (Bor Sheet))
-      × IsRoot eq hash b name word log loaded × (table' ≡ or_last loaded table) × (last' ≡ last)
-  IsLoaded eq hash b name (Next t) word log table table' last last' = (loaded : Option (Bor Sheet))
-      × IsNext eq hash b name t word log loaded × (table' ≡ or_last loaded table) × (last' ≡ last)
+  IsLoaded eq hash b name Root word log table table' last last' = (as_loaded : Option (Bor Sheet))
+      × IsRoot eq hash b name word log as_loaded × (table' ≡ or_last as_loaded table)
+      × (last' ≡ last)
+  IsLoaded eq hash b name (Next t) word log table table' last last' =
+      (as_loaded : Option (Bor Sheet))
+      × IsNext eq hash b name t word log as_loaded × (table' ≡ or_last as_loaded table)
+      × (last' ≡ last)
   IsLoaded eq hash b name (Slot t x) word log table table' last last' = (pair : Option (Stored K V))
       × IsSlot eq hash b name t x word log pair × (last' ≡ or_last pair last) × (table' ≡ table)
   IsLoaded eq hash b name (Aborted t) word log table table' last last' = ⊥

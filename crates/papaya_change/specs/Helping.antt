@@ -19,21 +19,21 @@ use Rattle.papaya_chain.specs.declared.ask.Answer.TheVariants as answers
 use Rattle.papaya_chain.specs.declared.machine.Machine.{Machine}
 use Rattle.papaya_chain.specs.declared.machine.Phase.TheVariants.{Calling}
 use Rattle.papaya_chain.specs.Machine.{after, ask_of}
-use Rattle.papaya_chain_rests.specs.Goes.{link_in}
-use Rattle.papaya_chain_rests.specs.Rests.{Rests, left_by}
+use Rattle.papaya_chain_law.specs.Goes.{link_in}
+use Rattle.papaya_chain_law.specs.Relies.{Relies, left_by}
 use Rattle.papaya_law.specs.Exchange.{Exchange, State}
 use Rattle.papaya_law.specs.Invariant.{named}
-use Rattle.papaya_rests.specs.Copier.{told_last}
-use Rattle.papaya_rests.specs.Rests.{change_in}
-use Rattle.papaya_rests.specs.Told.{IsOneOf}
+use Rattle.papaya_call_law.specs.Copier.{told_last}
+use Rattle.papaya_call_law.specs.Relies.{change_in}
+use Rattle.papaya_call_law.specs.Told.{IsOneOf}
 use Rattle.papaya_book.specs.declared.rule.entry.Begun.{Begun}
 use Rattle.papaya_book.specs.declared.rule.entry.Event.{Event}
 use Rattle.papaya_book.specs.declared.rule.entry.Event.TheVariants.{Stepped}
 use Rattle.papaya_book.specs.declared.rule.entry.Named.{Named}
 use Rattle.papaya_book.specs.declared.rule.entry.Named.TheVariants as names
 use Rattle.papaya_book.specs.declared.rule.entry.Step.{Step}
-use Rattle.papaya_book.specs.declared.rule.own.Given.{Given}
-use Rattle.papaya_book.specs.declared.rule.own.Given.TheVariants.{Sum}
+use Rattle.papaya_book.specs.declared.rule.own.CapacityCause.{CapacityCause}
+use Rattle.papaya_book.specs.declared.rule.own.CapacityCause.TheVariants.{Sum}
 use Rattle.papaya_book.specs.Limits.{HasNoRoom, IsFull, tables_of}
 use Rattle.papaya_book.specs.Logs.{Stored, comes, exchange_of, exchanges_of, pair_named, state_of}
 use Rattle.papaya_book.specs.Plays.{IsWished}
@@ -41,9 +41,9 @@ use Rattle.papaya_book.specs.Rule.{IsLawfulLog, IsPlaced, word_in}
 use Rattle.papaya_book.specs.Sheets.{Sheet}
 use Rattle.papaya_lookup.specs.Lookups.{coding_for, setting_for}
 use Rattle.papaya_change.specs.declared.driver.Driver.{Driver}
-use Rattle.papaya_change.specs.Changing.{HasAskedWords, IsBringing, IsCountingOf, IsDriven, IsForm, IsFresh, hands_with}
+use Rattle.papaya_change.specs.Changing.{HasAskedWords, IsBringing, IsCountingOf, IsDriven, IsForm, IsFresh, loaded_with}
 
--- it looks for its key in a further table
+-- it looks for its key in a next table
 pub record HasGoneOn (m m' : Machine) : Type 0 where
   pub from : ℕ
   pub left : left_by m.call.state ≡ Some from
@@ -58,7 +58,7 @@ pub record HasBegunAnew (m m' : Machine) : Type 0 where
   pub call : m'.call ≡ calls.after (record m.call { state = AtRoot }) (Word root)
 
 -- it ended, since a table could not be made: there was no memory, or no room for it
-pub record WasRefused (m m' : Machine) (tables : List ℕ) (given : List Given) : Type 0 where
+pub record WasRefused (m m' : Machine) (tables : List ℕ) (given : List CapacityCause) : Type 0 where
   pub from : ℕ
   pub left : left_by m.call.state ≡ Some from
   pub refused : Refused
@@ -66,7 +66,7 @@ pub record WasRefused (m m' : Machine) (tables : List ℕ) (given : List Given) 
   pub cause : (refused ≡ Memory) ⊎ ((refused ≡ Capacity) × HasNoRoom m.call.initial tables given)
 
 -- it was not set aside, or it was led so
-abbrev pub HasHelped : Machine → Machine → (tables : List ℕ) → List Given → Type 0
+abbrev pub HasHelped : Machine → Machine → (tables : List ℕ) → List CapacityCause → Type 0
 HasHelped m m' tables given = (m' ≡ m) ⊎ HasGoneOn m m' ⊎ HasBegunAnew m m'
     ⊎ WasRefused m m' tables given
 
@@ -78,7 +78,7 @@ pub record IsAside (m m' : Machine) : Type 0 where
   pub busy : m'.phase ≡ Calling → ⊥
 
 -- it goes on for itself
-pub record IsLed (m m' : Machine) (tables : List ℕ) (given : List Given) : Type 0 where
+pub record IsLed (m m' : Machine) (tables : List ℕ) (given : List CapacityCause) : Type 0 where
   pub calling : m'.phase ≡ Calling
   pub where_to : HasGoneOn m m' ⊎ HasBegunAnew m m' ⊎ WasRefused m m' tables given
 
@@ -87,7 +87,7 @@ abbrev pub IsEntering : Machine → ℕ → Type 0
 IsEntering m n = (m.phase ≡ Calling) × (m.call.state ≡ Searching (Sizing n))
 
 -- what a call is given with an answer for a copy: the sum, or why no table was made
-abbrev pub IsGivenBy : Answer → List Given → Type 0
+abbrev pub IsGivenBy : Answer → List CapacityCause → Type 0
 IsGivenBy (answers.Count sum) given = given ≡ Sum sum ∷ []
 IsGivenBy (answers.Call (Was_refused refused)) given = (refused ≡ Memory)
     ⊎ ((refused ≡ Capacity) × IsFull given)
@@ -103,7 +103,7 @@ abbrev pub IsOwnTable : {K V : Type 0} → Option (Where Sheet × Pen) → Named
 IsOwnTable fresh (names.Table w) = MatchOption fresh ⊥ (λ f. f.0 ≡ w)
 IsOwnTable fresh _ = Unit {0}
 
--- What a call that is set aside rests on, and what it holds. It may have no table yet in which to
+-- What a call that is set aside relies on, and what it holds. It may have no table yet in which to
 -- look for its key.
 pub record IsSetAside {K V S : Type 0} (eq : K → K → Bool) (hash : S → K → ℕ) (b : Begun K V S)
     (name : Book) (matches : K → Bool) (fed : ℕ) (k : Option K) (begun log : List (Event K V S))
@@ -113,8 +113,8 @@ pub record IsSetAside {K V S : Type 0} (eq : K → K → Bool) (hash : S → K �
   pub seen : IsPrefix begun log
   pub since : List (Exchange (Stored K V))
   pub is : exchanges_of begun ++ since ≡ exchanges_of log
-  pub rests : Rests (setting_for eq hash b matches fed log) (coding_for hash b.hasher fed)
-      (exchanges_of begun) since k m (hands_with last kept made)
+  pub relies : Relies (setting_for eq hash b matches fed log) (coding_for hash b.hasher fed)
+      (exchanges_of begun) since k m (loaded_with last kept made)
   pub last_placed : IsPlaced b (Some name) (pair_named last)
   pub kept_placed : IsPlaced b (Some name) (pair_named kept)
   pub made_placed : (q : Stored K V) → IsOneOf made q → IsPlaced b (Some name) (pair_named (Some q))
@@ -158,7 +158,7 @@ module _ {K V S H : Type 0} (eq : K → K → Bool) (hash : S → K → ℕ) (b 
   pub record HasCopied (matches : K → Bool) (fed : ℕ) (k : Option K) (begun : List (Event K V S))
       (made : List (Stored K V)) (log : List (Event K V S)) (c c' : Driver K V S H)
       (answer : Answer) : Type 0 where
-    pub rests : IsSetAside eq hash b name matches fed k begun log (after c.machine answer) c'.last
+    pub relies : IsSetAside eq hash b name matches fed k begun log (after c.machine answer) c'.last
         c'.kept made c'.taken c'.put c'.fresh
     pub leads : IsAside c.machine (after c.machine answer)
         ⊎ IsLed c.machine (after c.machine answer) (tables_of log) c'.given.done

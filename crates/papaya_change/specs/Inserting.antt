@@ -1,4 +1,4 @@
--- What an insertion on the shared map holds and rests on.
+-- What an insertion on the shared map holds and relies on.
 use Rattle.std.specs.Prelude.{◌≡◌, ℕ, Bool, true, Option, None, Some, List}
 use Rattle.logbook.specs.Pages.{Book}
 use Rattle.papaya_words.specs.declared.probe.Refused.{Refused as Cause}
@@ -20,7 +20,7 @@ use Rattle.papaya_change.specs.Changes.{IsPut}
 use Rattle.papaya_lookup.specs.History.{history_of, key_of}
 use Rattle.papaya_book.specs.Logs.{Stored}
 use Rattle.papaya_book.specs.Limits.{HasNoRoom, IsSpent, tables_of}
-use Rattle.papaya_rests.specs.Told.{IsOneOf}
+use Rattle.papaya_call_law.specs.Told.{IsOneOf}
 use Rattle.papaya_change.specs.Writing.{HasKeyAt, IsMemoryCapacityOrLimit, IsWriting, answered as answered_writer, held_value}
 
 -- The pair that an insertion made of its own key is at hand, where its machine knows of one.

@@ -13,15 +13,6 @@ pub mod Removing
 pub mod Resizing
 pub mod Settling
 pub mod Going
--- the same by what is seen of the map
-pub mod Resizes
-pub mod Drivers
-pub mod Steps
-pub mod Copiers
-pub mod Settles
-pub mod Goings
-pub mod Writers
-pub mod Insertions
-pub mod Seeks
+-- the same by what a window shows of the map
+pub mod Window
 pub mod Tries
-pub mod Removals

@@ -14,9 +14,9 @@ went (Ok (Ok (Some entry))) = true
 went _ = false
 
 -- by an answer at once, if there was one
-abbrev pub went_at_once : {E : Type 0} → Option (Result (Option E) E) → Bool
-went_at_once None = false
-went_at_once (Some answer) = went (Ok answer)
+abbrev pub went_fast : {E : Type 0} → Option (Result (Option E) E) → Bool
+went_fast None = false
+went_fast (Some answer) = went (Ok answer)
 
 -- and of a removal that asks no closure, its value
 abbrev pub took : {A : Type 0} → Result (Option A) Refused → Bool
@@ -31,7 +31,7 @@ module _ {K V : Type 0} (eq : K → K → Bool) (matches : K → Bool)
 
   -- What a removal answers, by what its closure was shown and answered: the pair that it agreed to
   -- and that went, or that there was none, or the pair that stays. It makes nothing for itself, but
-  -- it may be refused while it helps to copy: there was no memory for a further table, or no room.
+  -- it may be refused while it helps to copy: there was no memory for a next table, or no room.
   abbrev pub IsJudged : List (Stored K V × Bool)
       → Result (Result (Option (Bor K × Bor V)) (Bor K × Bor V)) Refused → Type 0
   IsJudged said (Ok (Ok None)) = WasHeld eq matches old new None

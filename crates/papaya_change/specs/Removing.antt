@@ -1,4 +1,4 @@
--- What a removal on the shared map holds and rests on, and what it answers.
+-- What a removal on the shared map holds and relies on, and what it answers.
 use Rattle.std.specs.Prelude.{◌≡◌, ℕ, Bool, Option, None, Some, Result, Ok, Err, List, []}
 use mathlib.Core.List.{IsPrefix}
 use denote.Bor.{Bor}
@@ -15,7 +15,7 @@ use Rattle.papaya_call.specs.Machine.{IsFit}
 use Rattle.papaya_chain.specs.declared.ask.Answer.TheVariants as answers
 use Rattle.papaya_chain.specs.declared.ask.Ask.TheVariants.{Call}
 use Rattle.papaya_chain.specs.Machine.{after, ask_of}
-use Rattle.papaya_rests.specs.Says.{Agrees, ShowsPairs, StandsOn}
+use Rattle.papaya_call_law.specs.Says.{Agrees, ShowsPairs, StandsOn}
 use Rattle.papaya_book.specs.declared.rule.entry.Begun.{Begun}
 use Rattle.papaya_book.specs.declared.rule.entry.Event.{Event}
 use Rattle.papaya_book.specs.declared.rule.entry.Named.TheVariants.{Pair}

@@ -8,9 +8,9 @@ use Rattle.papaya_ask.specs.declared.call.Task.{Task}
 use Rattle.papaya_ask.specs.declared.call.Task.TheVariants.{Insert, Compute}
 use Rattle.papaya_ask.specs.declared.search.Place.{Place}
 use Rattle.papaya_ask.specs.declared.search.Search.TheVariants.{Looking}
-use Rattle.papaya_ask.specs.declared.search.Seen.{Seen}
-use Rattle.papaya_ask.specs.declared.search.Seen.TheVariants.{On, Empty as Seen_empty}
-use Rattle.papaya_ask.specs.declared.search.Seen.TheVariants.{Over as Seen_over}
+use Rattle.papaya_ask.specs.declared.search.Probed.{Probed}
+use Rattle.papaya_ask.specs.declared.search.Probed.TheVariants.{On, Empty as Seen_empty}
+use Rattle.papaya_ask.specs.declared.search.Probed.TheVariants.{Over as Seen_over}
 use Rattle.papaya_call.specs.declared.compute.Gap.TheVariants.{At as At_place}
 use Rattle.papaya_call.specs.declared.machine.State.{State}
 use Rattle.papaya_call.specs.declared.machine.State.TheVariants.{Growing, Offering, Searching}
@@ -26,8 +26,8 @@ use Rattle.papaya_book.specs.declared.rule.entry.Event.{Event}
 use Rattle.papaya_book.specs.Logs.{Stored}
 use Rattle.papaya_book.specs.Sheets.{Sheet}
 use Rattle.papaya_change.specs.Changing.{IsCalling}
-use Rattle.papaya_change.specs.declared.at_once.Turn.{Turn}
-use Rattle.papaya_change.specs.declared.at_once.Turn.TheVariants.{Next, Empty, Met, Over, Else}
+use Rattle.papaya_change.specs.declared.fast_path.Turn.{Turn}
+use Rattle.papaya_change.specs.declared.fast_path.Turn.TheVariants.{Next, Empty, Met, Over, Else}
 
 -- the calls that such a search serves
 pub data Seeker : Type 0 where
@@ -51,7 +51,7 @@ abbrev pub insertion_at : (hash : ℕ) → ResizeMode → (initial : ℕ) → Ma
 insertion_at hash mode initial made state = seeker_at Inserts hash mode initial made state
 
 -- where a search goes on that has met no pair of the key
-abbrev pub turn_of : {K V : Type 0} → Seen → Turn K V
+abbrev pub turn_of : {K V : Type 0} → Probed → Turn K V
 turn_of (On (Looking at)) = Next at
 turn_of (Seen_empty at) = Empty at
 turn_of (Seen_over table) = Over table
@@ -96,7 +96,7 @@ left_to (Next at) = left_at at
 left_to _ = 0
 
 -- A call of this key that began at this log would stand here by now, and was told of this pair last,
--- if one is named. It has made no pair yet, and rests on this table.
+-- if one is named. It has made no pair yet, and relies on this table.
 abbrev pub IsSeekingAt : {K V S : Type 0} → Seeker → (K → K → Bool) → (S → K → ℕ) → Begun K V S
     → Book → K → (begun log : List (Event K V S)) → State → Option (Stored K V) → Sheet → Type 0
 IsSeekingAt {K} {V} who eq hash b name key begun log state met table = (lent : Bor Sheet)

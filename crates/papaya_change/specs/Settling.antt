@@ -27,7 +27,7 @@ use Rattle.papaya_change.specs.Copier.{AnswersTo, CanAnswerTo}
 pub record Stop (K V S H : Type 0) : Type 0 where
   pub copying : Copying
   pub log : List (Event K V S)
-  pub hands : Copier K V S H
+  pub loaded : Copier K V S H
 
 -- the copy of the chunk's slot stands here
 abbrev pub at_slot : Aim → Chunk → Settle → Copying
@@ -36,23 +36,23 @@ at_slot aim chunk settle = Stepping aim (Settling chunk settle)
 -- the slot is settled: the next one is looked at, or the chunk is copied
 abbrev pub past_slot : Aim → Chunk → Copying
 past_slot aim chunk = if nat_lt (chunk.at + 1) chunk.end
-    then at_slot aim (next_slot chunk) Looking else Stepping aim (Advancing chunk.scan)
+    then at_slot aim (next_slot chunk) Looking else Stepping aim (Advancing chunk.cursor)
 
 module _ {K V S H : Type 0} (eq : K → K → Bool) (hash : S → K → ℕ) (b : Begun K V S)
     (name : Book) (mode : ResizeMode) where
   abbrev pub CanAnswerAt : Stop K V S H → Type 0
   CanAnswerAt s = CanAnswerTo eq hash b name (copying_ask s.copying) (copying_kind s.copying)
-      (copying_follows s.copying) s.log s.hands
+      (copying_follows s.copying) s.log s.loaded
 
   abbrev pub AnswersAt : Stop K V S H → List (Event K V S) → Copier K V S H → Answer → Type 0
   AnswersAt s log h answer = AnswersTo eq hash b name (copying_ask s.copying)
-      (copying_kind s.copying) (copying_follows s.copying) s.log s.hands log h answer
+      (copying_kind s.copying) (copying_follows s.copying) s.log s.loaded log h answer
 
   -- one ask was answered, which led on
   pub record IsTurn (s s' : Stop K V S H) : Type 0 where
     pub since : IsPrefix s.log s'.log
     pub answer : Answer
-    pub answers : AnswersAt s s'.log s'.hands answer
+    pub answers : AnswersAt s s'.log s'.loaded answer
     pub on : (initial number : ℕ) → copying_after s.copying mode initial number answer
         ≡ On s'.copying
     pub standing : IsStandingCopying s'.copying
@@ -72,11 +72,11 @@ module _ {K V S H : Type 0} (eq : K → K → Bool) (hash : S → K → ℕ) (b 
   -- answers led on, and the last one is still to be told
   pub record Ends (s s' : Stop K V S H) (answer : Answer) : Type 0 where
     pub log : List (Event K V S)
-    pub hands : Copier K V S H
-    pub leads : Leads s (record { copying = s'.copying; log = log; hands = hands })
+    pub loaded : Copier K V S H
+    pub leads : Leads s (record { copying = s'.copying; log = log; loaded = loaded })
     pub since : IsPrefix log s'.log
-    pub answers : AnswersAt (record { copying = s'.copying; log = log; hands = hands }) s'.log
-        s'.hands answer
+    pub answers : AnswersAt (record { copying = s'.copying; log = log; loaded = loaded }) s'.log
+        s'.loaded answer
     pub standing : IsStandingCopying s'.copying
     pub fit : IsFit answer
 
@@ -84,6 +84,6 @@ module _ {K V S H : Type 0} (eq : K → K → Bool) (hash : S → K → ℕ) (b 
   abbrev pub LeavesSlot : Aim → Chunk → Stop K V S H → List (Event K V S) → Copier K V S H
       → Option Halt → Type 0
   LeavesSlot aim chunk s log h None = Leads s
-      (record { copying = past_slot aim chunk; log = log; hands = h })
+      (record { copying = past_slot aim chunk; log = log; loaded = h })
   LeavesSlot aim chunk s log h (Some halt) = Ends s
-      (record { copying = at_slot aim chunk halt.settle; log = log; hands = h }) halt.answer
+      (record { copying = at_slot aim chunk halt.settle; log = log; loaded = h }) halt.answer

@@ -15,11 +15,11 @@ use Rattle.papaya_lookup.specs.History.{history_of, key_of}
 use Rattle.papaya_lookup.specs.declared.lookup.Met.{Met}
 use Rattle.papaya_change.specs.Changes.{IsChangeOf}
 use Rattle.papaya_change.specs.Seeking.{Computes, at_live, led_to, met_by}
-use Rattle.papaya_change.specs.Seeks.{IsInsertingAt, IsSeekingAt}
+use Rattle.papaya_change.specs.Window.Seeking.{IsInsertingAt, IsSeekingAt}
 use Rattle.papaya_change.specs.Showings.{IsSamePair}
-use Rattle.papaya_change.specs.declared.at_once.Tried.{Tried}
-use Rattle.papaya_change.specs.declared.at_once.Tried.TheVariants.{Put, Lost}
-use Rattle.papaya_change.specs.declared.at_once.Turn.{Turn}
+use Rattle.papaya_change.specs.declared.fast_path.Tried.{Tried}
+use Rattle.papaya_change.specs.declared.fast_path.Tried.TheVariants.{Put, Lost}
+use Rattle.papaya_change.specs.declared.fast_path.Turn.{Turn}
 
 abbrev pub pair_in : {K V : Type 0} → Tried K V → Stored K V
 pair_in (Put q) = q
@@ -45,8 +45,8 @@ module _ {K V S H : Type 0} {d : keyed.Ghosts S K H} where
     pub number : q.index < 2 ^ 48
 
   -- each call that a turn had led there has put the pair in the place of the one that it met
-  abbrev pub Trades : (w w' : Window K V S H d) → K → Sheet → Turn K V → Stored K V → Type 0
-  Trades w w' key table turn q = (begun : List (Event K V S)) (state : State)
+  abbrev pub Offers : (w w' : Window K V S H d) → K → Sheet → Turn K V → Stored K V → Type 0
+  Offers w w' key table turn q = (begun : List (Event K V S)) (state : State)
       → led_to turn ≡ Some state → IsInsertingAt w key begun state (met_by turn) table
       → (taken : Option (Stored K V)) × AreSame (met_by turn) taken
       × IsChangeOf (d.keys.eq key) (history_of begun) (past w') taken (Some q)

@@ -1,4 +1,4 @@
--- What a call on the shared map that inserts holds and rests on, whatever its task.
+-- What a call on the shared map that inserts holds and relies on, whatever its task.
 use Rattle.std.specs.Prelude.{◌≡◌, ◌⊎◌, ℕ, ◌==◌, Bool, MatchBool, MatchOption, Option, None, Some, List, ◌∷◌}
 use Rattle.logbook.specs.Pages.{Book}
 use Rattle.papaya_words.specs.declared.probe.Refused.{Refused as Cause}
@@ -10,8 +10,8 @@ use Rattle.papaya_call.specs.Machine.{IsFit}
 use Rattle.papaya_chain.specs.declared.ask.Answer.TheVariants.{Call}
 use Rattle.papaya_chain.specs.Machine.{after}
 use Rattle.papaya_law.specs.Invariant.{named}
-use Rattle.papaya_rests.specs.Rests.{IsNumberAsk}
-use Rattle.papaya_rests.specs.Told.{IsOneOf}
+use Rattle.papaya_call_law.specs.Relies.{IsNumberAsk}
+use Rattle.papaya_call_law.specs.Told.{IsOneOf}
 use Rattle.papaya_book.specs.declared.book.pairs.KeyPart.{KeyPart}
 use Rattle.papaya_book.specs.declared.book.pairs.KeyPart.TheVariants as keys
 use Rattle.papaya_book.specs.declared.book.pairs.ValuePart.{ValuePart}
@@ -19,7 +19,7 @@ use Rattle.papaya_book.specs.declared.book.pairs.ValuePart.TheVariants as values
 use Rattle.papaya_book.specs.declared.rule.entry.Begun.{Begun}
 use Rattle.papaya_book.specs.declared.rule.entry.Event.{Event}
 use Rattle.papaya_book.specs.declared.rule.entry.Named.TheVariants.{Pair}
-use Rattle.papaya_book.specs.declared.rule.own.Given.{Given}
+use Rattle.papaya_book.specs.declared.rule.own.CapacityCause.{CapacityCause}
 use Rattle.papaya_change.specs.declared.writing.Writer.{Writer}
 use Rattle.papaya_change.specs.Changing.{IsDriven}
 use Rattle.papaya_lookup.specs.History.{key_of}
@@ -71,7 +71,7 @@ IsMemoryCapacityOrLimit cause = IsMemoryOrCapacity cause ⊎ (cause ≡ Limit)
 
 -- No closure had a part in it: where it is a refusal, there was no memory, or a log that is full
 -- gave this number.
-abbrev pub IsUnsaid : List Given → Answer → Type 0
+abbrev pub IsUnsaid : List CapacityCause → Answer → Type 0
 IsUnsaid given answer = (cause : Cause) → answer ≡ Refused cause → (cause ≡ Memory)
     ⊎ ((cause ≡ Capacity) × IsFull given)
 

@@ -4,14 +4,14 @@ ghost use Rattle.std.specs.Prelude.{◌≡◌, ◌≢◌, ◌⊎◌, ◌<◌, �
 ghost use Rattle.papaya_ask.specs.Search.{IsSize};
 ghost use Rattle.papaya_ask.specs.declared.ask.At.TheVariants.{Next, Slot};
 ghost use Rattle.papaya_chain.specs.Machine.{IsFit};
-ghost use Rattle.papaya_rests.specs.Told.{or_last};
+ghost use Rattle.papaya_call_law.specs.Told.{or_last};
 ghost use Rattle.papaya_book.specs.Limits.{IsFull};
 ghost use Rattle.papaya_book.specs.Logs.{pair_named};
 ghost use Rattle.papaya_book.specs.Windows.{HasCome, IsHint, IsIn, IsLawful, IsTable, MayHint, Sees};
 ghost use Rattle.papaya_change.specs.Copier.{tried_answer};
-ghost use Rattle.papaya_book.specs.declared.rule.own.Given.TheVariants.{Sum};
-ghost use Rattle.papaya_change.specs.Copiers.{CanAnswer, CanExchange, CanJoin, CanReach, CanTryFor, Answers, Carries};
-ghost use Rattle.papaya_change.specs.Copiers.{Exchanges, HasMade, HasTried, IsSizeOf, Joins, Loads, TriesFor};
+ghost use Rattle.papaya_book.specs.declared.rule.own.CapacityCause.TheVariants.{Sum};
+ghost use Rattle.papaya_change.specs.Window.Copier.{CanAnswer, CanExchange, CanJoin, CanReach, CanTryFor, Answers, Carries};
+ghost use Rattle.papaya_change.specs.Window.Copier.{Exchanges, HasMade, HasTried, IsSizeOf, Joins, Loads, TriesFor};
 
 use boxcar::Pushed;
 use logbook::Pen;
@@ -19,7 +19,7 @@ use papaya_ask::ask::{Answer as CallAnswer, At, StepKind};
 use papaya_ask::copy_ask::CopyAsk;
 use papaya_book::count::{Count, Shard};
 use papaya_book::rule::entry::Stored;
-use papaya_book::rule::own::{Given, Own};
+use papaya_book::rule::own::{CapacityCause, OwnSteps};
 use papaya_book::table::Table;
 use papaya_book::window::Window;
 use papaya_chain::ask::Answer;
@@ -47,7 +47,7 @@ pub struct Copier<K: Hash + Eq, V, S: BuildHasher> {
     pub last: Option<Stored<K, V>>,
     pub kept: Option<Stored<K, V>>,
     pub fresh: Option<(Pushed<Table<K, V, S>>, Pen)>,
-    pub given: Own<Given>,
+    pub given: OwnSteps<CapacityCause>,
 }
 
 /// The number that says at which chunk a copy begins: one more each time, so that it goes on where the
@@ -79,7 +79,7 @@ impl<K: Hash + Eq, V, S: BuildHasher> Copier<K, V, S> {
             last: None,
             kept: None,
             fresh: None,
-            given: Own::nothing(),
+            given: OwnSteps::nothing(),
         }
     }
 
@@ -136,7 +136,7 @@ impl<K: Hash + Eq, V, S: BuildHasher> Copier<K, V, S> {
     /// Keeps the pair that was loaded, if one was.
     fn tell(&mut self, pair: Option<Stored<K, V>>)
         ensures { self.new ≡ record self.old {
-          last = Rattle.papaya_rests.specs.Told.or_last pair
+          last = Rattle.papaya_call_law.specs.Told.or_last pair
               self.old.last;
         } }
     {
@@ -150,7 +150,7 @@ impl<K: Hash + Eq, V, S: BuildHasher> Copier<K, V, S> {
         requires reach { CanReach window.old at }
         ensures sees { Sees window.old window.new }
         ensures own { window.new.own ≡ window.old.own }
-        ensures loaded { Loads at result window.old self.old window.new self.new }
+        ensures as_loaded { Loads at result window.old self.old window.new self.new }
         ensures rest { self.new ≡ record self.old { last = self.new.last } }
     {
         match at {
@@ -190,7 +190,8 @@ impl<K: Hash + Eq, V, S: BuildHasher> Copier<K, V, S> {
         requires place { place < length table.now.slots }
         ensures sees { Sees window.old window.new }
         ensures own { window.new.own ≡ window.old.own }
-        ensures loaded { Loads (Slot number place) result window.old self.old window.new self.new }
+        ensures as_loaded { Loads (Slot number place) result window.old self.old window.new
+            self.new }
         ensures rest { self.new ≡ record self.old { last = self.new.last } }
     {
         let (word, pair) = window.slot(table, number, place);

@@ -6,18 +6,18 @@ ghost use Rattle.papaya_call.specs.Machine.{IsFit as IsCallFit};
 ghost use Rattle.papaya_ask.specs.declared.ask.At.TheVariants.{Slot};
 ghost use Rattle.papaya_chain.specs.Machine.{IsStanding, after, kind_of_ask, started};
 ghost use Rattle.papaya_chain.specs.declared.ask.Answer.TheVariants.{Call};
-ghost use Rattle.papaya_rests.specs.Told.{or_last};
+ghost use Rattle.papaya_call_law.specs.Told.{or_last};
 ghost use Rattle.papaya_book.specs.Windows.{CanTrySlot, Does, IsHint, MayHint, Sees};
 ghost use Rattle.papaya_change.specs.Doing.{was_made};
-ghost use Rattle.papaya_change.specs.Drivers.{Holds, Loads};
-ghost use Rattle.papaya_change.specs.Steps.{Buries, CanTake, HasTried, IsSizeOf, Takes};
+ghost use Rattle.papaya_change.specs.Window.Driver.{Holds, Loads};
+ghost use Rattle.papaya_change.specs.Window.Steps.{CanTake, Deletes, HasTried, IsSizeOf, Takes};
 
 use boxcar::Pushed;
 use logbook::Pen;
 use papaya_ask::ask::{Answer as CallAnswer, At};
 use papaya_ask::call::Task;
 use papaya_book::rule::entry::Stored;
-use papaya_book::rule::own::{Given, Own};
+use papaya_book::rule::own::{CapacityCause, OwnSteps};
 use papaya_book::table::Table;
 use papaya_book::window::Window;
 use papaya_call::machine::State;
@@ -39,7 +39,7 @@ pub struct Driver<'a, K: Hash + Eq, V, S: BuildHasher> {
     pub taken: Option<Stored<K, V>>,
     pub put: Option<Stored<K, V>>,
     pub fresh: Option<(Pushed<Table<K, V, S>>, Pen)>,
-    pub given: Own<Given>,
+    pub given: OwnSteps<CapacityCause>,
 }
 
 impl<'a, K: Hash + Eq, V, S: BuildHasher> Driver<'a, K, V, S> {
@@ -69,7 +69,7 @@ impl<'a, K: Hash + Eq, V, S: BuildHasher> Driver<'a, K, V, S> {
             taken: None,
             put: None,
             fresh: None,
-            given: Own::nothing(),
+            given: OwnSteps::nothing(),
         }
     }
 
@@ -108,7 +108,7 @@ impl<'a, K: Hash + Eq, V, S: BuildHasher> Driver<'a, K, V, S> {
         requires held { Holds at window.old self.old }
         ensures sees { Sees window.old window.new }
         ensures own { window.new.own ≡ window.old.own }
-        ensures loaded { Loads at result window.old self.old window.new self.new }
+        ensures as_loaded { Loads at result window.old self.old window.new self.new }
         ensures rest { self.new ≡ record self.old { table = self.new.table; last = self.new.last } }
     {
         match (at, self.table) {
@@ -186,8 +186,8 @@ impl<'a, K: Hash + Eq, V, S: BuildHasher> Driver<'a, K, V, S> {
         }
     }
 
-    /// Tries to bury the pair that a slot holds.
-    pub fn bury(
+    /// Tries to delete the pair that a slot holds.
+    pub fn delete(
         &mut self,
         number: u64,
         place: usize,
@@ -199,7 +199,8 @@ impl<'a, K: Hash + Eq, V, S: BuildHasher> Driver<'a, K, V, S> {
         ensures sees { Sees window.old window.new }
         ensures does { Does (was_made result) window.old window.new }
         ensures machine { self.new.machine ≡ self.old.machine }
-        ensures buries { Buries number place words window.old self.old window.new self.new result }
+        ensures deletes { Deletes number place words window.old self.old window.new self.new
+            result }
     {
         let Some(table) = self.table else {
             unreachable!()

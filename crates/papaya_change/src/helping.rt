@@ -1,4 +1,4 @@
-//! A call that is set aside makes a further table or copies the root, and goes on then. What it asks
+//! A call that is set aside makes a next table or copies the root, and goes on then. What it asks
 //! for that a copier answers.
 ghost use Rattle.std.specs.Prelude.{◌≡◌, ◌≢◌, ℕ, MatchOption};
 ghost use Rattle.papaya_chain.specs.Machine.{IsFit, IsStanding, ask_of};
@@ -10,9 +10,9 @@ ghost use Rattle.papaya_copy.specs.Link.{IsFitCopyAsk};
 ghost use Rattle.papaya_book.specs.Limits.{tables_of};
 ghost use Rattle.papaya_book.specs.Windows.{HasCome, IsLawful, IsTable, Sees};
 ghost use Rattle.papaya_change.specs.Copier.{copier_of, with_copier};
-ghost use Rattle.papaya_change.specs.Drivers.{CanGoOn, Copies, GoesOn};
+ghost use Rattle.papaya_change.specs.Window.Driver.{CanGoOn, Copies, GoesOn};
 ghost use Rattle.papaya_change.specs.Going.{with_machine};
-ghost use Rattle.papaya_change.specs.Goings.{GoesBy};
+ghost use Rattle.papaya_change.specs.Window.Going.{GoesBy};
 ghost use Rattle.papaya_change.specs.Helping.{HasHelped, IsEntering};
 ghost use Rattle.papaya_change.specs.Settling.{at_slot};
 
@@ -21,7 +21,7 @@ use crate::driver::Driver;
 use papaya_ask::copy_ask::CopyAsk;
 use papaya_ask::search::Search;
 use papaya_book::count::Shard;
-use papaya_book::rule::own::Own;
+use papaya_book::rule::own::OwnSteps;
 use papaya_book::window::Window;
 use papaya_call::machine::State;
 use papaya_chain::ask::{Answer, Ask};
@@ -35,7 +35,7 @@ use std::mem;
 use std::sync::{MutexGuard, Wait};
 
 impl<'a, K: Hash + Eq, V, S: BuildHasher> Driver<'a, K, V, S> {
-    /// Copies for a call that is set aside, until it goes on for itself: in a further table, at the
+    /// Copies for a call that is set aside, until it goes on for itself: in a next table, at the
     /// root, or at its end, where a table could not be made. One that is not set aside stays as it
     /// is.
     #[inline(always)]
@@ -234,7 +234,7 @@ impl<'a, K: Hash + Eq, V, S: BuildHasher> Driver<'a, K, V, S> {
             last: self.last.take(),
             kept: self.kept.take(),
             fresh: self.fresh.take(),
-            given: mem::replace(&mut self.given, Own::nothing()),
+            given: mem::replace(&mut self.given, OwnSteps::nothing()),
         }
     }
 

@@ -5,7 +5,7 @@ ghost use Rattle.papaya_book.specs.Windows.{Does, IsIn, IsLawful, Sees};
 ghost use Rattle.papaya_book.specs.declared.rule.entry.Named.TheVariants.{Pair as PairNamed};
 ghost use Rattle.papaya_change.specs.Doing.{Answers, has_changed, was_made};
 ghost use Rattle.papaya_book.specs.Limits.{HasNoRoom, IsSpent, tables_of};
-ghost use Rattle.papaya_change.specs.Insertions.{CanInsert, HasPut, HasPutSince, Inserts};
+ghost use Rattle.papaya_change.specs.Window.Inserting.{CanInsert, HasPut, HasPutSince, Inserts};
 ghost use Rattle.std.specs.Prelude.{◌≡◌, ℕ, ◌<◌, ◌^◌, false, true, is_ok, None, Some, Err, IfErr, IfOk};
 ghost use Rattle.std.specs.Int.{IsPowerOfTwo};
 ghost use Rattle.papaya_call.specs.Machine.{ask_of as call_ask_of};
@@ -16,8 +16,8 @@ ghost use Rattle.papaya_ask.specs.declared.ask.Ask.TheVariants.{Done, Exchange, 
 ghost use Rattle.papaya_ask.specs.declared.ask.At.TheVariants.{Slot};
 ghost use Rattle.papaya_ask.specs.declared.call.Reply.TheVariants.{Refused as ReplyRefused};
 ghost use Rattle.papaya_change.specs.Changes.{IsPut};
-ghost use Rattle.papaya_change.specs.Seeks.{HasWritten, StandsBy};
-ghost use Rattle.papaya_change.specs.declared.at_once.Turn.TheVariants.{Over};
+ghost use Rattle.papaya_change.specs.Window.Seeking.{HasWritten, StandsBy};
+ghost use Rattle.papaya_change.specs.declared.fast_path.Turn.TheVariants.{Over};
 ghost use Rattle.papaya_change.specs.Writing.{HasKeyAt, IsMemoryCapacityOrLimit};
 
 use crate::driver::Driver;
@@ -29,7 +29,7 @@ use papaya_book::book::pairs::{KeyPart, ValuePart};
 use papaya_book::count::Shard;
 use papaya_book::keyed::Hashed;
 use papaya_book::rule::entry::Stored;
-use papaya_book::rule::own::{Given, Own};
+use papaya_book::rule::own::{CapacityCause, OwnSteps};
 use papaya_book::table::Table;
 use papaya_book::window::Window;
 use papaya_call::machine::State;
@@ -194,7 +194,7 @@ impl<'a, K: Hash + Eq + Drop, V: Drop, S: BuildHasher> Insertion<'a, K, V, S> {
 fn drive<'a, R: Wait, K: Hash + Eq + Drop, V: Drop, S: BuildHasher>(
     means: &Means<'_, '_, R>,
     window: &mut Window<'a, K, V, S>,
-    given: &mut Own<Given>,
+    given: &mut OwnSteps<CapacityCause>,
     begun: Insertion<'a, K, V, S>,
 ) -> Result<Option<&'a V>, Refused>
     requires standing { IsStanding begun.writer.call.machine }
@@ -232,12 +232,12 @@ fn drive<'a, R: Wait, K: Hash + Eq + Drop, V: Drop, S: BuildHasher>(
 }
 
 /// Inserts a pair by its machine: the value that its key had. Where it is refused for want of room,
-/// `given` tells the number that a full log gave, or the sum of the count that makes a further table
+/// `given` tells the number that a full log gave, or the sum of the count that makes a next table
 /// too long.
-pub(crate) fn insert_stepwise<'a, R: Wait, K: Hash + Eq + Drop, V: Drop, S: BuildHasher>(
+pub(crate) fn insert_slow<'a, R: Wait, K: Hash + Eq + Drop, V: Drop, S: BuildHasher>(
     means: &Means<'_, '_, R>,
     window: &mut Window<'a, K, V, S>,
-    given: &mut Own<Given>,
+    given: &mut OwnSteps<CapacityCause>,
     key: K,
     value: V,
 ) -> Result<Option<&'a V>, Refused>
@@ -274,7 +274,7 @@ pub(crate) fn insert_stepwise<'a, R: Wait, K: Hash + Eq + Drop, V: Drop, S: Buil
 pub(crate) fn insert_onward<'a, R: Wait, K: Hash + Eq + Drop, V: Drop, S: BuildHasher>(
     means: &Means<'_, '_, R>,
     window: &mut Window<'a, K, V, S>,
-    given: &mut Own<Given>,
+    given: &mut OwnSteps<CapacityCause>,
     key: K,
     value: V,
     hash: u64,
@@ -315,7 +315,7 @@ pub(crate) fn insert_onward<'a, R: Wait, K: Hash + Eq + Drop, V: Drop, S: BuildH
 pub(crate) fn insert_logged<'a, R: Wait, K: Hash + Eq + Drop, V: Drop, S: BuildHasher>(
     means: &Means<'_, '_, R>,
     window: &mut Window<'a, K, V, S>,
-    given: &mut Own<Given>,
+    given: &mut OwnSteps<CapacityCause>,
     hash: u64,
     pair: Stored<K, V>,
 ) -> Result<Option<&'a V>, Refused>
@@ -361,7 +361,7 @@ pub(crate) fn insert_logged<'a, R: Wait, K: Hash + Eq + Drop, V: Drop, S: BuildH
 pub(crate) fn insert_met<'a, R: Wait, K: Hash + Eq + Drop, V: Drop, S: BuildHasher>(
     means: &Means<'_, '_, R>,
     window: &mut Window<'a, K, V, S>,
-    given: &mut Own<Given>,
+    given: &mut OwnSteps<CapacityCause>,
     key: K,
     hash: u64,
     write: Write,

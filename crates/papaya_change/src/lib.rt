@@ -2,14 +2,14 @@
 //! machines.
 #![tactic(auto)]
 
-pub mod at_once;
 pub mod copier;
 pub mod driver;
+pub mod fast_path;
+pub mod fast_removal;
 pub mod helping;
 pub mod insertion;
 pub mod means;
 pub mod removal;
-pub mod removal_at_once;
 pub mod resizing;
 mod settling;
 pub mod writing;

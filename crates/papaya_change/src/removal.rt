@@ -5,9 +5,9 @@ ghost use Rattle.papaya_lookup.specs.History.{Makes, key_of};
 ghost use Rattle.papaya_book.specs.Windows.{IsLawful, Sees};
 ghost use Rattle.papaya_book.specs.Books.{IsIn};
 ghost use Rattle.papaya_change.specs.Doing.{Answers};
-ghost use Rattle.papaya_change.specs.Removals.{CanRemove, CanTell, Removes};
+ghost use Rattle.papaya_change.specs.Window.Removing.{CanRemove, CanTell, Removes};
 ghost use Rattle.papaya_change.specs.Removing.{Shows, Tells};
-ghost use Rattle.papaya_change.specs.Steps.{HasLast};
+ghost use Rattle.papaya_change.specs.Window.Steps.{HasLast};
 ghost use Rattle.std.specs.Prelude.{◌≡◌, Some, Err};
 ghost use Rattle.std.specs.Int.{IsPowerOfTwo};
 ghost use Rattle.papaya_book.specs.Limits.{HasNoRoom, tables_of};
@@ -21,15 +21,15 @@ ghost use Rattle.papaya_change.specs.RemovalAnswers.{IsRemovalBy, went};
 ghost use Rattle.papaya_change.specs.Showings.{AreOf, Judges};
 
 use crate::driver::Driver;
+use crate::fast_removal::remove_fast;
 use crate::means::Means;
-use crate::removal_at_once::remove_at_once;
 use papaya_ask::ask::{Answer, Ask as CallAsk, At};
 use papaya_ask::call::{Reply, Task};
 use papaya_book::book::Book;
 use papaya_book::count::Shard;
 use papaya_book::keyed::Asked;
 use papaya_book::rule::entry::Stored;
-use papaya_book::rule::own::{Given, Own};
+use papaya_book::rule::own::{CapacityCause, OwnSteps};
 use papaya_book::window::Window;
 use papaya_chain::ask::Ask;
 use papaya_keys::guard::Equivalent;
@@ -126,7 +126,7 @@ impl<'a, K: Hash + Eq, V, S: BuildHasher> Removal<'a, K, V, S> {
             CallAsk::SameKey(_) => Some(self.same(key, window)),
             CallAsk::ShowPair(_) => Some(self.show(agrees, window)),
             CallAsk::Exchange(At::Slot(number, place), old, new) => {
-                Some(self.call.bury(number, place, (old, new), window))
+                Some(self.call.delete(number, place, (old, new), window))
             }
             CallAsk::AddToShard(by) => {
                 shard.add(by);
@@ -175,7 +175,7 @@ impl<'a, K: Hash + Eq, V, S: BuildHasher> Removal<'a, K, V, S> {
 
 /// Removes a key's pair if the closure agrees, as the removal's machine asks.
 #[inline(never)]
-pub fn remove_stepwise<
+pub fn remove_slow<
     'a,
     R: Wait,
     K: Hash + Eq,
@@ -186,7 +186,7 @@ pub fn remove_stepwise<
 >(
     means: &Means<'_, '_, R>,
     window: &mut Window<'a, K, V, S>,
-    given: &mut Own<Given>,
+    given: &mut OwnSteps<CapacityCause>,
     key: &Q,
     mut agrees: F,
 ) -> Result<Result<Option<(&'a K, &'a V)>, (&'a K, &'a V)>, Refused>
@@ -229,10 +229,10 @@ pub fn remove_stepwise<
     unreachable!()
 }
 
-/// Removes a key's pair if the closure agrees. The pair is found by a lookup's search, and buried at
-/// once where it is found live; where it is not, or another call was there first, the removal's machine
-/// begins. Where that is refused for want of room while it helps to copy, `given` tells the number that
-/// a full log gave, or the sum of the count that makes a further table too long.
+/// Removes a key's pair if the closure agrees. The pair is found by a lookup's search, and deleted
+/// at once where it is found live; where it is not, or another call was there first, the removal's
+/// machine begins. Where that is refused for want of room while it helps to copy, `given` tells the
+/// number that a full log gave, or the sum of the count that makes a next table too long.
 pub fn remove<
     'a,
     R: Wait,
@@ -247,7 +247,7 @@ pub fn remove<
     initial: usize,
     shard: &Shard<'_>,
     window: &mut Window<'a, K, V, S>,
-    given: &mut Own<Given>,
+    given: &mut OwnSteps<CapacityCause>,
     key: &Q,
     mut agrees: F,
 ) -> Result<Result<Option<(&'a K, &'a V)>, (&'a K, &'a V)>, Refused>
@@ -267,8 +267,8 @@ pub fn remove<
         initial,
         shard,
     };
-    match remove_at_once(shard, window, key, &mut agrees) {
+    match remove_fast(shard, window, key, &mut agrees) {
         Some(answer) => Ok(answer),
-        None => remove_stepwise(&means, window, given, key, agrees),
+        None => remove_slow(&means, window, given, key, agrees),
     }
 }

@@ -9,7 +9,7 @@ ghost use Rattle.papaya_chain.specs.declared.resizer.State.TheVariants as stages
 ghost use Rattle.papaya_copy.specs.declared.settle.Settle.TheVariants.{Looking};
 ghost use Rattle.papaya_book.specs.Limits.{tables_of};
 ghost use Rattle.papaya_book.specs.Windows.{IsLawful, Sees};
-ghost use Rattle.papaya_change.specs.Resizes.{CanResize, GoesOnAfter};
+ghost use Rattle.papaya_change.specs.Window.Resizing.{CanResize, GoesOnAfter};
 ghost use Rattle.papaya_change.specs.Resizing.{HasNoRoomFor, HasRoomFor};
 ghost use Rattle.papaya_change.specs.Settling.{at_slot};
 ghost use Rattle.papaya_change.specs.Writing.{IsMemoryOrCapacity};
@@ -18,7 +18,7 @@ use crate::copier::{Asked, Copier, next_start, tried};
 use papaya_ask::call::Reply;
 use papaya_ask::copy_ask::CopyAsk;
 use papaya_book::count::Shard;
-use papaya_book::rule::own::{Given, Own};
+use papaya_book::rule::own::{CapacityCause, OwnSteps};
 use papaya_book::window::Window;
 use papaya_chain::ask::Answer;
 use papaya_chain::resizer::{Resize, Resizer, State};
@@ -168,7 +168,7 @@ pub fn resize<'a, R: Wait, K: Hash + Eq, V, S: BuildHasher>(
     initial: usize,
     shard: &Shard<'_>,
     window: &mut Window<'a, K, V, S>,
-    given: &mut Own<Given>,
+    given: &mut OwnSteps<CapacityCause>,
     resize: Resize,
 ) -> Result<(), Refused>
     requires initial { IsPowerOfTwo initial }

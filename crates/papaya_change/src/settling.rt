@@ -13,11 +13,11 @@ ghost use Rattle.papaya_words.specs.Word.{live_word, pair_of};
 ghost use Rattle.papaya_book.specs.declared.rule.entry.Event.{Event};
 ghost use Rattle.papaya_book.specs.Windows.{IsTable, Sees};
 ghost use Rattle.papaya_change.specs.Settling.{at_slot};
-ghost use Rattle.papaya_change.specs.Settles.{CanLead, CanLeadAt, Ends, IsPlacedAt, Leaves, LeavesFrom, LooksOn, WaitsAt, stop_in, stop_seen};
+ghost use Rattle.papaya_change.specs.Window.Settling.{CanLead, CanLeadAt, Ends, IsPlacedAt, Leaves, LeavesFrom, LooksOn, WaitsAt, stop_in, stop_seen};
 
 use crate::copier::{Copier, load_hint_at, size_at, write_hint_at};
 use papaya_ask::ask::{Answer as CallAnswer, At, StepKind};
-use papaya_ask::search::{Place, Search, Seen};
+use papaya_ask::search::{Place, Probed, Search};
 use papaya_book::table::Table;
 use papaya_book::window::Window;
 use papaya_chain::ask::Answer;
@@ -100,7 +100,7 @@ impl<K: Hash + Eq, V, S: BuildHasher> Copier<K, V, S> {
         let words = (marked, copied);
         self.exchange_slot(
             site.table,
-            site.chunk.scan.from,
+            site.chunk.cursor.from,
             site.chunk.at,
             kind,
             words,
@@ -204,8 +204,8 @@ impl<K: Hash + Eq, V, S: BuildHasher> Copier<K, V, S> {
     {
         let found = load_hint_at(to, place.table, place.probe.i, window);
         match place.hinted(hash, found) {
-            Seen::On(Search::Looking(next)) => Look::Next(next),
-            Seen::On(Search::Reading(_)) => {
+            Probed::On(Search::Looking(next)) => Look::Next(next),
+            Probed::On(Search::Reading(_)) => {
                 let left = self.put(site, to, marked, hash, place, window);
                 Look::Left(left)
             }
@@ -257,17 +257,17 @@ impl<K: Hash + Eq, V, S: BuildHasher> Copier<K, V, S> {
     ) -> Option<Halt>
         requires placed { IsPlacedAt window.old site.now }
         requires can { CanLeadAt window.old site.now
-            (settles.Carrying marked (carries.Hashing site.now.chunk.scan.to)) self.old }
+            (settles.Carrying marked (carries.Hashing site.now.chunk.cursor.to)) self.old }
         ensures sees { Sees window.old window.new }
         ensures own { window.new.own ≡ window.old.own }
         ensures leaves { Leaves window.old site.now
-            (settles.Carrying marked (carries.Hashing site.now.chunk.scan.to)) self.old window.new
+            (settles.Carrying marked (carries.Hashing site.now.chunk.cursor.to)) self.old window.new
             self.new result }
     {
         let hash = self.carry(window);
-        let to = window.table(site.chunk.scan.to);
-        let (len, limit) = size_at(to, site.chunk.scan.to, window);
-        let first = Place::first(hash, site.chunk.scan.to, len, limit);
+        let to = window.table(site.chunk.cursor.to);
+        let (len, limit) = size_at(to, site.chunk.cursor.to, window);
+        let first = Place::first(hash, site.chunk.cursor.to, len, limit);
         self.seek(site, to, marked, hash, first, window)
     }
 
@@ -291,7 +291,7 @@ impl<K: Hash + Eq, V, S: BuildHasher> Copier<K, V, S> {
         let words = (word, marked);
         let found = self.exchange_slot(
             site.table,
-            site.chunk.scan.from,
+            site.chunk.cursor.from,
             site.chunk.at,
             kind,
             words,
@@ -324,7 +324,7 @@ impl<K: Hash + Eq, V, S: BuildHasher> Copier<K, V, S> {
         let words = (0, Word::CLOSED.0);
         let found = self.exchange_slot(
             site.table,
-            site.chunk.scan.from,
+            site.chunk.cursor.from,
             site.chunk.at,
             kind,
             words,
@@ -338,7 +338,7 @@ impl<K: Hash + Eq, V, S: BuildHasher> Copier<K, V, S> {
         }
         write_hint_at(
             site.table,
-            site.chunk.scan.from,
+            site.chunk.cursor.from,
             site.chunk.at,
             SHUT,
             window,
@@ -360,7 +360,7 @@ impl<K: Hash + Eq, V, S: BuildHasher> Copier<K, V, S> {
         ensures leaves { (seen : List (Event _ _ _)) → IsPrefix seen window.old.sight.log
             → LeavesFrom (stop_seen seen site.now self.old) window.new site.now self.new result }
     {
-        let word = self.load_slot(site.table, site.chunk.scan.from, site.chunk.at, window);
+        let word = self.load_slot(site.table, site.chunk.cursor.from, site.chunk.at, window);
         match Word(word).kind() {
             Kind::Empty => self.close(site, window),
             Kind::Live => self.mark(site, word, window),
@@ -391,7 +391,7 @@ impl<K: Hash + Eq, V, S: BuildHasher> Copier<K, V, S> {
         ensures ends { Ends window.old mode (at_slot aim chunk settles.Looking) self.old window.new
             self.new result }
     {
-        let table = window.table(chunk.scan.from);
+        let table = window.table(chunk.cursor.from);
         let mut site = Site {
             table,
             aim,
@@ -405,10 +405,10 @@ impl<K: Hash + Eq, V, S: BuildHasher> Copier<K, V, S> {
             }
             site.chunk.at += 1;
             if site.chunk.at >= site.chunk.end {
-                let at = At::Done(site.chunk.scan.to, site.chunk.scan.at);
+                let at = At::Done(site.chunk.cursor.to, site.chunk.cursor.at);
                 let answer = self.exchange(at, Some(StepKind::Advance), (0, 1), window);
                 return (
-                    Copying::Stepping(site.aim, Step::Advancing(site.chunk.scan)),
+                    Copying::Stepping(site.aim, Step::Advancing(site.chunk.cursor)),
                     answer,
                 );
             }

@@ -1,6 +1,6 @@
 //! What calls that insert have in common: their machine's asks, answered by steps on the book.
 ghost use Rattle.papaya_book.specs.Windows.{Does, IsIn, Sees};
-ghost use Rattle.papaya_change.specs.Writers.{CanPut, CanWrite, MakesPart, Pairs, Puts, Writes};
+ghost use Rattle.papaya_change.specs.Window.Writing.{CanPut, CanWrite, MakesPart, Pairs, Puts, Writes};
 ghost use Rattle.std.specs.Prelude.{◌≡◌, ◌⊎◌, ℕ, ◌<◌, ◌^◌, IfErr, IfOk, None, Some};
 ghost use Rattle.papaya_call.specs.Machine.{ask_of as call_ask_of};
 ghost use Rattle.papaya_chain.specs.Machine.{IsStanding, ask_of, kind_of_ask};
@@ -9,7 +9,7 @@ ghost use Rattle.papaya_ask.specs.Search.{IsSize};
 ghost use Rattle.papaya_ask.specs.declared.ask.Ask.TheVariants.{Exchange, Load, LoadHint, MakeTable, SameKey, SizeOf, WriteHint};
 ghost use Rattle.papaya_ask.specs.declared.ask.Ask.TheVariants.{MakeKey, MakePair, MakePairOf, MakeValue};
 ghost use Rattle.papaya_ask.specs.declared.ask.At.TheVariants.{Made as MadeWord, Root, Slot};
-ghost use Rattle.papaya_ask.specs.declared.ask.StepKind.TheVariants.{Bury};
+ghost use Rattle.papaya_ask.specs.declared.ask.StepKind.TheVariants.{Delete};
 ghost use Rattle.papaya_words.specs.Word.{pair_of};
 ghost use Rattle.papaya_book.specs.Plays.{IsPutting};
 ghost use Rattle.papaya_change.specs.Doing.{was_made};
@@ -129,7 +129,7 @@ impl<'a, K: Hash + Eq + Drop, V: Drop, S: BuildHasher> Writer<'a, K, V, S> {
         Answer::Yes(same)
     }
 
-    /// The key and the value go into the log of pairs, with the first pair that has them, so that
+    /// The key and the value go into the arena of pairs, with the first pair that has them, so that
     /// nothing is made for them now. They have no number yet, and their machine asks for none.
     pub fn make_part(&self) -> Answer
         requires asks { (ask_of self.now.call.machine ≡ Call MakeKey)
@@ -340,8 +340,8 @@ impl<'a, K: Hash + Eq + Drop, V: Drop, S: BuildHasher> Writer<'a, K, V, S> {
         self.call.tried(words.0, found, before, Some(put))
     }
 
-    /// Tries to bury the pair that a slot holds.
-    pub fn bury(
+    /// Tries to delete the pair that a slot holds.
+    pub fn delete(
         &mut self,
         number: u64,
         place: usize,
@@ -351,7 +351,7 @@ impl<'a, K: Hash + Eq + Drop, V: Drop, S: BuildHasher> Writer<'a, K, V, S> {
         requires can { CanWrite window.old self.old }
         requires asks { ask_of self.old.call.machine ≡ Call (Exchange (Slot number place)
             words.0 words.1) }
-        requires kind { kind_of_ask self.old.call.machine ≡ Some Bury }
+        requires kind { kind_of_ask self.old.call.machine ≡ Some Delete }
         requires standing { IsStanding self.old.call.machine }
         ensures sees { Sees window.old window.new }
         ensures does { Does (was_made result) window.old window.new }
@@ -361,6 +361,6 @@ impl<'a, K: Hash + Eq + Drop, V: Drop, S: BuildHasher> Writer<'a, K, V, S> {
         ensures put { (self.new.call.put ≡ self.old.call.put) ⊎ (self.new.call.put ≡ None) }
         ensures writes { Writes window.old self.old window.new self.new result }
     {
-        self.call.bury(number, place, words, window)
+        self.call.delete(number, place, words, window)
     }
 }

@@ -20,10 +20,10 @@ use Rattle.papaya_call.specs.declared.made.Grown.TheVariants.{On, Pair}
 use Rattle.papaya_call.specs.Compute.{in_place_of}
 use Rattle.papaya_call.specs.Machine.{after, ask_of, asks, paired}
 use Rattle.papaya_call.specs.Made.{grown, pair_ask, told}
-use Rattle.papaya_chain_rests.specs.Rests.{left_by}
-use Rattle.papaya_rests.specs.Says.{IsAnswered, MakesPair}
-use Rattle.papaya_rests.proofs.Makings.{IsPairAsk, IsWriteAsk, makes_pair, numbered_leads, pairing_asks, write_asks}
-use Rattle.papaya_rests.proofs.Silent.{IsSilent}
+use Rattle.papaya_chain_law.specs.Relies.{left_by}
+use Rattle.papaya_call_law.specs.Says.{IsAnswered, MakesPair}
+use Rattle.papaya_call_law.proofs.Makings.{IsPairAsk, IsWriteAsk, makes_pair, numbered_leads, pairing_asks, write_asks}
+use Rattle.papaya_call_law.proofs.Silent.{IsSilent}
 
 -- a pair is made by no silent ask
 pub silent_no_pair : (ask : Ask) → IsSilent ask → MakesPair ask → ⊥

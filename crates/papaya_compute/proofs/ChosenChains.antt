@@ -8,9 +8,9 @@ use Rattle.papaya_call.specs.Machine as calls
 use Rattle.papaya_chain.specs.declared.ask.Answer.{Answer}
 use Rattle.papaya_chain.specs.declared.machine.Machine.{Machine}
 use Rattle.papaya_chain.specs.Machine.{after}
-use Rattle.papaya_chain_rests.specs.Goes.{IsInOrder, IsOwnStep}
-use Rattle.papaya_chain_rests.proofs.Goes.{machine_goes}
-use Rattle.papaya_rests.specs.Says.{MakesPair}
+use Rattle.papaya_chain_law.specs.Goes.{IsInOrder, IsOwnStep}
+use Rattle.papaya_chain_law.proofs.Goes.{machine_goes}
+use Rattle.papaya_call_law.specs.Says.{MakesPair}
 use Rattle.papaya_compute.specs.Putting.{PutsChosen}
 use Rattle.papaya_compute.proofs.ChosenSlots.{machine_choice, machine_puts, puts_anew}
 

@@ -18,8 +18,8 @@ use Rattle.papaya_ask.specs.declared.call.Task.{Task}
 use Rattle.papaya_ask.specs.declared.call.Task.TheVariants.{Get, Insert, RemoveIf, Compute}
 use Rattle.papaya_ask.specs.declared.search.Place.{Place}
 use Rattle.papaya_ask.specs.declared.search.Search.TheVariants.{Sizing, Looking, Reading, Comparing}
-use Rattle.papaya_ask.specs.declared.search.Seen.{Seen}
-use Rattle.papaya_ask.specs.declared.search.Seen.TheVariants as seen
+use Rattle.papaya_ask.specs.declared.search.Probed.{Probed}
+use Rattle.papaya_ask.specs.declared.search.Probed.TheVariants as seen
 use Rattle.papaya_ask.specs.Search.{look as look_seen, at_word as search_loaded, at_yes as search_compared}
 use Rattle.papaya_call.specs.declared.compute.Choice.{Choice}
 use Rattle.papaya_call.specs.declared.compute.Choice.TheVariants.{Replace as To_replace, Remove as To_remove}
@@ -31,7 +31,7 @@ use Rattle.papaya_call.specs.declared.compute.Put.{Put}
 use Rattle.papaya_call.specs.declared.compute.Remembered.{Remembered}
 use Rattle.papaya_call.specs.declared.machine.Machine.{Machine}
 use Rattle.papaya_call.specs.declared.machine.State.{State}
-use Rattle.papaya_call.specs.declared.machine.State.TheVariants.{AtRoot, Making, Opening, Searching, Writing, Offering, Showing, Pairing, Putting, Burying, Counting, Noting, Uncounting, Leaving, Growing, Ended}
+use Rattle.papaya_call.specs.declared.machine.State.TheVariants.{AtRoot, Making, Opening, Searching, Writing, Offering, Showing, Pairing, Putting, Deleting, Counting, Noting, Uncounting, Leaving, Growing, Ended}
 use Rattle.papaya_call.specs.declared.made.Grown.{Grown}
 use Rattle.papaya_call.specs.declared.made.Grown.TheVariants.{On, Pair}
 use Rattle.papaya_call.specs.declared.made.Made.{Made}
@@ -41,9 +41,9 @@ use Rattle.papaya_call.specs.Compute.{fills, in_place_of, recalled, recalls}
 use Rattle.papaya_call.specs.Machine.{IsStanding, IsStandingState, absent, after, ask_of, asks, at_root, computes, goes_as, held_at_op, held_in, kind_asked, kind_of_ask, left, paired, paired_held, written}
 use Rattle.papaya_call.specs.Made.{grown, pair_ask, serves_at, told}
 use Rattle.papaya_call.specs.Write.{claimed_by, made_of, put_ask}
-use Rattle.papaya_rests.proofs.Makings.{IsPairAsk, makes_pair, numbered_leads, pairing_asks}
-use Rattle.papaya_rests.proofs.NewWords.{pair_of-live_word}
-use Rattle.papaya_rests.specs.Says.{MakesPair}
+use Rattle.papaya_call_law.proofs.Makings.{IsPairAsk, makes_pair, numbered_leads, pairing_asks}
+use Rattle.papaya_call_law.proofs.NewWords.{pair_of-live_word}
+use Rattle.papaya_call_law.specs.Says.{MakesPair}
 use Rattle.papaya_compute.specs.Putting.{PutsChosen, PutsIn}
 
 -- one that fills takes the place of none
@@ -75,7 +75,7 @@ recalls_puts (Some (To_replace old new)) at word =
     (λ _. tt))
     (λ _. tt)
 recalls_puts (Some (To_remove old)) at word =
-    cond_both (old == pair_of word) (Burying (record { place = at; word = word })) (Showing (record { place = at; word = word })) (PutsIn (Some (To_remove old))) (λ _. tt) (λ _. tt)
+    cond_both (old == pair_of word) (Deleting (record { place = at; word = word })) (Showing (record { place = at; word = word })) (PutsIn (Some (To_remove old))) (λ _. tt) (λ _. tt)
 
 -- so it is where a pair is met
 computes_puts : (kd : Kind) (held : Remembered) (at : Place) (word : ℕ) → PutsIn held.choice (computes kd held at word)
@@ -83,10 +83,10 @@ computes_puts word_kinds.Empty held at word = tt
 computes_puts word_kinds.Live held at word = recalls_puts held.choice at word
 computes_puts word_kinds.Marked held at word = tt
 computes_puts word_kinds.Copied held at word = tt
-computes_puts word_kinds.Buried held at word = tt
+computes_puts word_kinds.Tombstone held at word = tt
 computes_puts word_kinds.Closed held at word = tt
 
-goes_puts : (mode : ResizeMode) (held : Remembered) (s : Seen) → PutsIn held.choice (goes_as Compute mode held s)
+goes_puts : (mode : ResizeMode) (held : Remembered) (s : Probed) → PutsIn held.choice (goes_as Compute mode held s)
 goes_puts mode held (seen.On way) = tt
 goes_puts mode held (seen.Here at word) = computes_puts (kind_of word) held at word
 goes_puts mode held (seen.Empty at) = absent_puts held.choice held.fill (At at)
@@ -141,8 +141,8 @@ module _ (m : Machine) where
   puts_in made (Putting put) Exchanged is h = written_puts m.remembered.choice put.write put.pair
   puts_in made (Putting put) (Found_instead word) is h = goes_puts m.mode m.remembered (look_seen put.write.place word)
   puts_in made (Putting put) answer is h = h
-  puts_in made (Burying removal) (Found_instead word) is h = goes_puts m.mode m.remembered (look_seen removal.place word)
-  puts_in made (Burying removal) answer is h = tt
+  puts_in made (Deleting removal) (Found_instead word) is h = goes_puts m.mode m.remembered (look_seen removal.place word)
+  puts_in made (Deleting removal) answer is h = tt
   puts_in made (Counting claimed) Exchanged is h = tt
   puts_in made (Counting claimed) answer is h = tt
   puts_in made (Noting claimed) Exchanged is h = tt
@@ -226,7 +226,7 @@ module _ (m : Machine) (t x old new : ℕ) where
   -- in each stage
   slot_in : (stage : State) → IsStandingState Compute stage → PutsIn m.remembered.choice stage → asks m.made m.hash stage ≡ Ask_exchange (Slot t x) old new → kind_asked m.made stage ≡ Some kinds.Replace → 0 < old → ForSlot stage
   slot_in (Putting put) is puts e kind some = put_slot put puts e some
-  slot_in (Burying removal) is puts e kind some = absurd cc
+  slot_in (Deleting removal) is puts e kind some = absurd cc
   slot_in (Writing write) is puts e kind some = absurd is.0
   slot_in (Pairing purpose) is puts e kind some = absurd (subst IsPairAsk e (pairing_asks m.made purpose))
   slot_in (Searching (Sizing u)) is puts e kind some = absurd cc

@@ -19,20 +19,20 @@ use Rattle.papaya_call.specs.declared.made.Of.{Of}
 use Rattle.papaya_call.specs.Machine as calls
 use Rattle.papaya_ask.specs.declared.ask.StepKind.{StepKind}
 use Rattle.papaya_ask.specs.declared.call.Task.{Task}
-use Rattle.papaya_rests.specs.Followed.{MayAsk}
-use Rattle.papaya_rests.proofs.Followed.{asked_of_task}
+use Rattle.papaya_call_law.specs.Followed.{MayAsk}
+use Rattle.papaya_call_law.proofs.Followed.{asked_of_task}
 use Rattle.papaya_chain.specs.declared.ask.Answer.TheVariants as answers
 use Rattle.papaya_chain.specs.declared.ask.Ask.TheVariants.{Call}
 use Rattle.papaya_chain.specs.declared.machine.Machine.{Machine}
 use Rattle.papaya_chain.specs.declared.machine.Phase.TheVariants.{Calling}
 use Rattle.papaya_chain.specs.Machine.{IsStanding, after, ask_of}
-use Rattle.papaya_chain_rests.specs.Goes.{IsInOrder}
-use Rattle.papaya_chain_rests.proofs.Names.{call_asks}
-use Rattle.papaya_chain_rests.proofs.Once.{chain_once}
-use Rattle.papaya_chain_rests.proofs.Replies.{chain_shows, chain_task}
-use Rattle.papaya_rests.specs.Rests.{IsAtLimit, IsNumberAsk}
-use Rattle.papaya_rests.specs.Says.{Agrees, HasShownNone, Inserts, IsAnswered, Makes, Removes, Said, ShowsPairs, StandsOn}
-use Rattle.papaya_rests.proofs.Silent.{IsSilent, not_done, not_show}
+use Rattle.papaya_chain_law.specs.Goes.{IsInOrder}
+use Rattle.papaya_chain_law.proofs.Names.{call_asks}
+use Rattle.papaya_chain_law.proofs.Once.{chain_once}
+use Rattle.papaya_chain_law.proofs.Replies.{chain_shows, chain_task}
+use Rattle.papaya_call_law.specs.Relies.{IsAtLimit, IsNumberAsk}
+use Rattle.papaya_call_law.specs.Says.{Agrees, HasShownNone, Inserts, IsAnswered, Makes, Removes, Said, ShowsPairs, StandsOn}
+use Rattle.papaya_call_law.proofs.Silent.{IsSilent, not_done, not_show}
 use Rattle.papaya_compute.specs.declared.computing.Computing.{Computing}
 use Rattle.papaya_book.specs.declared.rule.entry.Begun.{Begun}
 use Rattle.papaya_book.specs.declared.rule.entry.Event.{Event}
@@ -49,7 +49,7 @@ use Rattle.papaya_change.specs.Writing.{IsMemoryCapacityOrLimit, IsUnsaid, IsWri
 use Rattle.papaya_lookup.proofs.Histories.{history_since}
 use Rattle.papaya_lookup.proofs.KeptKeys.{key_at_stays}
 use Rattle.papaya_change.proofs.OwnSays.{own_stood}
-use Rattle.papaya_change.proofs.OwnSteps.{own_order}
+use Rattle.papaya_change.proofs.StepsOfOwn.{own_order}
 use Rattle.papaya_change.proofs.Refusals.{refused_for, unsaid_cause, unsaid_room}
 use Rattle.papaya_change.proofs.Showings.{all_shown, held_wider}
 use Rattle.papaya_change.proofs.Spent.{limit_spent, unsaid_limit}
@@ -212,7 +212,7 @@ module _ {K V S H : Type 0} (eq : K → K → Bool) (input : K → List (List �
               aborts = λ with e. let s = own_aborted m own.0 answer with open_still (ap ask_of (sym then) ∙ e) in absurd (not_show m.call answer silent s.0 s.1);
               refuses = λ cause e. inl (refused IsMemoryCapacityOrLimit (λ c h. inl (unsaid_cause given answer unsaid c h)) (λ over. inr refl) cause (ap ask_of (sym then) ∙ e));
               crowded = λ e. let initial = (after w.call.machine (answers.Call answer)).call.initial in refused (λ cause. cause ≡ Capacity → HasNoRoom initial (tables_of log') given) (unsaid_room initial (tables_of log') given answer unsaid) (λ over f. absurd (cc f)) Capacity (ap ask_of (sym then) ∙ e) refl;
-              spent = λ e. refused (λ cause. cause ≡ Limit → IsSpent b.limit log') (unsaid_limit (IsSpent b.limit log') given answer unsaid) (λ over f. limit_spent eq hash b log' l' m.call answer r.writing.calling.rests.call.made.limit tells over) Limit (ap ask_of (sym then) ∙ e) refl;
+              spent = λ e. refused (λ cause. cause ≡ Limit → IsSpent b.limit log') (unsaid_limit (IsSpent b.limit log') given answer unsaid) (λ over f. limit_spent eq hash b log' l' m.call answer r.writing.calling.relies.call.made.limit tells over) Limit (ap ask_of (sym then) ∙ e) refl;
             },
             on.1,
           )

@@ -17,14 +17,14 @@ use Rattle.papaya_chain.specs.declared.ask.Ask.TheVariants.{Call}
 use Rattle.papaya_chain.specs.declared.machine.Machine.{Machine}
 use Rattle.papaya_chain.specs.declared.machine.Phase.TheVariants.{Calling}
 use Rattle.papaya_chain.specs.Machine.{ask_of}
-use Rattle.papaya_chain_rests.proofs.Names.{call_asks}
-use Rattle.papaya_chain_rests.proofs.Once.{aside_filled}
-use Rattle.papaya_chain_rests.proofs.Replies.{anew}
-use Rattle.papaya_rests.specs.Says.{HasShownNone, IsAnswered, Makes}
-use Rattle.papaya_rests.proofs.SaysOnce.{machine_shown}
+use Rattle.papaya_chain_law.proofs.Names.{call_asks}
+use Rattle.papaya_chain_law.proofs.Once.{aside_filled}
+use Rattle.papaya_chain_law.proofs.Replies.{anew}
+use Rattle.papaya_call_law.specs.Says.{HasShownNone, IsAnswered, Makes}
+use Rattle.papaya_call_law.proofs.SaysOnce.{machine_shown}
 use Rattle.papaya_book.specs.declared.rule.entry.Begun.{Begun}
 use Rattle.papaya_book.specs.declared.rule.entry.Event.{Event}
-use Rattle.papaya_book.specs.declared.rule.own.Given.{Given}
+use Rattle.papaya_book.specs.declared.rule.own.CapacityCause.{CapacityCause}
 use Rattle.papaya_book.specs.Hashes.{hash_of}
 use Rattle.papaya_book.specs.Limits.{IsSpent, tables_of}
 use Rattle.papaya_book.specs.Logs.{Stored, pair_named}
@@ -46,7 +46,7 @@ use Rattle.papaya_compute.proofs.AnsweredValues.{answered_aside}
 use Rattle.papaya_compute.proofs.ChosenSlots.{puts_anew}
 use Rattle.papaya_compute.proofs.ComputeGoes.{holds_still, newest_still}
 
-module _ (m m' : Machine) (tables : List ℕ) (given : List Given) (helped : HasHelped m m' tables given) where
+module _ (m m' : Machine) (tables : List ℕ) (given : List CapacityCause) (helped : HasHelped m m' tables given) where
   -- a closure that was shown that there is none has been shown it
   shown_kept : HasShownNone m.call.remembered.fill m.call.state → HasShownNone m'.call.remembered.fill m'.call.state
   shown_kept shown = elim helped [

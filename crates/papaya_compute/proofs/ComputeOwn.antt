@@ -14,11 +14,11 @@ use Rattle.papaya_chain.specs.declared.ask.Ask.TheVariants.{Call}
 use Rattle.papaya_chain.specs.declared.machine.Machine.{Machine}
 use Rattle.papaya_chain.specs.declared.machine.Phase.TheVariants.{Calling}
 use Rattle.papaya_chain.specs.Machine.{after, ask_of}
-use Rattle.papaya_chain_rests.proofs.Names.{call_asks}
-use Rattle.papaya_chain_rests.proofs.Replies.{aside_asks}
-use Rattle.papaya_rests.specs.Says.{show}
-use Rattle.papaya_rests.proofs.SaysChanges.{machine_aborted}
-use Rattle.papaya_change.proofs.OwnSteps.{aside_asks_none, calling_asks, own_went}
+use Rattle.papaya_chain_law.proofs.Names.{call_asks}
+use Rattle.papaya_chain_law.proofs.Replies.{aside_asks}
+use Rattle.papaya_call_law.specs.Says.{show}
+use Rattle.papaya_call_law.proofs.SaysChanges.{machine_aborted}
+use Rattle.papaya_change.proofs.StepsOfOwn.{aside_asks_none, calling_asks, own_went}
 
 module _ (m : Machine) (calling : m.phase ≡ Calling) (answer : Answer) where
   abbrev m' : Machine

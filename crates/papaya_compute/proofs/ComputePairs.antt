@@ -30,14 +30,14 @@ use Rattle.papaya_chain.specs.declared.ask.Ask.TheVariants.{Call}
 use Rattle.papaya_chain.specs.declared.machine.Machine.{Machine}
 use Rattle.papaya_chain.specs.declared.machine.Phase.TheVariants.{Calling}
 use Rattle.papaya_chain.specs.Machine.{IsStanding, after, ask_of}
-use Rattle.papaya_chain_rests.specs.Goes.{IsInOrder}
-use Rattle.papaya_chain_rests.proofs.Names.{call_asks}
-use Rattle.papaya_chain_rests.proofs.Once.{chain_once}
-use Rattle.papaya_chain_rests.proofs.Replies.{chain_shows, chain_task}
-use Rattle.papaya_rests.specs.Rests.{IsAtLimit, IsNumberAsk, MayRemove, RestsStage}
-use Rattle.papaya_rests.specs.Says.{Agrees, HasShownNone, Inserts, IsAnswered, IsSaidBy, KeepsFill, Makes, MakesPair, Removes, Said, ShowsPairs, StandsOn, show}
-use Rattle.papaya_rests.specs.Told.{Hands}
-use Rattle.papaya_rests.proofs.SaysSaid.{machine_said}
+use Rattle.papaya_chain_law.specs.Goes.{IsInOrder}
+use Rattle.papaya_chain_law.proofs.Names.{call_asks}
+use Rattle.papaya_chain_law.proofs.Once.{chain_once}
+use Rattle.papaya_chain_law.proofs.Replies.{chain_shows, chain_task}
+use Rattle.papaya_call_law.specs.Relies.{IsAtLimit, IsNumberAsk, MayRemove, ReliesStage}
+use Rattle.papaya_call_law.specs.Says.{Agrees, HasShownNone, Inserts, IsAnswered, IsSaidBy, KeepsFill, Makes, MakesPair, Removes, Said, ShowsPairs, StandsOn, show}
+use Rattle.papaya_call_law.specs.Told.{LoadedPairs}
+use Rattle.papaya_call_law.proofs.SaysSaid.{machine_said}
 use Rattle.papaya_compute.specs.declared.computing.Computing.{Computing}
 use Rattle.papaya_book.specs.declared.rule.entry.Begun.{Begun}
 use Rattle.papaya_book.specs.declared.rule.entry.Event.{Event}
@@ -54,7 +54,7 @@ use Rattle.papaya_change.specs.Showings.{HasNoNone}
 use Rattle.papaya_book.specs.PairParts.{key_in}
 use Rattle.papaya_book.specs.declared.book.pairs.KeyPart.{KeyPart}
 use Rattle.papaya_change.specs.Writing.{HasKey, HasKeyAt, IsMemoryCapacityOrLimit, IsUnlogged, IsUnsaid, IsWritingOn, held_value}
-use Rattle.papaya_change.proofs.OwnSteps.{own_order}
+use Rattle.papaya_change.proofs.StepsOfOwn.{own_order}
 use Rattle.papaya_change.proofs.Refusals.{refused_for, unsaid_cause, unsaid_room}
 use Rattle.papaya_change.proofs.Spent.{unsaid_limit}
 use Rattle.papaya_change.proofs.Written.{own_query}
@@ -239,24 +239,24 @@ module _ {K V S T H : Type 0} (eq : K → K → Bool) (hash : S → K → ℕ) (
     abbrev c : Coding (Option K) (Stored K V)
     c = coding_for hash b.hasher (hash b.hasher key)
 
-    abbrev hands : Hands (Stored K V)
-    hands = record { last = x.writer.call.last; made = r.made }
+    abbrev loaded : LoadedPairs (Stored K V)
+    loaded = record { last = x.writer.call.last; made = r.made }
 
     pub replaces : (n : ℕ) → IsReplacing m i n
     replaces n = machine_replacing m n i r.task_is standing.call r.words (call_asks chain (MakePairOf i) asks).1
 
     -- it met the pair whose place the new one is to take
     abbrev Meets : Write → Type 0
-    Meets write = MayRemove g c (exchanges_of begun) r.writing.calling.since (Some key) hands (record { place = write.place; word = write.old })
+    Meets write = MayRemove g c (exchanges_of begun) r.writing.calling.since (Some key) loaded (record { place = write.place; word = write.old })
 
     abbrev Stands : Stage → Type 0
-    Stands stage = RestsStage g c (exchanges_of begun) r.writing.calling.since (Some key) hands m.task stage
+    Stands stage = ReliesStage g c (exchanges_of begun) r.writing.calling.since (Some key) loaded m.task stage
 
     met_new : (write : Write) → m.state ≡ Pairing (Replace write) → Meets write
-    met_new write e = let there : Stands (Pairing (Replace write)) = subst Stands e r.writing.calling.rests.call.stage in there.1
+    met_new write e = let there : Stands (Pairing (Replace write)) = subst Stands e r.writing.calling.relies.call.stage in there.1
 
     met_again : (write : Write) → m.state ≡ Pairing (Again write) → Meets write
-    met_again write e = let there : Stands (Pairing (Again write)) = subst Stands e r.writing.calling.rests.call.stage in there.1
+    met_again write e = let there : Stands (Pairing (Again write)) = subst Stands e r.writing.calling.relies.call.stage in there.1
 
     pub met : (n : ℕ) → Meets (replaces n).write
     met n = ⊎_elim (λ e. met_new (replaces n).write e) (λ e. met_again (replaces n).write e) (replaces n).purpose
@@ -346,5 +346,5 @@ module _ {K V S T H : Type 0} (eq : K → K → Bool) (input : K → List (List 
       let there = met eq hash b name key begun log x heard r standing i asks 0 in
       let this : s.0 ≡ p = cc (s.1, shown) in
       let that : there.pair ≡ last = cc (there.last, last_is) in
-      let number : i ≡ there.pair.index = sym by.number ∙ (ap pair_of there.met.loaded ∙ code_pair _ _ hashed.coding there.met.was there.pair there.met.names) in
+      let number : i ≡ there.pair.index = sym by.number ∙ (ap pair_of there.met.as_loaded ∙ code_pair _ _ hashed.coding there.met.was there.pair there.met.names) in
       ap (λ (z : Stored K V). z.index) (sym this) ∙ (s.2 ∙ (number ∙ ap (λ (z : Stored K V). z.index) that))

@@ -14,10 +14,10 @@ use Rattle.papaya_chain.specs.declared.ask.Ask.TheVariants.{Call}
 use Rattle.papaya_chain.specs.declared.machine.Machine.{Machine}
 use Rattle.papaya_chain.specs.declared.machine.Phase.TheVariants.{Calling}
 use Rattle.papaya_chain.specs.Machine.{IsStanding, ask_of, kind_of_ask}
-use Rattle.papaya_chain_rests.proofs.Names.{call_asks}
-use Rattle.papaya_rests.specs.Says.{IsSaidExchange, Makes}
-use Rattle.papaya_rests.specs.Told.{IsOneOf}
-use Rattle.papaya_rests.proofs.SaysOver.{machine_exchanges}
+use Rattle.papaya_chain_law.proofs.Names.{call_asks}
+use Rattle.papaya_call_law.specs.Says.{IsSaidExchange, Makes}
+use Rattle.papaya_call_law.specs.Told.{IsOneOf}
+use Rattle.papaya_call_law.proofs.SaysOver.{machine_exchanges}
 use Rattle.papaya_compute.specs.declared.computing.Computing.{Computing}
 use Rattle.papaya_book.specs.declared.rule.entry.Begun.{Begun}
 use Rattle.papaya_book.specs.declared.rule.entry.Event.{Event}
@@ -28,7 +28,7 @@ use Rattle.papaya_lookup.specs.History.{key_of}
 use Rattle.papaya_lookup.proofs.AskedPairs.{asked_kind}
 use Rattle.papaya_lookup.proofs.Readings.{hashed_with}
 use Rattle.papaya_change.specs.Writing.{HasKeyAt, MayStand}
-use Rattle.papaya_change.proofs.OwnSteps.{own_kind}
+use Rattle.papaya_change.proofs.StepsOfOwn.{own_kind}
 use Rattle.papaya_change.proofs.Written.{own_query}
 use Rattle.papaya_book.specs.Logs.{Stored}
 use Rattle.papaya_compute.proofs.ChosenSlots.{machine_slot}
@@ -43,7 +43,7 @@ module _ {K V S T H : Type 0} (eq : K → K → Bool) (input : K → List (List 
 
   -- its hash is one of 64 bits
   fits : m.call.hash < 2 ^ 64
-  fits = subst (λ n. n < 2 ^ 64) (sym r.writing.calling.rests.call.hash) ((hashed_with eq input build write finish classes respects b (eq key) (input key) (own_query eq input build write finish classes respects b name key) log r.writing.calling.lawful).coding.hash_fits (Some key))
+  fits = subst (λ n. n < 2 ^ 64) (sym r.writing.calling.relies.call.hash) ((hashed_with eq input build write finish classes respects b (eq key) (input key) (own_query eq input build write finish classes respects b name key) log r.writing.calling.lawful).coding.hash_fits (Some key))
 
   -- the exchange is what its closure said
   is_said : IsSaidExchange m.call (pair_of old) (pair_of new)
@@ -109,8 +109,8 @@ module _ {K V S T H : Type 0} (eq : K → K → Bool) (input : K → List (List 
       (λ h. subst (λ (k : Option StepKind). IsAtHand (pair_for k x.fill x.made)) (sym h) (replaced h))
       kind
 
-  -- an exchange that does not bury puts a pair in
-  pub puts : (kind_of_ask m ≡ Some kinds.Bury → ⊥) → IsPutting (kind_of_ask m)
+  -- an exchange that does not delete puts a pair in
+  pub puts : (kind_of_ask m ≡ Some kinds.Delete → ⊥) → IsPutting (kind_of_ask m)
   puts never =
       let kind = own_kind m own.0 in
       ⊎_elim (λ h. inl (kind ∙ h.0)) (λ o. ⊎_elim (λ h. inr (kind ∙ h.0)) (λ h. absurd (never (kind ∙ h.0))) o) is_said

@@ -15,11 +15,11 @@ use Rattle.papaya_ask.specs.declared.call.Task.TheVariants.{Compute}
 use Rattle.papaya_chain.specs.declared.ask.Ask.TheVariants.{Call}
 use Rattle.papaya_chain.specs.declared.machine.Machine.{Machine}
 use Rattle.papaya_chain.specs.Machine.{ask_of, started}
-use Rattle.papaya_chain_rests.proofs.Names.{call_asks}
-use Rattle.papaya_rests.specs.Told.{Hands}
-use Rattle.papaya_rests.specs.Rests.{IsReply, change_of_reply}
-use Rattle.papaya_rests.specs.Says.{Makes, Removes, Said, StandsOn, said_in, said_of_compute}
-use Rattle.papaya_rests.proofs.RestsHeld.{ended_in, machine_replies}
+use Rattle.papaya_chain_law.proofs.Names.{call_asks}
+use Rattle.papaya_call_law.specs.Told.{LoadedPairs}
+use Rattle.papaya_call_law.specs.Relies.{IsReply, change_of_reply}
+use Rattle.papaya_call_law.specs.Says.{Makes, Removes, Said, StandsOn, said_in, said_of_compute}
+use Rattle.papaya_call_law.proofs.ReliesHeld.{ended_in, machine_replies}
 use Rattle.papaya_keys.specs.declared.compute.Compute.{Compute as Computed}
 use Rattle.papaya_keys.specs.declared.compute.Compute.TheVariants as computed
 use Rattle.papaya_compute.specs.declared.computing.Computing.{Computing}
@@ -82,8 +82,8 @@ module _ {K V S T H : Type 0} (eq : K → K → Bool) (input : K → List (List 
   m = x.writer.call.machine
 
   -- the pairs that its call was told of
-  abbrev hands : Hands (Stored K V)
-  hands = record { last = x.writer.call.last; made = r.made }
+  abbrev loaded : LoadedPairs (Stored K V)
+  loaded = record { last = x.writer.call.last; made = r.made }
 
   abbrev Answers : Result (Computed K V T) Cause → Type 0
   Answers answer = IsReplied eq key (history_of begun) (history_of log) heard answer
@@ -104,7 +104,7 @@ module _ {K V S T H : Type 0} (eq : K → K → Bool) (input : K → List (List 
         let query = own_query eq input build write finish classes respects b name key in
         let g = Wide eq input build write finish classes respects b (eq key) (input key) query (Some key) name begun log in
         let c = Coded eq input build write finish classes respects b (eq key) (input key) query (Some key) name begun in
-        r.writing.calling.changed (old, new) ((machine_replies g c (exchanges_of begun) r.writing.calling.since (Some key) hands m.call r.writing.calling.rests.call reply (call_asks m (Done reply) e).1).1 ∙ change)
+        r.writing.calling.changed (old, new) ((machine_replies g c (exchanges_of begun) r.writing.calling.since (Some key) loaded m.call r.writing.calling.relies.call reply (call_asks m (Done reply) e).1).1 ∙ change)
 
     -- the numbers of what went and of what came
     taken_number : (taken : Stored K V) → x.writer.call.taken ≡ Some taken → (old ≡ Some taken.index) × (changed.class ≡ key_of taken)
@@ -274,7 +274,7 @@ module _ {K V S T H : Type 0} (eq : K → K → Bool) (input : K → List (List 
   refused cause e = answers (Err cause) (r.refuses cause e)
 
   -- it replies nothing else
-  replies_no_other : (reply : Reply) → IsNoCompute reply → IsReply (Wide eq input build write finish classes respects b (eq key) (input key) (own_query eq input build write finish classes respects b name key) (Some key) name begun log) (Coded eq input build write finish classes respects b (eq key) (input key) (own_query eq input build write finish classes respects b name key) (Some key) name begun) (exchanges_of begun) r.writing.calling.since (Some key) hands Compute reply → ⊥
+  replies_no_other : (reply : Reply) → IsNoCompute reply → IsReply (Wide eq input build write finish classes respects b (eq key) (input key) (own_query eq input build write finish classes respects b name key) (Some key) name begun log) (Coded eq input build write finish classes respects b (eq key) (input key) (own_query eq input build write finish classes respects b name key) (Some key) name begun) (exchanges_of begun) r.writing.calling.since (Some key) loaded Compute reply → ⊥
   replies_no_other Absent never is = is
   replies_no_other (Found n) never is = is
   replies_no_other (Inserted n) never is = never
@@ -291,7 +291,7 @@ module _ {K V S T H : Type 0} (eq : K → K → Bool) (input : K → List (List 
       let query = own_query eq input build write finish classes respects b name key in
       let g = Wide eq input build write finish classes respects b (eq key) (input key) query (Some key) name begun log in
       let c = Coded eq input build write finish classes respects b (eq key) (input key) query (Some key) name begun in
-      replies_no_other reply never (subst (λ (t : Task). IsReply g c (exchanges_of begun) r.writing.calling.since (Some key) hands t reply) r.task_is (machine_replies g c (exchanges_of begun) r.writing.calling.since (Some key) hands m.call r.writing.calling.rests.call reply (call_asks m (Done reply) e).1).0)
+      replies_no_other reply never (subst (λ (t : Task). IsReply g c (exchanges_of begun) r.writing.calling.since (Some key) loaded t reply) r.task_is (machine_replies g c (exchanges_of begun) r.writing.calling.since (Some key) loaded m.call r.writing.calling.relies.call reply (call_asks m (Done reply) e).1).0)
 
 -- what was seen before a compute began was seen before its change, and before what its closure was shown
 module _ {K V : Type 0} (eq : K → K → Bool) (key : K) (older old new : List (Change K (Stored K V))) (pre : IsPrefix older old) where

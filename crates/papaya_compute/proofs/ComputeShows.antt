@@ -21,25 +21,25 @@ use Rattle.papaya_chain.specs.declared.ask.Ask.TheVariants.{Call}
 use Rattle.papaya_chain.specs.declared.machine.Machine.{Machine}
 use Rattle.papaya_chain.specs.declared.machine.Phase.TheVariants.{Calling}
 use Rattle.papaya_chain.specs.Machine.{IsStanding, after, ask_of}
-use Rattle.papaya_chain_rests.specs.Goes.{IsInOrder}
-use Rattle.papaya_chain_rests.proofs.Names.{call_asks}
-use Rattle.papaya_chain_rests.proofs.Once.{chain_offered, chain_once}
-use Rattle.papaya_chain_rests.proofs.Replies.{chain_shows, chain_task}
+use Rattle.papaya_chain_law.specs.Goes.{IsInOrder}
+use Rattle.papaya_chain_law.proofs.Names.{call_asks}
+use Rattle.papaya_chain_law.proofs.Once.{chain_offered, chain_once}
+use Rattle.papaya_chain_law.proofs.Replies.{chain_shows, chain_task}
 use Rattle.papaya_call.specs.declared.machine.State.{State as Stage}
 use Rattle.papaya_call.specs.declared.machine.State.TheVariants.{Offering, Pairing, Ended}
 use Rattle.papaya_call.specs.declared.compute.Choice.TheVariants.{Replace as To_replace}
 use Rattle.papaya_call.specs.declared.made.Made.{Made}
 use Rattle.papaya_call.specs.declared.made.Of.{Of}
-use Rattle.papaya_rests.specs.Says.{Agrees, HasShownNone, Inserts, IsAnswered, IsFilled, IsSaidBy, KeepsFill, Makes, Removes, Said, StandsOn, said_to_fill, show}
+use Rattle.papaya_call_law.specs.Says.{Agrees, HasShownNone, Inserts, IsAnswered, IsFilled, IsSaidBy, KeepsFill, Makes, Removes, Said, StandsOn, said_to_fill, show}
 use Rattle.papaya_law.specs.Code.{Coding}
 use Rattle.papaya_law.specs.Exchange.{Setting}
-use Rattle.papaya_rests.specs.Rests.{IsAtLimit, WasAtMoment}
-use Rattle.papaya_rests.specs.Told.{Hands}
-use Rattle.papaya_rests.proofs.Makings.{IsPairAsk, pairing_asks}
-use Rattle.papaya_rests.proofs.RestsHeld as held
-use Rattle.papaya_rests.proofs.RestsHeld.{machine_offers, machine_unpaired}
-use Rattle.papaya_rests.proofs.SaysOver.{machine_chosen}
-use Rattle.papaya_rests.proofs.SaysSaid.{machine_said}
+use Rattle.papaya_call_law.specs.Relies.{IsAtLimit, WasAtMoment}
+use Rattle.papaya_call_law.specs.Told.{LoadedPairs}
+use Rattle.papaya_call_law.proofs.Makings.{IsPairAsk, pairing_asks}
+use Rattle.papaya_call_law.proofs.ReliesHeld as held
+use Rattle.papaya_call_law.proofs.ReliesHeld.{machine_offers, machine_unpaired}
+use Rattle.papaya_call_law.proofs.SaysOver.{machine_chosen}
+use Rattle.papaya_call_law.proofs.SaysSaid.{machine_said}
 use Rattle.papaya_compute.specs.declared.computing.Computing.{Computing}
 use Rattle.papaya_book.specs.declared.rule.entry.Begun.{Begun}
 use Rattle.papaya_book.specs.declared.rule.entry.Event.{Event}
@@ -58,7 +58,7 @@ use Rattle.papaya_change.proofs.Doing.{idle}
 use Rattle.papaya_change.specs.Showings.{HasNoNone, IsNoneOnce, WasHeld}
 use Rattle.papaya_change.specs.Writing.{HasKeyAt, HasValue, IsWriting, held_value}
 use Rattle.papaya_change.proofs.Changing.{Coded, Wide, barren, quiet}
-use Rattle.papaya_change.proofs.OwnSteps.{own_order}
+use Rattle.papaya_change.proofs.StepsOfOwn.{own_order}
 use Rattle.papaya_change.proofs.Refusals.{IsOwnEnd, own_refused}
 use Rattle.papaya_compute.proofs.AnsweredValues.{answered_none, answered_pair}
 use Rattle.papaya_compute.proofs.ChosenChains.{chain_puts}
@@ -216,7 +216,7 @@ module _ {K V S H : Type 0} (eq : K → K → Bool) (input : K → List (List �
         (ShowPair i) e (Op kind) w.call.last made w.call.table w.call.fresh (record { told = (inr (inl (kind, refl)), (refl, refl)); same = refl; busy = λ z. z; brings = barren eq input build write finish classes respects b (eq key) (input key) own (Some key) name begun log log ([], append-nil log) r.calling.lawful w.call.machine w.call.table w.call.last w.call.kept made w.call.taken w.call.put w.call.fresh r.calling (ShowPair i) e tt (Op kind) w.call.fresh })
         r.calling.holds_table r.calling.last_placed r.calling.made_placed
 
-    -- a writer whose closure was asked rests again, whatever value it keeps
+    -- a writer whose closure was asked relies on what holds again, whatever value it keeps
     asked : (shown : Option ℕ) (value : Option (ValuePart K V)) → HasValue b name value → ask_of w.call.machine ≡ Call (show shown) → IsWriting eq hash b name key made begun log (record w { call = record w.call { machine = w' }; value = value })
     asked shown value valued asks = record { calling = called shown asks; keyed = r.keyed; valued = valued; put_placed = r.put_placed }
 
@@ -380,21 +380,21 @@ module _ {K V S H : Type 0} (eq : K → K → Bool) (input : K → List (List �
     abbrev C : Coding (Option K) (Stored K V)
     C = Coded eq input build write finish classes respects b (eq key) (input key) own (Some key) name begun
 
-    abbrev hands : Hands (Stored K V)
-    hands = record { last = x.writer.call.last; made = r.made }
+    abbrev loaded : LoadedPairs (Stored K V)
+    loaded = record { last = x.writer.call.last; made = r.made }
 
     was_held : (value : Option (Stored K V)) → WasAtMoment G C (exchanges_of begun) r.writing.calling.since (Some key) value → WasHeld eq (eq key) (history_of begun) (history_of log) value
     was_held value was = own_held_then eq input build write finish classes respects b (eq key) (input key) own begun log r.writing.calling.lawful r.writing.calling.since r.writing.calling.is key value was
 
     -- where it shows that its key is absent, it was
     pub none_held : ask_of x.writer.call.machine ≡ Call ShowNone → WasHeld eq (eq key) (history_of begun) (history_of log) None
-    none_held e = was_held None (machine_offers G C (exchanges_of begun) r.writing.calling.since (Some key) hands x.writer.call.machine.call r.writing.calling.rests.call (call_asks x.writer.call.machine ShowNone e).1)
+    none_held e = was_held None (machine_offers G C (exchanges_of begun) r.writing.calling.since (Some key) loaded x.writer.call.machine.call r.writing.calling.relies.call (call_asks x.writer.call.machine ShowNone e).1)
 
     -- where it shows the pair last told of, the key had it
     pub pair_held : (n : ℕ) → ask_of x.writer.call.machine ≡ Call (ShowPair n) → (p : Stored K V) → x.writer.call.last ≡ Some p → WasHeld eq (eq key) (history_of begun) (history_of log) (Some p) × (p.index ≡ n)
     pair_held n e p last =
         let hashed = hashed_with eq input build write finish classes respects b (eq key) (input key) own log r.writing.calling.lawful in
-        let shown = held.machine_shows G C hashed (exchanges_of begun) r.writing.calling.since (Some key) hands x.writer.call.machine.call r.writing.calling.rests.call n (call_asks x.writer.call.machine (ShowPair n) e).1 in
+        let shown = held.machine_shows G C hashed (exchanges_of begun) r.writing.calling.since (Some key) loaded x.writer.call.machine.call r.writing.calling.relies.call n (call_asks x.writer.call.machine (ShowPair n) e).1 in
         let one : shown.0 ≡ p = cc (shown.1, last) in
         (was_held (Some p) (subst (λ (z : Stored K V). WasAtMoment G C (exchanges_of begun) r.writing.calling.since (Some key) (Some z)) one shown.4), ap (λ (z : Stored K V). z.index) (sym one) ∙ shown.2)
 

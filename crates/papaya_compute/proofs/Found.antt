@@ -10,8 +10,8 @@ use Rattle.papaya_call.specs.declared.machine.State.TheVariants.{Offering, Showi
 use Rattle.papaya_call.specs.Made.{nothing_made}
 use Rattle.papaya_law.specs.Code.{Coding}
 use Rattle.papaya_law.specs.Exchange.{Setting}
-use Rattle.papaya_rests.specs.Rests.{WasAtMoment}
-use Rattle.papaya_rests.proofs.RestsHeld.{machine_offers, machine_shows}
+use Rattle.papaya_call_law.specs.Relies.{WasAtMoment}
+use Rattle.papaya_call_law.proofs.ReliesHeld.{machine_offers, machine_shows}
 use Rattle.papaya_book.specs.declared.rule.entry.Begun.{Begun}
 use Rattle.papaya_book.specs.declared.rule.entry.Event.{Event}
 use Rattle.papaya_book.specs.declared.rule.entry.Named.TheVariants as names
@@ -48,7 +48,7 @@ module _ {K V S H : Type 0} (eq : K → K → Bool) (input : K → List (List �
   pub none_found : (at : Place) → At_state (Offering (At at)) None → WasHeld eq (eq key) (history_of begun) (history_of log) None
   none_found at r =
       own_held_then eq input build write finish classes respects b (eq key) (input key) own begun log r.4.lawful r.4.since r.4.is key None
-      (machine_offers G C (exchanges_of begun) r.4.since (Some key) (record { last = r.2; made = [] }) (seeker_at Computes (hash b.hasher key) b.mode 1 (nothing_made b.limit) (Offering (At at))).call r.4.rests.call refl)
+      (machine_offers G C (exchanges_of begun) r.4.since (Some key) (record { last = r.2; made = [] }) (seeker_at Computes (hash b.hasher key) b.mode 1 (nothing_made b.limit) (Offering (At at))).call r.4.relies.call refl)
 
   -- where it met a live pair
   module _ (at : Place) (word : ℕ) (p : Stored K V) (r : At_state (Showing (record { place = at; word = word })) (Some p)) where
@@ -58,7 +58,7 @@ module _ {K V S H : Type 0} (eq : K → K → Bool) (input : K → List (List �
     pub pair_found : WasHeld eq (eq key) (history_of begun) (history_of log) (Some p)
     pair_found =
         let hashed = hashed_with eq input build write finish classes respects b (eq key) (input key) own log r.4.lawful in
-        let shown = machine_shows G C hashed (exchanges_of begun) r.4.since (Some key) (record { last = r.2; made = [] }) (seeker_at Computes (hash b.hasher key) b.mode 1 (nothing_made b.limit) (Showing (record { place = at; word = word }))).call r.4.rests.call (pair_of word) refl in
+        let shown = machine_shows G C hashed (exchanges_of begun) r.4.since (Some key) (record { last = r.2; made = [] }) (seeker_at Computes (hash b.hasher key) b.mode 1 (nothing_made b.limit) (Showing (record { place = at; word = word }))).call r.4.relies.call (pair_of word) refl in
         let both : Some shown.0 ≡ Some p = sym shown.1 ∙ r.3 p refl in
         let one : shown.0 ≡ p = cc both in
         own_held_then eq input build write finish classes respects b (eq key) (input key) own begun log r.4.lawful r.4.since r.4.is key (Some p)

@@ -13,4 +13,4 @@ pub mod DoneBy
 -- computes at once
 pub mod Resumed
 pub mod Found
-pub mod AtOnce
+pub mod FastPath

@@ -25,9 +25,9 @@ use Rattle.papaya_call.specs.Compute.{fills, in_place_of}
 use Rattle.papaya_call.specs.Machine.{IsStanding, IsStandingState, after, ask_of, asks, made_to_pair, paired, paired_held}
 use Rattle.papaya_call.specs.Made.{grown, number_ask, of_ask, own_ask, pair_ask, paired as pair_done}
 use Rattle.papaya_call.specs.Write.{made_of}
-use Rattle.papaya_rests.specs.Says.{Inserts, IsAnswered, KeepsFill, Makes, MakesPair, Said, ShowsIn, ShowsPairs, StandsOn, said_in, said_to_choose, said_to_fill, shown_by}
-use Rattle.papaya_rests.proofs.Makings.{pair_made}
-use Rattle.papaya_rests.proofs.SaysSaid.{shown_pair}
+use Rattle.papaya_call_law.specs.Says.{Inserts, IsAnswered, KeepsFill, Makes, MakesPair, Said, ShowsIn, ShowsPairs, StandsOn, said_in, said_to_choose, said_to_fill, shown_by}
+use Rattle.papaya_call_law.proofs.Makings.{pair_made}
+use Rattle.papaya_call_law.proofs.SaysSaid.{shown_pair}
 
 -- a pair of the call's own key is made in the place of an empty word alone, and any other in the place of one that names a pair
 own_pair : (keyed valued : Bool) (i : ℕ) → own_ask keyed valued ≡ MakePairOf i → ⊥

@@ -12,10 +12,10 @@ use Rattle.papaya_chain.specs.Machine.{ask_of}
 use Rattle.papaya_law.specs.Code.{Coding}
 use Rattle.papaya_law.specs.Exchange.{Exchange, Setting, run, start}
 use Rattle.papaya_law.specs.Later.{IsOfKey}
-use Rattle.papaya_rests.specs.Rests.{RestsChoice, RestsFill}
-use Rattle.papaya_rests.specs.Says.{Makes, Removes, Said, StandsOn}
-use Rattle.papaya_rests.specs.Told.{Hands, IsOneOf}
-use Rattle.papaya_rests.proofs.RestsLearnPairs.{wanted_rests}
+use Rattle.papaya_call_law.specs.Relies.{ReliesChoice, ReliesFill}
+use Rattle.papaya_call_law.specs.Says.{Makes, Removes, Said, StandsOn}
+use Rattle.papaya_call_law.specs.Told.{IsOneOf, LoadedPairs}
+use Rattle.papaya_call_law.proofs.ReliesLearnPairs.{wanted_relies}
 use Rattle.papaya_book.specs.declared.rule.entry.Begun.{Begun}
 use Rattle.papaya_book.specs.declared.rule.entry.Event.{Event}
 use Rattle.papaya_book.specs.declared.rule.entry.Named.TheVariants as names
@@ -42,8 +42,8 @@ module _ {K V S : Type 0} (eq : K → K → Bool) (hash : S → K → ℕ) (b : 
   abbrev c : Coding (Option K) (Stored K V)
   c = coding_for hash b.hasher h
 
-  abbrev hands : List (Stored K V) → Hands (Stored K V)
-  hands made = record { last = None; made = made }
+  abbrev loaded : List (Stored K V) → LoadedPairs (Stored K V)
+  loaded made = record { last = None; made = made }
 
   abbrev since : List (Exchange (Stored K V))
   since = exchanges_of seen.0
@@ -52,14 +52,14 @@ module _ {K V S : Type 0} (eq : K → K → Bool) (hash : S → K → ℕ) (b : 
   since_is = sym (exchanges_of-append begun seen.0) ∙ ap exchanges_of seen.1
 
   -- its call, which has made these pairs and remembers this
-  calls : (made : List (Stored K V)) → ((p : Stored K V) → IsOneOf made p → (eq key (key_of p) ≡ true) × IsPlaced b (Some name) (names.Pair p)) → (initial : ℕ) (held : Remembered) → RestsFill g c (exchanges_of begun) since (Some key) (hands made) held.fill → RestsChoice g c (exchanges_of begun) since (Some key) (hands made) held.choice
+  calls : (made : List (Stored K V)) → ((p : Stored K V) → IsOneOf made p → (eq key (key_of p) ≡ true) × IsPlaced b (Some name) (names.Pair p)) → (initial : ℕ) (held : Remembered) → ReliesFill g c (exchanges_of begun) since (Some key) (loaded made) held.fill → ReliesChoice g c (exchanges_of begun) since (Some key) (loaded made) held.choice
       → IsCalling eq hash b name (eq key) h (Some key) begun log (resumed_at h b.mode initial b.limit held) None None None made None None None
   calls made each initial held fill_is choice_is = record {
     lawful = l;
     seen = seen;
     since = since;
     is = since_is;
-    rests = record {
+    relies = record {
       cut = λ x. refl;
       call = record {
         hash = refl;
@@ -67,7 +67,7 @@ module _ {K V S : Type 0} (eq : K → K → Bool) (hash : S → K → ℕ) (b : 
         made = record {
           keys = λ p one. (each p one).0;
           limit = refl;
-          number_is = wanted_rests g c (exchanges_of begun) since (Some key) b.limit;
+          number_is = wanted_relies g c (exchanges_of begun) since (Some key) b.limit;
           own_is = tt;
           of_is = tt;
           fill_is = fill_is;

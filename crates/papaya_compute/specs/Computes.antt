@@ -1,4 +1,4 @@
--- What a compute on the shared map holds and rests on, by what it sees of the map.
+-- What a compute on the shared map holds and relies on, by what it sees of the map.
 use Rattle.std.specs.Prelude.{◌≡◌, List, Option, None, Some, Result, []}
 use Rattle.papaya_words.specs.declared.probe.Refused.{Refused}
 use Rattle.papaya_call.specs.declared.answers.Operation.{Operation}

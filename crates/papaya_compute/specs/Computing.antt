@@ -1,4 +1,4 @@
--- What a compute on the shared map holds and rests on, and what it answers.
+-- What a compute on the shared map holds and relies on, and what it answers.
 use Rattle.std.specs.Prelude.{◌≡◌, ◌⊎◌, ℕ, Bool, MatchOption, Option, None, Some, Result, List, ◌∷◌, option_map}
 use mathlib.Core.List.{IsPrefix}
 use Rattle.logbook.specs.Pages.{Book}
@@ -24,8 +24,8 @@ use Rattle.papaya_call.specs.declared.made.Of.{Of}
 use Rattle.papaya_call.specs.Machine.{IsFit}
 use Rattle.papaya_chain.specs.declared.ask.Ask.TheVariants.{Call}
 use Rattle.papaya_chain.specs.Machine.{ask_of}
-use Rattle.papaya_rests.specs.Says.{Agrees, HasShownNone, Inserts, IsAnswered, Makes, Removes, Said, ShowsPairs, StandsOn, show}
-use Rattle.papaya_rests.specs.Told.{IsOneOf}
+use Rattle.papaya_call_law.specs.Says.{Agrees, HasShownNone, Inserts, IsAnswered, Makes, Removes, Said, ShowsPairs, StandsOn, show}
+use Rattle.papaya_call_law.specs.Told.{IsOneOf}
 use Rattle.papaya_keys.specs.declared.compute.Compute.{Compute as Computed}
 use Rattle.papaya_compute.specs.declared.computing.Computing.{Computing}
 use Rattle.papaya_book.specs.declared.rule.entry.Begun.{Begun}

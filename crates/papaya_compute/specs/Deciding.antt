@@ -13,8 +13,8 @@ use Rattle.papaya_change.specs.Writing.{IsMemoryCapacityOrLimit}
 use Rattle.papaya_keys.specs.declared.compute.Compute.{Compute as Computed}
 use Rattle.papaya_keys.specs.declared.compute.Compute.TheVariants.{Inserted, Updated, Removed, Aborted}
 use Rattle.papaya_compute.specs.ComputeAnswers.{WasOperated}
-use Rattle.papaya_compute.specs.declared.at_once.First.{First}
-use Rattle.papaya_compute.specs.declared.at_once.First.TheVariants.{Over, On}
+use Rattle.papaya_compute.specs.declared.fast_path.First.{First}
+use Rattle.papaya_compute.specs.declared.fast_path.First.TheVariants.{Over, On}
 use Rattle.papaya_compute.specs.Computing.{value_in}
 use Rattle.papaya_compute.specs.declared.deciding.Outcome.{Outcome}
 use Rattle.papaya_compute.specs.declared.deciding.Outcome.TheVariants.{Put, Replaced, Left}

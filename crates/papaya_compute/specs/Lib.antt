@@ -1,10 +1,10 @@
--- what a compute answers, and what it rests on
+-- what a compute answers, and what it relies on
 pub mod ComputeAnswers
 pub mod Computing
 pub mod Putting
 -- one that goes on with a pair that was made
 pub mod Resuming
-pub mod AtOnce
+pub mod FastPath
 -- what a call does that stores where its rule says so
 pub mod Deciding
 -- the same by what is seen of the map

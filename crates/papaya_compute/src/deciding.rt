@@ -16,18 +16,18 @@ ghost use Rattle.papaya_change.specs.Doing.{has_changed};
 ghost use Rattle.papaya_compute.specs.Computes.{CanDecide, Decides};
 ghost use Rattle.papaya_compute.specs.Deciding.{IsDecided, Wishes, answer_of, outcome_of};
 ghost use Rattle.papaya_compute.specs.Deciding.{outcomes, puts};
-ghost use Rattle.papaya_compute.specs.AtOnce.{IfOn, IfOver, IsAhead, IsOnItsWay};
-ghost use Rattle.papaya_compute.specs.declared.at_once.First.TheVariants.{Over};
+ghost use Rattle.papaya_compute.specs.FastPath.{IfOn, IfOver, IsAhead, IsOnItsWay};
+ghost use Rattle.papaya_compute.specs.declared.fast_path.First.TheVariants.{Over};
 
-use crate::at_once::{First, begin, fill, look, renew};
 use crate::computing::{Computing, Turn as Next, value_in};
+use crate::fast_path::{First, begin, fill, look, renew};
 use papaya_book::book::Book;
 use papaya_book::count::Shard;
 use papaya_book::rule::entry::Stored;
-use papaya_book::rule::own::{Given, Own};
+use papaya_book::rule::own::{CapacityCause, OwnSteps};
 use papaya_book::window::Window;
 use papaya_call::answers::Operation;
-use papaya_change::at_once::Turn;
+use papaya_change::fast_path::Turn;
 use papaya_change::means::Means;
 use papaya_keys::compute::Compute;
 use papaya_lookup::lookup::hash;
@@ -176,7 +176,7 @@ fn settle<'a, C: Drop, K, V>(
 fn decide_at_once<'a, R: Wait, K: Hash + Eq + Drop, V: Drop, S: BuildHasher, D: Rule<V>>(
     means: &Means<'_, '_, R>,
     window: &mut Window<'a, K, V, S>,
-    given: &mut Own<Given>,
+    given: &mut OwnSteps<CapacityCause>,
     key: K,
     rule: &mut D,
 ) -> First<Computing<'a, K, V, S, ()>, Result<Outcome<'a, V>, Refused>>
@@ -222,14 +222,14 @@ fn decide_at_once<'a, R: Wait, K: Hash + Eq + Drop, V: Drop, S: BuildHasher, D: 
 }
 
 /// Stores for a key what the rule answers. Where it is refused for want of room, `given` tells the
-/// number that a full log gave, or the sum of the count that makes a further table too long.
+/// number that a full log gave, or the sum of the count that makes a next table too long.
 pub fn decide<'a, R: Wait, K: Hash + Eq + Drop, V: Drop, S: BuildHasher, D: Rule<V>>(
     rt: &R,
     alloc: Global,
     initial: usize,
     shard: &Shard<'_>,
     window: &mut Window<'a, K, V, S>,
-    given: &mut Own<Given>,
+    given: &mut OwnSteps<CapacityCause>,
     key: K,
     rule: &mut D,
 ) -> Result<Outcome<'a, V>, Refused>

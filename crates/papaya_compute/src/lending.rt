@@ -7,21 +7,21 @@ ghost use Rattle.papaya_book.specs.Limits.{HasNoRoom, IsSpent, tables_of};
 ghost use Rattle.papaya_book.specs.Logs.{pair_named};
 ghost use Rattle.papaya_book.specs.Windows.{Does, IsLawful, Sees};
 ghost use Rattle.papaya_change.specs.Showings.{Operates};
-ghost use Rattle.papaya_compute.specs.AtOnce.{IfOn, IfOver, IsAhead, IsOnItsWay};
+ghost use Rattle.papaya_compute.specs.FastPath.{IfOn, IfOver, IsAhead, IsOnItsWay};
 ghost use Rattle.papaya_compute.specs.ComputeAnswers.{IsComputeBy, changes};
-ghost use Rattle.papaya_compute.specs.declared.at_once.First.TheVariants.{Over};
+ghost use Rattle.papaya_compute.specs.declared.fast_path.First.TheVariants.{Over};
 ghost use Rattle.papaya_lookup.specs.Drivers.{own, past};
 ghost use Rattle.papaya_lookup.specs.History.{Makes};
 
-use crate::at_once::{First, begin, fill, look, renew};
 use crate::computing::{Computing, Turn as Next};
+use crate::fast_path::{First, begin, fill, look, renew};
 use papaya_book::book::Book;
 use papaya_book::count::Shard;
 use papaya_book::rule::entry::Stored;
-use papaya_book::rule::own::{Given, Own};
+use papaya_book::rule::own::{CapacityCause, OwnSteps};
 use papaya_book::window::Window;
 use papaya_call::answers::Operation;
-use papaya_change::at_once::Turn;
+use papaya_change::fast_path::Turn;
 use papaya_change::means::Means;
 use papaya_change::removal::entry;
 use papaya_keys::compute::Compute;
@@ -69,7 +69,7 @@ fn lend_at_once<
 >(
     means: &Means<'_, '_, R>,
     window: &mut Window<'a, K, V, S>,
-    given: &mut Own<Given>,
+    given: &mut OwnSteps<CapacityCause>,
     key: K,
     f: &mut F,
 ) -> First<Computing<'a, K, V, S, T>, Result<Compute<'a, K, V, T>, Refused>>
@@ -114,7 +114,7 @@ fn lend_at_once<
 
 /// Does with a key's pair, or where it has none, what the closure answers that is lent it. Where it is
 /// refused for want of room, `given` tells the number that a full log gave, or the sum of the count that
-/// makes a further table too long.
+/// makes a next table too long.
 pub fn compute_lent<
     'a,
     R: Wait,
@@ -129,7 +129,7 @@ pub fn compute_lent<
     initial: usize,
     shard: &Shard<'_>,
     window: &mut Window<'a, K, V, S>,
-    given: &mut Own<Given>,
+    given: &mut OwnSteps<CapacityCause>,
     key: K,
     mut f: F,
 ) -> Result<Compute<'a, K, V, T>, Refused>

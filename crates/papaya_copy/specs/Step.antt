@@ -17,9 +17,9 @@ use Rattle.papaya_copy.specs.declared.settle.Settled.{Settled}
 use Rattle.papaya_copy.specs.declared.settle.Settled.TheVariants.{On as Settle_on, Settled as Was_settled, Unfit, Refused as Settle_refused}
 use Rattle.papaya_copy.specs.declared.settle.Slot.{Slot}
 use Rattle.papaya_copy.specs.declared.step.Chunk.{Chunk}
-use Rattle.papaya_copy.specs.declared.step.Scan.{Scan}
+use Rattle.papaya_copy.specs.declared.step.Cursor.{Cursor}
 use Rattle.papaya_copy.specs.declared.step.Step.{Step}
-use Rattle.papaya_copy.specs.declared.step.Step.TheVariants.{AtRoot, Aiming, Linking, Judging, Sizing, Scanning, Settling, Advancing, Promoting}
+use Rattle.papaya_copy.specs.declared.step.Step.TheVariants.{AtRoot, Aiming, Linking, Judging, Sizing, AtChunk, Settling, Advancing, Promoting}
 use Rattle.papaya_copy.specs.declared.step.Stepped.{Stepped}
 use Rattle.papaya_copy.specs.declared.step.Stepped.TheVariants.{On, Root as At_root, Last, Further, Over, Refused as Was_refused}
 use Rattle.papaya_copy.specs.Link as links
@@ -28,25 +28,25 @@ use Rattle.papaya_copy.specs.Settle as settles
 use Rattle.papaya_copy.specs.Settle.{IsStandingSettle, settle_ask, settle_follows, settle_kind}
 
 -- the chunk whose word is loaded has a slot
-pub record IsStandingScan (scan : Scan) : Type 0 where
-  pub some : 1 ≤ scan.slots
-  pub start : scan.start ≤ scan.len
-  pub at : scan.at ≤ scan.begun
-  pub begun : scan.begun < scan.len
-  pub most : scan.len ≤ 2 ^ 32
+pub record IsStandingCursor (cursor : Cursor) : Type 0 where
+  pub some : 1 ≤ cursor.slots
+  pub start : cursor.start ≤ cursor.len
+  pub at : cursor.at ≤ cursor.begun
+  pub begun : cursor.begun < cursor.len
+  pub most : cursor.len ≤ 2 ^ 32
 
 -- a slot of the chunk is copied
 pub record IsStandingChunk (chunk : Chunk) : Type 0 where
-  pub scan : IsStandingScan chunk.scan
+  pub cursor : IsStandingCursor chunk.cursor
   pub at : chunk.at < chunk.end
-  pub within : chunk.end ≤ chunk.scan.len
+  pub within : chunk.end ≤ chunk.cursor.len
 
 -- it stands within its chunk
 abbrev pub IsStandingStep : Step → Type 0
 IsStandingStep (Linking from link) = IsStandingLink link
-IsStandingStep (Scanning scan) = IsStandingScan scan
+IsStandingStep (AtChunk cursor) = IsStandingCursor cursor
 IsStandingStep (Settling chunk settle) = IsStandingChunk chunk × IsStandingSettle settle
-IsStandingStep (Advancing scan) = IsStandingScan scan
+IsStandingStep (Advancing cursor) = IsStandingCursor cursor
 IsStandingStep _ = Unit {0}
 
 abbrev pub IsStandingStepped : Stepped → Type 0
@@ -56,7 +56,7 @@ IsStandingStepped _ = Unit {0}
 
 -- the slot that is copied now
 abbrev pub slot_of : Chunk → Slot
-slot_of chunk = record { from = chunk.scan.from; index = chunk.at; to = chunk.scan.to }
+slot_of chunk = record { from = chunk.cursor.from; index = chunk.at; to = chunk.cursor.to }
 
 -- what it asks
 abbrev pub step_ask : Step → CopyAsk
@@ -65,16 +65,16 @@ step_ask (Aiming from behind) = Load (Next behind)
 step_ask (Linking from link) = link_ask link
 step_ask (Judging from to) = Load (Aborted to)
 step_ask (Sizing from to) = SizeOf from
-step_ask (Scanning scan) = Load (Done scan.to scan.at)
+step_ask (AtChunk cursor) = Load (Done cursor.to cursor.at)
 step_ask (Settling chunk settle) = settle_ask settle (slot_of chunk)
-step_ask (Advancing scan) = Exchange (Done scan.to scan.at) 0 1
+step_ask (Advancing cursor) = Exchange (Done cursor.to cursor.at) 0 1
 step_ask (Promoting from to) = Exchange Root from to
 
 -- the kind of the exchange that it asks for
 abbrev pub step_kind : Step → Option StepKind
 step_kind (Linking from link) = link_kind link
 step_kind (Settling chunk settle) = settle_kind settle
-step_kind (Advancing scan) = Some kinds.Advance
+step_kind (Advancing cursor) = Some kinds.Advance
 step_kind (Promoting from to) = Some kinds.Promote
 step_kind _ = None
 
@@ -97,8 +97,8 @@ abbrev pub judged : (from to word : ℕ) → Step
 judged from to word = if word == 0 then Sizing from to else Aiming from to
 
 -- the words are loaded from some chunk on
-abbrev pub scan_from : (from to len slots start : ℕ) → Scan
-scan_from from to len slots start = record {
+abbrev pub cursor_from : (from to len slots start : ℕ) → Cursor
+cursor_from from to len slots start = record {
   from = from;
   to = to;
   len = len;
@@ -111,45 +111,45 @@ scan_from from to len slots start = record {
 }
 
 -- from that of this number on, of as many as there are
-abbrev pub first_scan : (from to len : ℕ) → ResizeMode → (number : ℕ) → Scan
-first_scan from to len mode number =
-    scan_from from to len (chunk_len mode) (number % chunk_count len (chunk_len mode))
+abbrev pub first_cursor : (from to len : ℕ) → ResizeMode → (number : ℕ) → Cursor
+first_cursor from to len mode number =
+    cursor_from from to len (chunk_len mode) (number % chunk_count len (chunk_len mode))
 
 -- the chunk after this one, and the first one
-abbrev pub next_chunk : Scan → Scan
-next_chunk scan = record scan { at = scan.at + 1; begun = scan.begun + scan.slots }
+abbrev pub next_chunk : Cursor → Cursor
+next_chunk cursor = record cursor { at = cursor.at + 1; begun = cursor.begun + cursor.slots }
 
-abbrev pub first_chunk : Scan → Scan
-first_chunk scan = record scan { at = 0; begun = 0; wrapped = true }
+abbrev pub first_chunk : Cursor → Cursor
+first_chunk cursor = record cursor { at = 0; begun = 0; wrapped = true }
 
 -- a chunk comes after this one, and its word was not loaded
-abbrev pub is_further : Scan → Bool
-is_further scan = nat_lt scan.slots (scan.len - scan.begun)
-    && not (scan.wrapped && nat_le scan.start (scan.at + 1))
+abbrev pub is_further : Cursor → Bool
+is_further cursor = nat_lt cursor.slots (cursor.len - cursor.begun)
+    && not (cursor.wrapped && nat_le cursor.start (cursor.at + 1))
 
 -- this chunk is copied: the next word is loaded, while there is one that was not
-abbrev pub next_scan : Scan → Step
-next_scan scan = if is_further scan then Scanning (next_chunk scan)
-    else if not scan.wrapped && nat_lt 0 scan.start then Scanning (first_chunk scan)
-    else Promoting scan.from scan.to
+abbrev pub next_cursor : Cursor → Step
+next_cursor cursor = if is_further cursor then AtChunk (next_chunk cursor)
+    else if not cursor.wrapped && nat_lt 0 cursor.start then AtChunk (first_chunk cursor)
+    else Promoting cursor.from cursor.to
 
 -- so many slots from the first of the chunk on, or as many as there are
-abbrev pub end_of : Scan → ℕ
-end_of scan = if nat_lt scan.slots (scan.len - scan.begun) then scan.begun + scan.slots
-    else scan.len
+abbrev pub end_of : Cursor → ℕ
+end_of cursor = if nat_lt cursor.slots (cursor.len - cursor.begun) then cursor.begun + cursor.slots
+    else cursor.len
 
-abbrev pub chunk_at : Scan → Chunk
-chunk_at scan = record { scan = scan; at = scan.begun; end = end_of scan }
+abbrev pub chunk_at : Cursor → Chunk
+chunk_at cursor = record { cursor = cursor; at = cursor.begun; end = end_of cursor }
 
 -- the word of the chunk: 0 where it is not copied
-abbrev pub scanned : Scan → (done : ℕ) → Stepped
-scanned scan done = if not (done == 0) then On (next_scan scan)
-    else if scan.copied then Further (chunk_at scan)
-    else On (Settling (chunk_at scan) Looking)
+abbrev pub chunk_read : Cursor → (done : ℕ) → Stepped
+chunk_read cursor done = if not (done == 0) then On (next_cursor cursor)
+    else if cursor.copied then Further (chunk_at cursor)
+    else On (Settling (chunk_at cursor) Looking)
 
 -- this caller copied the chunk
-abbrev pub advanced : Scan → Stepped
-advanced scan = On (next_scan (record scan { copied = true }))
+abbrev pub advanced : Cursor → Stepped
+advanced cursor = On (next_cursor (record cursor { copied = true }))
 
 -- the next slot of the chunk, while there is one
 abbrev pub next_slot : Chunk → Chunk
@@ -157,13 +157,13 @@ next_slot chunk = record chunk { at = chunk.at + 1 }
 
 abbrev pub next_in : Chunk → Stepped
 next_in chunk = if nat_lt chunk.at chunk.end then On (Settling chunk Looking)
-    else On (Advancing chunk.scan)
+    else On (Advancing chunk.cursor)
 
 -- the copy of a slot leads here
 abbrev pub settled_to : Chunk → Settled → Stepped
 settled_to chunk (Settle_on settle) = On (Settling chunk settle)
 settled_to chunk Was_settled = next_in (next_slot chunk)
-settled_to chunk (Unfit table) = On (Aiming chunk.scan.from table)
+settled_to chunk (Unfit table) = On (Aiming chunk.cursor.from table)
 settled_to chunk (Settle_refused refused) = Was_refused refused
 
 -- the making of a table leads here
@@ -179,7 +179,7 @@ at_hash step hash = step
 
 abbrev pub at_size : Step → ResizeMode → (number slots limit : ℕ) → Step
 at_size (Linking from link) mode number slots limit = Linking from (links.at_size link slots)
-at_size (Sizing from to) mode number slots limit = Scanning (first_scan from to slots mode number)
+at_size (Sizing from to) mode number slots limit = AtChunk (first_cursor from to slots mode number)
 at_size (Settling chunk settle) mode number slots limit =
     Settling chunk (settles.at_size settle slots limit)
 at_size step mode number slots limit = step
@@ -188,7 +188,7 @@ abbrev pub at_word : Step → ResizeMode → ℕ → Stepped
 at_word AtRoot mode word = At_root word
 at_word (Aiming from behind) mode word = aimed from behind mode word
 at_word (Judging from to) mode word = On (judged from to word)
-at_word (Scanning scan) mode word = scanned scan word
+at_word (AtChunk cursor) mode word = chunk_read cursor word
 at_word (Settling chunk settle) mode word = settled_to chunk
     (settles.at_word settle (slot_of chunk) mode word)
 at_word step mode word = On step
@@ -201,7 +201,7 @@ abbrev pub at_exchanged : Step → ResizeMode → Stepped
 at_exchanged (Linking from link) mode = linked_to from (links.at_exchanged link)
 at_exchanged (Settling chunk settle) mode = settled_to chunk
     (settles.at_exchanged settle (slot_of chunk) mode)
-at_exchanged (Advancing scan) mode = advanced scan
+at_exchanged (Advancing cursor) mode = advanced cursor
 at_exchanged (Promoting from to) mode = Over
 at_exchanged step mode = On step
 
@@ -213,7 +213,7 @@ abbrev pub at_found : Step → ResizeMode → ℕ → Stepped
 at_found (Linking from link) mode word = linked_to from (links.at_found link word)
 at_found (Settling chunk settle) mode word = settled_to chunk
     (settles.at_found settle (slot_of chunk) mode word)
-at_found (Advancing scan) mode word = advanced scan
+at_found (Advancing cursor) mode word = advanced cursor
 at_found (Promoting from to) mode word = Over
 at_found step mode word = On step
 

@@ -51,7 +51,7 @@ pub enum Copied {
     Root(u64),
     /// The chunk that it was to copy is copied.
     Chunk,
-    /// A further table could not be made.
+    /// A next table could not be made.
     Refused(Refused),
 }
 

@@ -54,7 +54,7 @@ pub enum Settled {
     Settled,
     /// This table, to which copies go, was given up.
     Unfit(u64),
-    /// A further table could not be made.
+    /// A next table could not be made.
     Refused(Refused),
 }
 
@@ -270,7 +270,7 @@ impl Settle {
             Kind::Empty => Settled::On(Settle::Closing),
             Kind::Live => Settled::On(Settle::Marking(word)),
             Kind::Marked => Settled::On(Settle::Carrying(word, Carry::Hashing(slot.to))),
-            Kind::Copied | Kind::Buried | Kind::Closed => Settled::Settled,
+            Kind::Copied | Kind::Tombstone | Kind::Closed => Settled::Settled,
         }
     }
 

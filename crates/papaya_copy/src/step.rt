@@ -4,9 +4,9 @@ ghost use Rattle.std.specs.Int.{IsPowerOfTwo};
 ghost use Rattle.papaya_copy.specs.Link.{IsFitCopyAsk, IsStandingLink, IsStandingLinked};
 ghost use Rattle.papaya_ask.specs.Search.{IsSize};
 ghost use Rattle.papaya_copy.specs.Settle.{IsStandingSettled};
-ghost use Rattle.papaya_copy.specs.Step.{IsStandingChunk, IsStandingScan, IsStandingStep, IsStandingStepped, advanced, aimed, at_count, at_exchanged, at_found};
+ghost use Rattle.papaya_copy.specs.Step.{IsStandingChunk, IsStandingCursor, IsStandingStep, IsStandingStepped, advanced, aimed, at_count, at_exchanged, at_found};
 ghost use Rattle.papaya_copy.specs.Step.{at_hash, at_made, at_ok, at_refused, at_size, at_word, at_yes, chunk_at};
-ghost use Rattle.papaya_copy.specs.Step.{first_scan, judged, linked_to, next_scan, scanned, settled_to, slot_of, step_ask, step_follows};
+ghost use Rattle.papaya_copy.specs.Step.{chunk_read, first_cursor, judged, linked_to, next_cursor, settled_to, slot_of, step_ask, step_follows};
 ghost use Rattle.papaya_copy.specs.Step.{step_kind};
 
 use crate::link::{Link, Linked};
@@ -19,7 +19,7 @@ use papaya_words::probe::{Refused, ResizeMode};
 /// The words of a table's chunks, loaded one after another: from one of them to the last, and then
 /// from the first on. Each that was passed by says that its chunk is copied.
 #[derive(Clone, Copy)]
-pub struct Scan {
+pub struct Cursor {
     /// The table that is copied.
     pub from: u64,
     /// The table to which its pairs go first.
@@ -43,8 +43,8 @@ pub struct Scan {
 /// Slots of a table that are copied one after another.
 #[derive(Clone, Copy)]
 pub struct Chunk {
-    /// Where the scan came to the chunk.
-    pub scan: Scan,
+    /// Where the cursor came to the chunk.
+    pub cursor: Cursor,
     /// The slot that is copied now.
     pub at: usize,
     /// The slot after the last.
@@ -68,11 +68,11 @@ pub enum Step {
     /// It asks for the size of the table that is copied.
     Sizing { from: u64, to: u64 },
     /// It loads the word of a chunk.
-    Scanning(Scan),
+    AtChunk(Cursor),
     /// It copies a slot.
     Settling(Chunk, Settle),
     /// The chunk was copied, and its word is to say so.
-    Advancing(Scan),
+    Advancing(Cursor),
     /// All chunks were copied, and the other table is to be the root.
     Promoting { from: u64, to: u64 },
 }
@@ -90,23 +90,23 @@ pub enum Stepped {
     Further(Chunk),
     /// What was to be copied is copied, or the root is another table now.
     Over,
-    /// A further table could not be made.
+    /// A next table could not be made.
     Refused(Refused),
 }
 
-impl Scan {
+impl Cursor {
     /// The words are loaded from the chunk of this number on, of as many as there are.
     #[inline]
     #[tactic(auto, using(crate::proofs::Starts::start_within, crate::proofs::Starts::start_low))]
-    fn new(from: u64, to: u64, len: usize, mode: ResizeMode, number: u64) -> Scan
+    fn new(from: u64, to: u64, len: usize, mode: ResizeMode, number: u64) -> Cursor
         requires power { IsPowerOfTwo len }
         requires most { len ≤ 2 ^ 32 }
-        ensures value { result ≡ first_scan from to len mode number }
-        ensures standing { IsStandingScan result }
+        ensures value { result ≡ first_cursor from to len mode number }
+        ensures standing { IsStandingCursor result }
     {
         let slots = chunk_len(mode);
         let start = (number % chunk_count(len, mode) as u64) as usize;
-        Scan {
+        Cursor {
             from,
             to,
             len,
@@ -123,20 +123,20 @@ impl Scan {
     /// loaded yet.
     #[inline]
     fn next(mut self) -> Step
-        requires { IsStandingScan self }
-        ensures value { result ≡ next_scan self }
+        requires { IsStandingCursor self }
+        ensures value { result ≡ next_cursor self }
         ensures standing { IsStandingStep result }
     {
         let further = self.slots < self.len - self.begun;
         if further && !(self.wrapped && self.at + 1 >= self.start) {
             self.at += 1;
             self.begun += self.slots;
-            Step::Scanning(self)
+            Step::AtChunk(self)
         } else if !self.wrapped && self.start > 0 {
             self.at = 0;
             self.begun = 0;
             self.wrapped = true;
-            Step::Scanning(self)
+            Step::AtChunk(self)
         } else {
             Step::Promoting {
                 from: self.from,
@@ -148,7 +148,7 @@ impl Scan {
     /// The chunk whose word is loaded now.
     #[inline]
     fn chunk(self) -> Chunk
-        requires { IsStandingScan self }
+        requires { IsStandingCursor self }
         ensures value { result ≡ chunk_at self }
         ensures standing { IsStandingChunk result }
     {
@@ -159,7 +159,7 @@ impl Scan {
             self.len
         };
         Chunk {
-            scan: self,
+            cursor: self,
             at: self.begun,
             end,
         }
@@ -168,8 +168,8 @@ impl Scan {
     /// The chunk's word says that it is copied, or that it is not.
     #[inline]
     fn word(self, done: u64) -> Stepped
-        requires { IsStandingScan self }
-        ensures value { result ≡ scanned self done }
+        requires { IsStandingCursor self }
+        ensures value { result ≡ chunk_read self done }
         ensures standing { IsStandingStepped result }
     {
         if done != 0 {
@@ -184,7 +184,7 @@ impl Scan {
     /// This caller copied the chunk, and its word says so.
     #[inline]
     fn advanced(mut self) -> Stepped
-        requires { IsStandingScan self }
+        requires { IsStandingCursor self }
         ensures value { result ≡ advanced self }
         ensures standing { IsStandingStepped result }
     {
@@ -200,9 +200,9 @@ impl Chunk {
         ensures { result ≡ slot_of self }
     {
         Slot {
-            from: self.scan.from,
+            from: self.cursor.from,
             index: self.at,
-            to: self.scan.to,
+            to: self.cursor.to,
         }
     }
 }
@@ -221,9 +221,9 @@ impl Step {
             Step::Linking { link, .. } => link.ask(),
             Step::Judging { to, .. } => CopyAsk::Load(At::Aborted(to)),
             Step::Sizing { from, .. } => CopyAsk::SizeOf(from),
-            Step::Scanning(scan) => CopyAsk::Load(At::Done(scan.to, scan.at)),
+            Step::AtChunk(cursor) => CopyAsk::Load(At::Done(cursor.to, cursor.at)),
             Step::Settling(chunk, settle) => settle.ask(chunk.slot()),
-            Step::Advancing(scan) => CopyAsk::Exchange(At::Done(scan.to, scan.at), 0, 1),
+            Step::Advancing(cursor) => CopyAsk::Exchange(At::Done(cursor.to, cursor.at), 0, 1),
             Step::Promoting { from, to } => CopyAsk::Exchange(At::Root, from, to),
         }
     }
@@ -280,7 +280,7 @@ impl Step {
                 from,
                 link: link.at_size(len, limit),
             },
-            Step::Sizing { from, to } => Step::Scanning(Scan::new(from, to, len, mode, number)),
+            Step::Sizing { from, to } => Step::AtChunk(Cursor::new(from, to, len, mode, number)),
             Step::Settling(chunk, settle) => Step::Settling(chunk, settle.at_size(len, limit)),
             step => step,
         }
@@ -297,7 +297,7 @@ impl Step {
             Step::AtRoot => Stepped::Root(word),
             Step::Aiming { from, after } => Step::aimed(from, after, mode, word),
             Step::Judging { from, to } => Stepped::On(Step::judged(from, to, word)),
-            Step::Scanning(scan) => scan.word(word),
+            Step::AtChunk(cursor) => cursor.word(word),
             Step::Settling(chunk, settle) => {
                 Step::settled(chunk, settle.at_word(chunk.slot(), mode, word))
             }
@@ -330,7 +330,7 @@ impl Step {
             Step::Settling(chunk, settle) => {
                 Step::settled(chunk, settle.at_exchanged(chunk.slot(), mode))
             }
-            Step::Advancing(scan) => scan.advanced(),
+            Step::Advancing(cursor) => cursor.advanced(),
             Step::Promoting { .. } => Stepped::Over,
             step => Stepped::On(step),
         }
@@ -361,7 +361,7 @@ impl Step {
             Step::Settling(chunk, settle) => {
                 Step::settled(chunk, settle.at_found(chunk.slot(), mode, word))
             }
-            Step::Advancing(scan) => scan.advanced(),
+            Step::Advancing(cursor) => cursor.advanced(),
             Step::Promoting { .. } => Stepped::Over,
             step => Stepped::On(step),
         }
@@ -479,11 +479,11 @@ impl Step {
                 if chunk.at < chunk.end {
                     Stepped::On(Step::Settling(chunk, Settle::Looking))
                 } else {
-                    Stepped::On(Step::Advancing(chunk.scan))
+                    Stepped::On(Step::Advancing(chunk.cursor))
                 }
             }
             Settled::Unfit(table) => Stepped::On(Step::Aiming {
-                from: chunk.scan.from,
+                from: chunk.cursor.from,
                 after: table,
             }),
             Settled::Refused(refused) => Stepped::Refused(refused),

@@ -21,7 +21,7 @@ use Rattle.papaya_call.specs.declared.made.Number.{Number}
 use Rattle.papaya_call.specs.declared.made.Number.TheVariants.{Wanted, Free, Taken}
 use Rattle.papaya_call.specs.declared.machine.Machine.{Machine as Call_machine}
 use Rattle.papaya_call.specs.declared.machine.State.{State as Stage}
-use Rattle.papaya_call.specs.declared.machine.State.TheVariants.{AtRoot, Making, Opening, Searching, Writing, Offering, Showing, Pairing, Putting, Burying, Counting, Noting, Uncounting, Leaving, Growing, Ended}
+use Rattle.papaya_call.specs.declared.machine.State.TheVariants.{AtRoot, Making, Opening, Searching, Writing, Offering, Showing, Pairing, Putting, Deleting, Counting, Noting, Uncounting, Leaving, Growing, Ended}
 use Rattle.papaya_call.specs.declared.write.Write.{Write}
 use Rattle.papaya_chain.specs.declared.ask.Ask.TheVariants as chain_asks
 use Rattle.papaya_chain.specs.declared.ask.Answer.{Answer}
@@ -32,7 +32,7 @@ use Rattle.papaya_chain.specs.declared.machine.Phase.{Phase}
 use Rattle.papaya_chain.specs.declared.machine.Phase.TheVariants.{Calling, Linking, Copying as Copying_root}
 use Rattle.papaya_chain.specs.Machine.{after, after_in, ask_of, asks_in, stepped, told_next}
 use Rattle.papaya_store.specs.declared.pairs.Running.{Running}
-use Rattle.papaya_store.specs.declared.visits.Visiting.{Visiting}
+use Rattle.papaya_store.specs.declared.scans.Scanning.{Scanning}
 use Rattle.papaya_store.specs.Asks.{PerformsAsk}
 use Rattle.papaya_store.specs.Performs.{Performs}
 use Rattle.papaya_store.specs.Store.{StoreState}
@@ -40,7 +40,7 @@ use Rattle.papaya_timeline.specs.declared.seat.Work.{Work}
 use Rattle.papaya_timeline.specs.declared.seat.Work.TheVariants as works
 use Rattle.papaya_timeline.specs.declared.trace.Event.{Event}
 use Rattle.papaya_timeline.specs.Advances.{Advances, reply_in}
-use Rattle.papaya_timeline.specs.Callers.{call_in, resizer_in, visitor_in, working}
+use Rattle.papaya_timeline.specs.Callers.{call_in, resizer_in, scanner_in, working}
 use Rattle.papaya_timeline.specs.Core.{CoreState, call_of}
 use Rattle.papaya_timeline.specs.Kept.{IsLawfulCore}
 use Rattle.papaya_timeline.specs.Runs.{Steps}
@@ -119,7 +119,7 @@ module _ (m : Call_machine) where
   numbering (Offering gap) n = absurd n
   numbering (Showing removal) n = absurd n
   numbering (Putting put) n = absurd n
-  numbering (Burying removal) n = absurd n
+  numbering (Deleting removal) n = absurd n
   numbering (Counting claimed) n = absurd n
   numbering (Noting claimed) n = absurd n
   numbering (Uncounting pair) n = absurd n
@@ -132,13 +132,13 @@ no_resizer : {K V A : Type 0} (work : Option (Work K V A)) {r : Running K V A} {
 no_resizer None e f = absurd cc
 no_resizer (Some (works.Call r)) e f = absurd cc
 no_resizer (Some (works.Resize z)) e f = absurd cc
-no_resizer (Some (works.Visit v)) e f = absurd cc
+no_resizer (Some (works.Scan v)) e f = absurd cc
 
-no_visitor : {K V A : Type 0} (work : Option (Work K V A)) {r : Running K V A} {v : Visiting A} → call_in work ≡ Some r → visitor_in work ≡ Some v → ⊥
-no_visitor None e f = absurd cc
-no_visitor (Some (works.Call r)) e f = absurd cc
-no_visitor (Some (works.Resize z)) e f = absurd cc
-no_visitor (Some (works.Visit v)) e f = absurd cc
+no_scanner : {K V A : Type 0} (work : Option (Work K V A)) {r : Running K V A} {v : Scanning A} → call_in work ≡ Some r → scanner_in work ≡ Some v → ⊥
+no_scanner None e f = absurd cc
+no_scanner (Some (works.Call r)) e f = absurd cc
+no_scanner (Some (works.Resize z)) e f = absurd cc
+no_scanner (Some (works.Scan v)) e f = absurd cc
 
 -- a call that asks for itself is not set aside
 calls_itself : (call : Call_machine) (phase : Phase) → AsksForNumber (asks_in call phase) → (phase ≡ Calling) × AsksNumber (calls.ask_of call)
@@ -196,4 +196,4 @@ module _ {K V S A : Type 0} (eq : K → K → Bool) (says : Says K V A) (hash : 
       x.reply_is
       ∙ refused_there eq says hash refuse s.store s'.store x.before x.later (own_limit eq (hash s.store.hasher) s lawful caller x.before x.was ∙ spent) (own_free eq (hash s.store.hasher) s lawful caller x.before x.was spent) x.answer (its_call x r was n) x.performs
   spent_refuses (inr (inl x)) (r, was, n) spent = absurd (no_resizer (working s.callers caller) was x.was)
-  spent_refuses (inr (inr x)) (r, was, n) spent = absurd (no_visitor (working s.callers caller) was x.was)
+  spent_refuses (inr (inr x)) (r, was, n) spent = absurd (no_scanner (working s.callers caller) was x.was)

@@ -18,25 +18,25 @@ use Rattle.papaya_chain.specs.declared.ask.Answer.{Answer}
 use Rattle.papaya_chain.specs.declared.ask.Answer.TheVariants as answers
 use Rattle.papaya_chain.specs.declared.machine.Phase.TheVariants.{Calling}
 use Rattle.papaya_chain.specs.Machine.{ask_of, asks_in}
-use Rattle.papaya_chain.specs.declared.visit_ask.VisitAsk.{VisitAsk}
-use Rattle.papaya_chain.specs.declared.visit_ask.VisitAsk.TheVariants as visit_asks
-use Rattle.papaya_chain_rests.specs.Goes.{IsOwnRefusal, IsTableRefusal, IsToMake}
-use Rattle.papaya_rests.specs.Rests.{IsNumberAsk}
+use Rattle.papaya_chain.specs.declared.scan_ask.ScanAsk.{ScanAsk}
+use Rattle.papaya_chain.specs.declared.scan_ask.ScanAsk.TheVariants as scan_asks
+use Rattle.papaya_chain_law.specs.Goes.{IsOwnRefusal, IsTableRefusal, IsToMake}
+use Rattle.papaya_call_law.specs.Relies.{IsNumberAsk}
 use Rattle.papaya_store.specs.declared.pairs.Running.{Running}
-use Rattle.papaya_store.specs.declared.visits.Visiting.{Visiting}
+use Rattle.papaya_store.specs.declared.scans.Scanning.{Scanning}
 use Rattle.papaya_store.specs.Asks.{PerformsAsk}
 use Rattle.papaya_store.specs.Copies.{PerformsCopy, hash_in}
 use Rattle.papaya_store.specs.Performs.{Performs, Refuses, size_of}
 use Rattle.papaya_store.specs.Store.{StoreState, Stored}
 use Rattle.papaya_store.specs.Tables.{table_of, word_at}
-use Rattle.papaya_store.specs.Visits.{PerformsVisit}
+use Rattle.papaya_store.specs.Scans.{PerformsScan}
 use Rattle.papaya_timeline.specs.declared.trace.Event.{Event}
 use Rattle.papaya_timeline.specs.Advances.{Advances}
 use Rattle.papaya_timeline.specs.Core.{CoreState}
 use Rattle.papaya_timeline.specs.Kept.{IsLawfulCore}
 use Rattle.papaya_timeline.specs.Resizes.{Resizes}
 use Rattle.papaya_timeline.specs.Runs.{Steps}
-use Rattle.papaya_timeline.specs.VisitGoes.{Visits, unheard}
+use Rattle.papaya_timeline.specs.ScanGoes.{Scans, unheard}
 use Rattle.papaya_timeline.proofs.StoreLemmas.{LogsOrNot, matched, of_logs, own_logs, part_logs}
 use Rattle.papaya_core.specs.Limits.{IsSpent}
 use Rattle.papaya_core.proofs.NumbersTaken.{spent_by}
@@ -59,9 +59,9 @@ refuses_other : (most count : ℕ) (told : Call_answer) → Refuses most count t
 refuses_other most count told (inl memory) e = absurd (cc (memory, e))
 refuses_other most count told (inr (capacity, full)) e = absurd (cc (capacity, e))
 
--- a visit is told nothing where its list could not grow
-unheard_told : (ask : VisitAsk) (answer : Answer) → unheard ask answer ≡ Some Limit → answer ≡ answers.Call (Was_refused Limit)
-unheard_told (visit_asks.Give n) (answers.Call (Was_refused refused)) e = let f : refused ≡ Limit = cc e in ap (λ y. answers.Call (Was_refused y)) f
+-- a scan is told nothing where its list could not grow
+unheard_told : (ask : ScanAsk) (answer : Answer) → unheard ask answer ≡ Some Limit → answer ≡ answers.Call (Was_refused Limit)
+unheard_told (scan_asks.Give n) (answers.Call (Was_refused refused)) e = let f : refused ≡ Limit = cc e in ap (λ y. answers.Call (Was_refused y)) f
 unheard_told ask answer e = absurd cc
 
 module _ {K V S : Type 0} (eq : K → K → Bool) (hash : S → K → ℕ) (refuse : Bool) (s : StoreState K V S) (answer : Answer) (s' : StoreState K V S) where
@@ -83,14 +83,14 @@ module _ {K V S : Type 0} (eq : K → K → Bool) (hash : S → K → ℕ) (refu
       (λ _ makes. elim makes [ inl refused ↦ refuses_other _ _ told refused.0 f | inr made ↦ absurd (cc (made.0, f)) ])
 
 module _ {K V S A : Type 0} (eq : K → K → Bool) (says : Says K V A) (hash : S → K → ℕ) (refuse : Bool) (s s' : StoreState K V S) where
-  -- an ask of a visit
-  visit_other : (v v' : Visiting A) (answer : Answer) (ask : VisitAsk) → PerformsVisit eq says hash refuse ask s v answer s' v' → answer ≡ answers.Call (Was_refused Limit) → ⊥
-  visit_other v v' answer (visit_asks.Copy ask) (h, same) e = copy_other eq hash refuse s answer s' ask h e
-  visit_other v v' answer (visit_asks.Show n) ((told, is, inl (none, ok, same)), stays) e = absurd (cc (is, ok, e))
-  visit_other v v' answer (visit_asks.Show n) ((told, is, inr (a, p, keeps, left, had, logged, says_so, answered, then)), stays) e = absurd (cc (is, answered, e))
-  visit_other v v' answer (visit_asks.Give n) ((told, is, inl (ok, given)), stays) e = absurd (cc (is, ok, e))
-  visit_other v v' answer (visit_asks.Give n) ((told, is, inr (refused, visitor, left, same)), stays) e = absurd (cc (is, refused, e))
-  visit_other v v' answer (visit_asks.AddToShard by) (is, counted, same) e = absurd (cc (is, e))
+  -- an ask of a scan
+  scan_other : (v v' : Scanning A) (answer : Answer) (ask : ScanAsk) → PerformsScan eq says hash refuse ask s v answer s' v' → answer ≡ answers.Call (Was_refused Limit) → ⊥
+  scan_other v v' answer (scan_asks.Copy ask) (h, same) e = copy_other eq hash refuse s answer s' ask h e
+  scan_other v v' answer (scan_asks.Show n) ((told, is, inl (none, ok, same)), stays) e = absurd (cc (is, ok, e))
+  scan_other v v' answer (scan_asks.Show n) ((told, is, inr (a, p, keeps, left, had, logged, says_so, answered, then)), stays) e = absurd (cc (is, answered, e))
+  scan_other v v' answer (scan_asks.Give n) ((told, is, inl (ok, given)), stays) e = absurd (cc (is, ok, e))
+  scan_other v v' answer (scan_asks.Give n) ((told, is, inr (refused, scanner, left, same)), stays) e = absurd (cc (is, refused, e))
+  scan_other v v' answer (scan_asks.AddToShard by) (is, counted, same) e = absurd (cc (is, e))
 
   module _ (r : Running K V A) (told : Call_answer) (r' : Running K V A) where
     made_other : LogsOrNot s r told s' r' → IsOther told
@@ -154,11 +154,11 @@ module _ {K V S A : Type 0} (eq : K → K → Bool) (says : Says K V A) (hash : 
     | inr (inr room) ↦ let f = room.capacity in absurd (cc f)
   ]
 
-  visits_other : Visits eq says hash refuse s caller s' event reply → ⊥
-  visits_other x = elim (x.cause Limit e) [
-    | inl full ↦ visit_other eq says hash refuse s.store s'.store x.before x.later x.answer x.ask x.performs (unheard_told x.ask x.answer full)
+  scans_other : Scans eq says hash refuse s caller s' event reply → ⊥
+  scans_other x = elim (x.cause Limit e) [
+    | inl full ↦ scan_other eq says hash refuse s.store s'.store x.before x.later x.answer x.ask x.performs (unheard_told x.ask x.answer full)
     | inr cause ↦ elim cause.why [
-      | inl none ↦ visit_other eq says hash refuse s.store s'.store x.before x.later x.answer x.ask x.performs none.is
+      | inl none ↦ scan_other eq says hash refuse s.store s'.store x.before x.later x.answer x.ask x.performs none.is
       | inr long ↦ let f = long.capacity in absurd (cc f)
     ]
   ]
@@ -167,4 +167,4 @@ module _ {K V S A : Type 0} (eq : K → K → Bool) (says : Says K V A) (hash : 
   pub refused_spent : Steps eq says hash refuse s caller s' event reply → IsSpent s
   refused_spent (inl x) = elim (x.cause Limit e) [ inl own ↦ own_spent x own | inr table ↦ absurd (table_other x table) ]
   refused_spent (inr (inl x)) = absurd (resize_other x)
-  refused_spent (inr (inr x)) = absurd (visits_other x)
+  refused_spent (inr (inr x)) = absurd (scans_other x)

@@ -2,9 +2,9 @@
 use Rattle.std.proofs.Common.{◌≡◌, ℕ, ◌+◌, ◌<◌, ◌≤◌, Bool, List, [], ◌∷◌, Option, None, Some, MatchOption, sym, ◌∙◌, ap, subst, arith}
 use Rattle.papaya_ask.specs.declared.ask.At.TheVariants.{Made}
 use Rattle.papaya_law.specs.Allows.{Allows, AllAllowed}
-use Rattle.papaya_law.specs.Exchange.{Setting, State, Exchange, Open, Claim, Replace, Bury, Link, Mark, Close, Place, Finish, Advance, Promote, Abort, Take, after, run, start}
+use Rattle.papaya_law.specs.Exchange.{Setting, State, Exchange, Open, Claim, Replace, Delete, Link, Mark, Close, Place, Finish, Advance, Promote, Abort, Take, after, run, start}
 use Rattle.papaya_call.specs.declared.made.Number.TheVariants.{Free}
-use Rattle.papaya_rests.specs.Rests.{RestsNumber}
+use Rattle.papaya_call_law.specs.Relies.{ReliesNumber}
 use Rattle.papaya_store.specs.declared.pairs.Running.{Running}
 use Rattle.papaya_timeline.specs.Callers.{running}
 use Rattle.papaya_timeline.specs.Core.{CoreState}
@@ -37,7 +37,7 @@ module _ {K P : Type 0} (g : Setting K P) where
   once_within s (Open t) may within = within
   once_within s (Claim t x p) may within = within
   once_within s (Replace t x p q) may within = within
-  once_within s (Bury t x p) may within = within
+  once_within s (Delete t x p) may within = within
   once_within s (Link t n) may within = within
   once_within s (Mark t x p) may within = within
   once_within s (Close t x) may within = within
@@ -56,14 +56,14 @@ module _ {K V S A : Type 0} (eq : K → K → Bool) (hash : K → ℕ) (s : Core
   -- in each core
   pub core_within : IsWithin s
   core_within =
-      let (es, (tales, kept)) = lawful.law in
+      let (es, (call_traces, kept)) = lawful.law in
       subst (Within s.mode.limit) (kept.coded Made) (all_within _ es start kept.allowed (within_none s.mode.limit))
 
   -- a call under way has the limit of its core
   pub own_limit : (caller : ℕ) (r : Running K V A) → running s.callers caller ≡ Some r → r.machine.call.made.limit ≡ s.mode.limit
   own_limit caller r was =
-      let (es, (tales, kept)) = lawful.law in
-      (kept.calls caller r was).rests.call.made.limit
+      let (es, (call_traces, kept)) = lawful.law in
+      (kept.calls caller r was).relies.call.made.limit
 
   -- where a call was told of as many as its limit, all are taken
   pub spent_by : (caller : ℕ) (r : Running K V A) → running s.callers caller ≡ Some r → (most : ℕ) → r.machine.call.made.limit ≡ Some most → most ≤ s.store.words.made → IsSpent s
@@ -72,9 +72,9 @@ module _ {K V S A : Type 0} (eq : K → K → Bool) (hash : K → ℕ) (s : Core
   -- and a number that it is to take is free
   pub own_free : (caller : ℕ) (r : Running K V A) → running s.callers caller ≡ Some r → IsSpent s → (m : ℕ) → r.machine.call.made.number ≡ Free m → m < s.store.words.made
   own_free caller r was spent m e =
-      let (es, (tales, kept)) = lawful.law in
+      let (es, (call_traces, kept)) = lawful.law in
       let call = kept.calls caller r was in
-      below s.mode.limit spent (subst (RestsNumber (setting_of eq (low hash) s.mode s.store.words.tables) (coding_of (low hash)) (tales caller).begun (tales caller).since call.key) e call.rests.call.made.number_is)
+      below s.mode.limit spent (subst (ReliesNumber (setting_of eq (low hash) s.mode s.store.words.tables) (coding_of (low hash)) (call_traces caller).begun (call_traces caller).since call.key) e call.relies.call.made.number_is)
     where
       below : (limit : Option ℕ) → limit ≡ Some s.store.words.made → MatchOption limit (Unit {0}) (λ n. m < n) → m < s.store.words.made
       below None none free = absurd cc

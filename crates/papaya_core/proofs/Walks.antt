@@ -1,29 +1,29 @@
--- What a visit has given once its ask was answered.
+-- What a scan has given once its ask was answered.
 use Rattle.std.proofs.Common.{◌≡◌, inl, inr, ℕ, Bool, None, Some, [], ◌++◌, append-nil, sym, ◌∙◌, ap}
 use Rattle.papaya_words.specs.declared.probe.Refused.TheVariants.{Memory}
 use Rattle.papaya_call.specs.Answers.{Says}
 use Rattle.papaya_chain.specs.declared.ask.Answer.{Answer}
 use Rattle.papaya_chain.specs.declared.ask.Answer.TheVariants as answers
 use Rattle.papaya_store.specs.Store.{StoreState}
-use Rattle.papaya_timeline.specs.VisitGoes.{unheard}
-use Rattle.papaya_chain.specs.declared.visit_ask.VisitAsk.{VisitAsk}
-use Rattle.papaya_chain.specs.declared.visit_ask.VisitAsk.TheVariants.{AddToShard, Copy, Give, Show}
-use Rattle.papaya_store.specs.declared.visits.Visiting.{Visiting}
-use Rattle.papaya_store.specs.Visits.{PerformsVisit}
+use Rattle.papaya_timeline.specs.ScanGoes.{unheard}
+use Rattle.papaya_chain.specs.declared.scan_ask.ScanAsk.{ScanAsk}
+use Rattle.papaya_chain.specs.declared.scan_ask.ScanAsk.TheVariants.{AddToShard, Copy, Give, Show}
+use Rattle.papaya_store.specs.declared.scans.Scanning.{Scanning}
+use Rattle.papaya_store.specs.Scans.{PerformsScan}
 use Rattle.papaya_timeline.specs.Outcomes.{given_by}
 
 -- where its list could grow, what it gave before and what its ask gave
-module _ {K V S A : Type 0} (eq : K → K → Bool) (says : Says K V A) (hash : S → K → ℕ) (refuse : Bool) (store : StoreState K V S) (v : Visiting A) (a : Answer) (store' : StoreState K V S) (v' : Visiting A) where
-  -- a visitor that was told something else gave nothing
+module _ {K V S A : Type 0} (eq : K → K → Bool) (says : Says K V A) (hash : S → K → ℕ) (refuse : Bool) (store : StoreState K V S) (v : Scanning A) (a : Answer) (store' : StoreState K V S) (v' : Scanning A) where
+  -- a scanner that was told something else gave nothing
   same_given : v' ≡ v → v'.given ≡ v.given ++ []
-  same_given same = ap (λ (y : Visiting A). y.given) same ∙ sym (append-nil v.given)
+  same_given same = ap (λ (y : Scanning A). y.given) same ∙ sym (append-nil v.given)
 
-  pub given_is : (ask : VisitAsk) → PerformsVisit eq says hash refuse ask store v a store' v' → unheard ask a ≡ None → v'.given ≡ v.given ++ given_by (Some ask)
+  pub given_is : (ask : ScanAsk) → PerformsScan eq says hash refuse ask store v a store' v' → unheard ask a ≡ None → v'.given ≡ v.given ++ given_by (Some ask)
   given_is (Copy ask) (performs, same) heard = same_given same
   given_is (Show n) ((told, is, inl (nothing, ok, same)), stays) heard = same_given same
-  given_is (Show n) ((told, is, inr (left, p, keeps, fewer, had, logged, says_so, answered, then)), stays) heard = ap (λ (y : Visiting A). y.given) then ∙ sym (append-nil v.given)
+  given_is (Show n) ((told, is, inr (left, p, keeps, fewer, had, logged, says_so, answered, then)), stays) heard = ap (λ (y : Scanning A). y.given) then ∙ sym (append-nil v.given)
   given_is (Give n) ((told, is, inl (ok, more)), stays) heard = more.given
-  given_is (Give n) ((told, is, inr (refused, visitor, left, same)), stays) heard =
+  given_is (Give n) ((told, is, inr (refused, scanner, left, same)), stays) heard =
       let over : unheard (Give n) a ≡ Some Memory = ap (unheard (Give n)) (is ∙ ap (λ y. answers.Call y) refused) in
       let none : None ≡ Some Memory = sym heard ∙ over in
       absurd cc

@@ -19,12 +19,12 @@ use Rattle.papaya_timeline.specs.declared.seat.Work.TheVariants as works
 use Rattle.papaya_timeline.specs.declared.trace.Event.{Event}
 use Rattle.papaya_timeline.specs.Advances.{event_of, goes_on, reply_in}
 use Rattle.papaya_timeline.specs.Callers.{as_work}
-use Rattle.papaya_timeline.specs.VisitGoes.{event_of_visit, reply_or, unheard}
-use Rattle.papaya_chain.specs.declared.visit_ask.VisitAsk.{VisitAsk}
-use Rattle.papaya_chain.specs.declared.visit_ask.VisitAsk.TheVariants as visit_asks
-use Rattle.papaya_chain.specs.Visitor as visitor
-use Rattle.papaya_store.specs.declared.visits.Visiting.{Visiting}
-use Rattle.papaya_store.specs.Visits.{PerformsVisit}
+use Rattle.papaya_timeline.specs.ScanGoes.{event_of_scan, reply_or, unheard}
+use Rattle.papaya_chain.specs.declared.scan_ask.ScanAsk.{ScanAsk}
+use Rattle.papaya_chain.specs.declared.scan_ask.ScanAsk.TheVariants as scan_asks
+use Rattle.papaya_chain.specs.Scanner as scanner
+use Rattle.papaya_store.specs.declared.scans.Scanning.{Scanning}
+use Rattle.papaya_store.specs.Scans.{PerformsScan}
 
 -- One ask of a call that resizes the map was answered, and it goes on unless it has ended.
 module _ {K V S A : Type 0} (eq : K → K → Bool) (hash : S → K → ℕ) (refuse : Bool)
@@ -56,29 +56,29 @@ module _ {K V S A : Type 0} (eq : K → K → Bool) (says : Says K V A) (hash : 
     pub shard : (by : ℤ) → ask_of before.machine ≡ asks.Call (AddToShard by)
         → store'.count ≡ added store.count caller by
 
-  -- one ask of a call that visits a table was answered, and it goes on unless it has replied
-  pub record VisitGoes (before : Visiting A) : Type 0 where
-    pub ask : VisitAsk
-    pub asked : visitor.ask_of before.visitor ≡ Some ask
+  -- one ask of a call that scans a table was answered, and it goes on unless it has replied
+  pub record ScanGoes (before : Scanning A) : Type 0 where
+    pub ask : ScanAsk
+    pub asked : scanner.ask_of before.scanner ≡ Some ask
     pub answer : Answer
-    pub later : Visiting A
-    pub performs : PerformsVisit eq says hash refuse ask store before answer store' later
-    pub event_is : event ≡ event_of_visit (visitor.kind_of_ask before.visitor) ask answer
+    pub later : Scanning A
+    pub performs : PerformsScan eq says hash refuse ask store before answer store' later
+    pub event_is : event ≡ event_of_scan (scanner.kind_of_ask before.scanner) ask answer
     pub reply_is : reply ≡ reply_or (unheard ask answer)
-        (visitor.reply_of (visitor.after before.visitor answer))
+        (scanner.reply_of (scanner.after before.scanner answer))
     pub work_is : work ≡ goes_on reply
-        (works.Visit (record later { visitor = visitor.after before.visitor answer }))
-    pub shard : (by : ℤ) → ask ≡ visit_asks.AddToShard by → store'.count ≡ added store.count caller by
+        (works.Scan (record later { scanner = scanner.after before.scanner answer }))
+    pub shard : (by : ℤ) → ask ≡ scan_asks.AddToShard by → store'.count ≡ added store.count caller by
 
   abbrev pub WorkGoes : Work K V A → Type 0
   WorkGoes (works.Call before) = CallGoes before
   WorkGoes (works.Resize before) = ResizerGoes eq hash refuse store store' event reply work
       before
-  WorkGoes (works.Visit before) = VisitGoes before
+  WorkGoes (works.Scan before) = ScanGoes before
 
 -- it stands within its tables, and has not ended
 abbrev pub IsStandingWork : {K V A : Type 0} → Work K V A → Type 0
 IsStandingWork (works.Call r) = IsStanding r.machine
 IsStandingWork (works.Resize z) = resizer.IsStandingResizer z × (resizer.reply_of z ≡ None)
-IsStandingWork (works.Visit v) = visitor.IsStandingVisitor v.visitor
-    × IsSome (visitor.ask_of v.visitor)
+IsStandingWork (works.Scan v) = scanner.IsStandingScanner v.scanner
+    × IsSome (scanner.ask_of v.scanner)

@@ -3,13 +3,13 @@ ghost use Rattle.std.specs.Prelude.{◌≡◌, ◌+◌, ◌<◌, ◌≤◌, ◌�
 ghost use Rattle.papaya_timeline.specs.Advances.{answered_event, call_event, copy_event, event_of, exchange_event, shown_event};
 ghost use Rattle.papaya_timeline.specs.Outcomes.{as_reply};
 ghost use Rattle.papaya_timeline.specs.Runs.{with_step};
-ghost use Rattle.papaya_timeline.specs.VisitGoes.{event_of_visit};
+ghost use Rattle.papaya_timeline.specs.ScanGoes.{event_of_scan};
 
 use papaya_ask::ask::{Answer as CallAnswer, Ask as CallAsk, StepKind};
 use papaya_ask::call::Reply;
 use papaya_ask::copy_ask::CopyAsk;
 use papaya_chain::ask::{Answer, Ask};
-use papaya_chain::visit_ask::VisitAsk;
+use papaya_chain::scan_ask::ScanAsk;
 use papaya_timeline::outcome::Outcome;
 use papaya_timeline::trace::{Entry, Event};
 use papaya_words::probe::Refused;
@@ -23,7 +23,7 @@ fn exchange_event(kind: StepKind, old: u64, new: u64) -> Event
     match kind {
         StepKind::Claim => Event::Changed(kind, None, Some(new)),
         StepKind::Replace => Event::Changed(kind, Some(old), Some(new)),
-        StepKind::Bury => Event::Changed(kind, Some(old), None),
+        StepKind::Delete => Event::Changed(kind, Some(old), None),
         _ => Event::Moved(kind),
     }
 }
@@ -85,17 +85,17 @@ pub(crate) fn event_of(kind: Option<StepKind>, ask: Ask, answer: Answer) -> Even
     }
 }
 
-/// The event of an ask of a call that visits a table that was answered.
-pub(crate) fn event_of_visit(kind: Option<StepKind>, ask: VisitAsk, answer: Answer) -> Event
-    ensures { result ≡ event_of_visit kind ask answer }
+/// The event of an ask of a call that scans a table that was answered.
+pub(crate) fn event_of_scan(kind: Option<StepKind>, ask: ScanAsk, answer: Answer) -> Event
+    ensures { result ≡ event_of_scan kind ask answer }
 {
     let Answer::Call(answer) = answer else {
         return Event::Other;
     };
     match (ask, answer) {
-        (VisitAsk::Copy(ask), answer) => copy_event(kind, ask, answer),
-        (VisitAsk::Show(pair), answer) => shown_event(Some(pair), answer),
-        (VisitAsk::Give(pair), CallAnswer::Ok) => Event::Gave(pair),
+        (ScanAsk::Copy(ask), answer) => copy_event(kind, ask, answer),
+        (ScanAsk::Show(pair), answer) => shown_event(Some(pair), answer),
+        (ScanAsk::Give(pair), CallAnswer::Ok) => Event::Gave(pair),
         _ => Event::Other,
     }
 }

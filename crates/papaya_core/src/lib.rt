@@ -6,5 +6,5 @@ pub use papaya_timeline::{outcome, solo, trace};
 
 pub mod callers;
 mod entries;
+mod scans;
 pub mod schedule;
-mod visits;

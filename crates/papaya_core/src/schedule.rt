@@ -1,7 +1,7 @@
 //! Any number of callers, and any schedule of their steps.
 //!
 //! A call is on one key, or it resizes the map: it makes room ahead, or copies all that is left to
-//! copy, and leaves every pair as it is; or it visits a table: it clears the map, retains what its
+//! copy, and leaves every pair as it is; or it scans a table: it clears the map, retains what its
 //! closure agrees to, or walks the pairs. The steps of all mix in any order.
 //!
 //! The map grows. A call that finds no place for its pair makes the next table, and goes on in it.
@@ -19,7 +19,7 @@ ghost use Rattle.papaya_words.specs.Table.{TableWords};
 ghost use Rattle.papaya_ask.specs.Search.{IsSize};
 ghost use Rattle.papaya_chain.specs.Resizer.{IsStandingResizer, reply_of as reply_of_resizer};
 ghost use Rattle.papaya_store.specs.Tables.{table_of};
-ghost use Rattle.papaya_timeline.specs.Callers.{visiting, visitor_in, working};
+ghost use Rattle.papaya_timeline.specs.Callers.{scanner_in, scanning, working};
 ghost use Rattle.papaya_timeline.specs.Maps.{key_of};
 ghost use Rattle.papaya_core.specs.Goes.{CallGoes, IsStandingWork, ResizerGoes, WorkGoes};
 ghost use Rattle.papaya_core.specs.Limits.{IsSpent, IsWithin, NeedsNumber};
@@ -29,7 +29,7 @@ ghost use Rattle.papaya_keys.specs.Hashes.{hash_of};
 ghost use Rattle.papaya_timeline.specs.Core.{work_of};
 ghost use Rattle.papaya_timeline.specs.Content.{content};
 ghost use Rattle.papaya_timeline.specs.Counted.{IsCounted};
-ghost use Rattle.papaya_timeline.specs.Begins.{Begins, begun, begun_work, handed, visitor_begun};
+ghost use Rattle.papaya_timeline.specs.Begins.{Begins, begun, begun_work, handed, scanner_begun};
 ghost use Rattle.papaya_timeline.specs.Advances.{AddsToShard, event_of, reply_in};
 ghost use Rattle.papaya_timeline.specs.Headline.{HasTimeline};
 ghost use Rattle.papaya_timeline.specs.Intends.{IntendsHanded, KeepsIntents};
@@ -41,18 +41,18 @@ ghost use Rattle.papaya_timeline.specs.Runs.{Steps, TurnsRun, StopsEarly, TurnRu
 
 use crate::callers::{Callers, Work};
 use crate::entries::{event_of, push_entry, push_step, reply_of, reserve_entries};
-use crate::visits::advance_visit;
+use crate::scans::advance_scan;
 use papaya_ask::ask::Ask as CallAsk;
 use papaya_ask::call::{Call, Reply, Task};
 use papaya_call::answers::Answers;
 use papaya_chain::ask::Ask;
 use papaya_chain::machine::Machine;
 use papaya_chain::resizer::{Resize, Resizer};
-use papaya_chain::visitor::{Visit, Visitor};
+use papaya_chain::scanner::{Scan, Scanner};
 use papaya_store::mode::Mode;
 use papaya_store::pairs::{Part, Running};
+use papaya_store::scans::{Numbers, Scanning};
 use papaya_store::store::Store;
-use papaya_store::visits::{Numbers, Visiting};
 use papaya_timeline::outcome::Outcome;
 use papaya_timeline::trace::{Entry, Event, Trace, Turn};
 use papaya_words::probe::{Refused, ResizeMode};
@@ -65,7 +65,7 @@ use std::marker::Model;
 /// `A` gives the answers of the closures of calls that take one: [`papaya_call::answers::Listed`],
 /// or a type of the user's own.
 ///
-/// Contracts see the words, the log of pairs, and the calls under way.
+/// Contracts see the words, the arena of pairs, and the calls under way.
 #[derive(Drop)]
 pub struct Core<K: Hash + Eq, V, S: BuildHasher, A> {
     alloc: Global,
@@ -139,21 +139,21 @@ fn call_on<K: Hash + Eq, V: Drop, S: BuildHasher, A>(
     })
 }
 
-/// A call that visits a table as it begins.
-fn visit_on<K, V, A>(
+/// A call that scans a table as it begins.
+fn scan_on<K, V, A>(
     alloc: Global,
     mode: ResizeMode,
     initial: usize,
     number: u64,
-    visit: Visit,
+    scan: Scan,
     answers: Option<A>,
 ) -> Work<K, V, A>
     requires chunked { IsChunked mode }
     requires initial { IsPowerOfTwo initial }
-    ensures { result ≡ Work.Visit (visitor_begun mode initial number visit answers) }
+    ensures { result ≡ Work.Scan (scanner_begun mode initial number scan answers) }
 {
-    Work::Visit(Visiting {
-        visitor: Visitor::new(visit, mode, initial, number),
+    Work::Scan(Scanning {
+        scanner: Scanner::new(scan, mode, initial, number),
         answers,
         given: Numbers::new(alloc),
     })
@@ -187,12 +187,12 @@ fn begin_call<K: Hash + Eq, V: Drop, S: BuildHasher, A>(
         Call::CopyAll => {
             return Work::Resize(Resizer::new(Resize::CopyAll, mode.resize, initial, number));
         }
-        Call::Clear => return visit_on(alloc, mode.resize, initial, number, Visit::Clear, None),
+        Call::Clear => return scan_on(alloc, mode.resize, initial, number, Scan::Clear, None),
         Call::Retain(answers) => {
             let answers = Some(answers);
-            return visit_on(alloc, mode.resize, initial, number, Visit::Retain, answers);
+            return scan_on(alloc, mode.resize, initial, number, Scan::Retain, answers);
         }
-        Call::Walk => return visit_on(alloc, mode.resize, initial, number, Visit::Walk, None),
+        Call::Walk => return scan_on(alloc, mode.resize, initial, number, Scan::Walk, None),
     };
     call_on(store, mode, initial, number, task, key, handed)
 }
@@ -281,12 +281,12 @@ fn advance_work<K: Hash + Eq + Drop, V: Drop, S: BuildHasher, A: Answers<K, V> +
     ensures goes { WorkGoes K.eq (record { op = A.op_gives; yes = A.yes_gives })
         (hash_of K.hash_input S.build_hasher S.Hasher.write S.Hasher.finish) refuse store.old caller
         store.new result.0 (as_reply result.1) result.2 work }
-    ensures walked { AnswersWalk (visitor_in (Some work)) result.1 }
+    ensures walked { AnswersWalk (scanner_in (Some work)) result.1 }
 {
     match work {
         Work::Call(running) => advance_call(alloc, store, caller, running, refuse),
         Work::Resize(resizer) => advance_resizer(alloc, store, resizer, refuse),
-        Work::Visit(visiting) => advance_visit(alloc, store, caller, visiting, refuse),
+        Work::Scan(scanning) => advance_scan(alloc, store, caller, scanning, refuse),
     }
 }
 
@@ -426,7 +426,7 @@ impl<K: Hash + Eq + Drop, V: Drop, S: BuildHasher, A: Answers<K, V> + Drop> Core
         ensures steps { Steps K.eq (record { op = A.op_gives; yes = A.yes_gives })
             (hash_of K.hash_input S.build_hasher S.Hasher.write S.Hasher.finish) refuse self.old
             caller self.new result.0 (as_reply result.1) }
-        ensures walked { AnswersWalk (visiting self.old.callers caller) result.1 }
+        ensures walked { AnswersWalk (scanning self.old.callers caller) result.1 }
         ensures moves { MovesMap K.eq self.old caller self.new result.0 }
         ensures intents { KeepsIntents (record { op = A.op_gives; yes = A.yes_gives }) self.old
             caller self.new result.0 }
@@ -469,7 +469,7 @@ impl<K: Hash + Eq + Drop, V: Drop, S: BuildHasher, A: Answers<K, V> + Drop> Core
             × MovesMap K.eq self.old caller self.new event
             × KeepsIntents (record { op = A.op_gives; yes = A.yes_gives }) self.old caller
             self.new event }
-        ensures walked { AnswersWalk (visiting self.old.callers caller) result }
+        ensures walked { AnswersWalk (scanning self.old.callers caller) result }
         ensures keeps { KeepsPairs self.old.store self.new.store }
         ensures shard { AddsToShard self.old caller self.new }
         ensures counted { IsCounted K.eq self.new.store self.new.callers }

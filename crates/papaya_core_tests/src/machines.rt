@@ -24,7 +24,7 @@ const HINT_OF_ANOTHER: u64 = 7;
 /// The pair 3.
 const LIVE: u64 = 3073;
 
-const BURIED: u64 = 3076;
+const TOMBSTONE: u64 = 3076;
 
 const COPIED_3: u64 = 3075;
 /// The pair 4.
@@ -114,7 +114,7 @@ fn lookup_passes_each_kind_of_word(rt: HostRuntime) {
     hints(&rt, &mut lookup, 1, 2, HINT_OF_ANOTHER);
     hints(&rt, &mut lookup, 1, 3, SHUT as u64);
     loads(&rt, &mut lookup, 1, 5, CLOSED);
-    loads(&rt, &mut lookup, 1, 0, BURIED);
+    loads(&rt, &mut lookup, 1, 0, TOMBSTONE);
     // Whoever placed this pair has not written its hint yet.
     hints(&rt, &mut lookup, 1, 4, 0);
     let ask = Ask::Load(At::Slot(1, 4));
@@ -140,13 +140,13 @@ fn lookup_follows_a_copied_pair(rt: HostRuntime) {
     replies(&rt, &lookup, Reply::Found(3));
 }
 
-/// The machine tries to bury the pair at the first place of table 1.
-fn buries(rt: &impl Abort, machine: &mut Machine, old: u64, new: u64, answer: Answer)
+/// The machine tries to delete the pair at the first place of table 1.
+fn deletes(rt: &impl Abort, machine: &mut Machine, old: u64, new: u64, answer: Answer)
     requires standing { IsStanding machine.old }
     requires fit { IsFit answer }
     ensures { IsStanding machine.new }
 {
-    is(rt, machine.kind() == Some(StepKind::Bury), true);
+    is(rt, machine.kind() == Some(StepKind::Delete), true);
     told(rt, machine, Ask::Exchange(At::Slot(1, 2), old, new), answer);
 }
 
@@ -222,7 +222,7 @@ fn compute_remembers_what_it_inserts(rt: HostRuntime) {
     claims(&rt, &mut compute, 2, LIVE_12, Answer::Found(LIVE));
     compares(&rt, &mut compute, 3, true);
     decides(&rt, &mut compute, 3, OpKind::Remove);
-    buries(&rt, &mut compute, LIVE, BURIED, Answer::Found(BURIED));
+    deletes(&rt, &mut compute, LIVE, TOMBSTONE, Answer::Found(TOMBSTONE));
     loads(&rt, &mut compute, 1, 3, EMPTY);
     claims(&rt, &mut compute, 3, LIVE_12, Answer::Exchanged);
     told(&rt, &mut compute, Ask::AddToShard(1), Answer::Ok);

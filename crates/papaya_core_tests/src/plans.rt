@@ -119,7 +119,7 @@ impl Plan {
     }
 
     /// Does the call take out pairs one by one, so that it may come back to a key?
-    fn sweeps(self) -> bool {
+    fn scans(self) -> bool {
         matches!(self, Plan::Clear | Plan::Retain(_))
     }
 }
@@ -194,12 +194,12 @@ fn the_other_way(plans: (Plan, Plan), key: u64, held: Option<u64>) -> Told {
 }
 
 /// What two calls tell of a key may be this, or is else as if the first was made before the second.
-/// A first one that sweeps may have come to the key before the second, and once more after it.
+/// A first one that scans may have come to the key before the second, and once more after it.
 pub(crate) fn as_allowed(found: &Told, plans: (Plan, Plan), key: u64, held: Option<u64>) -> Told {
     let after = the_other_way(plans, key, held);
-    let (_, swept) = at_key(plans.0, key, held);
-    let around = the_other_way(plans, key, swept);
-    if *found == after || plans.0.sweeps() && *found == around {
+    let (_, scanned) = at_key(plans.0, key, held);
+    let around = the_other_way(plans, key, scanned);
+    if *found == after || plans.0.scans() && *found == around {
         return *found;
     }
     in_turn(plans, key, held)

@@ -79,7 +79,7 @@ fn retain_beside(
     is_gone(rt, alloc, core, steps)
 }
 
-/// A retain that nobody is beside asks for each pair once, and buries it where the answer is no.
+/// A retain that nobody is beside asks for each pair once, and deletes it where the answer is no.
 fn asks_once(rt: &impl Abort, alloc: Global, core: &mut Numbers) -> Result<(), Fail> {
     let trace = begin(alloc, core, 2, retain_of_nothing(alloc), WHOLE)?;
     let mut asked = answers_in(alloc, &trace)?;
@@ -87,7 +87,7 @@ fn asks_once(rt: &impl Abort, alloc: Global, core: &mut Numbers) -> Result<(), F
     for (number, found) in asked.iter().enumerate() {
         is_at(rt, number, *found, (number as u64, false));
     }
-    let counted = (asked.len(), times(&trace, StepKind::Bury));
+    let counted = (asked.len(), times(&trace, StepKind::Delete));
     is(rt, counted, (KEYS as usize, KEYS as usize));
     is_gone(rt, alloc, core, 0)
 }

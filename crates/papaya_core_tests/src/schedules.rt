@@ -22,8 +22,8 @@ use std::test::Fail;
 const STEPS_OF_INSERT: usize = 12;
 
 /// A removal of a pair that the map has, which agrees at once, makes so many steps: it loads the
-/// root, learns its size, loads the hint and the slot, compares the key, shows the pair, buries it,
-/// and counts.
+/// root, learns its size, loads the hint and the slot, compares the key, shows the pair, deletes
+/// it, and counts.
 const STEPS_OF_REMOVAL: usize = 8;
 
 /// A compute of a pair that the map has, whose closure answers an insertion, makes so many steps:
@@ -141,7 +141,7 @@ fn keeps_one(rt: &impl Abort, alloc: Global, core: &mut Numbers, steps: usize) -
 /// What a removal comes to that is stopped so, where its pair is replaced meanwhile.
 fn removed_or_kept_at(steps: usize) -> Replies {
     let replaced = Reply::Replaced { old: 1, new: 2 };
-    // The removal loads the slot in its fourth step, and buries the pair in its seventh. Where
+    // The removal loads the slot in its fourth step, and deletes the pair in its seventh. Where
     // another pair came between, its closure is shown that one too, and keeps it.
     match steps {
         0..4 => (Reply::Removed(2), replaced, Reply::Absent),

@@ -61,7 +61,7 @@ const FULL: Start = Start {
 };
 
 /// A table of 8 slots is full of pairs, all but one of which were removed.
-const BURIED: Start = Start {
+const TOMBSTONE: Start = Start {
     capacity: 6,
     stored: 8,
     left: 1,
@@ -342,7 +342,7 @@ fn beside_a_stopped_call_in_a_full_table_of_one_chunk(rt: HostRuntime) -> Result
 
 #[test]
 fn beside_a_stopped_call_in_a_table_of_removed_pairs(rt: HostRuntime) -> Result<(), Fail> {
-    each_mode(&rt, rt.alloc(), BURIED)
+    each_mode(&rt, rt.alloc(), TOMBSTONE)
 }
 
 #[test]

@@ -72,7 +72,7 @@ fn words_of_slots(rt: HostRuntime) {
     is(&rt, Word::live(3), Word(3073));
     is(&rt, Word::marked(3), Word(3074));
     is(&rt, Word::copied(3), Word(3075));
-    is(&rt, Word::buried(3), Word(3076));
+    is(&rt, Word::tombstone(3), Word(3076));
     is(&rt, Word(3073).pair(), 3);
 }
 
@@ -83,7 +83,7 @@ fn kinds_of_words(rt: HostRuntime) {
         (Word(3073), Kind::Live),
         (Word(3074), Kind::Marked),
         (Word(3075), Kind::Copied),
-        (Word(3076), Kind::Buried),
+        (Word(3076), Kind::Tombstone),
         (Word::CLOSED, Kind::Closed),
     ] {
         is(&rt, word.kind(), kind);
@@ -108,7 +108,7 @@ fn steps_of_slots(rt: HostRuntime) {
         (Word::EMPTY, one),
         (Word::EMPTY, Word::CLOSED),
         (one, other),
-        (one, Word::buried(3)),
+        (one, Word::tombstone(3)),
         (one, Word::marked(3)),
         (Word::marked(3), Word::copied(3)),
     ] {
@@ -121,9 +121,9 @@ fn steps_of_slots(rt: HostRuntime) {
 fn no_steps_of_slots(rt: HostRuntime) {
     let one = Word::live(3);
     for (old, new) in [
-        (one, Word::buried(4)),
+        (one, Word::tombstone(4)),
         (one, Word::CLOSED),
-        (Word::buried(3), one),
+        (Word::tombstone(3), one),
     ] {
         assert!(rt; !legal(old, new), "{old:?} to {new:?}");
     }

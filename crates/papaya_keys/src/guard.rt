@@ -125,8 +125,8 @@ impl Collector {
 ///
 /// There a guard keeps what was loaded under it from being freed. Here it holds two numbers, on
 /// which
-/// no safety rests. In place of `collector` it has `collector_number`, and in place of `thread_id`
-/// its
+/// no safety depends. In place of `collector` it has `collector_number`, and in place of
+/// `thread_id` its
 /// own `number`.
 pub trait Guard {
     ghost collector_number: { Self → ℕ };

@@ -14,7 +14,7 @@ pub mod Blocking
 pub mod Later
 pub mod Moments
 pub mod Readers
-pub mod Burials
+pub mod Deletions
 -- the law, and that nothing else has the meaning
 pub mod Apart
 pub mod OneMap

@@ -1,7 +1,7 @@
 -- The setting that a log gives: its later entries change nothing of the tables that its earlier ones brought onto the chain.
 use Rattle.std.proofs.Common.{◌≡◌, ◌⊎◌, inl, inr, ⊎_elim, ℕ, zero, suc, ◌<◌, ◌==◌, true, None, List, [], ◌∷◌, ◌++◌, refl, sym, ap, ◌∙◌, subst, arith, eq-eqb}
 use Rattle.std.proofs.lemmas.Bool.{cases_Bool, cond-true, cond-false, or_cases, or_left, or_right}
-use Rattle.papaya_law.specs.Exchange.{Exchange, Open, Claim, Replace, Bury, Link, Mark, Close, Place, Finish, Advance, Promote, Abort, Take, State, start, after, run, walk}
+use Rattle.papaya_law.specs.Exchange.{Exchange, Open, Claim, Replace, Delete, Link, Mark, Close, Place, Finish, Advance, Promote, Abort, Take, State, start, after, run, walk}
 use Rattle.papaya_law.specs.Allows.{Allows, AllAllowed}
 use Rattle.papaya_law.specs.Meaning.{IsLawful}
 use Rattle.papaya_law.specs.Class.{IsOn}
@@ -16,7 +16,7 @@ comes_after s (Open u) t (inl e) = inl (eq-eqb u t e)
 comes_after s (Open u) t (inr c) = inr (inr c)
 comes_after s (Claim u x p) t c = inr c
 comes_after s (Replace u x p q) t c = inr c
-comes_after s (Bury u x p) t c = inr c
+comes_after s (Delete u x p) t c = inr c
 comes_after s (Link u n) t (inl e) = inr (inl e)
 comes_after s (Link u n) t (inr (v, e)) = ⊎_elim (λ h. inl (eq-eqb n t (sym (cond-true (v == u) n (s.next v) h) ∙ e))) (λ h. inr (inr (v, sym (cond-false (v == u) n (s.next v) h) ∙ e))) (cases_Bool (v == u))
 comes_after s (Mark u x p) t c = inr c
@@ -52,12 +52,12 @@ on_brought : {P : Type 0} (es : List (Entry P)) (t : ℕ) → IsOn (run (exchang
 on_brought {P = P} es t on = ⊎_elim (λ h. h) (λ c. absurd (none_at_start P t on.0 c)) (brought es start t (on_comes (run (exchanges es) start) t on))
 
 -- what an entry says of a table, later ones don't change
-size_stays : {P : Type 0} (es fs : List (Entry P)) (t : ℕ) → is_brought es t ≡ true → size_in (es ++ fs) t ≡ size_in es t
-size_stays [] fs t h = absurd cc
-size_stays (e ∷ es) fs t h =
+size_stable : {P : Type 0} (es fs : List (Entry P)) (t : ℕ) → is_brought es t ≡ true → size_in (es ++ fs) t ≡ size_in es t
+size_stable [] fs t h = absurd cc
+size_stable (e ∷ es) fs t h =
     ⊎_elim
     (λ b. cond-true (brings e.by t) e.size (size_in (es ++ fs) t) b ∙ sym (cond-true (brings e.by t) e.size (size_in es t) b))
-    (λ b. cond-false (brings e.by t) e.size (size_in (es ++ fs) t) b ∙ (size_stays es fs t (⊎_elim (λ c. absurd (cc (b, c))) (λ c. c) (or_cases (brings e.by t) (is_brought es t) h)) ∙ sym (cond-false (brings e.by t) e.size (size_in es t) b)))
+    (λ b. cond-false (brings e.by t) e.size (size_in (es ++ fs) t) b ∙ (size_stable es fs t (⊎_elim (λ c. absurd (cc (b, c))) (λ c. c) (or_cases (brings e.by t) (is_brought es t) h)) ∙ sym (cond-false (brings e.by t) e.size (size_in es t) b)))
     (cases_Bool (brings e.by t))
 
 -- the same of its number of places
@@ -117,7 +117,7 @@ module _ {K P : Type 0} (h : Plan K P) where
   pub log_agrees : (es fs : List (Entry P)) → Agrees (IsOn (run (exchanges es) start).first (run (exchanges es) start).next) (setting_in h es) (setting_in h (es ++ fs))
   log_agrees es fs =
       planned_agrees (IsOn (run (exchanges es) start).first (run (exchanges es) start).next) (size_in es) (size_in (es ++ fs)) (places_in es) (places_in (es ++ fs)) (chunks_in es) (chunks_in (es ++ fs))
-      (λ t on. size_stays es fs t (on_brought es t on)) (λ t on. places_stay es fs t (on_brought es t on)) (λ t on. chunks_stay es fs t (on_brought es t on))
+      (λ t on. size_stable es fs t (on_brought es t on)) (λ t on. places_stay es fs t (on_brought es t on)) (λ t on. chunks_stay es fs t (on_brought es t on))
 
   -- A log grows by an entry that is allowed under the setting with its own table: the longer log is allowed as a whole.
   pub log_grows : (es : List (Entry P)) (e : Entry P) → IsLawful (setting_in h es) → AllAllowed (setting_in h es) start (exchanges es) → Allows (setting_in h (es ++ e ∷ [])) (run (exchanges es) start) e.by

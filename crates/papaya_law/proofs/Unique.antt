@@ -1,7 +1,7 @@
 -- A search always ends, so the words alone say what a key's pair is: a map that they mean is one.
 use Rattle.std.proofs.Common.{◌≡◌, ◌⊎◌, inl, inr, ⊎_elim, ℕ, zero, suc, ◌+◌, ◌<◌, ◌≤◌, ◌==◌, true, false, Option, List, [], ◌∷◌, refl, sym, ◌∙◌, subst, arith, eqb-true}
 use Rattle.std.proofs.lemmas.Bool.{cases_Bool, cases_lt, cond-false}
-use Rattle.papaya_law.specs.Exchange.{Setting, State, Exchange, Open, Claim, Replace, Bury, Link, Mark, Close, Place, Finish, Advance, Promote, Abort, Take, after, run, start}
+use Rattle.papaya_law.specs.Exchange.{Setting, State, Exchange, Open, Claim, Replace, Delete, Link, Mark, Close, Place, Finish, Advance, Promote, Abort, Take, after, run, start}
 use Rattle.papaya_law.specs.View.{View, Free, Foreign, Here, Leaving, Gone, Grave, look, beyond, IsPassed, IsReached}
 use Rattle.papaya_law.specs.Allows.{AllAllowed}
 use Rattle.papaya_law.specs.Meaning.{IsLawful, IsMeaning, map_left}
@@ -18,7 +18,7 @@ step_bounded : {P : Type 0} → (s : State P) (e : Exchange P) → IsBounded s �
 step_bounded s (Open t) h = h
 step_bounded s (Claim t x p) h = h
 step_bounded s (Replace t x p q) h = h
-step_bounded s (Bury t x p) h = h
+step_bounded s (Delete t x p) h = h
 step_bounded s (Link t n) h = (
   h.0 + suc t,
   λ u le. let above : suc t ≤ u = omega arith in let b : h.0 ≤ u = omega arith in
@@ -40,9 +40,9 @@ run_bounded (e ∷ es) s h = run_bounded es (after s e) (step_bounded s e h)
 
 module _ {K P : Type 0} (g : Setting K P) (s : State P) (k : K) (v w : Option P) (mv : IsMeaning g s k v) (mw : IsMeaning g s k w) where
   -- the first place that doesn't lead on, or none
-  scan : (t n : ℕ) → ((j : ℕ) × (j < n) × ((i : ℕ) → i < j → beyond (look g s k t i) ≡ true) × (beyond (look g s k t j) ≡ false)) ⊎ ((j : ℕ) → j < n → beyond (look g s k t j) ≡ true)
-  scan t zero = inr (λ j lt. absurd (omega arith))
-  scan t (suc n) =
+  cursor : (t n : ℕ) → ((j : ℕ) × (j < n) × ((i : ℕ) → i < j → beyond (look g s k t i) ≡ true) × (beyond (look g s k t j) ≡ false)) ⊎ ((j : ℕ) → j < n → beyond (look g s k t j) ≡ true)
+  cursor t zero = inr (λ j lt. absurd (omega arith))
+  cursor t (suc n) =
       ⊎_elim
       (λ f. inl (f.0, omega (arith, f.1), f.2, f.3))
       (λ (f : (j : ℕ) → j < n → beyond (look g s k t j) ≡ true).
@@ -50,11 +50,11 @@ module _ {K P : Type 0} (g : Setting K P) (s : State P) (k : K) (v w : Option P)
       (λ (e : beyond (look g s k t n) ≡ true). inr (λ j lt. ⊎_elim (λ (c : j < n). f j c) (λ (c : n ≤ j). let q : n ≡ j = omega arith in subst (λ y. beyond (look g s k t y) ≡ true) q e) (cases_lt j n)))
       (λ (e : beyond (look g s k t n) ≡ false). inl (n, omega arith, f, e))
       (cases_Bool (beyond (look g s k t n))))
-      (scan t n)
+      (cursor t n)
 
   -- in one table: the values are equal, or it is passed
   in_table : (t : ℕ) → IsReached g s k t → (g.blocking ≡ true → s.root ≡ t) → (v ≡ w) ⊎ IsPassed g.places (look g s k) t
-  in_table t r at = ⊎_elim (λ f. by_view f.0 f.1 f.2 f.3 (look g s k t f.0) refl) (λ f. inr (inr f)) (scan t (g.places t))
+  in_table t r at = ⊎_elim (λ f. by_view f.0 f.1 f.2 f.3 (look g s k t f.0) refl) (λ f. inr (inr f)) (cursor t (g.places t))
     where
       by_view : (j : ℕ) → j < g.places t → ((i : ℕ) → i < j → beyond (look g s k t i) ≡ true) → beyond (look g s k t j) ≡ false → (x : View P) → look g s k t j ≡ x → (v ≡ w) ⊎ IsPassed g.places (look g s k) t
       by_view j lt before stop Free e = inl (mv.empty t j r at lt before e ∙ sym (mw.empty t j r at lt before e))

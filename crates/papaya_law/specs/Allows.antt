@@ -2,7 +2,7 @@
 -- itself holds, no later exchange undoes it (`proofs/Law/Later.antt`), so "was" and "stood" are
 -- read off the words as they are now.
 use Rattle.std.specs.Prelude.{◌≡◌, ℕ, ◌<◌, MatchOption, true, false, List, [], ◌∷◌}
-use Rattle.papaya_law.specs.Exchange.{Empty, Live, Marked, Setting, Exchange, Open, Claim, Replace, Bury, Link, Mark, Close, Place, Finish, Advance, Promote, Abort, Take, State, after}
+use Rattle.papaya_law.specs.Exchange.{Empty, Live, Marked, Setting, Exchange, Open, Claim, Replace, Delete, Link, Mark, Close, Place, Finish, Advance, Promote, Abort, Take, State, after}
 use Rattle.papaya_law.specs.View.{look, beyond, foreign, IsFull, HasWord, IsNextPlace, IsReached}
 use Rattle.papaya_law.specs.Class.{IsOn}
 use Rattle.papaya_law.specs.Copying.{IsTaker, IsTarget, IsCopied, IsSettled, IsLinking, Covers}
@@ -22,8 +22,8 @@ pub record MayReplace {K P : Type 0} (g : Setting K P) (s : State P) (t x : ℕ)
   pub same : g.same (g.key p) (g.key q) ≡ true
   pub kept : g.key q ≡ g.key p
 
--- Bury: p is removed.
-pub record MayBury {K P : Type 0} (g : Setting K P) (s : State P) (t x : ℕ) (p : P) : Type 0 where
+-- Delete: p is removed.
+pub record MayDelete {K P : Type 0} (g : Setting K P) (s : State P) (t x : ℕ) (p : P) : Type 0 where
   pub live : s.slot t x ≡ Live p
   pub reached : IsReached g s (g.key p) t
 
@@ -52,7 +52,7 @@ pub record MayClose {K P : Type 0} (g : Setting K P) (s : State P) (t x : ℕ) :
   pub further : 0 < s.next t
 
 -- Place: a copier puts p, which stood marked, into a table that takes it, behind other keys' words
--- and Closed alone: a Buried word of its key says that the copy came and was removed.
+-- and Closed alone: a Tombstone of its key says that the copy came and was removed.
 pub record MayPlace {K P : Type 0} (g : Setting K P) (s : State P) (n x : ℕ) (p : P) : Type 0 where
   pub empty : s.slot n x ≡ Empty
   pub source : IsCopied g s n p
@@ -98,7 +98,7 @@ abbrev pub Allows : {K P : Type 0} → Setting K P → State P → Exchange P �
 Allows g s (Open t) = (s.root ≡ 0) × (0 < t)
 Allows g s (Claim t x p) = MayClaim g s t x p
 Allows g s (Replace t x p q) = MayReplace g s t x p q
-Allows g s (Bury t x p) = MayBury g s t x p
+Allows g s (Delete t x p) = MayDelete g s t x p
 Allows g s (Link t n) = MayLink g s t n
 Allows g s (Mark t x p) = MayMark g s t x p
 Allows g s (Close t x) = MayClose g s t x

@@ -24,7 +24,7 @@ ghost use Rattle.std.specs.Prelude.{◌≡◌, ◌⊎◌, ◌↔◌, ℕ, zero, 
 ghost use Rattle.std.specs.Prelude.{◌++◌, Bool, true, false, List, [], ◌∷◌, length, Option, None, Some};
 
 /// The law: after each list of allowed exchanges the tables mean one map, which its claims,
-/// replacements and burials alone change, each taking out just the pair that was there.
+/// replacements and deletions alone change, each taking out just the pair that was there.
 pub fn one_map<K, P>()
     ensures meaning { (g : Setting K P) → IsLawful g → (es : List (Exchange P))
         → AllAllowed g start es → (k : K) → IsMeaning g (run es start) k (map_left g es k) }
@@ -166,7 +166,7 @@ pub fn walks_of_a_root<K, P>()
         → (k : K) (t j : ℕ) (p : P) (fs : List (Exchange P)) → AllAllowed g s fs → IsReached g s k t
         → j < g.places t → (look g s k t j ≡ Gone p → ⊥) → look g (run fs s) k t j ≡ Gone p
         → IsAtMoment g m fs k (Some p) }
-    ensures buried { (g : Setting K P) → IsLawful g
+    ensures tombstone { (g : Setting K P) → IsLawful g
         → (m : K → Option P) (k : K) (t j : ℕ) (p : P) (fs : List (Exchange P)) (s : State P)
         → AllAllowed g s fs → (look g s k t j ≡ Grave p → ⊥) → look g (run fs s) k t j ≡ Grave p
         → IsAtMoment g m fs k None }
@@ -236,8 +236,8 @@ pub fn codes<K, P>()
 pub fn words_in_a_search<K, P>()
     ensures kind { (g : Setting K P) (c : Coding K P) (w : Word P)
         → IsOfKind (kind_of (code g c w)) w }
-    ensures past_buried { (g : Setting K P) (c : Coding K P) (k : K) (w : Word P)
-        → kind_of (code g c w) ≡ kinds.Buried → beyond (view g k w) ≡ true }
+    ensures past_tombstone { (g : Setting K P) (c : Coding K P) (k : K) (w : Word P)
+        → kind_of (code g c w) ≡ kinds.Tombstone → beyond (view g k w) ≡ true }
     ensures past_closed { (g : Setting K P) (c : Coding K P) (k : K) (w : Word P)
         → kind_of (code g c w) ≡ kinds.Closed → beyond (view g k w) ≡ true }
     ensures other_key { (g : Setting K P) (k : K) (w : Word P) (p : P) → named w ≡ Some p
@@ -275,7 +275,7 @@ pub fn plans_by_hash<K, P>()
 
 /// Lookups by a borrowed form of a key, on every backend: by a `&str` where the keys are `String`s.
 /// Such a form is no key of the map's type: it matches the keys of one class, or none. The laws and
-/// what a machine rests on speak of a setting's keys; they serve such a lookup in the setting that
+/// what a machine relies on speak of a setting's keys; they serve such a lookup in the setting that
 /// has the form as one further key, over the same exchanges of the same pairs. The map's own keys
 /// are forms of themselves.
 pub fn further_keys<K, P>()
@@ -382,7 +382,7 @@ pub fn lists_of_a_chain<K, P>()
 
 /// The map as a list in which no key stands twice, whatever tables there are: one stays to be had
 /// after each exchange, all of them are of one length, and that length follows the claims and
-/// burials.
+/// deletions.
 pub fn finite_maps<K, P>()
     ensures list { (g : Setting K P) → IsLawful g → (s : State P) (m : K → Option P)
         → IsKeeping g s m → (e : Exchange P) → Allows g s e → (a : List P) → AreApart g.same g.key a

@@ -1,4 +1,4 @@
-//! The tests of the log of pairs.
+//! The tests of the arena of pairs.
 #![tactic(auto)]
 
 #[cfg(test)]

@@ -1,4 +1,4 @@
--- After each answer a lookup rests again, holds what it was told of last, and has less left to do.
+-- After each answer a lookup relies on what holds again, holds what it was told of last, and has less left to do.
 use Rattle.std.proofs.Common.{◌≡◌, ⊎_elim, ℕ, ◌^◌, ◌<◌, ◌≤◌, Bool, true, MatchOption, Option, None, Some, List, [], append-nil, refl, sym, ap, ◌∙◌, subst, arith}
 use Rattle.std.specs.Cmp.{IsEquivalence}
 use mathlib.Core.List.{IsPrefix}
@@ -20,10 +20,10 @@ use Rattle.papaya_law.specs.Exchange.{Exchange}
 use Rattle.papaya_law.specs.Hints.{IsHint}
 use Rattle.papaya_law.specs.Invariant.{named}
 use Rattle.papaya_call.specs.Machine.{IsStandingState, after, ask_of, kind_of_ask, started}
-use Rattle.papaya_rests.specs.Rests.{IsModeOf}
-use Rattle.papaya_rests.specs.Told.{Hands, IsTold, no_hands, or_last, told_of}
-use Rattle.papaya_rests.proofs.FurtherWords.{key_word}
-use Rattle.papaya_rests.proofs.RestsLearnPairs.{wanted_rests}
+use Rattle.papaya_call_law.specs.Relies.{IsModeOf}
+use Rattle.papaya_call_law.specs.Told.{IsTold, LoadedPairs, nothing_loaded, or_last, told_of}
+use Rattle.papaya_call_law.proofs.FurtherWords.{key_word}
+use Rattle.papaya_call_law.proofs.ReliesLearnPairs.{wanted_relies}
 use Rattle.papaya_law.proofs.OneMap.{sound}
 use Rattle.papaya_book.specs.Sheets.{Sheet}
 use Rattle.papaya_book.specs.declared.rule.entry.Begun.{Begun}
@@ -38,7 +38,7 @@ use Rattle.papaya_book.specs.Rule.{IsLawfulLog, word_in}
 use Rattle.papaya_book.proofs.Loaded.{table_since}
 use Rattle.papaya_book.proofs.Logs.{came_entered, table_came}
 use Rattle.papaya_lookup.proofs.Lookups.{IsStepIn, IsStepTo, hint_step, lookup, next_step, root_step, slot_step}
-use Rattle.papaya_lookup.proofs.Readings.{IsQuery, RestsOn, coding, fed, hint_with, learned, later, setting}
+use Rattle.papaya_lookup.proofs.Readings.{IsQuery, ReliesOn, coding, fed, hint_with, learned, later, setting}
 use Rattle.papaya_book.proofs.Settings.{is_hashed}
 
 -- a machine of a lookup
@@ -66,12 +66,12 @@ module _ {K V S H : Type 0} (eq : K → K → Bool) (input : K → List (List �
   abbrev pub Rested : List (Event K V S) → Machine → Option (Bor Sheet) → Option (Stored K V) → Type 0
   Rested log m table pair = IsReading eq hash b matches (fed eq input build write finish classes respects b matches query lawful) begun log m table pair
 
-  abbrev On : List (Event K V S) → Machine → Hands (Stored K V) → Type 0
-  On log m hands = RestsOn eq input build write finish classes respects b matches query lawful begun log m hands
+  abbrev On : List (Event K V S) → Machine → LoadedPairs (Stored K V) → Type 0
+  On log m loaded = ReliesOn eq input build write finish classes respects b matches query lawful begun log m loaded
 
-  -- what a reading rests on
-  rests_on : (log : List (Event K V S)) (m : Machine) (table : Option (Bor Sheet)) (pair : Option (Stored K V)) → (r : Rested log m table pair) → On log m r.hands
-  rests_on log m table pair r = record { since = r.since; is = r.is; rests = r.rests }
+  -- what a reading relies on
+  relies_on : (log : List (Event K V S)) (m : Machine) (table : Option (Bor Sheet)) (pair : Option (Stored K V)) → (r : Rested log m table pair) → On log m r.loaded
+  relies_on log m table pair r = record { since = r.since; is = r.is; relies = r.relies }
 
   -- an answer that follows
   pub record IsGoing (log' : List (Event K V S)) (m : Machine) (answer : Answer) (table : Option (Bor Sheet)) (pair : Option (Stored K V)) : Type 0 where
@@ -80,23 +80,23 @@ module _ {K V S H : Type 0} (eq : K → K → Bool) (input : K → List (List �
 
   module _ (log log' : List (Event K V S)) (pre : IsPrefix log log') (l' : IsLawfulLog eq hash b log') (m : Machine) (table : Option (Bor Sheet)) (pair : Option (Stored K V)) (r : Rested log m table pair) (stands : IsStandingState Get m.state) where
     -- the word at a place was loaded
-    loaded : (at : At) (word : ℕ) → ask_of m ≡ Load at → word_in eq hash b log' at ≡ word → On log' (after m (Word word)) (told_of (state_of log') at r.hands)
-    loaded at word asks is =
+    as_loaded : (at : At) (word : ℕ) → ask_of m ≡ Load at → word_in eq hash b log' at ≡ word → On log' (after m (Word word)) (told_of (state_of log') at r.loaded)
+    as_loaded at word asks is =
         let f = fed eq input build write finish classes respects b matches query lawful in
         let read = key_word (setting_of eq (hash b.hasher) b.mode b.limit log') matches f (coding_of (hash b.hasher)) (state_of log') at ∙ is in
-        let on = later eq input build write finish classes respects b matches query lawful begun log r.lawful m r.hands (rests_on log m table pair r) log' l' pre in record {
+        let on = later eq input build write finish classes respects b matches query lawful begun log r.lawful m r.loaded (relies_on log m table pair r) log' l' pre in record {
           since = on.since;
           is = on.is;
-          rests = learned eq input build write finish classes respects b matches query lawful begun log' l' m r.hands on
-              (Word word) (told_of (state_of log') at r.hands)
-              (subst (λ (a : Ask). IsTold (setting eq input build write finish classes respects b matches query lawful log') (coding eq input build write finish classes respects b matches query lawful) None (state_of log') (kind_of_ask m) r.hands a (Word word) [] (told_of (state_of log') at r.hands)) (sym asks) (ap Word (sym read), refl, refl));
+          relies = learned eq input build write finish classes respects b matches query lawful begun log' l' m r.loaded on
+              (Word word) (told_of (state_of log') at r.loaded)
+              (subst (λ (a : Ask). IsTold (setting eq input build write finish classes respects b matches query lawful log') (coding eq input build write finish classes respects b matches query lawful) None (state_of log') (kind_of_ask m) r.loaded a (Word word) [] (told_of (state_of log') at r.loaded)) (sym asks) (ap Word (sym read), refl, refl));
         }
 
     -- a slot
     pub slot_read : (t x word : ℕ) (stored : Option (Stored K V)) (pair' : Option (Stored K V)) → ask_of m ≡ Load (Slot t x) → word_in eq hash b log' (Slot t x) ≡ word → named ((state_of log').slot t x) ≡ stored
         → ((last : Option (Stored K V)) → HoldsPair b last pair → HoldsPair b (or_last stored last) pair') → IsGoing log' m (Word word) table pair'
     slot_read t x word stored pair' asks is names holds =
-        let on = loaded (Slot t x) word asks is in
+        let on = as_loaded (Slot t x) word asks is in
         let all = slot_step m.hash m.initial m.mode m.made m.remembered m.state (stands) t x word asks in
         let get = of_get m r.task_is in
         let to : (after m (Word word)).state ≡ (after (lookup m.hash m.initial m.mode m.made m.remembered m.state) (Word word)).state = ap (λ (z : Machine). (after z (Word word)).state) get in
@@ -105,11 +105,11 @@ module _ {K V S H : Type 0} (eq : K → K → Bool) (input : K → List (List �
             lawful = l';
             since = on.since;
             is = on.is;
-            hands = told_of (state_of log') (Slot t x) r.hands;
+            loaded = told_of (state_of log') (Slot t x) r.loaded;
             task_is = r.task_is;
-            rests = on.rests;
+            relies = on.relies;
             holds_table = held_on log log' pre t (table_of (after m (Word word)).state) step.table table (subst (λ o. HoldsTable log o table) step.names r.holds_table);
-            holds_pair = subst (λ o. HoldsPair b (or_last o r.hands.last) pair') (sym names) (holds r.hands.last r.holds_pair);
+            holds_pair = subst (λ o. HoldsPair b (or_last o r.loaded.last) pair') (sym names) (holds r.loaded.last r.holds_pair);
             found = λ n e. absurd (all.1 n (sym to ∙ e));
           };
           fewer = step.fewer;
@@ -122,7 +122,7 @@ module _ {K V S H : Type 0} (eq : K → K → Bool) (input : K → List (List �
         let g = setting eq input build write finish classes respects b matches query lawful log' in
         let c = coding eq input build write finish classes respects b matches query lawful in
         let hint : IsHint g c (state_of log') t x n = hint_with (setting_of eq (hash b.hasher) b.mode b.limit log') (coding_of (hash b.hasher)) matches f ((state_of log').slot t x) n told.is in
-        let on = later eq input build write finish classes respects b matches query lawful begun log r.lawful m r.hands (rests_on log m table pair r) log' l' pre in
+        let on = later eq input build write finish classes respects b matches query lawful begun log r.lawful m r.loaded (relies_on log m table pair r) log' l' pre in
         let all = hint_step m.hash m.initial m.mode m.made m.remembered m.state (stands) t x n asks in
         let get = of_get m r.task_is in
         let to : (after m (Word n)).state ≡ (after (lookup m.hash m.initial m.mode m.made m.remembered m.state) (Word n)).state = ap (λ (z : Machine). (after z (Word n)).state) get in
@@ -131,10 +131,10 @@ module _ {K V S H : Type 0} (eq : K → K → Bool) (input : K → List (List �
             lawful = l';
             since = on.since;
             is = on.is;
-            hands = r.hands;
+            loaded = r.loaded;
             task_is = r.task_is;
-            rests = learned eq input build write finish classes respects b matches query lawful begun log' l' m r.hands on (Word n) r.hands
-                (subst (λ (a : Ask). IsTold g c None (state_of log') (kind_of_ask m) r.hands a (Word n) [] r.hands) (sym asks) ((n, hint, refl), (refl, refl)));
+            relies = learned eq input build write finish classes respects b matches query lawful begun log' l' m r.loaded on (Word n) r.loaded
+                (subst (λ (a : Ask). IsTold g c None (state_of log') (kind_of_ask m) r.loaded a (Word n) [] r.loaded) (sym asks) ((n, hint, refl), (refl, refl)));
             holds_table = held_on log log' pre t (table_of (after m (Word n)).state) step.table table (subst (λ o. HoldsTable log o table) step.names r.holds_table);
             holds_pair = r.holds_pair;
             found = λ j e. absurd (all.1 j (sym to ∙ e));
@@ -145,7 +145,7 @@ module _ {K V S H : Type 0} (eq : K → K → Bool) (input : K → List (List �
     -- the root
     pub root_read : (name : Book) (word : ℕ) (table' : Option (Bor Sheet)) → ask_of m ≡ Load Root → IsRoot eq hash b name word log' table' → IsGoing log' m (Word word) table' pair
     root_read name word table' asks is =
-        let on = loaded Root word asks is.is in
+        let on = as_loaded Root word asks is.is in
         let all = root_step m.hash m.initial m.mode m.made m.remembered m.state (stands) word asks in
         let get = of_get m r.task_is in
         let to : (after m (Word word)).state ≡ (after (lookup m.hash m.initial m.mode m.made m.remembered m.state) (Word word)).state = ap (λ (z : Machine). (after z (Word word)).state) get in
@@ -154,9 +154,9 @@ module _ {K V S H : Type 0} (eq : K → K → Bool) (input : K → List (List �
             lawful = l';
             since = on.since;
             is = on.is;
-            hands = r.hands;
+            loaded = r.loaded;
             task_is = r.task_is;
-            rests = on.rests;
+            relies = on.relies;
             holds_table = held_new log' word name table' is.names (table_of (after m (Word word)).state) step.table;
             holds_pair = r.holds_pair;
             found = λ n e. absurd (step.unfound n e);
@@ -176,7 +176,7 @@ module _ {K V S H : Type 0} (eq : K → K → Bool) (input : K → List (List �
     -- the next table
     pub next_read : (name : Book) (t word : ℕ) (table' : Option (Bor Sheet)) → ask_of m ≡ Load (Next t) → IsNext eq hash b name t word log' table' → IsGoing log' m (Word word) table' pair
     next_read name t word table' asks is =
-        let on = loaded (Next t) word asks is.is in
+        let on = as_loaded (Next t) word asks is.is in
         let hashed = is_hashed eq input build write finish classes respects b log' l' in
         let rises = (sound (setting_of eq (hash b.hasher) b.mode b.limit log') hashed.lawful (exchanges_of log') l'.allowed).rises t in
         let up : (word ≡ 0 → ⊥) → t < word = λ some. ⊎_elim (λ z. absurd (some (sym is.is ∙ z))) (λ h. subst (λ y. t < y) is.is h.1) rises in
@@ -188,9 +188,9 @@ module _ {K V S H : Type 0} (eq : K → K → Bool) (input : K → List (List �
             lawful = l';
             since = on.since;
             is = on.is;
-            hands = r.hands;
+            loaded = r.loaded;
             task_is = r.task_is;
-            rests = on.rests;
+            relies = on.relies;
             holds_table = held_new log' word name table' is.names (table_of (after m (Word word)).state) step.table;
             holds_pair = r.holds_pair;
             found = λ n e. absurd (step.unfound n e);
@@ -211,9 +211,9 @@ begins eq hash b matches fed log l m e =
       lawful = l;
       since = [];
       is = append-nil (exchanges_of log);
-      hands = no_hands;
+      loaded = nothing_loaded;
       task_is = refl;
-      rests = record { hash = refl; mode = mode_of b.mode; made = record { keys = λ q none. absurd none; limit = refl; number_is = wanted_rests (setting_for eq hash b matches fed log) (coding_for hash b.hasher fed) (exchanges_of log) [] None b.limit; own_is = tt; of_is = tt; fill_is = tt; choice_is = tt }; stage = tt };
+      relies = record { hash = refl; mode = mode_of b.mode; made = record { keys = λ q none. absurd none; limit = refl; number_is = wanted_relies (setting_for eq hash b matches fed log) (coding_for hash b.hasher fed) (exchanges_of log) [] None b.limit; own_is = tt; of_is = tt; fill_is = tt; choice_is = tt }; stage = tt };
       holds_table = tt;
       holds_pair = (refl, tt);
       found = λ n h. cc h;

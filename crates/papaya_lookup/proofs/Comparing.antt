@@ -13,24 +13,24 @@ use Rattle.papaya_ask.specs.declared.call.Reply.TheVariants.{Found}
 use Rattle.papaya_ask.specs.declared.call.Task.TheVariants.{Get}
 use Rattle.papaya_call.specs.declared.machine.Machine.{Machine}
 use Rattle.papaya_call.specs.declared.machine.State.{State as Stage}
-use Rattle.papaya_call.specs.declared.machine.State.TheVariants.{AtRoot, Making, Opening, Searching, Writing, Offering, Showing, Pairing, Putting, Burying, Counting, Noting, Uncounting, Leaving, Growing, Ended}
+use Rattle.papaya_call.specs.declared.machine.State.TheVariants.{AtRoot, Making, Opening, Searching, Writing, Offering, Showing, Pairing, Putting, Deleting, Counting, Noting, Uncounting, Leaving, Growing, Ended}
 use Rattle.papaya_call.specs.declared.compute.Remembered.{Remembered}
 use Rattle.papaya_ask.specs.declared.search.Search.TheVariants.{Sizing, Looking, Reading, Comparing}
-use Rattle.papaya_ask.specs.declared.search.Seen.{Seen}
-use Rattle.papaya_ask.specs.declared.search.Seen.TheVariants as seen
+use Rattle.papaya_ask.specs.declared.search.Probed.{Probed}
+use Rattle.papaya_ask.specs.declared.search.Probed.TheVariants as seen
 use Rattle.papaya_call.specs.declared.made.Made.{Made}
 use Rattle.papaya_law.specs.Allows.{AllAllowed}
 use Rattle.papaya_law.specs.Code.{Coding}
 use Rattle.papaya_law.specs.Exchange.{Exchange, Setting, start}
 use Rattle.papaya_law.specs.View.{Foreign, Here, Leaving as View_leaving, held, view}
 use Rattle.papaya_call.specs.Machine.{IsStandingState, after, ask_of, asks, goes_as, kind_of_ask, passes}
-use Rattle.papaya_rests.specs.Rests.{RestsStage, WasAtMoment}
+use Rattle.papaya_call_law.specs.Relies.{ReliesStage, WasAtMoment}
 use Rattle.papaya_ask.specs.Search.{IsSize, at_yes}
-use Rattle.papaya_rests.specs.Told.{Hands, IsTold}
+use Rattle.papaya_call_law.specs.Told.{IsTold, LoadedPairs}
 use Rattle.papaya_law.specs.Code.{IsHashed}
-use Rattle.papaya_rests.proofs.RestsLearnLook.{compared}
-use Rattle.papaya_rests.proofs.RestsLearnPlaces.{RestsSeen}
-use Rattle.papaya_rests.proofs.RestsNames.{ask_named, hint_named, slot_named}
+use Rattle.papaya_call_law.proofs.ReliesLearnLook.{compared}
+use Rattle.papaya_call_law.proofs.ReliesLearnPlaces.{ReliesProbed}
+use Rattle.papaya_call_law.proofs.ReliesNames.{ask_named, hint_named, slot_named}
 use Rattle.papaya_book.specs.Sheets.{Sheet}
 use Rattle.papaya_book.specs.declared.rule.entry.Begun.{Begun}
 use Rattle.papaya_book.specs.declared.rule.entry.Event.{Event}
@@ -41,7 +41,7 @@ use Rattle.papaya_book.specs.Logs.{Stored, state_of, steps_of}
 use Rattle.papaya_lookup.specs.Lookups.{HoldsTable, table_of}
 use Rattle.papaya_lookup.proofs.Answering.{IsGoing, Rested, held_on, of_get}
 use Rattle.papaya_lookup.proofs.Lookups.{IsStepIn, hint_step, lookup, size_step, slot_step, yes_step}
-use Rattle.papaya_lookup.proofs.Readings.{IsQuery, RestsOn, allowed_with, coding, hashed_with, learned, setting}
+use Rattle.papaya_lookup.proofs.Readings.{IsQuery, ReliesOn, allowed_with, coding, hashed_with, learned, setting}
 use Rattle.papaya_book.proofs.TableSizes.{sizes}
 
 -- a lookup doesn't find a pair where it passes a table
@@ -49,13 +49,13 @@ passes_unfound : (mode : ResizeMode) (fill : Option ℕ) (t n : ℕ) → passes 
 passes_unfound (Incremental chunk) fill t n e = cc e
 passes_unfound Blocking fill t n e = cc e
 
-module _ {K P : Type 0} (g : Setting K P) (c : Coding K P) (hashed : IsHashed g c) (begun since : List (Exchange P)) (may : AllAllowed g start (begun ++ since)) (k : K) (hands : Hands P) where
+module _ {K P : Type 0} (g : Setting K P) (c : Coding K P) (hashed : IsHashed g c) (begun since : List (Exchange P)) (may : AllAllowed g start (begun ++ since)) (k : K) (loaded : LoadedPairs P) where
   -- the pair last told of was the key's at a moment of the call
   abbrev pub WasLast : Type 0
-  WasLast = (p : P) × (hands.last ≡ Some p) × WasAtMoment g c begun since k (Some p)
+  WasLast = (p : P) × (loaded.last ≡ Some p) × WasAtMoment g c begun since k (Some p)
 
   -- what a search found is the pair last told of
-  found_last : (mode : ResizeMode) (remembered : Remembered) (s : Seen) → RestsSeen g c hashed begun since k hands s → (n : ℕ) → goes_as Get mode remembered s ≡ Ended (Found n) → WasLast
+  found_last : (mode : ResizeMode) (remembered : Remembered) (s : Probed) → ReliesProbed g c hashed begun since k loaded s → (n : ℕ) → goes_as Get mode remembered s ≡ Ended (Found n) → WasLast
   found_last mode remembered (seen.On search) r n e = absurd (cc e)
   found_last mode remembered (seen.Empty at) r n e = absurd (cc e)
   found_last mode remembered (seen.Over t) r n e = absurd (passes_unfound mode remembered.fill t n e)
@@ -66,20 +66,20 @@ module _ {K P : Type 0} (g : Setting K P) (c : Coding K P) (hashed : IsHashed g 
 
   module _ (hash initial : ℕ) (mode : ResizeMode) (made : Made) (remembered : Remembered) where
     -- the lookup stands where it compares; the pair is the one that it was told of last
-    pub yes_found : (s : Stage) → IsStandingState Get s → RestsStage g c begun since k hands Get s → (n : ℕ) (same : Bool) → ((p : P) → hands.last ≡ Some p → same ≡ g.same k (g.key p)) → asks made hash s ≡ SameKey n → (m : ℕ) → (after (lookup hash initial mode made remembered s) (Yes same)).state ≡ Ended (Found m) → WasLast
+    pub yes_found : (s : Stage) → IsStandingState Get s → ReliesStage g c begun since k loaded Get s → (n : ℕ) (same : Bool) → ((p : P) → loaded.last ≡ Some p → same ≡ g.same k (g.key p)) → asks made hash s ≡ SameKey n → (m : ℕ) → (after (lookup hash initial mode made remembered s) (Yes same)).state ≡ Ended (Found m) → WasLast
     yes_found AtRoot stands r n same is e m f = absurd cc
     yes_found Making stands r n same is e m f = absurd stands
     yes_found (Opening u) stands r n same is e m f = absurd stands
     yes_found (Searching (Sizing u)) stands r n same is e m f = absurd cc
     yes_found (Searching (Looking at)) stands r n same is e m f = absurd cc
     yes_found (Searching (Reading at)) stands r n same is e m f = absurd cc
-    yes_found (Searching (Comparing at word)) stands r n same is e m f = found_last mode remembered (at_yes (Comparing at word) same) (compared g c hashed begun since may k at word r.0 r.2 hands r.1 same (sym (is r.0 r.1))) m f
+    yes_found (Searching (Comparing at word)) stands r n same is e m f = found_last mode remembered (at_yes (Comparing at word) same) (compared g c hashed begun since may k at word r.0 r.2 loaded r.1 same (sym (is r.0 r.1))) m f
     yes_found (Writing write) stands r n same is e m f = absurd stands.0
     yes_found (Offering gap) stands r n same is e m f = absurd stands.0
     yes_found (Showing removal) stands r n same is e m f = absurd stands.0
     yes_found (Pairing purpose) stands r n same is e m f = absurd stands.0
     yes_found (Putting put) stands r n same is e m f = absurd stands.0
-    yes_found (Burying removal) stands r n same is e m f = absurd stands.0
+    yes_found (Deleting removal) stands r n same is e m f = absurd stands.0
     yes_found (Counting j) stands r n same is e m f = absurd stands
     yes_found (Noting j) stands r n same is e m f = absurd stands
     yes_found (Uncounting j) stands r n same is e m f = absurd stands
@@ -99,11 +99,11 @@ module _ {K V S H : Type 0} (eq : K → K → Bool) (input : K → List (List �
   abbrev c : Coding (Option K) (Stored K V)
   c = coding eq input build write finish classes respects b matches query lawful
 
-  abbrev On : Machine → Hands (Stored K V) → Type 0
-  On z hands = RestsOn eq input build write finish classes respects b matches query lawful begun log z hands
+  abbrev On : Machine → LoadedPairs (Stored K V) → Type 0
+  On z loaded = ReliesOn eq input build write finish classes respects b matches query lawful begun log z loaded
 
-  abbrev on : On m r.hands
-  on = record { since = r.since; is = r.is; rests = r.rests }
+  abbrev on : On m r.loaded
+  on = record { since = r.since; is = r.is; relies = r.relies }
 
   same_log : IsPrefix log log
   same_log = ([], Rattle.std.proofs.lemmas.List.append-nil log)
@@ -119,7 +119,7 @@ module _ {K V S H : Type 0} (eq : K → K → Bool) (input : K → List (List �
       let came = table_held t step.0.names lent has in
       let may = subst (AllAllowed g start) (sym r.is) (allowed_with eq input build write finish classes respects b matches query lawful log r.lawful) in
       let hashed = hashed_with eq input build write finish classes respects b matches query lawful log r.lawful in
-      let named = slot_named g c hashed begun r.since may None (ask_of m) (ask_named g c hashed begun r.since may None r.hands m.task m.hash m.made m.state r.rests.stage) t x (inl e) in
+      let named = slot_named g c hashed begun r.since may None (ask_of m) (ask_named g c hashed begun r.since may None r.loaded m.task m.hash m.made m.state r.relies.stage) t x (inl e) in
       (came, subst (λ n. x < n) ((sizes (steps_of log) t came.0 came.1).0 ∙ ap (λ (z : Sheet). length z.slots) came.2) named.1)
 
   -- and so is one whose hint is
@@ -129,7 +129,7 @@ module _ {K V S H : Type 0} (eq : K → K → Bool) (input : K → List (List �
       let came = table_held t step.0.names lent has in
       let may = subst (AllAllowed g start) (sym r.is) (allowed_with eq input build write finish classes respects b matches query lawful log r.lawful) in
       let hashed = hashed_with eq input build write finish classes respects b matches query lawful log r.lawful in
-      let named = hint_named g c hashed begun r.since may None (ask_of m) (ask_named g c hashed begun r.since may None r.hands m.task m.hash m.made m.state r.rests.stage) t x (inl e) in
+      let named = hint_named g c hashed begun r.since may None (ask_of m) (ask_named g c hashed begun r.since may None r.loaded m.task m.hash m.made m.state r.relies.stage) t x (inl e) in
       (came, subst (λ n. x < n) ((sizes (steps_of log) t came.0 came.1).0 ∙ ap (λ (z : Sheet). length z.slots) came.2) named.1)
 
   -- the table has the size that it says
@@ -140,9 +140,9 @@ module _ {K V S H : Type 0} (eq : K → K → Bool) (input : K → List (List �
       let is : came.0.value ≡ sheet = came.2 in
       let many : slots ≡ g.size t = slots_is ∙ sym (all.0 ∙ ap (λ (z : Sheet). length z.slots) is) in
       let places : limit + 1 ≡ g.places t = ap (λ n. n + 1) limit_is ∙ sym (all.1 ∙ ap (λ (z : Sheet). z.limit + 1) is) in
-      let told : IsTold g c None (state_of log) (kind_of_ask m) r.hands (SizeOf t) (Size slots limit) [] r.hands = ((limit, places, ap (λ n. Size n limit) many), (refl, refl)) in
-      let further = learned eq input build write finish classes respects b matches query lawful begun log r.lawful m r.hands on (Size slots limit) r.hands
-      (subst (λ (a : Ask). IsTold g c None (state_of log) (kind_of_ask m) r.hands a (Size slots limit) [] r.hands) (sym e) told) in
+      let told : IsTold g c None (state_of log) (kind_of_ask m) r.loaded (SizeOf t) (Size slots limit) [] r.loaded = ((limit, places, ap (λ n. Size n limit) many), (refl, refl)) in
+      let further = learned eq input build write finish classes respects b matches query lawful begun log r.lawful m r.loaded on (Size slots limit) r.loaded
+      (subst (λ (a : Ask). IsTold g c None (state_of log) (kind_of_ask m) r.loaded a (Size slots limit) [] r.loaded) (sym e) told) in
       let step = size_step m.hash m.initial m.mode m.made m.remembered m.state (stands) t slots limit size.few e in
       let get = of_get m r.task_is in
       let to : (after m (Size slots limit)).state ≡ (after (lookup m.hash m.initial m.mode m.made m.remembered m.state) (Size slots limit)).state = ap (λ (z : Machine). (after z (Size slots limit)).state) get in
@@ -151,9 +151,9 @@ module _ {K V S H : Type 0} (eq : K → K → Bool) (input : K → List (List �
           lawful = r.lawful;
           since = r.since;
           is = r.is;
-          hands = r.hands;
+          loaded = r.loaded;
           task_is = r.task_is;
-          rests = further;
+          relies = further;
           holds_table = held_on log log same_log t (table_of (after m (Size slots limit)).state) in_it.table table (subst (λ o. HoldsTable log o table) in_it.names r.holds_table);
           holds_pair = r.holds_pair;
           found = λ n f. absurd (step.1 n (sym to ∙ f));
@@ -165,10 +165,10 @@ module _ {K V S H : Type 0} (eq : K → K → Bool) (input : K → List (List �
   pub same_read : (n : ℕ) (p : Stored K V) (same : Bool) → pair ≡ Some p → same ≡ matches (key_of p) → ask_of m ≡ SameKey n
       → IsGoing eq input build write finish classes respects b matches query lawful begun log m (Yes same) table pair
   same_read n p same has is e =
-      let matched : (q : Stored K V) → r.hands.last ≡ Some q → same ≡ g.same None (g.key q) = λ q e'. let one : p ≡ q = cc (has, r.holds_pair.0, e') in is ∙ ap (λ (z : Stored K V). matches (key_of z)) one in
-      let told : IsTold g c None (state_of log) (kind_of_ask m) r.hands (SameKey n) (Yes same) [] r.hands = (λ p e' f. ap Yes (matched p e'), (refl, refl)) in
-      let further = learned eq input build write finish classes respects b matches query lawful begun log r.lawful m r.hands on (Yes same) r.hands
-      (subst (λ (a : Ask). IsTold g c None (state_of log) (kind_of_ask m) r.hands a (Yes same) [] r.hands) (sym e) told) in
+      let matched : (q : Stored K V) → r.loaded.last ≡ Some q → same ≡ g.same None (g.key q) = λ q e'. let one : p ≡ q = cc (has, r.holds_pair.0, e') in is ∙ ap (λ (z : Stored K V). matches (key_of z)) one in
+      let told : IsTold g c None (state_of log) (kind_of_ask m) r.loaded (SameKey n) (Yes same) [] r.loaded = (λ p e' f. ap Yes (matched p e'), (refl, refl)) in
+      let further = learned eq input build write finish classes respects b matches query lawful begun log r.lawful m r.loaded on (Yes same) r.loaded
+      (subst (λ (a : Ask). IsTold g c None (state_of log) (kind_of_ask m) r.loaded a (Yes same) [] r.loaded) (sym e) told) in
       let step = yes_step m.hash m.initial m.mode m.made m.remembered m.state (stands) n same e in
       let t = step.0 in
       let get = of_get m r.task_is in
@@ -178,15 +178,15 @@ module _ {K V S H : Type 0} (eq : K → K → Bool) (input : K → List (List �
           lawful = r.lawful;
           since = r.since;
           is = r.is;
-          hands = r.hands;
+          loaded = r.loaded;
           task_is = r.task_is;
-          rests = further;
+          relies = further;
           holds_table = held_on log log same_log t (table_of (after m (Yes same)).state) in_it.table table (subst (λ o. HoldsTable log o table) in_it.names r.holds_table);
           holds_pair = r.holds_pair;
           found = λ j f.
               yes_found g c (hashed_with eq input build write finish classes respects b matches query lawful log r.lawful) begun r.since
-              (subst (AllAllowed g start) (sym r.is) (allowed_with eq input build write finish classes respects b matches query lawful log r.lawful)) None r.hands m.hash m.initial m.mode m.made m.remembered m.state (stands)
-              (subst (λ t. RestsStage g c begun r.since None r.hands t m.state) r.task_is r.rests.stage) n same matched e j (sym to ∙ f);
+              (subst (AllAllowed g start) (sym r.is) (allowed_with eq input build write finish classes respects b matches query lawful log r.lawful)) None r.loaded m.hash m.initial m.mode m.made m.remembered m.state (stands)
+              (subst (λ t. ReliesStage g c begun r.since None r.loaded t m.state) r.task_is r.relies.stage) n same matched e j (sym to ∙ f);
         };
         fewer = in_it.fewer;
       }

@@ -7,10 +7,10 @@ use Rattle.papaya_law.specs.Allows.{AllAllowed}
 use Rattle.papaya_law.specs.Exchange.{Exchange, Setting, Word, run, start}
 use Rattle.papaya_law.specs.Invariant.{named}
 use Rattle.papaya_law.specs.Later.{Becomes, IsLater, IsOfKey}
-use Rattle.papaya_law.proofs.Kept.{becomes_keeps, key_stays}
+use Rattle.papaya_law.proofs.Kept.{becomes_keeps, key_stable}
 use Rattle.papaya_law.proofs.Later.{later_run}
 use Rattle.papaya_law.proofs.Moments.{allowed_rest, run-append}
-use Rattle.papaya_rests.specs.Rests.{HasMet}
+use Rattle.papaya_call_law.specs.Relies.{HasMet}
 use Rattle.papaya_book.specs.declared.rule.entry.Begun.{Begun}
 use Rattle.papaya_book.specs.declared.rule.entry.Event.{Event}
 use Rattle.papaya_book.specs.Hashes.{hash_of}
@@ -44,7 +44,7 @@ module _ {K V S H : Type 0} (eq : K → K → Bool) (input : K → List (List �
       subst (IsLater (plain log') (state_of log)) to (later_run (plain log') law more (state_of log) (allowed_rest (plain log') (exchanges_of log) more start may))
 
   pub key_at_stays : (log log' : List (Event K V S)) → IsLawfulLog eq hash b log' → IsPrefix log log' → (t x : ℕ) (key : K) → HasKeyAt log t x key → HasKeyAt log' t x key
-  key_at_stays log log' l' pre t x key h = key_stays (plain log') (state_of log) (state_of log') (later_state log log' l' pre) t x key h
+  key_at_stays log log' l' pre t x key h = key_stable (plain log') (state_of log) (state_of log') (later_state log log' l' pre) t x key h
 
 -- The key of a pair that a machine met is in the slot still.
 module _ {K V S : Type 0} (eq : K → K → Bool) (hash : S → K → ℕ) (b : Begun K V S) (matches : K → Bool) (fed : ℕ) (begun since : List (Exchange (Stored K V))) (k : Option K) (log : List (Event K V S)) (is : begun ++ since ≡ exchanges_of log) where

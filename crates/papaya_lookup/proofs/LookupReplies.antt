@@ -9,14 +9,14 @@ use Rattle.papaya_ask.specs.declared.call.Reply.TheVariants.{Absent, Found, Inse
 use Rattle.papaya_ask.specs.declared.call.Task.TheVariants.{Get}
 use Rattle.papaya_call.specs.declared.machine.Machine.{Machine}
 use Rattle.papaya_call.specs.declared.machine.State.{State as Stage}
-use Rattle.papaya_call.specs.declared.machine.State.TheVariants.{AtRoot, Making, Opening, Searching, Writing, Offering, Showing, Pairing, Putting, Burying, Counting, Noting, Uncounting, Leaving, Growing, Ended}
+use Rattle.papaya_call.specs.declared.machine.State.TheVariants.{AtRoot, Making, Opening, Searching, Writing, Offering, Showing, Pairing, Putting, Deleting, Counting, Noting, Uncounting, Leaving, Growing, Ended}
 use Rattle.papaya_ask.specs.declared.search.Search.TheVariants.{Sizing, Looking, Reading, Comparing}
 use Rattle.papaya_call.specs.declared.made.Made.{Made}
 use Rattle.papaya_law.specs.Code.{Coding}
 use Rattle.papaya_law.specs.Exchange.{Exchange, Setting}
 use Rattle.papaya_call.specs.Machine.{IsStandingState, ask_of, asks}
-use Rattle.papaya_rests.specs.Rests.{IsReply, RestsStage, WasAtMoment}
-use Rattle.papaya_rests.specs.Told.{Hands}
+use Rattle.papaya_call_law.specs.Relies.{IsReply, ReliesStage, WasAtMoment}
+use Rattle.papaya_call_law.specs.Told.{LoadedPairs}
 use Rattle.papaya_book.specs.Sheets.{Sheet}
 use Rattle.papaya_book.specs.declared.rule.entry.Begun.{Begun}
 use Rattle.papaya_book.specs.declared.rule.entry.Event.{Event}
@@ -44,7 +44,7 @@ done_state made hash (Offering gap) stands reply e = absurd stands.0
 done_state made hash (Showing removal) stands reply e = absurd stands.0
 done_state made hash (Pairing purpose) stands reply e = absurd stands.0
 done_state made hash (Putting put) stands reply e = absurd stands.0
-done_state made hash (Burying removal) stands reply e = absurd stands.0
+done_state made hash (Deleting removal) stands reply e = absurd stands.0
 done_state made hash (Counting n) stands reply e = absurd stands
 done_state made hash (Noting n) stands reply e = absurd stands
 done_state made hash (Uncounting n) stands reply e = absurd stands
@@ -52,9 +52,9 @@ done_state made hash (Leaving u) stands reply e = absurd cc
 done_state made hash (Growing u) stands reply e = absurd stands
 done_state made hash (Ended other) stands reply e = let is : other ≡ reply = cc e in ap Ended is
 
-module _ {K P : Type 0} (g : Setting K P) (c : Coding K P) (begun since : List (Exchange P)) (k : K) (hands : Hands P) where
+module _ {K P : Type 0} (g : Setting K P) (c : Coding K P) (begun since : List (Exchange P)) (k : K) (loaded : LoadedPairs P) where
   -- a lookup replies that its key was absent at a moment, or that it found a pair
-  get_reply : (reply : Reply) → IsReply g c begun since k hands Get reply → ((n : ℕ) → reply ≡ Found n → ⊥) → WasAtMoment g c begun since k None
+  get_reply : (reply : Reply) → IsReply g c begun since k loaded Get reply → ((n : ℕ) → reply ≡ Found n → ⊥) → WasAtMoment g c begun since k None
   get_reply Absent r none = r
   get_reply (Found n) r none = absurd (none n refl)
   get_reply (Inserted n) r none = absurd r
@@ -91,8 +91,8 @@ module _ {K V S H : Type 0} (eq : K → K → Bool) (input : K → List (List �
   absent_answer reply e none =
       let g = setting eq input build write finish classes respects b matches query lawful log in let c = coding eq input build write finish classes respects b matches query lawful in
       let ended = done_state m.made m.hash m.state (stands) reply e in
-      let stage : RestsStage g c (exchanges_of began) r.since None r.hands Get (Ended reply) = subst (λ z. RestsStage g c (exchanges_of began) r.since None r.hands Get z) ended (subst (λ t. RestsStage g c (exchanges_of began) r.since None r.hands t m.state) r.task_is r.rests.stage) in
-      let h = history_then None (get_reply g c (exchanges_of began) r.since None r.hands reply stage none) in record { seen = h.seen; since = h.since; until = h.until; is = h.had }
+      let stage : ReliesStage g c (exchanges_of began) r.since None r.loaded Get (Ended reply) = subst (λ z. ReliesStage g c (exchanges_of began) r.since None r.loaded Get z) ended (subst (λ t. ReliesStage g c (exchanges_of began) r.since None r.loaded t m.state) r.task_is r.relies.stage) in
+      let h = history_then None (get_reply g c (exchanges_of began) r.since None r.loaded reply stage none) in record { seen = h.seen; since = h.since; until = h.until; is = h.had }
 
 -- what an answer tells of the pair that was found, another tells that says less of it
 found_as : {K V A B : Type 0} (is : A → Stored K V → Type 0) (is' : B → Stored K V → Type 0) (f : A → B) → ((a : A) (p : Stored K V) → is a p → is' (f a) p) → (eq : K → K → Bool) (matches : K → Bool) (old new : List (Change K (Stored K V))) (answer : Option A) (less : Option B) → option_map f answer ≡ less

@@ -15,15 +15,15 @@ use Rattle.papaya_ask.specs.declared.call.Task.TheVariants.{Get}
 use Rattle.papaya_call.specs.declared.compute.Remembered.{Remembered}
 use Rattle.papaya_ask.specs.declared.search.Place.{Place}
 use Rattle.papaya_ask.specs.declared.search.Search.TheVariants.{Sizing, Looking, Reading, Comparing}
-use Rattle.papaya_ask.specs.declared.search.Seen.{Seen}
-use Rattle.papaya_ask.specs.declared.search.Seen.TheVariants.{On, Over}
+use Rattle.papaya_ask.specs.declared.search.Probed.{Probed}
+use Rattle.papaya_ask.specs.declared.search.Probed.TheVariants.{On, Over}
 use Rattle.papaya_call.specs.declared.made.Made.{Made}
 use Rattle.papaya_call.specs.declared.machine.State.{State}
-use Rattle.papaya_call.specs.declared.machine.State.TheVariants.{AtRoot, Making, Opening, Searching, Writing, Offering, Showing, Pairing, Putting, Burying, Counting, Noting, Uncounting, Leaving, Growing, Ended}
+use Rattle.papaya_call.specs.declared.machine.State.TheVariants.{AtRoot, Making, Opening, Searching, Writing, Offering, Showing, Pairing, Putting, Deleting, Counting, Noting, Uncounting, Leaving, Growing, Ended}
 use Rattle.papaya_call.specs.declared.machine.Machine.{Machine}
 use Rattle.papaya_ask.specs.Search.{next_place, go_on, hinted, look_at, match_at, at_yes as search_compared}
 use Rattle.papaya_call.specs.Machine.{IsStandingState, after, asks, passes, goes_as}
-use Rattle.papaya_rests.proofs.LoadsLeft.{chosen}
+use Rattle.papaya_call_law.proofs.LoadsLeft.{chosen}
 use Rattle.papaya_lookup.specs.Lookups.{left_in, left_of, table_of}
 
 -- a lookup comes here after a place of table u, where so much is left of u
@@ -40,7 +40,7 @@ follows_passes Blocking fill u more le = follows_ended u more Absent
 
 module _ (mode : ResizeMode) (held : Remembered) (at : Place) (within : at.probe.len ≤ at.limit) where
   -- what a search saw at a place leads to such a state
-  abbrev Leads : ℕ → Seen → Type 0
+  abbrev Leads : ℕ → Probed → Type 0
   Leads more seen = Follows at.table more (goes_as Get mode held seen)
 
   leads_on : (more : ℕ) → 3 * (at.limit + 1 - at.probe.len) ≤ more + 2 → Leads more (go_on at)
@@ -71,7 +71,7 @@ module _ (mode : ResizeMode) (held : Remembered) (at : Place) (within : at.probe
   leads_look kinds.Live word = leads_compare word
   leads_look kinds.Marked word = leads_compare word
   leads_look kinds.Copied word = leads_compare word
-  leads_look kinds.Buried word = leads_on word_read (omega arith)
+  leads_look kinds.Tombstone word = leads_on word_read (omega arith)
   leads_look kinds.Closed word = leads_on word_read (omega arith)
 
   -- of a comparison
@@ -83,7 +83,7 @@ module _ (mode : ResizeMode) (held : Remembered) (at : Place) (within : at.probe
   leads_match kinds.Live word = follows_ended at.table compared (Found (pair_of word))
   leads_match kinds.Marked word = follows_ended at.table compared (Found (pair_of word))
   leads_match kinds.Copied word = follows_passes mode held.fill at.table compared (omega (arith, within))
-  leads_match kinds.Buried word = follows_ended at.table compared (Found (pair_of word))
+  leads_match kinds.Tombstone word = follows_ended at.table compared (Found (pair_of word))
   leads_match kinds.Closed word = follows_ended at.table compared (Found (pair_of word))
 
   leads_compared : (word : ℕ) (same : Bool) → Leads compared (search_compared (Comparing at word) same)
@@ -109,7 +109,7 @@ unfound_look mode held at kinds.Empty word = λ n e. cc e
 unfound_look mode held at kinds.Live word = λ n e. cc e
 unfound_look mode held at kinds.Marked word = λ n e. cc e
 unfound_look mode held at kinds.Copied word = λ n e. cc e
-unfound_look mode held at kinds.Buried word = unfound_on mode held at
+unfound_look mode held at kinds.Tombstone word = unfound_on mode held at
 unfound_look mode held at kinds.Closed word = unfound_on mode held at
 
 -- An answer to a lookup that names table t: it goes on in this table or in none, and less is left.
@@ -151,7 +151,7 @@ module _ (hash initial : ℕ) (mode : ResizeMode) (made : Made) (held : Remember
   slot_step (Showing removal) stands t x word e = absurd stands.0
   slot_step (Pairing purpose) stands t x word e = absurd stands.0
   slot_step (Putting put) stands t x word e = absurd stands.0
-  slot_step (Burying removal) stands t x word e = absurd stands.0
+  slot_step (Deleting removal) stands t x word e = absurd stands.0
   slot_step (Counting n) stands t x word e = absurd stands
   slot_step (Noting n) stands t x word e = absurd stands
   slot_step (Uncounting n) stands t x word e = absurd stands
@@ -181,7 +181,7 @@ module _ (hash initial : ℕ) (mode : ResizeMode) (made : Made) (held : Remember
   hint_step (Showing removal) stands t x word e = absurd stands.0
   hint_step (Pairing purpose) stands t x word e = absurd stands.0
   hint_step (Putting put) stands t x word e = absurd stands.0
-  hint_step (Burying removal) stands t x word e = absurd stands.0
+  hint_step (Deleting removal) stands t x word e = absurd stands.0
   hint_step (Counting n) stands t x word e = absurd stands
   hint_step (Noting n) stands t x word e = absurd stands
   hint_step (Uncounting n) stands t x word e = absurd stands
@@ -204,7 +204,7 @@ module _ (hash initial : ℕ) (mode : ResizeMode) (made : Made) (held : Remember
   size_step (Showing removal) stands t slots limit few e = absurd stands.0
   size_step (Pairing purpose) stands t slots limit few e = absurd stands.0
   size_step (Putting put) stands t slots limit few e = absurd stands.0
-  size_step (Burying removal) stands t slots limit few e = absurd stands.0
+  size_step (Deleting removal) stands t slots limit few e = absurd stands.0
   size_step (Counting n) stands t slots limit few e = absurd stands
   size_step (Noting n) stands t slots limit few e = absurd stands
   size_step (Uncounting n) stands t slots limit few e = absurd stands
@@ -227,7 +227,7 @@ module _ (hash initial : ℕ) (mode : ResizeMode) (made : Made) (held : Remember
   yes_step (Showing removal) stands n same e = absurd stands.0
   yes_step (Pairing purpose) stands n same e = absurd stands.0
   yes_step (Putting put) stands n same e = absurd stands.0
-  yes_step (Burying removal) stands n same e = absurd stands.0
+  yes_step (Deleting removal) stands n same e = absurd stands.0
   yes_step (Counting m) stands n same e = absurd stands
   yes_step (Noting m) stands n same e = absurd stands
   yes_step (Uncounting m) stands n same e = absurd stands
@@ -255,7 +255,7 @@ module _ (hash initial : ℕ) (mode : ResizeMode) (made : Made) (held : Remember
   root_step (Showing removal) stands word e = absurd stands.0
   root_step (Pairing purpose) stands word e = absurd stands.0
   root_step (Putting put) stands word e = absurd stands.0
-  root_step (Burying removal) stands word e = absurd stands.0
+  root_step (Deleting removal) stands word e = absurd stands.0
   root_step (Counting n) stands word e = absurd stands
   root_step (Noting n) stands word e = absurd stands
   root_step (Uncounting n) stands word e = absurd stands
@@ -277,7 +277,7 @@ module _ (hash initial : ℕ) (mode : ResizeMode) (made : Made) (held : Remember
   next_step (Showing removal) stands t word up e = absurd stands.0
   next_step (Pairing purpose) stands t word up e = absurd stands.0
   next_step (Putting put) stands t word up e = absurd stands.0
-  next_step (Burying removal) stands t word up e = absurd stands.0
+  next_step (Deleting removal) stands t word up e = absurd stands.0
   next_step (Counting n) stands t word up e = absurd stands
   next_step (Noting n) stands t word up e = absurd stands
   next_step (Uncounting n) stands t word up e = absurd stands

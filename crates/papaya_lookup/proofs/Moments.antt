@@ -6,7 +6,7 @@ use Rattle.papaya_law.specs.Allows.{AllAllowed}
 use Rattle.papaya_law.specs.Exchange.{Exchange, Setting, start}
 use Rattle.papaya_law.specs.Further.{IsMapWith, IsMatchedAtMoment, with_key}
 use Rattle.papaya_law.specs.Meaning.{map_left, map_of}
-use Rattle.papaya_rests.specs.Rests.{WasAtMoment}
+use Rattle.papaya_call_law.specs.Relies.{WasAtMoment}
 use Rattle.papaya_law.proofs.Further.{own_key_lawful}
 use Rattle.papaya_law.proofs.FurtherMap.{key_left, key_moment}
 use Rattle.papaya_law.proofs.Moments.{allowed_first, map_of-append}

@@ -11,11 +11,11 @@ use Rattle.papaya_words.specs.declared.word.Kind.TheVariants as kinds
 use Rattle.papaya_call.specs.declared.machine.State.TheVariants.{Searching}
 use Rattle.papaya_ask.specs.declared.search.Place.{Place}
 use Rattle.papaya_ask.specs.declared.search.Search.TheVariants.{Looking, Reading, Comparing}
-use Rattle.papaya_ask.specs.declared.search.Seen.{Seen}
-use Rattle.papaya_ask.specs.declared.search.Seen.TheVariants.{On, Empty, Here, Over}
-use Rattle.papaya_ask.specs.Search.{IsSeen, IsWithin, at_yes, go_on, hinted, look, look_at, match_at, next_place}
-use Rattle.papaya_rests.proofs.LoadsLeft.{chosen}
-use Rattle.papaya_rests.proofs.Standing.{next_within}
+use Rattle.papaya_ask.specs.declared.search.Probed.{Probed}
+use Rattle.papaya_ask.specs.declared.search.Probed.TheVariants.{On, Empty, Here, Over}
+use Rattle.papaya_ask.specs.Search.{IsProbed, IsWithin, at_yes, go_on, hinted, look, look_at, match_at, next_place}
+use Rattle.papaya_call_law.proofs.LoadsLeft.{chosen}
+use Rattle.papaya_call_law.proofs.Standing.{next_within}
 use Rattle.papaya_law.specs.Exchange.{Exchange}
 use Rattle.papaya_book.specs.declared.rule.entry.Begun.{Begun}
 use Rattle.papaya_book.specs.declared.rule.entry.Event.{Event}
@@ -35,8 +35,8 @@ use Rattle.papaya_lookup.proofs.Readings.{IsQuery, fed}
 use Rattle.papaya_lookup.proofs.Turning.{here_not, hint_passed, on_not, other_pair, passed, read_not, word_next}
 
 -- a search goes on within its table
-on_within : (at : Place) → IsWithin at → IsSeen (go_on at)
-on_within at within = chosen IsSeen (nat_lt at.probe.len at.limit) (On (Looking (next_place at))) (Over at.table) (λ e. next_within at within (ltb-true at.probe.len at.limit e)) (λ e. tt)
+on_within : (at : Place) → IsWithin at → IsProbed (go_on at)
+on_within at within = chosen IsProbed (nat_lt at.probe.len at.limit) (On (Looking (next_place at))) (Over at.table) (λ e. next_within at within (ltb-true at.probe.len at.limit e)) (λ e. tt)
 
 -- what the word tells, by its kind
 pub looks : (at : Place) (word : ℕ) (kind : Kind) → kind_of word ≡ kind → look at word ≡ look_at kind at word
@@ -63,8 +63,8 @@ module _ {K V S H : Type 0} (eq : K → K → Bool) (input : K → List (List �
     pub passed_over : may_hold hint h ≡ false → Turned log' table (turn_of (go_on at))
     passed_over e =
         let is : hinted at h hint ≡ go_on at = ap (λ (o : Bool). if o then On (Reading at) else go_on at) e in
-        let all = hint_passed eq input build write finish classes respects b matches query lawful begun h name log at within table r log' pre hint told (subst IsSeen (sym is) (on_within at within)) (λ a z. read_not at a (sym is ∙ z)) in
-        subst (λ (s : Seen). Turned log' table (turn_of s)) is all.0
+        let all = hint_passed eq input build write finish classes respects b matches query lawful begun h name log at within table r log' pre hint told (subst IsProbed (sym is) (on_within at within)) (λ a z. read_not at a (sym is ∙ z)) in
+        subst (λ (s : Probed). Turned log' table (turn_of s)) is all.0
 
     -- or says nothing, or is the key's
     pub to_read : may_hold hint h ≡ true → IsReadingAt eq hash b matches fed_to begun h log' (Searching (Reading at)) table
@@ -76,18 +76,18 @@ module _ {K V S H : Type 0} (eq : K → K → Bool) (input : K → List (List �
     pub none_there : kind_of word ≡ kinds.Empty → Turned log' table turns.Absent
     none_there e =
         let is = looks at word kinds.Empty e in
-        let all = passed eq input build write finish classes respects b matches query lawful begun h name log at within table r log' pre word state told (subst IsSeen (sym is) within) (λ a w z. let two : Empty at ≡ On (Comparing a w) = sym is ∙ z in cc two) in
-        subst (λ (s : Seen). Turned log' table (turn_of s)) is all.0
+        let all = passed eq input build write finish classes respects b matches query lawful begun h name log at within table r log' pre word state told (subst IsProbed (sym is) within) (λ a w z. let two : Empty at ≡ On (Comparing a w) = sym is ∙ z in cc two) in
+        subst (λ (s : Probed). Turned log' table (turn_of s)) is all.0
 
     -- no pair is there any longer
     pub none_left : look at word ≡ go_on at → Turned log' table (turn_of (go_on at))
     none_left is =
-        let all = passed eq input build write finish classes respects b matches query lawful begun h name log at within table r log' pre word state told (subst IsSeen (sym is) (on_within at within)) (λ a w z. on_not at a w (sym is ∙ z)) in
-        subst (λ (s : Seen). Turned log' table (turn_of s)) is all.0
+        let all = passed eq input build write finish classes respects b matches query lawful begun h name log at within table r log' pre word state told (subst IsProbed (sym is) (on_within at within)) (λ a w z. on_not at a w (sym is ∙ z)) in
+        subst (λ (s : Probed). Turned log' table (turn_of s)) is all.0
 
     -- a pair lives there, with another key
     pub other_there : kind_of word ≡ kinds.Live → (p : Stored K V) → state ≡ Some (names.Pair p) → (same : Bool) → same ≡ matches (key_of p) → same ≡ false → Turned log' table (turn_of (go_on at))
     other_there live p is same same_is e =
         let goes : at_yes (Comparing at word) same ≡ go_on at = ap (at_yes (Comparing at word)) e in
-        let all = other_pair eq input build write finish classes respects b matches query lawful begun h name log at within table r log' pre word state told at word (looks at word kinds.Live live) p is same same_is (subst IsSeen (sym goes) (on_within at within)) (λ a w z. here_not at a w (sym goes ∙ z)) in
-        subst (λ (s : Seen). Turned log' table (turn_of s)) goes all.0
+        let all = other_pair eq input build write finish classes respects b matches query lawful begun h name log at within table r log' pre word state told at word (looks at word kinds.Live live) p is same same_is (subst IsProbed (sym goes) (on_within at within)) (λ a w z. here_not at a w (sym goes ∙ z)) in
+        subst (λ (s : Probed). Turned log' table (turn_of s)) goes all.0

@@ -1,4 +1,4 @@
--- A lookup with what is looked up as a further key: what it rests on, over longer logs and after each answer.
+-- A lookup with what is looked up as a further key: what it relies on, over longer logs and after each answer.
 use Rattle.std.proofs.Common.{◌≡◌, ℕ, ◌%◌, ◌^◌, Bool, true, Option, None, List, [], ◌++◌, append-nil, append_assoc, sym, ap, ◌∙◌, subst, arith}
 use Rattle.std.specs.Cmp.{IsEquivalence}
 use Rattle.std.specs.List.{fold}
@@ -9,19 +9,19 @@ use Rattle.papaya_call.specs.declared.machine.Machine.{Machine}
 use Rattle.papaya_law.specs.Allows.{AllAllowed}
 use Rattle.papaya_law.specs.Code.{Coding}
 use Rattle.papaya_law.specs.Class.{IsOn}
-use Rattle.papaya_law.specs.Exchange.{Exchange, Setting, Word, Empty, Closed, Live, Marked, Copied, Buried, run, start}
+use Rattle.papaya_law.specs.Exchange.{Exchange, Setting, Word, Empty, Closed, Live, Marked, Copied, Tombstone, run, start}
 use Rattle.papaya_law.specs.Further.{IsLawfulKey, coding_with, with_key}
 use Rattle.papaya_law.specs.Hints.{IsHintOf}
 use Rattle.papaya_law.specs.Grows.{Agrees}
 use Rattle.papaya_call.specs.Machine.{after, ask_of, kind_of_ask}
-use Rattle.papaya_rests.specs.Rests.{Rests}
-use Rattle.papaya_rests.specs.Told.{Hands, IsTold}
+use Rattle.papaya_call_law.specs.Relies.{Relies}
+use Rattle.papaya_call_law.specs.Told.{IsTold, LoadedPairs}
 use Rattle.papaya_law.specs.Code.{IsHashed}
 use Rattle.papaya_law.proofs.Alike.{all_alike}
 use Rattle.papaya_law.proofs.Further.{key_agrees, key_alike, key_lawful}
-use Rattle.papaya_rests.proofs.RestsLearn.{machine_learns}
-use Rattle.papaya_rests.proofs.RestsStay.{rests_stays}
-use Rattle.papaya_rests.proofs.RestsTables.{rests_carries}
+use Rattle.papaya_call_law.proofs.ReliesLearn.{machine_learns}
+use Rattle.papaya_call_law.proofs.ReliesStable.{relies_stable}
+use Rattle.papaya_call_law.proofs.ReliesTables.{relies_carries}
 use Rattle.papaya_book.specs.declared.rule.entry.Begun.{Begun}
 use Rattle.papaya_book.specs.declared.rule.entry.Event.{Event}
 use Rattle.papaya_book.specs.Hashes.{hash_of}
@@ -39,7 +39,7 @@ hint_with g c matches hash Closed n h = h
 hint_with g c matches hash (Live p) n h = h
 hint_with g c matches hash (Marked p) n h = h
 hint_with g c matches hash (Copied p) n h = h
-hint_with g c matches hash (Buried p) n h = h
+hint_with g c matches hash (Tombstone p) n h = h
 
 -- and without it
 pub hint_without : {K P : Type 0} (g : Setting K P) (c : Coding K P) (matches : K → Bool) (hash : ℕ) (w : Word P) (n : ℕ) → IsHintOf (with_key g matches hash) (coding_with c hash) w n → IsHintOf g c w n
@@ -48,7 +48,7 @@ hint_without g c matches hash Closed n h = h
 hint_without g c matches hash (Live p) n h = h
 hint_without g c matches hash (Marked p) n h = h
 hint_without g c matches hash (Copied p) n h = h
-hint_without g c matches hash (Buried p) n h = h
+hint_without g c matches hash (Tombstone p) n h = h
 
 -- What is looked up matches some keys, which it hashes as and which are all that equal one of them.
 pub record IsQuery {K : Type 0} (eq : K → K → Bool) (input : K → List (List ℕ)) (matches : K → Bool) (query : List (List ℕ)) : Type 0 where
@@ -84,18 +84,18 @@ module _ {K V S H : Type 0} (eq : K → K → Bool) (input : K → List (List �
   pub allowed_with : (log : List (Event K V S)) → IsLawfulLog eq hash b log → AllAllowed (setting log) start (exchanges_of log)
   allowed_with log l = all_alike (setting_of eq (hash b.hasher) b.mode b.limit log) (setting log) (key_alike (setting_of eq (hash b.hasher) b.mode b.limit log) matches fed) (exchanges_of log) start l.allowed
 
-  -- the machine rests on the exchanges of the log, since the call began
-  pub record RestsOn (begun : List (Exchange (Stored K V))) (log : List (Event K V S)) (m : Machine) (hands : Hands (Stored K V)) : Type 0 where
+  -- the machine relies on the exchanges of the log, since the call began
+  pub record ReliesOn (begun : List (Exchange (Stored K V))) (log : List (Event K V S)) (m : Machine) (loaded : LoadedPairs (Stored K V)) : Type 0 where
     pub since : List (Exchange (Stored K V))
     pub is : begun ++ since ≡ exchanges_of log
-    pub rests : Rests (setting log) coding begun since None m hands
+    pub relies : Relies (setting log) coding begun since None m loaded
 
-  module _ (begun : List (Exchange (Stored K V))) (log : List (Event K V S)) (l : IsLawfulLog eq hash b log) (m : Machine) (hands : Hands (Stored K V)) (r : RestsOn begun log m hands) where
+  module _ (begun : List (Exchange (Stored K V))) (log : List (Event K V S)) (l : IsLawfulLog eq hash b log) (m : Machine) (loaded : LoadedPairs (Stored K V)) (r : ReliesOn begun log m loaded) where
     pub may : AllAllowed (setting log) start (begun ++ r.since)
     may = subst (AllAllowed (setting log) start) (sym r.is) (allowed_with log l)
 
     -- a longer log
-    pub later : (log' : List (Event K V S)) → IsLawfulLog eq hash b log' → IsPrefix log log' → RestsOn begun log' m hands
+    pub later : (log' : List (Event K V S)) → IsLawfulLog eq hash b log' → IsPrefix log log' → ReliesOn begun log' m loaded
     later log' l' pre =
         let es = exchanges_of pre.0 in
         let is : begun ++ (r.since ++ es) ≡ exchanges_of log' = sym (append_assoc begun r.since es) ∙ (ap (λ (z : List (Exchange (Stored K V))). z ++ es) r.is ∙ (sym (exchanges_of-append log pre.0) ∙ ap exchanges_of pre.1)) in
@@ -103,17 +103,17 @@ module _ {K V S H : Type 0} (eq : K → K → Bool) (input : K → List (List �
         key_agrees (IsOn (state_of log).first (state_of log).next) (setting_of eq (hash b.hasher) b.mode b.limit log) (setting_of eq (hash b.hasher) b.mode b.limit log') (agrees_later eq input build write finish classes respects b log l log' pre) matches fed in
         let agree' : Agrees (IsOn (run (begun ++ r.since) start).first (run (begun ++ r.since) start).next) (setting log) (setting log') =
         subst (λ (z : List (Exchange (Stored K V))). Agrees (IsOn (run z start).first (run z start).next) (setting log) (setting log')) (sym r.is) agree in
-        let carried = rests_carries (setting log) (setting log') coding (hashed_with log l) begun r.since may None agree' m hands r.rests in
+        let carried = relies_carries (setting log) (setting log') coding (hashed_with log l) begun r.since may None agree' m loaded r.relies in
         record {
           since = r.since ++ es;
           is = is;
-          rests = rests_stays (setting log') coding (hashed_with log' l') begun r.since es (subst (AllAllowed (setting log') start) (sym is) (allowed_with log' l')) None m hands carried;
+          relies = relies_stable (setting log') coding (hashed_with log' l') begun r.since es (subst (AllAllowed (setting log') start) (sym is) (allowed_with log' l')) None m loaded carried;
         }
 
     -- an answer that is true of the log's words, with which nothing is exchanged
-    pub learned : (answer : Answer) (hands' : Hands (Stored K V)) → IsTold (setting log) coding None (state_of log) (kind_of_ask m) hands (ask_of m) answer [] hands' → Rests (setting log) coding begun r.since None (after m answer) hands'
-    learned answer hands' told =
-        let told' : IsTold (setting log) coding None (run (begun ++ r.since) start) (kind_of_ask m) hands (ask_of m) answer [] hands' =
-        subst (λ (z : List (Exchange (Stored K V))). IsTold (setting log) coding None (run z start) (kind_of_ask m) hands (ask_of m) answer [] hands') (sym r.is) told in
-        let all = machine_learns (setting log) coding (hashed_with log l) begun r.since may None m hands r.rests answer [] hands' told' in
-        subst (λ (z : List (Exchange (Stored K V))). Rests (setting log) coding begun z None (after m answer) hands') (append-nil r.since) all.1
+    pub learned : (answer : Answer) (loaded' : LoadedPairs (Stored K V)) → IsTold (setting log) coding None (state_of log) (kind_of_ask m) loaded (ask_of m) answer [] loaded' → Relies (setting log) coding begun r.since None (after m answer) loaded'
+    learned answer loaded' told =
+        let told' : IsTold (setting log) coding None (run (begun ++ r.since) start) (kind_of_ask m) loaded (ask_of m) answer [] loaded' =
+        subst (λ (z : List (Exchange (Stored K V))). IsTold (setting log) coding None (run z start) (kind_of_ask m) loaded (ask_of m) answer [] loaded') (sym r.is) told in
+        let all = machine_learns (setting log) coding (hashed_with log l) begun r.since may None m loaded r.relies answer [] loaded' told' in
+        subst (λ (z : List (Exchange (Stored K V))). Relies (setting log) coding begun z None (after m answer) loaded') (append-nil r.since) all.1

@@ -9,7 +9,7 @@ use Rattle.papaya_ask.specs.declared.ask.Ask.TheVariants.{Load, SizeOf}
 use Rattle.papaya_ask.specs.declared.ask.Answer.TheVariants.{Word as Word_read, Size}
 use Rattle.papaya_ask.specs.declared.ask.StepKind.{StepKind}
 use Rattle.papaya_law.specs.Grows.{brings, places_in, size_in}
-use Rattle.papaya_rests.specs.Told.{Hands, IsTold, or_last}
+use Rattle.papaya_call_law.specs.Told.{IsTold, LoadedPairs, or_last}
 use Rattle.papaya_book.specs.Sheets.{Sheet}
 use Rattle.papaya_book.specs.declared.rule.entry.Begun.{Begun}
 use Rattle.papaya_book.specs.declared.rule.entry.Named.TheVariants as names
@@ -27,7 +27,7 @@ brought_or_not : {K V : Type 0} (e : Step K V) (t : ℕ) → Brought e t
 brought_or_not (steps.Open w) t = ⊎_elim (λ h. inl (h, (w, refl, cond-true (number_of w == t) (Some w) None h))) (λ h. inr (h, cond-false (number_of w == t) (Some w) None h)) (cases_Bool (number_of w == t))
 brought_or_not (steps.Claim u x p) t = inr (refl, refl)
 brought_or_not (steps.Replace u x p q) t = inr (refl, refl)
-brought_or_not (steps.Bury u x p) t = inr (refl, refl)
+brought_or_not (steps.Delete u x p) t = inr (refl, refl)
 brought_or_not (steps.Link u w) t = ⊎_elim (λ h. inl (h, (w, refl, cond-true (number_of w == t) (Some w) None h))) (λ h. inr (h, cond-false (number_of w == t) (Some w) None h)) (cases_Bool (number_of w == t))
 brought_or_not (steps.Mark u x p) t = inr (refl, refl)
 brought_or_not (steps.Close u x) t = inr (refl, refl)
@@ -57,9 +57,9 @@ table_size (f ∷ es) t w e =
     ))
     (brought_or_not f t)
 
-module _ {K V S : Type 0} (eq : K → K → Bool) (hash : S → K → ℕ) (b : Begun K V S) (log : List (Event K V S)) (k : K) (kind : Option StepKind) (hands : Hands (Stored K V)) where
+module _ {K V S : Type 0} (eq : K → K → Bool) (hash : S → K → ℕ) (b : Begun K V S) (log : List (Event K V S)) (k : K) (kind : Option StepKind) (loaded : LoadedPairs (Stored K V)) where
   -- a table's size is what a machine is to be told of it
-  pub size_told : (t : ℕ) (sheet : Sheet) → IsTable log t sheet → IsTold (setting_of eq (hash b.hasher) b.mode b.limit log) (coding_of (hash b.hasher)) k (state_of log) kind hands (SizeOf t) (Size (length sheet.slots) sheet.limit) [] hands
+  pub size_told : (t : ℕ) (sheet : Sheet) → IsTable log t sheet → IsTold (setting_of eq (hash b.hasher) b.mode b.limit log) (coding_of (hash b.hasher)) k (state_of log) kind loaded (SizeOf t) (Size (length sheet.slots) sheet.limit) [] loaded
   size_told t sheet h =
       let size = table_size (steps_of log) t h.0 h.1 in (
         (
@@ -71,10 +71,10 @@ module _ {K V S : Type 0} (eq : K → K → Bool) (hash : S → K → ℕ) (b : 
       )
 
   -- so is the number of the root
-  pub root_answer : (name : Book) (found : ℕ) (table : Option (Bor Sheet)) → IsRoot eq hash b name found log table → IsTold (setting_of eq (hash b.hasher) b.mode b.limit log) (coding_of (hash b.hasher)) k (state_of log) kind hands (Load Root) (Word_read found) [] hands
+  pub root_answer : (name : Book) (found : ℕ) (table : Option (Bor Sheet)) → IsRoot eq hash b name found log table → IsTold (setting_of eq (hash b.hasher) b.mode b.limit log) (coding_of (hash b.hasher)) k (state_of log) kind loaded (Load Root) (Word_read found) [] loaded
   root_answer name found table r = (ap Word_read (sym r.is), refl, refl)
 
   -- and the word of a slot: the pair that it names is the one last told of
   pub slot_answer : (name : Book) (t x found : ℕ) (pair : Option (Stored K V)) → IsSlot eq hash b name t x found log pair
-      → IsTold (setting_of eq (hash b.hasher) b.mode b.limit log) (coding_of (hash b.hasher)) k (state_of log) kind hands (Load (Slot t x)) (Word_read found) [] (record { last = or_last pair hands.last; made = hands.made })
-  slot_answer name t x found pair r = (ap Word_read (sym r.is), refl, ap (λ (o : Option (Stored K V)). record { last = or_last o hands.last; made = hands.made }) (sym r.names))
+      → IsTold (setting_of eq (hash b.hasher) b.mode b.limit log) (coding_of (hash b.hasher)) k (state_of log) kind loaded (Load (Slot t x)) (Word_read found) [] (record { last = or_last pair loaded.last; made = loaded.made })
+  slot_answer name t x found pair r = (ap Word_read (sym r.is), refl, ap (λ (o : Option (Stored K V)). record { last = or_last o loaded.last; made = loaded.made }) (sym r.names))

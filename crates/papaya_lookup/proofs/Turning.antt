@@ -16,13 +16,13 @@ use Rattle.papaya_call.specs.declared.machine.State.{State as Stage}
 use Rattle.papaya_call.specs.declared.machine.State.TheVariants.{AtRoot, Searching, Leaving, Ended}
 use Rattle.papaya_ask.specs.declared.search.Place.{Place}
 use Rattle.papaya_ask.specs.declared.search.Search.TheVariants.{Sizing, Looking, Reading, Comparing}
-use Rattle.papaya_ask.specs.declared.search.Seen.{Seen}
-use Rattle.papaya_ask.specs.declared.search.Seen.TheVariants.{On, Empty, Here, Over}
+use Rattle.papaya_ask.specs.declared.search.Probed.{Probed}
+use Rattle.papaya_ask.specs.declared.search.Probed.TheVariants.{On, Empty, Here, Over}
 use Rattle.papaya_call.specs.Compute.{nothing}
 use Rattle.papaya_call.specs.Machine.{goes_as, passes, started}
-use Rattle.papaya_ask.specs.Search.{IsSeen, IsSize, IsWithin, at_yes, first_place, go_on, hinted, look, look_at, match_at, next_place}
-use Rattle.papaya_rests.specs.Told.{or_last}
-use Rattle.papaya_rests.proofs.LoadsLeft.{chosen}
+use Rattle.papaya_ask.specs.Search.{IsProbed, IsSize, IsWithin, at_yes, first_place, go_on, hinted, look, look_at, match_at, next_place}
+use Rattle.papaya_call_law.specs.Told.{or_last}
+use Rattle.papaya_call_law.proofs.LoadsLeft.{chosen}
 use Rattle.papaya_law.specs.Exchange.{Exchange}
 use Rattle.papaya_law.specs.Invariant.{named}
 use Rattle.papaya_book.specs.declared.book.Book.{Book}
@@ -41,7 +41,7 @@ use Rattle.papaya_book.proofs.Loaded.{told_pair}
 use Rattle.papaya_book.proofs.Logs.{table_came}
 use Rattle.papaya_lookup.specs.Answers.{IsHitAnsweredBetween}
 use Rattle.papaya_lookup.specs.History.{history_of, key_of}
-use Rattle.papaya_rests.specs.Rests.{HasMet}
+use Rattle.papaya_call_law.specs.Relies.{HasMet}
 use Rattle.papaya_lookup.specs.Lookups.{HasHit, HoldsPair, IsReading, IsReadingAt, IsTurned, coding_for, led_to, left_of, lookup_at, setting_for, turn_of}
 use Rattle.papaya_lookup.specs.declared.lookup.Met.{Met}
 use Rattle.papaya_lookup.specs.declared.lookup.Turn.{Turn}
@@ -52,7 +52,7 @@ use Rattle.papaya_lookup.proofs.LookupReplies.{absent_answer, found_answer}
 use Rattle.papaya_lookup.proofs.Readings.{IsQuery, fed}
 
 -- the search goes on, and neither loads a word nor compares a key
-abbrev IsOnward : Seen → Type 0
+abbrev IsOnward : Probed → Type 0
 IsOnward (On (Looking at)) = Unit {0}
 IsOnward (On (Sizing t)) = ⊥
 IsOnward (On (Reading at)) = ⊥
@@ -78,7 +78,7 @@ read_hinted at hash hint a =
     chosen (λ seen. seen ≡ On (Reading a) → seen ≡ On (Reading at)) (may_hold hint hash) (On (Reading at)) (go_on at) (λ e h. refl) (λ e h. absurd (read_not at a h))
 
 -- and where no key is to be compared
-abbrev IsOnwardElse : Seen → Type 0
+abbrev IsOnwardElse : Probed → Type 0
 IsOnwardElse seen = ((a : Place) (w : ℕ) → seen ≡ On (Comparing a w) → ⊥) → IsOnward seen
 
 onward_look : (kind : Kind) (at : Place) (word : ℕ) → IsOnwardElse (look_at kind at word)
@@ -86,11 +86,11 @@ onward_look kinds.Empty at word = λ none. tt
 onward_look kinds.Live at word = λ none. absurd (none at word refl)
 onward_look kinds.Marked at word = λ none. absurd (none at word refl)
 onward_look kinds.Copied at word = λ none. absurd (none at word refl)
-onward_look kinds.Buried at word = λ none. onward_on at
+onward_look kinds.Tombstone at word = λ none. onward_on at
 onward_look kinds.Closed at word = λ none. onward_on at
 
 -- and where the pair of which the key was compared is not found
-abbrev IsOnwardBut : Seen → Type 0
+abbrev IsOnwardBut : Probed → Type 0
 IsOnwardBut seen = ((a : Place) (w : ℕ) → seen ≡ Here a w → ⊥) → IsOnward seen
 
 onward_match : (kind : Kind) (at : Place) (word : ℕ) → IsOnwardBut (match_at kind at word)
@@ -98,7 +98,7 @@ onward_match kinds.Empty at word = λ none. absurd (none at word refl)
 onward_match kinds.Live at word = λ none. absurd (none at word refl)
 onward_match kinds.Marked at word = λ none. absurd (none at word refl)
 onward_match kinds.Copied at word = λ none. tt
-onward_match kinds.Buried at word = λ none. absurd (none at word refl)
+onward_match kinds.Tombstone at word = λ none. absurd (none at word refl)
 onward_match kinds.Closed at word = λ none. absurd (none at word refl)
 
 onward_yes : (at : Place) (word : ℕ) (same : Bool) → IsOnwardBut (at_yes (Comparing at word) same)
@@ -106,7 +106,7 @@ onward_yes at word true = onward_match (kind_of word) at word
 onward_yes at word false = λ none. onward_on at
 
 -- Where a key is compared, it is that of the pair of the word that was loaded.
-pub record IsCompared (kind : Kind) (seen : Seen) (at : Place) (word : ℕ) : Type 0 where
+pub record IsCompared (kind : Kind) (seen : Probed) (at : Place) (word : ℕ) : Type 0 where
   pub some : kind ≡ kinds.Empty → ⊥
   pub shut : kind ≡ kinds.Closed → ⊥
   pub is : seen ≡ On (Comparing at word)
@@ -119,7 +119,7 @@ compared_look kinds.Empty at word a w h = absurd (cc h)
 compared_look kinds.Live at word a w h = record { some = λ e. cc e; shut = λ e. cc e; is = refl }
 compared_look kinds.Marked at word a w h = record { some = λ e. cc e; shut = λ e. cc e; is = refl }
 compared_look kinds.Copied at word a w h = record { some = λ e. cc e; shut = λ e. cc e; is = refl }
-compared_look kinds.Buried at word a w h = absurd (on_not at a w h)
+compared_look kinds.Tombstone at word a w h = absurd (on_not at a w h)
 compared_look kinds.Closed at word a w h = absurd (on_not at a w h)
 
 pub here_not : (at a : Place) (w : ℕ) → go_on at ≡ Here a w → ⊥
@@ -132,7 +132,7 @@ here_same at a word w false here = absurd (here_not at a w here)
 
 module _ (M E : Type 0) where
   -- the turn leads the machine where the search goes
-  led_on : (mode : ResizeMode) (n : ℕ) (seen : Seen) → IsOnward seen → goes_as Get mode nothing seen ≡ led_to {M = M} {E = E} mode n (turn_of seen)
+  led_on : (mode : ResizeMode) (n : ℕ) (seen : Probed) → IsOnward seen → goes_as Get mode nothing seen ≡ led_to {M = M} {E = E} mode n (turn_of seen)
   led_on mode n (On (Looking at)) o = refl
   led_on mode n (On (Sizing t)) o = absurd o
   led_on mode n (On (Reading at)) o = absurd o
@@ -141,7 +141,7 @@ module _ (M E : Type 0) where
   led_on mode n (Here at word) o = absurd o
   led_on mode n (Over t) o = refl
 
-  within_on : (seen : Seen) → IsSeen seen → (at : Place) → turn_of {M = M} {E = E} seen ≡ turns.Next at → IsWithin at
+  within_on : (seen : Probed) → IsProbed seen → (at : Place) → turn_of {M = M} {E = E} seen ≡ turns.Next at → IsWithin at
   within_on (On (Looking p)) w at e = let is : p ≡ at = cc e in subst IsWithin is w
   within_on (On (Sizing t)) w at e = absurd (cc e)
   within_on (On (Reading p)) w at e = absurd (cc e)
@@ -150,7 +150,7 @@ module _ (M E : Type 0) where
   within_on (Here p word) w at e = absurd (cc e)
   within_on (Over t) w at e = absurd (cc e)
 
-  unfound_on : (seen : Seen) (met : M) (entry : E) → turn_of seen ≡ turns.Found met entry → ⊥
+  unfound_on : (seen : Probed) (met : M) (entry : E) → turn_of seen ≡ turns.Found met entry → ⊥
   unfound_on (On (Looking p)) met entry e = cc e
   unfound_on (On (Sizing t)) met entry e = cc e
   unfound_on (On (Reading p)) met entry e = cc e
@@ -199,7 +199,7 @@ module _ {K V S H : Type 0} (eq : K → K → Bool) (input : K → List (List �
   Goes log stage table turn = IsTurned eq hash b name matches fed_to begun h log table turn × (left_of (led_to b.mode 0 turn) < left_of stage)
 
   -- a search that goes on
-  goes_on : (log : List (Event K V S)) (stage : Stage) (table : Sheet) (lent : Bor Sheet) → lent.now ≡ table → (pair : Option (Stored K V)) (seen : Seen) → IsSeen seen → IsOnward seen → Reads log (goes_as Get b.mode nothing seen) lent pair
+  goes_on : (log : List (Event K V S)) (stage : Stage) (table : Sheet) (lent : Bor Sheet) → lent.now ≡ table → (pair : Option (Stored K V)) (seen : Probed) → IsProbed seen → IsOnward seen → Reads log (goes_as Get b.mode nothing seen) lent pair
       → left_of (goes_as Get b.mode nothing seen) < left_of stage → Goes log stage table (turn_of seen)
   goes_on log stage table lent is pair seen within onward r fewer = (
     record {
@@ -230,12 +230,12 @@ module _ {K V S H : Type 0} (eq : K → K → Bool) (input : K → List (List �
           (all.reading, all.fewer)
 
       -- the word is not loaded
-      pub hint_passed : IsSeen (hinted at h hint) → ((a : Place) → hinted at h hint ≡ On (Reading a) → ⊥) → Goes log' (Searching (Looking at)) table (turn_of (hinted at h hint))
+      pub hint_passed : IsProbed (hinted at h hint) → ((a : Place) → hinted at h hint ≡ On (Reading a) → ⊥) → Goes log' (Searching (Looking at)) table (turn_of (hinted at h hint))
       hint_passed seen none = goes_on log' (Searching (Looking at)) table r.0 r.1 r.2 (hinted at h hint) seen (onward_hinted at h hint none) hint_answered.0 hint_answered.1
 
       -- the word is to be loaded
       pub word_next : (a : Place) → hinted at h hint ≡ On (Reading a) → IsReadingAt eq hash b matches fed_to begun h log' (Searching (Reading at)) table
-      word_next a e = (r.0, r.1, r.2, subst (λ (s : Seen). Reads log' (goes_as Get b.mode nothing s) r.0 r.2) (read_hinted at h hint a e) hint_answered.0)
+      word_next a e = (r.0, r.1, r.2, subst (λ (s : Probed). Reads log' (goes_as Get b.mode nothing s) r.0 r.2) (read_hinted at h hint a e) hint_answered.0)
 
   module _ (log : List (Event K V S)) (at : Place) (within : IsWithin at) (table : Sheet) (r : IsReadingAt eq hash b matches fed_to begun h log (Searching (Reading at)) table) where
     -- the table has the place
@@ -247,7 +247,7 @@ module _ {K V S H : Type 0} (eq : K → K → Bool) (input : K → List (List �
     -- its word was loaded
     module _ (log' : List (Event K V S)) (pre : IsPrefix log log') (word : ℕ) (state : Option (Named K V)) (told : IsSlotWord eq hash b name at.table at.probe.i word log' state) where
       -- no key is compared
-      pub passed : IsSeen (look at word) → ((a : Place) (w : ℕ) → look at word ≡ On (Comparing a w) → ⊥) → Goes log' (Searching (Reading at)) table (turn_of (look at word))
+      pub passed : IsProbed (look at word) → ((a : Place) (w : ℕ) → look at word ≡ On (Comparing a w) → ⊥) → Goes log' (Searching (Reading at)) table (turn_of (look at word))
       passed seen none =
           let o = named ((state_of log').slot at.table at.probe.i) in
           let looked = slot_read eq input build write finish classes respects b matches query lawful begun log log' pre told.read.lawful (lookup_at h b.mode b.limit (Searching (Reading at))) (Some r.0) r.2 r.3 within
@@ -272,12 +272,12 @@ module _ {K V S H : Type 0} (eq : K → K → Bool) (input : K → List (List �
               let looked = slot_read eq input build write finish classes respects b matches query lawful begun log log' pre told.read.lawful (lookup_at h b.mode b.limit (Searching (Reading at))) (Some r.0) r.2 r.3 within
               at.table at.probe.i word (Some p) (Some p) refl told.read.is stands (λ last held. (refl, pair_placed)) in
               let seen = (compared_look (kind_of word) at word a w e).is in
-              (subst (λ (s : Seen). Reads log' (goes_as Get b.mode nothing s) r.0 (Some p)) seen looked.reading, subst (λ (s : Seen). left_of (goes_as Get b.mode nothing s) < left_of (Searching (Reading at))) seen looked.fewer)
+              (subst (λ (s : Probed). Reads log' (goes_as Get b.mode nothing s) r.0 (Some p)) seen looked.reading, subst (λ (s : Probed). left_of (goes_as Get b.mode nothing s) < left_of (Searching (Reading at))) seen looked.fewer)
 
           -- the word that was loaded named it
           word_met : HasMet (setting_for eq hash b matches fed_to log') (coding_for hash b.hasher fed_to) begun comparing.0.since None at word p
           word_met =
-              let stage = comparing.0.rests.stage in
+              let stage = comparing.0.relies.stage in
               let one : stage.0 ≡ p = let same = sym stage.1 ∙ sym comparing.0.holds_pair.0 in cc same in
               subst (HasMet (setting_for eq hash b matches fed_to log') (coding_for hash b.hasher fed_to) begun comparing.0.since None at word) one stage.2
 
@@ -290,7 +290,7 @@ module _ {K V S H : Type 0} (eq : K → K → Bool) (input : K → List (List �
                 let less : left_of (goes_as Get b.mode nothing (at_yes (Comparing at word) same)) < left_of (Searching (Comparing at word)) = all.fewer in
                 (all.reading, omega (arith, before, less))
 
-            pub other_pair : IsSeen (at_yes (Comparing at word) same) → ((a' : Place) (w' : ℕ) → at_yes (Comparing at word) same ≡ Here a' w' → ⊥) → Goes log' (Searching (Reading at)) table (turn_of (at_yes (Comparing at word) same))
+            pub other_pair : IsProbed (at_yes (Comparing at word) same) → ((a' : Place) (w' : ℕ) → at_yes (Comparing at word) same ≡ Here a' w' → ⊥) → Goes log' (Searching (Reading at)) table (turn_of (at_yes (Comparing at word) same))
             other_pair seen none = goes_on log' (Searching (Reading at)) table r.0 r.1 (Some p) (at_yes (Comparing at word) same) seen (onward_yes at word same none) compared.0 compared.1
 
             abbrev met : Met K V
@@ -302,7 +302,7 @@ module _ {K V S H : Type 0} (eq : K → K → Bool) (input : K → List (List �
               lent_is = r.1;
               pair = Some p;
               number = pair_of w';
-              reading = subst (λ (s : Seen). Reads log' (goes_as Get b.mode nothing s) r.0 (Some p)) here compared.0;
+              reading = subst (λ (s : Probed). Reads log' (goes_as Get b.mode nothing s) r.0 (Some p)) here compared.0;
               within = λ z e'. absurd (cc e');
               found = λ met' entry' e'.
                   let one : met ≡ met' = cc e' in

@@ -1,4 +1,4 @@
--- What a lookup rests on, and what a caller has seen and made, by what it sees of the map.
+-- What a lookup relies on, and what a caller has seen and made, by what it sees of the map.
 use Rattle.std.specs.Prelude.{◌≡◌, ℕ, MatchOption, List}
 use mathlib.Core.List.{IsPrefix}
 use denote.Bor.{Bor}

@@ -5,7 +5,7 @@ use Rattle.papaya_law.specs.Exchange as law
 use Rattle.papaya_law.specs.Exchange.{Exchange}
 use Rattle.papaya_book.specs.declared.rule.entry.Event.{Event}
 use Rattle.papaya_book.specs.declared.rule.entry.Step.{Step}
-use Rattle.papaya_book.specs.declared.rule.own.Given.{Given}
+use Rattle.papaya_book.specs.declared.rule.own.CapacityCause.{CapacityCause}
 use Rattle.papaya_book.specs.Logs.{Stored, exchange_of, exchanges_of}
 use Rattle.papaya_book.specs.Own.{last_if}
 
@@ -18,12 +18,12 @@ pub record Change (K P : Type 0) : Type 0 where
 
 module _ {K P : Type 0} where
   module _ (key : P → K) where
-    -- the change that an exchange makes: a claim, a replacement or a burial makes one, and no other
-    -- exchange does
+    -- the change that an exchange makes: a claim, a replacement or a deletion makes one, and no
+    -- other exchange does
     abbrev pub change_of : Exchange P → List (Change K P)
     change_of (law.Claim t x p) = record { class = key p; taken = None; put = Some p } ∷ []
     change_of (law.Replace t x p q) = record { class = key p; taken = Some p; put = Some q } ∷ []
-    change_of (law.Bury t x p) = record { class = key p; taken = Some p; put = None } ∷ []
+    change_of (law.Delete t x p) = record { class = key p; taken = Some p; put = None } ∷ []
     change_of _ = []
 
     abbrev pub changes_of : List (Exchange P) → List (Change K P)
@@ -81,7 +81,7 @@ pub record Past (K V : Type 0) : Type 0 where
   pub history : List (Change K (Stored K V))
   pub made : List (Change K (Stored K V))
   pub tables : List ℕ
-  pub given : List Given
+  pub given : List CapacityCause
   pub taken : ℕ
 
 -- What a call made: where it changed the map, one change, which is the last of the history that is

@@ -1,4 +1,4 @@
--- What a lookup on the shared map holds and rests on, and what it answers.
+-- What a lookup on the shared map holds and relies on, and what it answers.
 use Rattle.std.specs.Prelude.{◌≡◌, ℕ, ◌+◌, ◌*◌, ◌-◌, ◌^◌, Bool, true, Option, None, Some, List, ◌++◌, slice_get}
 use denote.Bor.{Bor}
 use Rattle.logbook.specs.Pages.{Book, Named as Word}
@@ -9,16 +9,16 @@ use Rattle.papaya_call.specs.declared.machine.State.{State as Stage}
 use Rattle.papaya_call.specs.declared.machine.State.TheVariants.{AtRoot, Searching, Leaving, Ended}
 use Rattle.papaya_ask.specs.declared.search.Place.{Place}
 use Rattle.papaya_ask.specs.declared.search.Search.TheVariants.{Sizing, Looking, Reading, Comparing}
-use Rattle.papaya_ask.specs.declared.search.Seen.{Seen}
-use Rattle.papaya_ask.specs.declared.search.Seen.TheVariants.{On, Over}
+use Rattle.papaya_ask.specs.declared.search.Probed.{Probed}
+use Rattle.papaya_ask.specs.declared.search.Probed.TheVariants.{On, Over}
 use Rattle.papaya_ask.specs.Search.{IsWithin, go_on}
 use Rattle.papaya_words.specs.declared.probe.ResizeMode.{ResizeMode}
 use Rattle.papaya_law.specs.Exchange.{Exchange, Setting}
 use Rattle.papaya_law.specs.Code.{Coding}
 use Rattle.papaya_law.specs.Further.{coding_with, with_key}
 use Rattle.papaya_call.specs.Machine.{passes, started}
-use Rattle.papaya_rests.specs.Rests.{HasMet, Rests, WasAtMoment}
-use Rattle.papaya_rests.specs.Told.{Hands}
+use Rattle.papaya_call_law.specs.Relies.{HasMet, Relies, WasAtMoment}
+use Rattle.papaya_call_law.specs.Told.{LoadedPairs}
 use Rattle.papaya_book.specs.Sheets.{Sheet, word_named}
 use Rattle.papaya_book.specs.declared.rule.entry.Begun.{Begun}
 use Rattle.papaya_book.specs.declared.rule.entry.Event.{Event}
@@ -78,7 +78,7 @@ module _ {K V S : Type 0} where
 abbrev pub coding_for : {K V S : Type 0} → (S → K → ℕ) → S → ℕ → Coding (Option K) (Stored K V)
 coding_for hash hasher fed = coding_with (coding_of (hash hasher)) fed
 
--- A lookup of what matches these keys, and hashes so, rests on the log since its call began, and
+-- A lookup of what matches these keys, and hashes so, relies on the log since its call began, and
 -- holds the table and the pair of which it was told last.
 pub record IsReading {K V S : Type 0} (eq : K → K → Bool) (hash : S → K → ℕ) (b : Begun K V S)
     (matches : K → Bool) (fed : ℕ) (begun : List (Exchange (Stored K V))) (log : List (Event K V S))
@@ -86,14 +86,14 @@ pub record IsReading {K V S : Type 0} (eq : K → K → Bool) (hash : S → K �
   pub lawful : IsLawfulLog eq hash b log
   pub since : List (Exchange (Stored K V))
   pub is : begun ++ since ≡ exchanges_of log
-  pub hands : Hands (Stored K V)
+  pub loaded : LoadedPairs (Stored K V)
   pub task_is : m.task ≡ Get
-  pub rests : Rests (setting_for eq hash b matches fed log) (coding_for hash b.hasher fed) begun
-      since None m hands
+  pub relies : Relies (setting_for eq hash b matches fed log) (coding_for hash b.hasher fed) begun
+      since None m loaded
   pub holds_table : HoldsTable log (table_of m.state) table
-  pub holds_pair : HoldsPair b hands.last pair
+  pub holds_pair : HoldsPair b loaded.last pair
   pub found : (n : ℕ) → m.state ≡ Ended (Found n)
-      → (p : Stored K V) × (hands.last ≡ Some p) × WasAtMoment
+      → (p : Stored K V) × (loaded.last ≡ Some p) × WasAtMoment
       (setting_for eq hash b matches fed log) (coding_for hash b.hasher fed) begun since None
       (Some p)
 
@@ -101,7 +101,7 @@ pub record IsReading {K V S : Type 0} (eq : K → K → Bool) (hash : S → K �
 abbrev pub lookup_at : (hash : ℕ) → ResizeMode → (limit : Option ℕ) → Stage → Machine
 lookup_at hash mode limit stage = record (started Get hash mode 0 limit) { state = stage }
 
--- The lookup's machine, that nothing runs, would stand here by now. It rests on this table, and on
+-- The lookup's machine, that nothing runs, would stand here by now. It relies on this table, and on
 -- some pair that it was told of last.
 abbrev pub IsReadingAt : {K V S : Type 0} → (K → K → Bool) → (S → K → ℕ) → Begun K V S → (K → Bool)
     → ℕ → List (Exchange (Stored K V)) → ℕ → List (Event K V S) → Stage → Sheet → Type 0
@@ -115,7 +115,7 @@ IsSlotAt log t x word = (sheet : Sheet) × IsTable log t sheet × (k : ℕ)
     × (slice_get sheet.slots x ≡ Some k) × (word ≡ word_named sheet.book k)
 
 -- where a search goes on that has found no pair
-abbrev pub turn_of : {M E : Type 0} → Seen → Turn M E
+abbrev pub turn_of : {M E : Type 0} → Probed → Turn M E
 turn_of (On (Looking at)) = turns.Next at
 turn_of (Over t) = turns.Over t
 turn_of _ = turns.Absent

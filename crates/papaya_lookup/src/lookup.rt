@@ -15,13 +15,13 @@ ghost use Rattle.papaya_lookup.specs.Lookups.{left_of, turn_of};
 ghost use Rattle.papaya_lookup.specs.declared.lookup.Turn.TheVariants.{Next};
 
 use crate::near::search_near;
-use papaya_ask::search::{Place, Search, Seen};
+use papaya_ask::search::{Place, Probed, Search};
 use papaya_book::book::Book;
 use papaya_book::book::gains::named_pair;
 use papaya_book::keyed::{Asked, Hashed, Keyed};
 use papaya_book::rule::entry::Stored;
-use papaya_book::rule::own::Own;
-use papaya_book::rule::trade::Sight;
+use papaya_book::rule::offer::Seen;
+use papaya_book::rule::own::OwnSteps;
 use papaya_book::table::Table;
 use papaya_book::window::Window;
 use papaya_keys::guard::Equivalent;
@@ -61,12 +61,12 @@ enum Turn<M, E> {
 
 /// Where a search goes on that has found no pair.
 #[inline(always)]
-fn without<M, E>(seen: Seen) -> Turn<M, E>
+fn without<M, E>(seen: Probed) -> Turn<M, E>
     ensures { result ≡ turn_of seen }
 {
     match seen {
-        Seen::On(Search::Looking(at)) => Turn::Next(at),
-        Seen::Over(table) => Turn::Over(table),
+        Probed::On(Search::Looking(at)) => Turn::Next(at),
+        Probed::Over(table) => Turn::Over(table),
         _ => Turn::Absent,
     }
 }
@@ -78,7 +78,7 @@ fn read_at<'a, K: Hash + Eq, V, S: BuildHasher, Q: Equivalent<K>>(
     window: &mut Window<'a, K, V, S>,
     key: &Q,
     hash: u64,
-    began: &Sight<K, V, S>,
+    began: &Seen<K, V, S>,
     table: &Table<K, V, S>,
     at: Place,
 ) -> Turn<Met<K, V>, (&'a K, &'a V)>
@@ -93,18 +93,18 @@ fn read_at<'a, K: Hash + Eq, V, S: BuildHasher, Q: Equivalent<K>>(
 {
     let _ = began;
     let _ = hash;
-    let (word, trade) = window.slot_word(table, at.table, at.probe.i);
+    let (word, offer) = window.slot_word(table, at.table, at.probe.i);
     let seen = at.look(word);
     match seen {
-        Seen::On(Search::Comparing(..)) => {
+        Probed::On(Search::Comparing(..)) => {
             let book = window.book;
-            let stored = named_pair(word, trade);
+            let stored = named_pair(word, offer);
             let pair = book.pair(&stored);
             let (stored_key, value) = book.entry(pair);
             let same = key.equivalent(stored_key);
             let compared = Search::Comparing(at, word).at_yes(same);
             match compared {
-                Seen::Here(..) => {
+                Probed::Here(..) => {
                     let entry = (stored_key, value);
                     let met = Met {
                         place: at,
@@ -127,7 +127,7 @@ fn look_at<'a, K: Hash + Eq, V, S: BuildHasher, Q: Equivalent<K>>(
     window: &mut Window<'a, K, V, S>,
     key: &Q,
     hash: u64,
-    began: &Sight<K, V, S>,
+    began: &Seen<K, V, S>,
     table: &Table<K, V, S>,
     at: Place,
 ) -> Turn<Met<K, V>, (&'a K, &'a V)>
@@ -142,7 +142,7 @@ fn look_at<'a, K: Hash + Eq, V, S: BuildHasher, Q: Equivalent<K>>(
 {
     let hint = window.hint(table, at.table, at.probe.i);
     let seen = at.hinted(hash, hint);
-    let Seen::On(Search::Reading(_)) = seen else {
+    let Probed::On(Search::Reading(_)) = seen else {
         return without(seen);
     };
     read_at(window, key, hash, began, table, at)
@@ -154,7 +154,7 @@ fn search<'a, K: Hash + Eq, V, S: BuildHasher, Q: Equivalent<K>>(
     window: &mut Window<'a, K, V, S>,
     key: &Q,
     hash: u64,
-    began: &Sight<K, V, S>,
+    began: &Seen<K, V, S>,
     table: &Table<K, V, S>,
     at: Place,
 ) -> Turn<Met<K, V>, (&'a K, &'a V)>
@@ -251,7 +251,7 @@ pub fn look_up_pair<'a, K: Hash + Eq, V, S: BuildHasher, Q: Equivalent<K>>(
 fn look_up_anew<'a, K: Hash + Eq, V, S: BuildHasher, Q: Equivalent<K>>(
     book: &'a Book<K, V, S>,
     key: &Q,
-    sight: &mut Sight<K, V, S>,
+    sight: &mut Seen<K, V, S>,
 ) -> Option<&'a V>
     requires { sight.old.book ≡ book.now.begun.book }
     ensures book { sight.new.book ≡ sight.old.book }
@@ -261,7 +261,7 @@ fn look_up_anew<'a, K: Hash + Eq, V, S: BuildHasher, Q: Equivalent<K>>(
         (history_of sight.new.log) result }
 {
     let kept = book.keep_root();
-    let own = Own::nothing();
+    let own = OwnSteps::nothing();
     let mut window = Window::new(book, &kept, sight, &own);
     let found = look_up_pair(&mut window, key);
     *sight = window.sight;

@@ -16,8 +16,8 @@ use papaya_ask::ask::At;
 use papaya_ask::search::Place;
 use papaya_book::book::gains::named_pair;
 use papaya_book::keyed::Asked;
+use papaya_book::rule::offer::{Offer, Seen};
 use papaya_book::rule::steps::Sought;
-use papaya_book::rule::trade::{Sight, Trade};
 use papaya_book::slot::Slot;
 use papaya_book::table::Table;
 use papaya_book::window::Window;
@@ -59,7 +59,7 @@ fn word_of<K: Hash + Eq, V, S: BuildHasher>(
     slot: &Slot<K, V, S>,
     number: u64,
     place: usize,
-) -> (u64, Trade<K, V, S>)
+) -> (u64, Offer<K, V, S>)
     requires slot { IsSlotAt window.old number place slot.now }
     ensures sees { Sees window.old window.new }
     ensures slot { IsSlotWord window.old window.new number place result.0 result.1.state }
@@ -100,7 +100,7 @@ fn read_slot<'a, K: Hash + Eq, V, S: BuildHasher, Q: Equivalent<K>>(
     window: &mut Window<'a, K, V, S>,
     key: &Q,
     hash: u64,
-    began: &Sight<K, V, S>,
+    began: &Seen<K, V, S>,
     table: &Table<K, V, S>,
     slot: &Slot<K, V, S>,
     at: Place,
@@ -117,11 +117,11 @@ fn read_slot<'a, K: Hash + Eq, V, S: BuildHasher, Q: Equivalent<K>>(
     let _ = began;
     let _ = hash;
     let _ = table;
-    let (word, trade) = word_of(window, slot, at.table, at.probe.i);
+    let (word, offer) = word_of(window, slot, at.table, at.probe.i);
     match Word(word).kind() {
         Kind::Live => {
             let book = window.book;
-            let stored = named_pair(word, trade);
+            let stored = named_pair(word, offer);
             let pair = book.pair(&stored);
             let entry = book.entry(pair);
             if !key.equivalent(entry.0) {
@@ -135,7 +135,7 @@ fn read_slot<'a, K: Hash + Eq, V, S: BuildHasher, Q: Equivalent<K>>(
             Near::Found(met, entry)
         }
         Kind::Empty => Near::Absent,
-        Kind::Buried | Kind::Closed => Near::On,
+        Kind::Tombstone | Kind::Closed => Near::On,
         Kind::Marked | Kind::Copied => Near::Aside,
     }
 }
@@ -146,7 +146,7 @@ fn look_at_slot<'a, K: Hash + Eq, V, S: BuildHasher, Q: Equivalent<K>>(
     window: &mut Window<'a, K, V, S>,
     key: &Q,
     hash: u64,
-    began: &Sight<K, V, S>,
+    began: &Seen<K, V, S>,
     table: &Table<K, V, S>,
     slot: &Slot<K, V, S>,
     at: Place,
@@ -173,7 +173,7 @@ fn search_slots<'a, K: Hash + Eq, V, S: BuildHasher, Q: Equivalent<K>>(
     window: &mut Window<'a, K, V, S>,
     key: &Q,
     hash: u64,
-    began: &Sight<K, V, S>,
+    began: &Seen<K, V, S>,
     table: &Table<K, V, S>,
     at: Place,
 ) -> Near<Met<K, V>, (&'a K, &'a V)>

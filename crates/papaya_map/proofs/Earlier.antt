@@ -15,8 +15,8 @@ use Rattle.papaya_keys.specs.declared.compute.Compute.TheVariants.{Inserted, Upd
 use Rattle.papaya_keys.specs.declared.occupied.OccupiedError.{OccupiedError}
 use Rattle.papaya_lookup.specs.Answers.{IsFoundBetween}
 use Rattle.papaya_lookup.specs.History.{Change, IsLegalHistory, key_of}
-use Rattle.papaya_sweep.specs.Leaving.{HasKept, IsRetained}
-use Rattle.papaya_sweep.specs.Meeting.{HadPair}
+use Rattle.papaya_scan.specs.Leaving.{HasKept, IsRetained}
+use Rattle.papaya_scan.specs.Meeting.{HadPair}
 use Rattle.papaya_map.specs.Plain.{IsContained, IsDone, IsOfHistory}
 use Rattle.papaya_map.specs.Storing.{IsCurrent, IsInPlace, IsStored, IsThere, IsThereBy, IsTried, IsTriedWith, IsUpdated, IsUpserted}
 

@@ -82,7 +82,7 @@ module _ (E A P : RattleType) (g : Ghosts P.Denot E.Denot A.Denot) (T : Ended) w
       (F : (κs : Lfts T.signature.lifetimes) → Args T.signature κs → (Tells κs).Denot → Type 0)
       (asks : (κs : Lfts T.signature.lifetimes) (a : Args T.signature κs) (u : (c κs a).ghost) → (w : (ck κs a).ghost) × ent 𝓤 ((c κs a).requires u) ((ck κs a).requires w))
       (tells : (κs : Lfts T.signature.lifetimes) (a : Args T.signature κs) (w : (ck κs a).ghost) (r : (Tells κs).Denot) (ws : Lasts T κs a) → ent 𝓤 ((ck κs a).ensures w r (at_exit T κs a ws)) (fact 𝓤 (F κs a r)))
-      (hands : (κs : Lfts T.signature.lifetimes) (a : Args T.signature κs) (u : (c κs a).ghost) (r : (Tells κs).Denot) (ws : Lasts T κs a) → F κs a r
+      (loaded : (κs : Lfts T.signature.lifetimes) (a : Args T.signature κs) (u : (c κs a).ghost) (r : (Tells κs).Denot) (ws : Lasts T κs a) → F κs a r
       → ent 𝓤 (sem 𝓛 (seen (Answer κs) E A P g r)) ((c κs a).ensures u r.answer (at_exit T κs a ws)))
       (L : (κs : Lfts T.signature.lifetimes) → Laws (Answer κs)) where
     module _ (y : (walk_of 𝓛 T none c).Ghost) where
@@ -113,7 +113,7 @@ module _ (E A P : RattleType) (g : Ghosts P.Denot E.Denot A.Denot) (T : Ended) w
       ends : (w : Val) → ent 𝓤 (Left w) ((walk_of 𝓛 T none c).post y w)
       ends w = qed 𝓛 (some (λ (r : (Tells κs).Denot). some (λ (ws : Lasts T κs a). raw (alive 𝓛 T.signature κs y.0.1) ⊛ ‵ ((Answer κs).own_val r.answer (w ∷ [])) ⊛ ‵ (seen (Answer κs) E A P g r) ⊛ raw (fact 𝓤 (F κs a r)))) ∷ []) ∵
           pick ! (λ r. pick ! (λ ws. split ! $ move ! (1 ∷ []) $ split ! $ move ! (1 ∷ []) $ split ! $ move ! (1 ∷ []) $ heard ! _ (λ says.
-          use1 𝓛 (raw ((c κs a).ensures y.1 r.answer (at_exit T κs a ws))) (hands κs a y.1 r ws says) $
+          use1 𝓛 (raw ((c κs a).ensures y.1 r.answer (at_exit T κs a ws))) (loaded κs a y.1 r ws says) $
           use0 𝓛 (‵ (has_of κs T.signature.params T.kept none a ws y.0.4)) (none_left 𝓛 κs T.signature.params T.kept a ws y.0.4) $
           move ! (3 ∷ 0 ∷ 2 ∷ 1 ∷ []) $ by ! (leaves 𝓛 T none c y w r.answer ws (all_fit κs T.signature.params T.kept a ws)))))
 

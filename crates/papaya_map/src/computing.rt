@@ -15,7 +15,7 @@ ghost use Rattle.papaya_lookup.specs.History.{Makes};
 use papaya_book::book::Book;
 use papaya_book::count::Shard;
 use papaya_book::rule::entry::Stored;
-use papaya_book::rule::own::{Given, Own};
+use papaya_book::rule::own::{CapacityCause, OwnSteps};
 use papaya_book::window::Window;
 use papaya_call::answers::Operation;
 use papaya_change::removal::entry;
@@ -55,7 +55,7 @@ fn operate<
 
 /// Does with a key's pair, or where it has none, what the closure answers that is shown it. Where
 /// it is refused for want of room, `given` tells the number that a full log gave, or the sum of the
-/// count that makes a further table too long.
+/// count that makes a next table too long.
 pub fn compute<
     'a,
     R: Wait,
@@ -70,7 +70,7 @@ pub fn compute<
     initial: usize,
     shard: &Shard<'_>,
     window: &mut Window<'a, K, V, S>,
-    given: &mut Own<Given>,
+    given: &mut OwnSteps<CapacityCause>,
     key: K,
     mut f: F,
 ) -> Result<Compute<'a, K, V, T>, Refused>

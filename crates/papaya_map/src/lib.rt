@@ -17,6 +17,6 @@ pub mod map;
 pub mod plain;
 mod printing;
 pub mod resizing;
-pub mod sweeps;
+pub mod scans;
 pub mod told;
 pub mod updating;

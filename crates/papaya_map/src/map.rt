@@ -17,7 +17,7 @@ ghost use Rattle.papaya_lookup.specs.History.{IsLegalHistory, Makes, Past, chang
 ghost use Rattle.papaya_lookup.specs.Answers.{IsAnsweredBetween, IsPairAnsweredBetween};
 ghost use Rattle.papaya_change.specs.RemovalAnswers.{IsRemovalBy, IsRemoved, took, went};
 ghost use Rattle.papaya_change.specs.Showings.{Judges, Operates};
-ghost use Rattle.papaya_sweep.specs.Leaving.{HasKept};
+ghost use Rattle.papaya_scan.specs.Leaving.{HasKept};
 
 pub mod making;
 
@@ -28,12 +28,12 @@ use papaya_book::book::kept::KeptRoot;
 use papaya_book::count::Count;
 use papaya_book::rule::entry::{Event, Named, Step};
 use papaya_book::rule::law::Law;
-use papaya_book::rule::own::{Given, Own};
-use papaya_book::rule::trade::Sight;
+use papaya_book::rule::offer::Seen;
+use papaya_book::rule::own::{CapacityCause, OwnSteps};
 use papaya_book::window::Window;
 use papaya_call::answers::Operation;
 use papaya_chain::resizer::Resize;
-use papaya_change::at_once::insert;
+use papaya_change::fast_path::insert;
 use papaya_change::removal::remove;
 use papaya_change::resizing::resize;
 use papaya_compute::deciding::{Outcome, Rule, decide};
@@ -41,9 +41,9 @@ use papaya_compute::lending::compute_lent;
 use papaya_keys::compute::Compute;
 use papaya_keys::guard::{Collector, Equivalent, Guard};
 use papaya_lookup::lookup::{look_up, look_up_pair};
-use papaya_sweep::retain::retain;
-use papaya_sweep::root::take_root;
-use papaya_sweep::walk::Iter;
+use papaya_scan::retain::retain;
+use papaya_scan::root::take_root;
+use papaya_scan::walk::Iter;
 use papaya_words::probe::Refused;
 use std::alloc::Global;
 use std::hash::{BuildHasher, BuildHasherDefault, FoldHasher, Hash};
@@ -60,7 +60,7 @@ pub struct HashMap<K: Hash + Eq, V, S: BuildHasher = BuildHasherDefault<FoldHash
     count: Count,
     pub(crate) collector: Collector,
     pub(crate) book: Book<K, V, S>,
-    opened: Sight<K, V, S>,
+    opened: Seen<K, V, S>,
     ghost power: { IsPowerOfTwo initial } by { IsPowerOfTwo-prop initial },
     ghost opened_book: { opened.book ≡ book.begun.book },
 }
@@ -95,9 +95,9 @@ impl<K: Hash + Eq, V, S: BuildHasher> Model for HashMap<K, V, S> {
 #[derive(Drop)]
 pub struct Pass<K: Hash + Eq, V, S: BuildHasher> {
     number: u64,
-    sight: Sight<K, V, S>,
-    own: Own<Step<K, V>>,
-    given: Own<Given>,
+    sight: Seen<K, V, S>,
+    own: OwnSteps<Step<K, V>>,
+    given: OwnSteps<CapacityCause>,
 }
 
 impl<K: Hash + Eq, V, S: BuildHasher> Model for Pass<K, V, S> {
@@ -135,7 +135,7 @@ impl<K: Hash + Eq, V, S: BuildHasher> Pass<K, V, S> {
 pub struct HashMapRef<'a, K: Hash + Eq, V, S: BuildHasher> {
     pub(crate) map: &'a HashMap<K, V, S>,
     kept: KeptRoot<'a, K, V, S>,
-    seen: Sight<K, V, S>,
+    seen: Seen<K, V, S>,
     ghost seen_book: { seen.book ≡ map.now.book },
 }
 
@@ -234,8 +234,8 @@ impl<K: Hash + Eq, V, S: BuildHasher> HashMap<K, V, S> {
         Pass {
             number,
             sight,
-            own: Own::nothing(),
-            given: Own::nothing(),
+            own: OwnSteps::nothing(),
+            given: OwnSteps::nothing(),
         }
     }
 
@@ -251,8 +251,8 @@ impl<K: Hash + Eq, V, S: BuildHasher> HashMap<K, V, S> {
         Pass {
             number,
             sight: self.opened.again(),
-            own: Own::nothing(),
-            given: Own::nothing(),
+            own: OwnSteps::nothing(),
+            given: OwnSteps::nothing(),
         }
     }
 }
@@ -270,8 +270,8 @@ impl<'a, K: Hash + Eq, V, S: BuildHasher> HashMapRef<'a, K, V, S> {
         Pass {
             number,
             sight: self.seen.again(),
-            own: Own::nothing(),
-            given: Own::nothing(),
+            own: OwnSteps::nothing(),
+            given: OwnSteps::nothing(),
         }
     }
 
@@ -379,7 +379,7 @@ impl<'a, K: Hash + Eq, V, S: BuildHasher> HashMapRef<'a, K, V, S> {
         let map: &'a HashMap<K, V, S> = self.map;
         let shard = map.count.shard(pass.number);
         let mut window = Window::new(&map.book, &self.kept, &pass.sight, &pass.own);
-        let mut given = Own::nothing();
+        let mut given = OwnSteps::nothing();
         let reserved = resize(
             rt,
             map.alloc,
@@ -428,7 +428,7 @@ impl<'a, K: Hash + Eq, V, S: BuildHasher> HashMapRef<'a, K, V, S> {
         let map: &'a HashMap<K, V, S> = self.map;
         let shard = map.count.shard(pass.number);
         let mut window = Window::new(&map.book, &self.kept, &pass.sight, &pass.own);
-        let mut given = Own::nothing();
+        let mut given = OwnSteps::nothing();
         let retained = retain(
             rt,
             map.alloc,
@@ -472,7 +472,7 @@ impl<'a, K: Hash + Eq, V, S: BuildHasher> HashMapRef<'a, K, V, S> {
         let shard = map.count.shard(pass.number);
         let began = pass.sight.again();
         let mut window = Window::new(&map.book, &self.kept, &pass.sight, &pass.own);
-        let mut given = Own::nothing();
+        let mut given = OwnSteps::nothing();
         let taken = take_root(rt, map.alloc, map.initial, &shard, &mut window, &mut given);
         pass.sight = window.sight.again();
         pass.given = given;
@@ -490,7 +490,7 @@ impl<'a, K: Hash + Eq, V, S: BuildHasher> HashMapRef<'a, K, V, S> {
     ///
     /// A removal makes nothing for itself. But where it helps to copy the table to a further one, it
     /// may be refused as an insertion is: `Refused::Memory` where a growth was refused, and
-    /// `Refused::Capacity` where the log of tables is full or the further table would be too long.
+    /// `Refused::Capacity` where the log of tables is full or the next table would be too long.
     /// Refused, the pass makes no change. It makes one where a pair was removed, and else none.
     pub fn remove_if_as<R: Wait, Q: Equivalent<K>, F: FnMut(&K, &V) -> bool>(
         &self,
@@ -513,7 +513,7 @@ impl<'a, K: Hash + Eq, V, S: BuildHasher> HashMapRef<'a, K, V, S> {
         let map: &'a HashMap<K, V, S> = self.map;
         let shard = map.count.shard(pass.number);
         let mut window = Window::new(&map.book, &self.kept, &pass.sight, &pass.own);
-        let mut given = Own::nothing();
+        let mut given = OwnSteps::nothing();
         let removed = remove(
             rt,
             map.alloc,
@@ -572,7 +572,7 @@ impl<'a, K: Hash + Eq + Drop, V: Drop, S: BuildHasher> HashMapRef<'a, K, V, S> {
     /// Where the key finds no place in the table, the call makes a further one, to which the pairs
     /// are copied. `Refused::Memory` where a growth was refused. `Refused::Capacity` where the log of
     /// pairs or that of tables is full: it gave a number past its limit, which the pass shows then. Or
-    /// where the further table would be too long, by the sum of the count that the pass shows then and
+    /// where the next table would be too long, by the sum of the count that the pass shows then and
     /// the length of a table that it has seen. `Refused::Limit` where the map has a limit on pairs, and
     /// as many were logged, or were about to be.
     /// Refused, the pass makes no change, and else this one.
@@ -597,7 +597,7 @@ impl<'a, K: Hash + Eq + Drop, V: Drop, S: BuildHasher> HashMapRef<'a, K, V, S> {
         let map: &'a HashMap<K, V, S> = self.map;
         let shard = map.count.shard(pass.number);
         let mut window = Window::new(&map.book, &self.kept, &pass.sight, &pass.own);
-        let mut given = Own::nothing();
+        let mut given = OwnSteps::nothing();
         let before = insert(
             rt,
             map.alloc,
@@ -648,7 +648,7 @@ impl<'a, K: Hash + Eq + Drop, V: Drop, S: BuildHasher> HashMapRef<'a, K, V, S> {
         let map: &'a HashMap<K, V, S> = self.map;
         let shard = map.count.shard(pass.number);
         let mut window = Window::new(&map.book, &self.kept, &pass.sight, &pass.own);
-        let mut given = Own::nothing();
+        let mut given = OwnSteps::nothing();
         let computed = compute(
             rt,
             map.alloc,
@@ -691,7 +691,7 @@ impl<'a, K: Hash + Eq + Drop, V: Drop, S: BuildHasher> HashMapRef<'a, K, V, S> {
         let map: &'a HashMap<K, V, S> = self.map;
         let shard = map.count.shard(pass.number);
         let mut window = Window::new(&map.book, &self.kept, &pass.sight, &pass.own);
-        let mut given = Own::nothing();
+        let mut given = OwnSteps::nothing();
         let computed = compute_lent(
             rt,
             map.alloc,
@@ -732,7 +732,7 @@ impl<'a, K: Hash + Eq + Drop, V: Drop, S: BuildHasher> HashMapRef<'a, K, V, S> {
         let map: &'a HashMap<K, V, S> = self.map;
         let shard = map.count.shard(pass.number);
         let mut window = Window::new(&map.book, &self.kept, &pass.sight, &pass.own);
-        let mut given = Own::nothing();
+        let mut given = OwnSteps::nothing();
         let decided = decide(
             rt,
             map.alloc,

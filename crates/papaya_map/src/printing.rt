@@ -1,8 +1,8 @@
 //! What `Debug` prints of a map: `{key: value, ..}`, as of that of 0.2.5.
 use crate::map::{HashMap, HashMapRef};
-use papaya_book::rule::own::Own;
+use papaya_book::rule::own::OwnSteps;
 use papaya_book::window::Window;
-use papaya_sweep::printing::{print, print_keys};
+use papaya_scan::printing::{print, print_keys};
 use std::fmt;
 use std::hash::{BuildHasher, Hash};
 
@@ -10,7 +10,7 @@ impl<K: Hash + Eq + fmt::Debug, V: fmt::Debug, S: BuildHasher> fmt::Debug for Ha
     /// It waits for nobody, takes no lock and no memory, and copies nothing.
     fn fmt<W: fmt::Write>(&self, f: &mut fmt::Formatter<W>) -> fmt::Result {
         let kept = self.book.keep_root();
-        let mut window = Window::new(&self.book, &kept, &self.book.unseen(), &Own::nothing());
+        let mut window = Window::new(&self.book, &kept, &self.book.unseen(), &OwnSteps::nothing());
         print(&mut window, f)
     }
 }
@@ -20,7 +20,7 @@ impl<K: Hash + Eq + fmt::Debug, V, S: BuildHasher> HashMap<K, V, S> {
     /// lock and no memory, and copies nothing.
     pub fn print_keys<W: fmt::Write>(&self, f: &mut fmt::Formatter<W>) -> fmt::Result {
         let kept = self.book.keep_root();
-        let mut window = Window::new(&self.book, &kept, &self.book.unseen(), &Own::nothing());
+        let mut window = Window::new(&self.book, &kept, &self.book.unseen(), &OwnSteps::nothing());
         print_keys(&mut window, f)
     }
 }

@@ -38,6 +38,8 @@ mod printing;
 #[cfg(test)]
 mod refused;
 #[cfg(test)]
+mod scans;
+#[cfg(test)]
 mod scarce;
 #[cfg(test)]
 mod seen;
@@ -49,8 +51,6 @@ mod steps;
 mod stored_keys;
 #[cfg(test)]
 mod stuck;
-#[cfg(test)]
-mod sweeps;
 #[cfg(test)]
 mod texts;
 #[cfg(test)]

@@ -16,9 +16,9 @@ use Rattle.papaya_ask.specs.declared.copy_ask.CopyAsk.{CopyAsk}
 use Rattle.papaya_ask.specs.declared.copy_ask.CopyAsk.TheVariants as copies
 use Rattle.papaya_ask.specs.declared.search.Search.TheVariants as searches
 use Rattle.papaya_alone.specs.Ahead.{IsCurrent, IsPhaseRead}
-use Rattle.papaya_rests.specs.Alone.{IsRead}
+use Rattle.papaya_call_law.specs.Alone.{IsRead}
 use Rattle.papaya_call.specs.declared.machine.State.{State}
-use Rattle.papaya_call.specs.declared.machine.State.TheVariants.{AtRoot, Making, Opening, Searching, Writing, Offering, Showing, Pairing, Putting, Burying, Counting, Noting, Uncounting, Leaving, Growing, Ended}
+use Rattle.papaya_call.specs.declared.machine.State.TheVariants.{AtRoot, Making, Opening, Searching, Writing, Offering, Showing, Pairing, Putting, Deleting, Counting, Noting, Uncounting, Leaving, Growing, Ended}
 use Rattle.papaya_call.specs.declared.write.Claimed.{Claimed}
 use Rattle.papaya_call.specs.declared.made.Made.{Made}
 use Rattle.papaya_call.specs.Machine.{asks as call_asks}
@@ -34,8 +34,8 @@ use Rattle.papaya_chain.specs.declared.machine.Machine.{Machine}
 use Rattle.papaya_chain.specs.declared.machine.Phase.{Phase}
 use Rattle.papaya_chain.specs.declared.machine.Phase.TheVariants.{Calling, Linking, Copying as Copying_root}
 use Rattle.papaya_chain.specs.Machine.{after, ask_of, asks_in}
-use Rattle.papaya_chain_rests.specs.Goes.{link_in}
-use Rattle.papaya_chain_rests.proofs.LinkStates.{In}
+use Rattle.papaya_chain_law.specs.Goes.{link_in}
+use Rattle.papaya_chain_law.proofs.LinkStates.{In}
 use Rattle.papaya_store.specs.declared.pairs.Running.{Running}
 use Rattle.papaya_store.specs.Asks.{PerformsAsk}
 use Rattle.papaya_store.specs.Copies.{PerformsCopy}
@@ -48,7 +48,7 @@ use Rattle.papaya_timeline.proofs.KeptTables.{table_there}
 use Rattle.papaya_seq.specs.Lengths.{IsLongEnough, IsMadeBeside, IsNextLength, lengths_of}
 use Rattle.papaya_seq.specs.Map.{Grows, MapState, slots_in}
 use Rattle.papaya_call.specs.Compute.{in_place_of}
-use Rattle.papaya_rests.proofs.Makings.{HoldsOfPairAsks, pair_holds, write_holds}
+use Rattle.papaya_call_law.proofs.Makings.{HoldsOfPairAsks, pair_holds, write_holds}
 use Rattle.papaya_seq.proofs.Initial.{chain_initial}
 use Rattle.papaya_seq.proofs.LinkLeads.{IsLed, machine_leads}
 use Rattle.papaya_seq.proofs.LinkLengths.{IsLongLink, copy_good, led_long, link_good, long_beside, next_enough}
@@ -73,7 +73,7 @@ makes_first made hash (Offering gap) slots limit chunks e = absurd cc
 makes_first made hash (Showing removal) slots limit chunks e = absurd cc
 makes_first made hash (Pairing purpose) slots limit chunks e = absurd (pair_holds (λ ask. ask ≡ MakeTable slots limit chunks → ⊥) (no_tables slots limit chunks) made (in_place_of purpose) e)
 makes_first made hash (Putting put) slots limit chunks e = absurd cc
-makes_first made hash (Burying removal) slots limit chunks e = absurd cc
+makes_first made hash (Deleting removal) slots limit chunks e = absurd cc
 makes_first made hash (Counting n) slots limit chunks e = absurd cc
 makes_first made hash (Noting n) slots limit chunks e = absurd cc
 makes_first made hash (Uncounting n) slots limit chunks e = absurd cc
@@ -326,7 +326,7 @@ module _ {K V S : Type 0} (s : MapState K V S) where
         by_state made hashed (Showing removal) calling is told_so told_is h = h
         by_state made hashed (Pairing purpose) calling is told_so told_is h = pair_holds (λ ask. IsCountedBy ask store told_so store' → store'.count ≡ store.count) (pair_counts told_so) made (in_place_of purpose) h
         by_state made hashed (Putting put) calling is told_so told_is h = h
-        by_state made hashed (Burying removal) calling is told_so told_is h = h
+        by_state made hashed (Deleting removal) calling is told_so told_is h = h
         by_state made hashed (Leaving t) calling is told_so told_is h = h
         by_state made hashed (Growing need) calling is told_so told_is h = h
         by_state made hashed (Ended reply) calling is told_so told_is h = h

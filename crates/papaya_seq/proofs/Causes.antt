@@ -1,4 +1,4 @@
--- Why a call of a map for one caller is refused: a log was full, or there is no further table, or memory was short; or its closure would remove a pair where there is none.
+-- Why a call of a map for one caller is refused: a log was full, or there is no next table, or memory was short; or its closure would remove a pair where there is none.
 use Rattle.std.proofs.Common.{◌≡◌, ◌⊎◌, inl, inr, ℕ, ◌^◌, ◌<◌, ◌≤◌, ◌==◌, Bool, false, Option, None, Some, length, refl, sym, ◌∙◌, ap, subst, arith}
 use Rattle.papaya_words.specs.Counter.{count_of}
 use Rattle.papaya_words.specs.Table.{TableWords, length_after}
@@ -15,7 +15,7 @@ use Rattle.papaya_ask.specs.declared.call.Reply.TheVariants.{Refused as Reply_re
 use Rattle.papaya_ask.specs.declared.search.Search.TheVariants.{Sizing as Sizing_table, Looking, Reading, Comparing}
 use Rattle.papaya_call.specs.declared.machine.Machine.{Machine as Call_machine}
 use Rattle.papaya_call.specs.declared.machine.State.{State as Stage}
-use Rattle.papaya_call.specs.declared.machine.State.TheVariants.{AtRoot, Making, Opening, Searching, Writing, Offering, Showing, Pairing, Putting, Burying, Counting as Counting_pair, Noting, Uncounting, Leaving, Growing, Ended}
+use Rattle.papaya_call.specs.declared.machine.State.TheVariants.{AtRoot, Making, Opening, Searching, Writing, Offering, Showing, Pairing, Putting, Deleting, Counting as Counting_pair, Noting, Uncounting, Leaving, Growing, Ended}
 use Rattle.papaya_call.specs.declared.made.Made.{Made}
 use Rattle.papaya_call.specs.declared.made.Number.{Number}
 use Rattle.papaya_call.specs.declared.made.Number.TheVariants.{Wanted, Free, Taken}
@@ -32,15 +32,15 @@ use Rattle.papaya_chain.specs.declared.machine.Machine.{Machine}
 use Rattle.papaya_chain.specs.declared.machine.Phase.{Phase}
 use Rattle.papaya_chain.specs.declared.machine.Phase.TheVariants.{Calling, Linking, Copying as Copying_root}
 use Rattle.papaya_chain.specs.Machine.{after, ask_of, asks_in}
-use Rattle.papaya_chain.proofs.Settings.{settings_stay}
-use Rattle.papaya_chain_rests.specs.Goes.{IsOwnRefusal, IsOwnStep, IsTableRefusal, IsToMake, WasNotMade, WouldBeTooLong, link_in}
-use Rattle.papaya_chain_rests.specs.Rests.{left_by}
-use Rattle.papaya_chain_rests.proofs.LinkStates.{In}
-use Rattle.papaya_chain_rests.proofs.Replies.{aside_asks}
+use Rattle.papaya_chain.proofs.Settings.{settings_stable}
+use Rattle.papaya_chain_law.specs.Goes.{IsOwnRefusal, IsOwnStep, IsTableRefusal, IsToMake, WasNotMade, WouldBeTooLong, link_in}
+use Rattle.papaya_chain_law.specs.Relies.{left_by}
+use Rattle.papaya_chain_law.proofs.LinkStates.{In}
+use Rattle.papaya_chain_law.proofs.Replies.{aside_asks}
 use Rattle.papaya_alone.specs.Limits.{IsNumberTaken, IsPairLogged}
-use Rattle.papaya_rests.specs.Rests.{IsAtLimit, IsNumberAsk}
-use Rattle.papaya_rests.proofs.Makings.{HoldsOfPairAsks, IsMakeAsk, IsPairAsk, make_asks, pair_holds}
-use Rattle.papaya_rests.proofs.Tasks.{same_task}
+use Rattle.papaya_call_law.specs.Relies.{IsAtLimit, IsNumberAsk}
+use Rattle.papaya_call_law.proofs.Makings.{HoldsOfPairAsks, IsMakeAsk, IsPairAsk, make_asks, pair_holds}
+use Rattle.papaya_call_law.proofs.Tasks.{same_task}
 use Rattle.papaya_call.specs.Answers.{Says}
 use Rattle.papaya_store.specs.Asks.{PerformsAsk}
 use Rattle.papaya_store.specs.Performs.{MakesTable, Performs, Refuses, size_of}
@@ -60,7 +60,7 @@ use Rattle.papaya_seq.proofs.KeyCalls.{KeyCall, first_of}
 use Rattle.papaya_seq.proofs.Logs.{IsFirst, IsNumberless, after_made, first_before, number_taken, numberless_before, paired_first}
 use Rattle.papaya_seq.proofs.Limits.{made_most}
 use Rattle.papaya_seq.proofs.Numbered.{IsLogStep}
-use Rattle.papaya_seq.proofs.OwnSteps.{own_performs}
+use Rattle.papaya_seq.proofs.StepsOfOwn.{own_performs}
 use Rattle.papaya_seq.proofs.Sizes.{IsSizedLink, is_sized, link_asked, machine_sized, sized_as, sized_beside}
 use Rattle.papaya_seq.proofs.Steps.{HasCome, made_caused, made_goes, made_logs, seated, stepped}
 
@@ -81,7 +81,7 @@ IsLogAsk m = (m.phase ≡ Calling) × IsLogStage m.call.state
 abbrev pub IsLogRefusal : {K V S : Type 0} → MapState K V S → Refused → Type 0
 IsLogRefusal s refused = (refused ≡ Memory) ⊎ ((refused ≡ Capacity) × IsLogFull s.store) ⊎ ((refused ≡ Limit) × IsSpent s)
 
--- there is no further table, or memory was short
+-- there is no next table, or memory was short
 abbrev pub IsNoTableRefusal : {K V S : Type 0} → MapState K V S → Refused → Type 0
 IsNoTableRefusal s' refused = (refused ≡ Memory) ⊎ ((refused ≡ Capacity) × HasNoTable s')
 
@@ -149,7 +149,7 @@ pair_stage_of made hash (Opening t) asks_pair = absurd asks_pair
 pair_stage_of made hash (Offering gap) asks_pair = absurd asks_pair
 pair_stage_of made hash (Showing removal) asks_pair = absurd asks_pair
 pair_stage_of made hash (Putting put) asks_pair = absurd asks_pair
-pair_stage_of made hash (Burying removal) asks_pair = absurd asks_pair
+pair_stage_of made hash (Deleting removal) asks_pair = absurd asks_pair
 pair_stage_of made hash (Counting_pair claimed) asks_pair = absurd asks_pair
 pair_stage_of made hash (Noting claimed) asks_pair = absurd asks_pair
 pair_stage_of made hash (Uncounting n) asks_pair = absurd asks_pair
@@ -246,8 +246,8 @@ module _ {K V S : Type 0} (eq : K → K → Bool) (hash : S → K → ℕ) (s : 
     -- each table is still there, with its slots
     grown : HasMoreTables store.words.tables store'.words.tables
     grown =
-        let (es, (tales, kept)) = now_lawful.law in
-        (kept_steps.left eq (hash s.store.hasher) keys whatever hash false now 0 (seated store' (Some r) s.mode s.initial) r answer later refl performs (ap hash came.hasher) refl es tales now_lawful.core kept).grown
+        let (es, (call_traces, kept)) = now_lawful.law in
+        (kept_steps.left eq (hash s.store.hasher) keys whatever hash false now 0 (seated store' (Some r) s.mode s.initial) r answer later refl performs (ap hash came.hasher) refl es call_traces now_lawful.core kept).grown
 
     still_there : (behind slots : ℕ) → HasSlots store behind slots → HasSlots store' behind slots
     still_there behind slots (t, there, is) = let more = grown behind t there in (more.0, more.1, more.2 ∙ is)
@@ -316,7 +316,7 @@ module _ {K V S : Type 0} (eq : K → K → Bool) (hash : S → K → ℕ) (s : 
 
     unlogged_own : IsOwnStep r.machine answer → IsUnlogged store' (stepped later r.machine answer)
     unlogged_own step =
-        let stays = settings_stay own step.told in
+        let stays = settings_stable own step.told in
         unlogged_then (call_machine.after own step.told) step.call stays.0 stays.1 (after_made own step.told).0
         (λ first. (first_before own step.told (own_first first), unlogged first))
         (λ first none. (numberless_before own step.told standing (own_first first) none, log.still (untaken none)))
@@ -413,7 +413,7 @@ module _ {K V S : Type 0} (eq : K → K → Bool) (hash : S → K → ℕ) (s : 
       make_refused made (Offering gap) m e calling told is makes h = absurd makes
       make_refused made (Showing removal) m e calling told is makes h = absurd makes
       make_refused made (Putting put) m e calling told is makes h = absurd makes
-      make_refused made (Burying removal) m e calling told is makes h = absurd makes
+      make_refused made (Deleting removal) m e calling told is makes h = absurd makes
       make_refused made (Counting_pair n) m e calling told is makes h = absurd makes
       make_refused made (Noting n) m e calling told is makes h = absurd makes
       make_refused made (Uncounting n) m e calling told is makes h = absurd makes

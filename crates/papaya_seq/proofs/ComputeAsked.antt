@@ -24,15 +24,15 @@ use Rattle.papaya_call.specs.declared.remove.Removal.{Removal}
 use Rattle.papaya_call.specs.declared.made.Made.{Made}
 use Rattle.papaya_call.specs.Compute.{in_place_of}
 use Rattle.papaya_call.specs.Made.{pair_ask}
-use Rattle.papaya_rests.proofs.Makings.{pair_holds}
+use Rattle.papaya_call_law.proofs.Makings.{pair_holds}
 use Rattle.papaya_chain.specs.declared.ask.Ask.{Ask}
 use Rattle.papaya_chain.specs.declared.ask.Ask.TheVariants as asked
 use Rattle.papaya_chain.specs.declared.ask.Answer.TheVariants as answers
 use Rattle.papaya_chain.specs.declared.machine.Machine.{Machine}
 use Rattle.papaya_chain.specs.declared.machine.Phase.TheVariants.{Calling}
 use Rattle.papaya_chain.specs.Machine.{IsFit, IsStanding, after, ask_of}
-use Rattle.papaya_chain_rests.proofs.Names.{call_asks}
-use Rattle.papaya_rests.specs.Says.{HasShownNone, Inserts, Said, ShowsIn, StandsOn, said_for}
+use Rattle.papaya_chain_law.proofs.Names.{call_asks}
+use Rattle.papaya_call_law.specs.Says.{HasShownNone, Inserts, Said, ShowsIn, StandsOn, said_for}
 use Rattle.papaya_store.specs.Asks.{PerformsAsk}
 use Rattle.papaya_store.specs.Pairs.{value_at}
 use Rattle.papaya_store.specs.declared.pairs.Part.{Part}

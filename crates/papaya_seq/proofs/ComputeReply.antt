@@ -44,7 +44,7 @@ IsEnd s held (ops.Insert v) store reply = IsInsertEnd s held v store reply
 IsEnd s held ops.Remove store reply = IsRemoveEnd reply
 IsEnd s held (ops.Abort t) store reply = IsAbortEnd reply
 
--- a burial ends so
+-- a deletion ends so
 removing_end : (reply : Reply) → IsRemoving (Ended reply) → IsRemoveEnd reply
 removing_end (replies.Removed n) there = tt
 removing_end reply there = absurd there

@@ -17,9 +17,9 @@ use Rattle.papaya_chain.specs.declared.ask.Answer.{Answer as Chain_answer}
 use Rattle.papaya_chain.specs.declared.machine.Machine.{Machine}
 use Rattle.papaya_chain.specs.declared.machine.Phase.TheVariants.{Calling}
 use Rattle.papaya_chain.specs.Machine.{IsFit, IsStanding, after, ask_of, started}
-use Rattle.papaya_chain_rests.proofs.Names.{call_asks}
-use Rattle.papaya_rests.proofs.RestsHeld.{ended_in}
-use Rattle.papaya_rests.specs.Says.{HasShownNone, Inserts, Makes, Said, StandsOn}
+use Rattle.papaya_chain_law.proofs.Names.{call_asks}
+use Rattle.papaya_call_law.proofs.ReliesHeld.{ended_in}
+use Rattle.papaya_call_law.specs.Says.{HasShownNone, Inserts, Makes, Said, StandsOn}
 use Rattle.papaya_store.specs.declared.pairs.Part.{Part}
 use Rattle.papaya_store.specs.declared.pairs.Part.TheVariants.{Own}
 use Rattle.papaya_store.specs.declared.pairs.Running.{Running}

@@ -30,8 +30,8 @@ use Rattle.papaya_chain.specs.declared.ask.Answer.TheVariants as answers
 use Rattle.papaya_chain.specs.declared.machine.Machine.{Machine as Chain_machine}
 use Rattle.papaya_chain.specs.declared.machine.Phase.TheVariants.{Calling}
 use Rattle.papaya_chain.specs.Machine.{ask_of}
-use Rattle.papaya_chain_rests.proofs.Names.{call_asks}
-use Rattle.papaya_rests.proofs.Makings.{HoldsOfPairAsks, pair_holds, write_holds}
+use Rattle.papaya_chain_law.proofs.Names.{call_asks}
+use Rattle.papaya_call_law.proofs.Makings.{HoldsOfPairAsks, pair_holds, write_holds}
 use Rattle.papaya_timeline.proofs.KeptCore.{keys_lawful}
 use Rattle.papaya_timeline.proofs.KeptSettings.{IsLawfulKeys, tables_hashed}
 use Rattle.papaya_timeline.proofs.MachineLemmas.{machine_shows}
@@ -134,12 +134,12 @@ module _ {K V S H : Type 0} (eq : K → K → Bool) (input : K → List (List �
     shown_logged : (removal : Removal) → Came store (at_state (Showing removal)) → (p : Stored K V) × (pair_of store (number_of removal.word) ≡ Some p)
     shown_logged removal came =
         let lone = came.lone refl in
-        let (es, (tales, kept)) = lone.lawful.law in
+        let (es, (call_traces, kept)) = lone.lawful.law in
         let call_kept = kept.calls 0 (at_state (Showing removal)) refl in
         let g = setting_of eq (low (hash_of input build write finish store.hasher)) s.mode store.words.tables in
         let c = coding_of (low (hash_of input build write finish store.hasher)) in
         let hashed = tables_hashed {V = V} eq (hash_of input build write finish store.hasher) (keys_lawful eq input build write finish classes respects store.hasher) s.mode store.words.tables lone.lawful.core.sizes in
-        let (p, last, number, alike, moment) = machine_shows g c (tales 0).begun (tales 0).since call_kept.key hashed (at_state (Showing removal)).machine.call (tales 0).hands.call call_kept.rests.call (number_of removal.word) refl in
+        let (p, last, number, alike, moment) = machine_shows g c (call_traces 0).begun (call_traces 0).since call_kept.key hashed (at_state (Showing removal)).machine.call (call_traces 0).loaded.call call_kept.relies.call (number_of removal.word) refl in
         (p, subst (λ i. pair_of store i ≡ Some p) number (call_kept.last p last))
 
     pair_shown : (removal : Removal) → Came store (at_state (Showing removal)) → (q : Stored K V) × (map_in eq s.store k ≡ Some q) × (q.number ≡ number_of removal.word) × (pair_of store (number_of removal.word) ≡ Some q)
@@ -152,18 +152,18 @@ module _ {K V S H : Type 0} (eq : K → K → Bool) (input : K → List (List �
         let chosen = came_more eq (hash_of input build write finish) s (keyed_compute k) store r (answers.Call (Op kinds.Remove)) store r refl (Op kinds.Remove, refl, inr (p, logged, (tt, ops.Remove, tt, refl, tt, refl, refl, refl))) refl keys came in
         let r1 : Running K V (Unit {0}) = stepped r r.machine (answers.Call (Op kinds.Remove)) in
         let store1 : StoreState K V S = record store { words = put store.words place (grave_word removal.word) } in
-        let buried = came_more eq (hash_of input build write finish) s (keyed_compute k) store r1 (answers.Call Exchanged) store1 r1 refl (Exchanged, refl, (exchange_made store place removal.word (grave_word removal.word) read, refl)) refl keys chosen in
+        let tombstone = came_more eq (hash_of input build write finish) s (keyed_compute k) store r1 (answers.Call Exchanged) store1 r1 refl (Exchanged, refl, (exchange_made store place removal.word (grave_word removal.word) read, refl)) refl keys chosen in
         let r2 : Running K V (Unit {0}) = stepped r1 r1.machine (answers.Call Exchanged) in
         let store2 : StoreState K V S = record store1 { count = added store1.count 0 (negsuc 0) } in
-        let counted = came_more eq (hash_of input build write finish) s (keyed_compute k) store1 r2 (answers.Call Ok_done) store2 r2 refl (Ok_done, refl, (refl, (0, refl), refl)) refl keys buried in
+        let counted = came_more eq (hash_of input build write finish) s (keyed_compute k) store1 r2 (answers.Call Ok_done) store2 r2 refl (Ok_done, refl, (refl, (0, refl), refl)) refl keys tombstone in
         let (q, here, number) = pair_there n (map_in eq store2) (came_answered store2 (stepped r2 r2.machine (answers.Call Ok_done)) (Removed n) refl counted) in
         let keeps = (made_unchanged eq (hash_of input build write finish) s (keyed_compute k) keys lawful fits store r refl refl came).1 in
         (q, here, number, keeps n q (logged_there eq classes s.store k n q here number))
 
   module _ {A : Type 0} (store : StoreState K V S) (r : Running K V A) (came : Came store (asking r)) where
     -- the same of a call that is known to be in this state
-    at_once : (state : State) → r.machine.phase ≡ Calling → r.machine.call.state ≡ state → Came store (at_state store r.machine.call r.machine.number r.machine.helped r.key r.value state)
-    at_once state phase is =
+    fast_path : (state : State) → r.machine.phase ≡ Calling → r.machine.call.state ≡ state → Came store (at_state store r.machine.call r.machine.number r.machine.helped r.key r.value state)
+    fast_path state phase is =
         subst (λ (m : Chain_machine). Came store (record { machine = m; key = r.key; value = r.value; answers = Some tt }))
         (ap (λ (p : _). record r.machine { phase = p }) phase
         ∙ ap (λ (t : _). record { call = record r.machine.call { task = t }; number = r.machine.number; helped = r.machine.helped; phase = Calling }) came.task
@@ -175,7 +175,7 @@ module _ {K V S H : Type 0} (eq : K → K → Bool) (input : K → List (List �
     shows_none e =
         let own = call_asks r.machine ShowNone e in
         let (gap, is) = offering r.machine.call.made r.machine.call.hash r.machine.call.state own.1 in
-        none_shown store r.machine.call r.machine.number r.machine.helped r.key r.value gap (at_once (Offering gap) own.0 is)
+        none_shown store r.machine.call r.machine.number r.machine.helped r.key r.value gap (fast_path (Offering gap) own.0 is)
 
     -- or the pair that the map has
     pub shows_pair : (n : ℕ) → ask_of r.machine ≡ asked.Call (ShowPair n) → (q : Stored K V) × (map_in eq s.store k ≡ Some q) × (q.number ≡ n) × (pair_of store n ≡ Some q)
@@ -183,4 +183,4 @@ module _ {K V S H : Type 0} (eq : K → K → Bool) (input : K → List (List �
         let own = call_asks r.machine (ShowPair n) e in
         let (removal, is, number) = showing r.machine.call.made r.machine.call.hash n r.machine.call.state own.1 in
         subst (λ i. (q : Stored K V) × (map_in eq s.store k ≡ Some q) × (q.number ≡ i) × (pair_of store i ≡ Some q)) number
-        (pair_shown store r.machine.call r.machine.number r.machine.helped r.key r.value removal (at_once (Showing removal) own.0 is))
+        (pair_shown store r.machine.call r.machine.number r.machine.helped r.key r.value removal (fast_path (Showing removal) own.0 is))

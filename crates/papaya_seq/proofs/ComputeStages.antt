@@ -14,8 +14,8 @@ use Rattle.papaya_ask.specs.declared.ask.At.TheVariants.{Next, Slot}
 use Rattle.papaya_ask.specs.declared.call.Reply.TheVariants.{Removed}
 use Rattle.papaya_ask.specs.declared.call.Task.TheVariants.{Compute}
 use Rattle.papaya_ask.specs.declared.search.Search.TheVariants.{Sizing, Looking, Reading, Comparing}
-use Rattle.papaya_ask.specs.declared.search.Seen.{Seen}
-use Rattle.papaya_ask.specs.declared.search.Seen.TheVariants as seen
+use Rattle.papaya_ask.specs.declared.search.Probed.{Probed}
+use Rattle.papaya_ask.specs.declared.search.Probed.TheVariants as seen
 use Rattle.papaya_call.specs.declared.compute.Choice.{Choice}
 use Rattle.papaya_call.specs.declared.compute.Choice.TheVariants.{Replace as To_replace, Remove as To_remove}
 use Rattle.papaya_call.specs.declared.compute.Gap.TheVariants.{NoRoot}
@@ -23,7 +23,7 @@ use Rattle.papaya_call.specs.declared.compute.Purpose.{Purpose}
 use Rattle.papaya_call.specs.declared.compute.Purpose.TheVariants.{Fill, Replace, Again}
 use Rattle.papaya_call.specs.declared.machine.Machine.{Machine as Call_machine}
 use Rattle.papaya_call.specs.declared.machine.State.{State}
-use Rattle.papaya_call.specs.declared.machine.State.TheVariants.{AtRoot, Searching, Offering, Showing, Pairing, Putting, Burying, Counting, Uncounting, Leaving, Growing, Ended}
+use Rattle.papaya_call.specs.declared.machine.State.TheVariants.{AtRoot, Searching, Offering, Showing, Pairing, Putting, Deleting, Counting, Uncounting, Leaving, Growing, Ended}
 use Rattle.papaya_call.specs.Write.{claimed_by}
 use Rattle.papaya_call.specs.declared.made.Made.{Made}
 use Rattle.papaya_call.specs.Answers.{Says}
@@ -37,11 +37,11 @@ use Rattle.papaya_chain.specs.declared.ask.Answer.TheVariants as answers
 use Rattle.papaya_chain.specs.declared.machine.Machine.{Machine}
 use Rattle.papaya_chain.specs.declared.machine.Phase.TheVariants.{Calling}
 use Rattle.papaya_chain.specs.Machine.{after, ask_of}
-use Rattle.papaya_chain_rests.specs.Rests.{left_by}
-use Rattle.papaya_rests.specs.Alone.{IsRead}
-use Rattle.papaya_rests.specs.Says.{Inserts, Makes, Removes, Said, StandsOn, said_to_choose, said_to_fill}
-use Rattle.papaya_rests.proofs.AloneSteps.{exchange_done}
-use Rattle.papaya_rests.proofs.Makings.{numbered_leads, paired_leads}
+use Rattle.papaya_chain_law.specs.Relies.{left_by}
+use Rattle.papaya_call_law.specs.Alone.{IsRead}
+use Rattle.papaya_call_law.specs.Says.{Inserts, Makes, Removes, Said, StandsOn, said_to_choose, said_to_fill}
+use Rattle.papaya_call_law.proofs.AloneSteps.{exchange_done}
+use Rattle.papaya_call_law.proofs.Makings.{numbered_leads, paired_leads}
 use Rattle.papaya_store.specs.Asks.{PerformsAsk}
 use Rattle.papaya_store.specs.Performs.{Performs, own_key, same as compares, size_of}
 use Rattle.papaya_store.specs.Store.{StoreState, pair_of}
@@ -74,7 +74,7 @@ IsInRoot root (Showing removal) = Unit {0}
 IsInRoot root _ = ⊥
 
 -- what its search saw there leads on
-goes_in : (root : ℕ) (mode : ResizeMode) (saw : Seen) → IsSeenIn (λ word. IsSettledKind (kind_of word)) root saw → IsInRoot root (goes_as Compute mode nothing saw)
+goes_in : (root : ℕ) (mode : ResizeMode) (saw : Probed) → IsSeenIn (λ word. IsSettledKind (kind_of word)) root saw → IsInRoot root (goes_as Compute mode nothing saw)
 goes_in root mode (seen.On search) there = there
 goes_in root mode (seen.Empty place) there = tt
 goes_in root mode (seen.Here place word) (there, settled, uncopied) = subst (λ kind. IsInRoot root (computes kind nothing place word)) (sym (settled_live (kind_of word) settled uncopied)) tt
@@ -133,7 +133,7 @@ IsReplacing _ = ⊥
 
 -- or it would have that one removed
 abbrev pub IsRemoving : State → Type 0
-IsRemoving (Burying removal) = Unit {0}
+IsRemoving (Deleting removal) = Unit {0}
 IsRemoving (Uncounting n) = Unit {0}
 IsRemoving (Ended (Removed n)) = Unit {0}
 IsRemoving _ = ⊥
@@ -155,18 +155,18 @@ module _ {K V S A : Type 0} (eq : K → K → Bool) (says : Says K V A) (store :
   compute_at made state = record m { task = Compute; made = made; state = state }
 
   -- the pair that is made of its value leads to the exchange
-  pairing_stays : (made : Made) (purpose : Purpose) (told : Call_answer) → IsReplacing (Pairing purpose) → IsReplacing (calls.after (compute_at made (Pairing purpose)) told).state
-  pairing_stays made (Fill gap) told there = absurd there
-  pairing_stays made (Again write) told there = absurd there
-  pairing_stays made (Replace write) (Word_read count) there = numbered_leads IsReplacing tt (Pairing (Replace write)) there (number_told made count)
-  pairing_stays made (Replace write) (Found_instead count) there = numbered_leads IsReplacing tt (Pairing (Replace write)) there (number_told made count)
-  pairing_stays made (Replace write) (Made_number n) there = paired_leads IsReplacing (Replace write) n there there (grown made write.old)
-  pairing_stays made (Replace write) (Was_refused refused) there = tt
-  pairing_stays made (Replace write) told there = there
+  pairing_stable : (made : Made) (purpose : Purpose) (told : Call_answer) → IsReplacing (Pairing purpose) → IsReplacing (calls.after (compute_at made (Pairing purpose)) told).state
+  pairing_stable made (Fill gap) told there = absurd there
+  pairing_stable made (Again write) told there = absurd there
+  pairing_stable made (Replace write) (Word_read count) there = numbered_leads IsReplacing tt (Pairing (Replace write)) there (number_told made count)
+  pairing_stable made (Replace write) (Found_instead count) there = numbered_leads IsReplacing tt (Pairing (Replace write)) there (number_told made count)
+  pairing_stable made (Replace write) (Made_number n) there = paired_leads IsReplacing (Replace write) n there there (grown made write.old)
+  pairing_stable made (Replace write) (Was_refused refused) there = tt
+  pairing_stable made (Replace write) told there = there
 
   -- which isn't lost
   pub replacing_stays : (made : Made) (state : State) (told : Call_answer) → IsReplacing state → IsRead (word_at store.words) state → Performs eq says false (asks made m.hash state) store r told store' later → IsReplacing (calls.after (compute_at made state) told).state
-  replacing_stays made (Pairing purpose) told there read performs = pairing_stays made purpose told there
+  replacing_stays made (Pairing purpose) told there read performs = pairing_stable made purpose told there
   replacing_stays made (Putting put) told there read (exchanges, stays) =
       let done = exchange_done _ _ (word_at store.words (Slot put.write.place.table put.write.place.probe.i)) put.write.old read exchanges in
       subst (λ a. IsReplacing (calls.after (compute_at made (Putting put)) a).state) (sym done.0)
@@ -174,11 +174,11 @@ module _ {K V S A : Type 0} (eq : K → K → Bool) (says : Says K V A) (store :
   replacing_stays made (Ended reply) told there read (e, (same, stays)) = subst (λ a. IsReplacing (calls.after (compute_at made (Ended reply)) a).state) (sym e) tt
   replacing_stays made state told there read performs = absurd there
 
-  -- nor is that of a burial
+  -- nor is that of a deletion
   pub removing_stays : (made : Made) (state : State) (told : Call_answer) → IsRemoving state → IsRead (word_at store.words) state → Performs eq says false (asks made m.hash state) store r told store' later → IsRemoving (calls.after (compute_at made state) told).state
-  removing_stays made (Burying removal) told there read (exchanges, stays) =
+  removing_stays made (Deleting removal) told there read (exchanges, stays) =
       let done = exchange_done _ _ (word_at store.words (Slot removal.place.table removal.place.probe.i)) removal.word read exchanges in
-      subst (λ a. IsRemoving (calls.after (compute_at made (Burying removal)) a).state) (sym done.0) tt
+      subst (λ a. IsRemoving (calls.after (compute_at made (Deleting removal)) a).state) (sym done.0) tt
   removing_stays made (Uncounting n) told there read (e, added, stays) = subst (λ a. IsRemoving (calls.after (compute_at made (Uncounting n)) a).state) (sym e) tt
   removing_stays made (Ended reply) told there read (e, (same, stays)) = subst (λ a. IsRemoving (calls.after (compute_at made (Ended reply)) a).state) (sym e) there
   removing_stays made state told there read performs = absurd there

@@ -31,12 +31,12 @@ use Rattle.papaya_chain.specs.declared.ask.Answer.TheVariants as answers
 use Rattle.papaya_chain.specs.declared.machine.Machine.{Machine}
 use Rattle.papaya_chain.specs.declared.machine.Phase.TheVariants.{Calling}
 use Rattle.papaya_chain.specs.Machine.{IsFitAsk, IsStanding, after, ask_of}
-use Rattle.papaya_chain_rests.specs.Goes.{Goes, IsOwnStep}
-use Rattle.papaya_chain_rests.specs.Rests.{left_by}
-use Rattle.papaya_chain_rests.proofs.Once.{chain_once}
-use Rattle.papaya_rests.specs.Alone.{IsRead}
-use Rattle.papaya_rests.specs.Says.{Agrees, Inserts, IsSaidBy, Makes, Removes, Said, ShowsIn, StandsOn, WasSaid, said_in, said_in_reply, said_of_compute, said_to_choose, show}
-use Rattle.papaya_rests.proofs.SaysOver.{machine_paired}
+use Rattle.papaya_chain_law.specs.Goes.{Goes, IsOwnStep}
+use Rattle.papaya_chain_law.specs.Relies.{left_by}
+use Rattle.papaya_chain_law.proofs.Once.{chain_once}
+use Rattle.papaya_call_law.specs.Alone.{IsRead}
+use Rattle.papaya_call_law.specs.Says.{Agrees, Inserts, IsSaidBy, Makes, Removes, Said, ShowsIn, StandsOn, WasSaid, said_in, said_in_reply, said_of_compute, said_to_choose, show}
+use Rattle.papaya_call_law.proofs.SaysOver.{machine_paired}
 use Rattle.papaya_store.specs.Asks.{PerformsAsk}
 use Rattle.papaya_store.specs.Performs.{Performs, own_value}
 use Rattle.papaya_store.specs.Store.{KeepsPairs, StoreState, Stored}
@@ -59,7 +59,7 @@ use Rattle.papaya_seq.proofs.ComputeRun.{HasPair, IsAsked, IsComputing, IsDoing,
 use Rattle.papaya_seq.proofs.ComputeShown.{asking}
 use Rattle.papaya_seq.proofs.ComputeStages.{IsInRoot, IsRemoving, IsReplacing, IsYetToMake, bare_at, bare_is, remembers_nothing, removing_stands, removing_stays, replacing_stands, replacing_stays, root_stays}
 use Rattle.papaya_seq.proofs.Logs.{IsFirst}
-use Rattle.papaya_seq.proofs.OwnSteps.{own_performs, own_step}
+use Rattle.papaya_seq.proofs.StepsOfOwn.{own_performs, own_step}
 use Rattle.papaya_seq.proofs.Steps.{HasCome, came_more, made_goes, made_more, made_nears, made_ordered, made_says, seated}
 use Rattle.papaya_seq.proofs.KeyCalls.{keyed_compute}
 use Rattle.papaya_seq.proofs.Unmarked.{last_next, unmarked}
@@ -99,8 +99,8 @@ module _ {K V S A : Type 0} (eq : K → K → Bool) (hash : S → K → ℕ) (s 
     -- the logs keep their pairs
     keeps : KeepsPairs store store'
     keeps =
-        let (es, (tales, kept)) = lawful_now.law in
-        (kept_steps.left eq (hash s.store.hasher) keys whatever hash false (seated store (Some (asking r)) s.mode s.initial) 0 (seated store' (Some (asking r)) s.mode s.initial) (asking r) answer (asking later) refl performs.0 (ap hash came.hasher) refl es tales lawful_now.core kept).logged
+        let (es, (call_traces, kept)) = lawful_now.law in
+        (kept_steps.left eq (hash s.store.hasher) keys whatever hash false (seated store (Some (asking r)) s.mode s.initial) 0 (seated store' (Some (asking r)) s.mode s.initial) (asking r) answer (asking later) refl performs.0 (ap hash came.hasher) refl es call_traces lawful_now.core kept).logged
 
     goes : Goes r.machine answer
     goes = made_goes eq hash s (keyed_compute k) store (asking r) answer store' (asking later) going performs.0 same keys came
@@ -139,8 +139,8 @@ module _ {K V S A : Type 0} (eq : K → K → Bool) (hash : S → K → ℕ) (s 
     -- the pair that was made has the value
     pair_made : (v : V) → own_value store r ≡ Some v → (own : IsOwnStep r.machine answer) (shown : Option ℕ) (n : ℕ) → IsSaidBy r.machine.call own.told (Makes shown n) → HasPair v store' n
     pair_made v has own shown n (was, makes, told) =
-        let (es, (tales, kept)) = lawful_now.law in
-        let made = kept_steps.made_now eq (hash s.store.hasher) keys whatever hash false (seated store (Some (asking r)) s.mode s.initial) 0 (seated store' (Some (asking r)) s.mode s.initial) (asking r) answer (asking later) refl performs.0 (ap hash came.hasher) refl es tales lawful_now.core kept n
+        let (es, (call_traces, kept)) = lawful_now.law in
+        let made = kept_steps.made_now eq (hash s.store.hasher) keys whatever hash false (seated store (Some (asking r)) s.mode s.initial) 0 (seated store' (Some (asking r)) s.mode s.initial) (asking r) answer (asking later) refl performs.0 (ap hash came.hasher) refl es call_traces lawful_now.core kept n
         (subst MakesOver (sym (asks_own r.machine own.phase)) makes) (own.is ∙ ap answers.Call told) in
         let both : Some v ≡ Some made.pair.value = sym has ∙ made.before in
         let value : v ≡ made.pair.value = cc both in
@@ -149,8 +149,8 @@ module _ {K V S A : Type 0} (eq : K → K → Bool) (hash : S → K → ℕ) (s 
     -- and so has the call still
     value_kept : (v : V) → own_value store r ≡ Some v → own_value store' later ≡ Some v
     value_kept v has =
-        let (es, (tales, kept)) = lawful_now.law in
-        elim (kept_steps.left eq (hash s.store.hasher) keys whatever hash false (seated store (Some (asking r)) s.mode s.initial) 0 (seated store' (Some (asking r)) s.mode s.initial) (asking r) answer (asking later) refl performs.0 (ap hash came.hasher) refl es tales lawful_now.core kept).value [
+        let (es, (call_traces, kept)) = lawful_now.law in
+        elim (kept_steps.left eq (hash s.store.hasher) keys whatever hash false (seated store (Some (asking r)) s.mode s.initial) 0 (seated store' (Some (asking r)) s.mode s.initial) (asking r) answer (asking later) refl performs.0 (ap hash came.hasher) refl es call_traces lawful_now.core kept).value [
           | inl keeps ↦ keeps.same v has
           | inr said ↦ elim said.shown [
             | inl none ↦ absurd (no_none none)

@@ -8,7 +8,7 @@ use Rattle.papaya_chain.specs.declared.ask.Ask.{Ask}
 use Rattle.papaya_chain.specs.declared.ask.Ask.TheVariants as asks
 use Rattle.papaya_chain.specs.declared.machine.Machine.{Machine}
 use Rattle.papaya_chain.specs.Machine.{after, ask_of}
-use Rattle.papaya_chain_rests.proofs.Standing.{chain_ask_fits, chain_stands}
+use Rattle.papaya_chain_law.proofs.Standing.{chain_ask_fits, chain_stands}
 use Rattle.papaya_store.specs.Asks.{PerformsAsk}
 use Rattle.papaya_store.specs.Store.{StoreState}
 use Rattle.papaya_store.specs.declared.pairs.Running.{Running}

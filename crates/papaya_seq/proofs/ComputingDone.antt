@@ -24,7 +24,7 @@ use Rattle.papaya_chain.specs.declared.ask.Answer.{Answer}
 use Rattle.papaya_chain.specs.declared.ask.Answer.TheVariants as answers
 use Rattle.papaya_chain.specs.declared.ask.Ask.TheVariants as asks
 use Rattle.papaya_chain.specs.Machine.{IsStanding, after, ask_of}
-use Rattle.papaya_chain_rests.proofs.Standing.{chain_stands}
+use Rattle.papaya_chain_law.proofs.Standing.{chain_stands}
 use Rattle.papaya_keys.specs.Hashes.{hash_of}
 use Rattle.papaya_keys.specs.declared.compute.Computed.{Computed}
 use Rattle.papaya_store.specs.declared.pairs.Part.{Part}
@@ -47,7 +47,7 @@ use Rattle.papaya_seq.specs.Searches.{IsRootTurn}
 use Rattle.papaya_seq.specs.declared.search.Turn.{Turn}
 use Rattle.papaya_seq.specs.declared.search.Turn.TheVariants as turns
 use Rattle.papaya_seq.proofs.Alone.{map_answered, map_hasher, map_lawful, map_logged}
-use Rattle.papaya_seq.proofs.AtOnce.{call_answers, comes_drives}
+use Rattle.papaya_seq.proofs.FastPath.{call_answers, comes_drives}
 use Rattle.papaya_seq.proofs.ComputeAsked.{none_held, none_went, pair_held, pair_went}
 use Rattle.papaya_seq.proofs.ComputeReply.{over_computes, over_replies, over_shown}
 use Rattle.papaya_seq.proofs.ComputeRun.{IsComputing, computing_begin}

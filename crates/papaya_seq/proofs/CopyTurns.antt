@@ -11,7 +11,7 @@ use Rattle.papaya_ask.specs.declared.copy_ask.CopyAsk.{CopyAsk}
 use Rattle.papaya_ask.specs.declared.copy_ask.CopyAsk.TheVariants.{Exchange, WriteHint}
 use Rattle.papaya_ask.specs.declared.search.Place.{Place}
 use Rattle.papaya_ask.specs.declared.search.Search.TheVariants as searches
-use Rattle.papaya_ask.specs.declared.search.Seen.TheVariants as seen
+use Rattle.papaya_ask.specs.declared.search.Probed.TheVariants as seen
 use Rattle.papaya_ask.specs.Search as search_specs
 use Rattle.papaya_ask.specs.Search.{first_place, next_place}
 use Rattle.papaya_copy.specs.Carry as carries
@@ -195,10 +195,10 @@ module _ {K V S : Type 0} (eq : K → K → Bool) (hash : S → K → ℕ) where
 
 -- the next slot of a chunk, or none
 pub next_slots : (chunk : Chunk) → chunk.at + 1 < chunk.end → next_in (next_slot chunk) ≡ stepped.On (Settling (next_slot chunk) settles.Looking)
-next_slots chunk more = ap (λ b. cond b (stepped.On (Settling (next_slot chunk) settles.Looking)) (stepped.On (Advancing chunk.scan))) (lt-ltb (chunk.at + 1) chunk.end more)
+next_slots chunk more = ap (λ b. cond b (stepped.On (Settling (next_slot chunk) settles.Looking)) (stepped.On (Advancing chunk.cursor))) (lt-ltb (chunk.at + 1) chunk.end more)
 
-pub last_slot : (chunk : Chunk) → chunk.end ≤ chunk.at + 1 → next_in (next_slot chunk) ≡ stepped.On (Advancing chunk.scan)
-last_slot chunk none = ap (λ b. cond b (stepped.On (Settling (next_slot chunk) settles.Looking)) (stepped.On (Advancing chunk.scan))) (le-ltb (chunk.at + 1) chunk.end none)
+pub last_slot : (chunk : Chunk) → chunk.end ≤ chunk.at + 1 → next_in (next_slot chunk) ≡ stepped.On (Advancing chunk.cursor)
+last_slot chunk none = ap (λ b. cond b (stepped.On (Settling (next_slot chunk) settles.Looking)) (stepped.On (Advancing chunk.cursor))) (le-ltb (chunk.at + 1) chunk.end none)
 
 -- a call that copies asks just that
 pub copy_asked : (ask : Ask) (copy : CopyAsk) → copy_in ask ≡ Some copy → ask ≡ asks.Copy copy

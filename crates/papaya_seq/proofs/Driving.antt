@@ -8,7 +8,7 @@ use Rattle.papaya_ask.specs.declared.call.Task.{Task}
 use Rattle.papaya_ask.specs.declared.call.Task.TheVariants.{Get, Insert, RemoveIf, Compute}
 use Rattle.papaya_call.specs.declared.machine.Machine.{Machine as Call_machine}
 use Rattle.papaya_call.specs.declared.machine.State.{State}
-use Rattle.papaya_call.specs.declared.machine.State.TheVariants.{AtRoot, Making, Opening, Searching, Writing, Offering, Showing, Pairing, Putting, Burying, Counting, Noting, Uncounting, Leaving, Growing, Ended}
+use Rattle.papaya_call.specs.declared.machine.State.TheVariants.{AtRoot, Making, Opening, Searching, Writing, Offering, Showing, Pairing, Putting, Deleting, Counting, Noting, Uncounting, Leaving, Growing, Ended}
 use Rattle.papaya_call.specs.declared.need.Need.{Need}
 use Rattle.papaya_call.specs.Machine.{after}
 use Rattle.papaya_chain.specs.declared.ask.Ask.TheVariants as chain_asks
@@ -37,7 +37,7 @@ last_left n m (Insert replace) word none = ap (λ b. cond b (chain.stepped (call
 last_left n m RemoveIf word none = ap (λ b. cond b (chain.stepped (calling_by n m) (Word_read word)) (chain.onward (calling_by n m) word)) (ap (λ x. x == 0) none)
 last_left n m Compute word none = ap (λ b. cond b (chain.stepped (calling_by n m) (Word_read word)) (chain.onward (calling_by n m) word)) (ap (λ x. x == 0) none)
 
--- a call goes on for itself that needs no further table, and is told of none
+-- a call goes on for itself that needs no next table, and is told of none
 pub goes_itself : (n : ℕ) (m : Call_machine) (answer : Answer) → ((need : Need) → m.state ≡ Growing need → ⊥) → ((t : ℕ) → m.state ≡ Leaving t → (m.task ≡ Get) ⊎ (answer ≡ Word_read 0)) → chain.after (calling_by n m) (answers.Call answer) ≡ calling_by n (after m answer)
 goes_itself n m (Word_read word) grows leaves = by_state m.state refl
   where
@@ -57,7 +57,7 @@ goes_itself n m (Word_read word) grows leaves = by_state m.state refl
     by_state (Showing removal) e = ap (λ s. chain.told_next (calling_by n m) s word) e
     by_state (Pairing purpose) e = ap (λ s. chain.told_next (calling_by n m) s word) e
     by_state (Putting given) e = ap (λ s. chain.told_next (calling_by n m) s word) e
-    by_state (Burying removal) e = ap (λ s. chain.told_next (calling_by n m) s word) e
+    by_state (Deleting removal) e = ap (λ s. chain.told_next (calling_by n m) s word) e
     by_state (Counting claimed) e = ap (λ s. chain.told_next (calling_by n m) s word) e
     by_state (Noting claimed) e = ap (λ s. chain.told_next (calling_by n m) s word) e
     by_state (Uncounting gone) e = ap (λ s. chain.told_next (calling_by n m) s word) e

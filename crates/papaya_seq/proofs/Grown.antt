@@ -1,4 +1,4 @@
--- What an answered ask leaves of the log of pairs and of the shards of the count: an insertion logs one pair at most.
+-- What an answered ask leaves of the arena of pairs and of the shards of the count: an insertion logs one pair at most.
 use Rattle.std.proofs.Common.{◌≡◌, inl, inr, ℕ, ◌+◌, ◌≤◌, ◌==◌, length, ◌∙◌, ap, arith, Bool}
 use Rattle.std.proofs.lemmas.List.{length_push}
 use Rattle.papaya_ask.specs.declared.ask.Answer.{Answer as Call_answer}
@@ -9,7 +9,7 @@ use Rattle.papaya_ask.specs.declared.copy_ask.CopyAsk.TheVariants as copies
 use Rattle.papaya_call.specs.Answers.{Says}
 use Rattle.papaya_store.specs.declared.pairs.Running.{Running}
 use Rattle.papaya_store.specs.Copies.{PerformsCopy}
-use Rattle.papaya_rests.specs.Says.{MakesPair}
+use Rattle.papaya_call_law.specs.Says.{MakesPair}
 use Rattle.papaya_store.specs.Pairs.{pair_with}
 use Rattle.papaya_store.specs.Performs.{Performs}
 use Rattle.papaya_store.specs.Store.{StoreState}
@@ -25,7 +25,7 @@ IsPlain (MakePairOf n) = ⊥
 IsPlain ask = Unit {0}
 
 module _ {K V S : Type 0} where
-  -- the log of pairs and the shards stay
+  -- the arena of pairs and the shards stay
   abbrev pub SamePairs : StoreState K V S → StoreState K V S → Type 0
   SamePairs s s' = (s'.pairs ≡ s.pairs) × (s'.count.shards ≡ s.count.shards)
 

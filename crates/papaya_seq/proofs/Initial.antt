@@ -25,7 +25,7 @@ use Rattle.papaya_chain.specs.declared.machine.Phase.{Phase}
 use Rattle.papaya_chain.specs.declared.machine.Phase.TheVariants.{Calling, Linking, Copying as Copying_root}
 use Rattle.papaya_chain.specs.Machine as machine
 use Rattle.papaya_chain.specs.Machine.{after, after_in, answered, called, copying_after, goes_on, grows_as, leaves, link_after, onward, stepped, told_next}
-use Rattle.papaya_chain.proofs.Settings.{settings_stay}
+use Rattle.papaya_chain.proofs.Settings.{settings_stable}
 
 module _ (m : Machine) where
   -- the same initial capacity
@@ -33,7 +33,7 @@ module _ (m : Machine) where
   Alike m' = m'.call.initial ≡ m.call.initial
 
   stepped_initial : (told : Call_answer) → Alike (stepped m told)
-  stepped_initial told = (settings_stay m.call told).1
+  stepped_initial told = (settings_stable m.call told).1
 
   goes_initial : (helped : Bool) (aim : Aim) (next : ℕ) → Alike (goes_on m helped aim next)
   goes_initial false aim next = refl
@@ -73,7 +73,7 @@ module _ (m : Machine) where
   copied_initial : (end : Copied) → Alike (machine.after_copied m end)
   copied_initial (copied.On copying) = refl
   copied_initial (copied.Search table) = refl
-  copied_initial (copied.Root root) = (settings_stay (record m.call { state = AtRoot }) (Word_read root)).1
+  copied_initial (copied.Root root) = (settings_stable (record m.call { state = AtRoot }) (Word_read root)).1
   copied_initial copied.Chunk = refl
   copied_initial (copied.Refused refused) = refl
 

@@ -13,8 +13,8 @@ use Rattle.papaya_ask.specs.declared.call.Task.TheVariants.{Insert}
 use Rattle.papaya_ask.specs.declared.search.Place.{Place}
 use Rattle.papaya_ask.specs.declared.search.Search.{Search}
 use Rattle.papaya_ask.specs.declared.search.Search.TheVariants.{Sizing, Looking, Reading, Comparing}
-use Rattle.papaya_ask.specs.declared.search.Seen.{Seen}
-use Rattle.papaya_ask.specs.declared.search.Seen.TheVariants as seen
+use Rattle.papaya_ask.specs.declared.search.Probed.{Probed}
+use Rattle.papaya_ask.specs.declared.search.Probed.TheVariants as seen
 use Rattle.papaya_ask.specs.Search.{at_word as search_loaded, at_yes as search_compared}
 use Rattle.papaya_call.specs.declared.compute.Remembered.{Remembered}
 use Rattle.papaya_call.specs.declared.machine.Machine.{Machine}
@@ -25,7 +25,7 @@ use Rattle.papaya_call.specs.declared.made.Made.{Made}
 use Rattle.papaya_call.specs.declared.write.Write.{Write}
 use Rattle.papaya_call.specs.Made.{told as told_made}
 use Rattle.papaya_call.specs.Write.{claimed_by, serves}
-use Rattle.papaya_rests.proofs.Makings.{exchanged_leads, numbered_leads, refuses_leads, told_leads, write_then, write_then_is}
+use Rattle.papaya_call_law.proofs.Makings.{exchanged_leads, numbered_leads, refuses_leads, told_leads, write_then, write_then_is}
 use Rattle.papaya_call.specs.Machine.{after, found, goes_as, needed, occupies, replaces}
 use Rattle.papaya_alone.specs.Rank.{table_of}
 use Rattle.papaya_seq.proofs.TableSearch.{IsSeenIn, MayCompare, compared_in, loaded_in, sized_in}
@@ -64,7 +64,7 @@ module _ (t : ℕ) where
   replaces_in kinds.Live at word is = is
   replaces_in kinds.Marked at word is = is
   replaces_in kinds.Copied at word is = is
-  replaces_in kinds.Buried at word is = is
+  replaces_in kinds.Tombstone at word is = is
   replaces_in kinds.Closed at word is = is
 
   occupies_in : (kind : Kind) (at : Place) (word : ℕ) → at.table ≡ t → IsIn t (occupies kind at word)
@@ -72,7 +72,7 @@ module _ (t : ℕ) where
   occupies_in kinds.Live at word is = tt
   occupies_in kinds.Marked at word is = is
   occupies_in kinds.Copied at word is = is
-  occupies_in kinds.Buried at word is = is
+  occupies_in kinds.Tombstone at word is = is
   occupies_in kinds.Closed at word is = is
 
   found_in : (replace : Bool) (held : Remembered) (at : Place) (word : ℕ) → at.table ≡ t → IsIn t (found (Insert replace) held at word)
@@ -80,7 +80,7 @@ module _ (t : ℕ) where
   found_in false held at word is = occupies_in (kind_of word) at word is
 
   -- what an insertion's search saw leads here
-  goes_in : (replace : Bool) (mode : ResizeMode) (held : Remembered) (saw : Seen) → IsSeenIn Anything t saw → IsIn t (goes_as (Insert replace) mode held saw)
+  goes_in : (replace : Bool) (mode : ResizeMode) (held : Remembered) (saw : Probed) → IsSeenIn Anything t saw → IsIn t (goes_as (Insert replace) mode held saw)
   goes_in replace mode held (seen.On search) is = is.0
   goes_in replace mode held (seen.Here at word) is = found_in replace held at word is.0
   goes_in replace mode held (seen.Empty at) is = is

@@ -14,7 +14,7 @@ use Rattle.papaya_chain.specs.declared.ask.Ask.TheVariants as asks
 use Rattle.papaya_chain.specs.declared.machine.Machine.{Machine}
 use Rattle.papaya_chain.specs.Machine as chain
 use Rattle.papaya_chain.specs.Machine.{IsStanding, after, ask_of}
-use Rattle.papaya_chain_rests.proofs.Standing.{chain_stands}
+use Rattle.papaya_chain_law.proofs.Standing.{chain_stands}
 use Rattle.papaya_keys.specs.Hashes.{hash_of}
 use Rattle.papaya_store.specs.declared.pairs.Part.TheVariants.{Own}
 use Rattle.papaya_store.specs.declared.pairs.Running.{Running}
@@ -25,7 +25,7 @@ use Rattle.papaya_timeline.proofs.KeptSettings.{IsLawfulKeys}
 use Rattle.papaya_seq.specs.Drives.{Drives, IsLedTo, IsOfStore, IsReplied, at_hand, value_left}
 use Rattle.papaya_seq.specs.MadeAlone.{IsMadeAlone}
 use Rattle.papaya_seq.specs.Map.{IsLawfulMap, IsTryCause, IsWriteCauseAt, KeepsAndGrows, LogsOne, MapState, insertion}
-use Rattle.papaya_seq.proofs.AtOnce.{call_answers, comes_drives, under_way_by}
+use Rattle.papaya_seq.proofs.FastPath.{call_answers, comes_drives, under_way_by}
 use Rattle.papaya_seq.proofs.Alone.{map_answered, map_hasher, map_lawful, map_logged}
 use Rattle.papaya_seq.proofs.InsertingRun.{inserting_absent, inserting_alone, inserting_begin, inserting_cause, inserting_fit, inserting_left, inserting_more, inserting_tables, IsInserting}
 use Rattle.papaya_seq.proofs.Turns.{IsOver}
@@ -63,7 +63,7 @@ module _ {K V S : Type 0} (eq : K → K → Bool) (hash : S → K → ℕ) (s : 
     silence = refl;
     standing = now.standing;
     hand = now.hand;
-    resting = now.resting;
+    relying = now.relying;
     unlogged = now.unlogged;
     served = now.served;
     logs = now.logs;

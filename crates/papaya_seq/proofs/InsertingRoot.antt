@@ -10,7 +10,7 @@ use Rattle.papaya_ask.specs.declared.call.Task.TheVariants.{Insert}
 use Rattle.papaya_ask.specs.declared.search.Search.TheVariants.{Sizing}
 use Rattle.papaya_call.specs.declared.machine.Machine.{Machine as Call_machine}
 use Rattle.papaya_call.specs.declared.machine.State.{State}
-use Rattle.papaya_call.specs.declared.machine.State.TheVariants.{AtRoot, Making, Opening, Searching, Writing, Offering, Showing, Pairing, Putting, Burying, Counting, Noting, Uncounting, Leaving, Growing, Ended}
+use Rattle.papaya_call.specs.declared.machine.State.TheVariants.{AtRoot, Making, Opening, Searching, Writing, Offering, Showing, Pairing, Putting, Deleting, Counting, Noting, Uncounting, Leaving, Growing, Ended}
 use Rattle.papaya_call.specs.declared.need.Need.{Need}
 use Rattle.papaya_call.specs.declared.write.Claimed.{Claimed}
 use Rattle.papaya_call.specs.declared.made.Made.{Made}
@@ -24,11 +24,11 @@ use Rattle.papaya_chain.specs.declared.ask.Ask.TheVariants as asks
 use Rattle.papaya_chain.specs.declared.machine.Machine.{Machine}
 use Rattle.papaya_chain.specs.declared.machine.Phase.TheVariants.{Calling}
 use Rattle.papaya_chain.specs.Machine.{after, ask_of, asks_in}
-use Rattle.papaya_chain_rests.specs.Goes.{IsOwnStep}
-use Rattle.papaya_chain_rests.specs.Rests.{left_by}
-use Rattle.papaya_rests.specs.Alone.{IsRead}
-use Rattle.papaya_rests.specs.Rests.{change_in}
-use Rattle.papaya_rests.proofs.Makings.{write_holds}
+use Rattle.papaya_chain_law.specs.Goes.{IsOwnStep}
+use Rattle.papaya_chain_law.specs.Relies.{left_by}
+use Rattle.papaya_call_law.specs.Alone.{IsRead}
+use Rattle.papaya_call_law.specs.Relies.{change_in}
+use Rattle.papaya_call_law.proofs.Makings.{write_holds}
 use Rattle.papaya_alone.specs.Ahead.{IsPhaseRead}
 use Rattle.papaya_alone.specs.Rank.{table_of}
 use Rattle.papaya_store.specs.Asks.{PerformsAsk}
@@ -48,7 +48,7 @@ use Rattle.papaya_seq.proofs.Inserting.{HasWritten, IsIn, counts_on, notes_on, s
 use Rattle.papaya_seq.proofs.InsertingSteps.{search_stays, write_unbeaten}
 use Rattle.papaya_seq.proofs.KeyCalls.{KeyCall, keyed_insertion}
 use Rattle.papaya_seq.proofs.NoPlace as places
-use Rattle.papaya_seq.proofs.OwnSteps.{leaves_none, own_performs, own_step}
+use Rattle.papaya_seq.proofs.StepsOfOwn.{leaves_none, own_performs, own_step}
 use Rattle.papaya_seq.proofs.Steps.{HasCome, came_more, made_goes, made_unchanged, seated, stepped, still}
 
 -- a machine that asks for itself goes on, in these states
@@ -77,8 +77,8 @@ module _ {K V S : Type 0} (eq : K → K → Bool) (hash : S → K → ℕ) (s : 
     pub calling : m.phase ≡ Calling
     pub stage : IsRootStage store m.call.state
 
-  abbrev pub IsResting : StoreState K V S → Machine → Type 0
-  IsResting store m = (map_in eq s.store k ≡ None) ⊎ IsInRoot store m
+  abbrev pub IsRelying : StoreState K V S → Machine → Type 0
+  IsRelying store m = (map_in eq s.store k ≡ None) ⊎ IsInRoot store m
 
   -- what has written in the root is still there
   written_stage : (store : StoreState K V S) (state : State) → replace ≡ true → HasWritten state → ((refused : Refused) → state ≡ Ended (Reply_refused refused) → IsLogRefusal s refused) → IsRootStage store state
@@ -103,7 +103,7 @@ module _ {K V S : Type 0} (eq : K → K → Bool) (hash : S → K → ℕ) (s : 
   written_stage store (Showing removal) only written caused = absurd written
   written_stage store (Pairing purpose) only written caused = absurd written
   written_stage store (Putting put) only written caused = absurd written
-  written_stage store (Burying removal) only written caused = absurd written
+  written_stage store (Deleting removal) only written caused = absurd written
   written_stage store (Uncounting n) only written caused = absurd written
   written_stage store (Leaving t) only written caused = absurd written
   written_stage store (Growing need) only written caused = absurd written
@@ -148,9 +148,9 @@ module _ {K V S : Type 0} (eq : K → K → Bool) (hash : S → K → ℕ) (s : 
 
       rootless : r.machine.call.state ≡ AtRoot → store.words.root ≡ 0 → map_in eq s.store k ≡ None
       rootless state none =
-          let (es, (tales, kept)) = came.lawful.law in
-          let own = places.call eq (hash s.store.hasher) keys now_core came.lawful.core es tales kept 0 r goes in
-          was_absent (ap change_in state) own.key own.own (places.rootless_absent eq (hash s.store.hasher) keys now_core came.lawful.core es tales kept 0 r goes none)
+          let (es, (call_traces, kept)) = came.lawful.law in
+          let own = places.call eq (hash s.store.hasher) keys now_core came.lawful.core es call_traces kept 0 r goes in
+          was_absent (ap change_in state) own.key own.own (places.rootless_absent eq (hash s.store.hasher) keys now_core came.lawful.core es call_traces kept 0 r goes none)
 
       -- what a write looks for stands there
       has_read : (write : Write) → r.machine.phase ≡ Calling → r.machine.call.state ≡ Writing write → word_at store.words (Slot write.place.table write.place.probe.i) ≡ write.old
@@ -158,15 +158,15 @@ module _ {K V S : Type 0} (eq : K → K → Bool) (hash : S → K → ℕ) (s : 
 
       writes : (write : Write) → r.machine.call.task ≡ Insert false → r.machine.phase ≡ Calling → r.machine.call.state ≡ Writing write → write.place.table ≡ store.words.root → map_in eq s.store k ≡ None
       writes write task calling state here =
-          let (es, (tales, kept)) = came.lawful.law in
-          let own = places.call eq (hash s.store.hasher) keys now_core came.lawful.core es tales kept 0 r goes in
-          was_absent (ap change_in state) own.key own.own (places.writing_absent eq (hash s.store.hasher) keys now_core came.lawful.core es tales kept 0 r goes write task state here (has_read write calling state))
+          let (es, (call_traces, kept)) = came.lawful.law in
+          let own = places.call eq (hash s.store.hasher) keys now_core came.lawful.core es call_traces kept 0 r goes in
+          was_absent (ap change_in state) own.key own.own (places.writing_absent eq (hash s.store.hasher) keys now_core came.lawful.core es call_traces kept 0 r goes write task state here (has_read write calling state))
 
       grows : (need : Need) → r.machine.call.state ≡ Growing need → needed need ≡ store.words.root → next_of store ≡ 0 → map_in eq s.store k ≡ None
       grows need state here last =
-          let (es, (tales, kept)) = came.lawful.law in
-          let own = places.call eq (hash s.store.hasher) keys now_core came.lawful.core es tales kept 0 r goes in
-          was_absent (ap change_in state) own.key own.own (places.growing_absent eq (hash s.store.hasher) keys now_core came.lawful.core es tales kept 0 r goes last need state here)
+          let (es, (call_traces, kept)) = came.lawful.law in
+          let own = places.call eq (hash s.store.hasher) keys now_core came.lawful.core es call_traces kept 0 r goes in
+          was_absent (ap change_in state) own.key own.own (places.growing_absent eq (hash s.store.hasher) keys now_core came.lawful.core es call_traces kept 0 r goes last need state here)
 
     module _ (store : StoreState K V S) (r : Running K V (Unit {0})) (answer : Answer) (store' : StoreState K V S) (later : Running K V (Unit {0})) (going : reply_in (ask_of r.machine) ≡ None) (performs : PerformsAsk eq whatever hash false (ask_of r.machine) store r answer store' later) (same : later.machine ≡ r.machine) (came : HasCome eq hash s call store r) where
       abbrev next : Running K V (Unit {0})
@@ -193,11 +193,11 @@ module _ {K V S : Type 0} (eq : K → K → Bool) (hash : S → K → ℕ) (s : 
         led state e = ap (λ (y : Call_machine). y.state) own.call ∙ ap (λ x. (calls.after (record r.machine.call { state = x }) own.told).state) e
 
         -- a search of the root goes on there, or the key is absent
-        searched : (state : State) → next.machine.call.state ≡ state → store' ≡ store → next_of store ≡ 0 → IsIn store.words.root state → IsResting store' next.machine
+        searched : (state : State) → next.machine.call.state ≡ state → store' ≡ store → next_of store ≡ 0 → IsIn store.words.root state → IsRelying store' next.machine
         searched (Searching search) e stays last here = inr (record { calling = own.goes_on; stage = subst (IsRootStage store') (sym e) (here ∙ ap (λ (y : StoreState K V S). y.words.root) (sym stays), ap next_of stays ∙ last) })
         searched (Writing write) e stays last here = by_replace replace refl
           where
-            by_replace : (b : Bool) → replace ≡ b → IsResting store' next.machine
+            by_replace : (b : Bool) → replace ≡ b → IsRelying store' next.machine
             by_replace true is = inr (record { calling = own.goes_on; stage = subst (IsRootStage store') (sym e) is })
             by_replace false is = inl (writes store' next next_came (asking next.machine (Writing write) own.goes_on e ∙ writing_goes next.machine.call.made next.machine.call write) write (next_task ∙ ap Insert is) own.goes_on e (here ∙ ap (λ (y : StoreState K V S). y.words.root) (sym stays)))
         searched (Growing need) e stays last here = inl (grows store' next next_came (asking next.machine (Growing need) own.goes_on e) need e (here ∙ ap (λ (y : StoreState K V S). y.words.root) (sym stays)) (ap next_of stays ∙ last))
@@ -218,19 +218,19 @@ module _ {K V S : Type 0} (eq : K → K → Bool) (hash : S → K → ℕ) (s : 
         searched (Showing removal) e stays last here = absurd here
         searched (Pairing purpose) e stays last here = absurd here
         searched (Putting put) e stays last here = absurd here
-        searched (Burying removal) e stays last here = absurd here
+        searched (Deleting removal) e stays last here = absurd here
         searched (Counting n) e stays last here = absurd here
         searched (Noting n) e stays last here = absurd here
         searched (Uncounting n) e stays last here = absurd here
         searched (Leaving t) e stays last here = absurd here
 
         -- the root was loaded
-        rooted : (b : Bool) → (store.words.root == 0) ≡ b → r.machine.call.state ≡ AtRoot → next.machine.call.state ≡ cond b Making (Searching (Sizing store.words.root)) → store' ≡ store → next_of store ≡ 0 → IsResting store' next.machine
+        rooted : (b : Bool) → (store.words.root == 0) ≡ b → r.machine.call.state ≡ AtRoot → next.machine.call.state ≡ cond b Making (Searching (Sizing store.words.root)) → store' ≡ store → next_of store ≡ 0 → IsRelying store' next.machine
         rooted true none state e stays last = inl (rootless store r came going state (eqb-true store.words.root 0 none))
         rooted false some state e stays last = searched (Searching (Sizing store.words.root)) e stays last refl
 
         -- a write stays in the root
-        wrote : (state : State) → next.machine.call.state ≡ state → replace ≡ true → HasWritten state → ((refused : Refused) → state ≡ Ended (Reply_refused refused) → IsLogRefusal s refused) → IsResting store' next.machine
+        wrote : (state : State) → next.machine.call.state ≡ state → replace ≡ true → HasWritten state → ((refused : Refused) → state ≡ Ended (Reply_refused refused) → IsLogRefusal s refused) → IsRelying store' next.machine
         wrote state e only written refuses = inr (record { calling = own.goes_on; stage = subst (IsRootStage store') (sym e) (written_stage store' state only written refuses) })
 
       -- no other word stands where it writes
@@ -263,14 +263,14 @@ module _ {K V S : Type 0} (eq : K → K → Bool) (hash : S → K → ℕ) (s : 
       written_more (Showing removal) calling e written = absurd written
       written_more (Pairing purpose) calling e written = absurd written
       written_more (Putting put) calling e written = absurd written
-      written_more (Burying removal) calling e written = absurd written
+      written_more (Deleting removal) calling e written = absurd written
       written_more (Uncounting n) calling e written = absurd written
       written_more (Leaving t) calling e written = absurd written
       written_more (Growing need) calling e written = absurd written
 
       module _ (caused : (write : Write) → r.machine.phase ≡ Calling → r.machine.call.state ≡ Writing write → (refused : Refused) → reply_in (ask_of (after r.machine answer)) ≡ Some (Reply_refused refused) → IsLogRefusal s refused) where
         -- the call stays in the root, or the key is absent
-        in_root_more : (state : State) → r.machine.phase ≡ Calling → r.machine.call.state ≡ state → IsRootStage store state → IsResting store' next.machine
+        in_root_more : (state : State) → r.machine.phase ≡ Calling → r.machine.call.state ≡ state → IsRootStage store state → IsRelying store' next.machine
         in_root_more AtRoot calling e last =
             let unleft : left_by r.machine.call.state ≡ None = ap left_by e in
             let (is, (stays, kept)) = subst (λ x. Performs eq whatever false (calls.asks r.machine.call.made r.machine.call.hash x) store r (own calling unleft).told store' later) e (told_performs calling unleft) in
@@ -303,11 +303,11 @@ module _ {K V S : Type 0} (eq : K → K → Bool) (hash : S → K → ℕ) (s : 
         in_root_more (Showing removal) calling e stage = absurd stage
         in_root_more (Pairing purpose) calling e stage = absurd stage
         in_root_more (Putting put) calling e stage = absurd stage
-        in_root_more (Burying removal) calling e stage = absurd stage
+        in_root_more (Deleting removal) calling e stage = absurd stage
         in_root_more (Uncounting n) calling e stage = absurd stage
         in_root_more (Leaving t) calling e stage = absurd stage
         in_root_more (Growing need) calling e stage = absurd stage
 
-        pub resting_more : IsResting store r.machine → IsResting store' next.machine
-        resting_more (inl absent) = inl absent
-        resting_more (inr root) = in_root_more r.machine.call.state root.calling refl root.stage
+        pub relying_more : IsRelying store r.machine → IsRelying store' next.machine
+        relying_more (inl absent) = inl absent
+        relying_more (inr root) = in_root_more r.machine.call.state root.calling refl root.stage

@@ -25,11 +25,11 @@ use Rattle.papaya_chain.specs.declared.machine.Machine.{Machine}
 use Rattle.papaya_chain.specs.declared.machine.Phase.{Phase}
 use Rattle.papaya_chain.specs.declared.machine.Phase.TheVariants.{Calling, Linking, Copying as Copying_root}
 use Rattle.papaya_chain.specs.Machine.{IsFit, IsFitAsk, IsStanding, after, ask_of, asks_in, started}
-use Rattle.papaya_rests.specs.Says.{MakesPair}
-use Rattle.papaya_rests.proofs.Makings.{IsPairAsk}
-use Rattle.papaya_rests.proofs.RestsHeld.{ended_in}
-use Rattle.papaya_chain_rests.specs.Goes.{Goes}
-use Rattle.papaya_chain_rests.specs.Rests.{left_by}
+use Rattle.papaya_call_law.specs.Says.{MakesPair}
+use Rattle.papaya_call_law.proofs.Makings.{IsPairAsk}
+use Rattle.papaya_call_law.proofs.ReliesHeld.{ended_in}
+use Rattle.papaya_chain_law.specs.Goes.{Goes}
+use Rattle.papaya_chain_law.specs.Relies.{left_by}
 use Rattle.papaya_store.specs.Asks.{PerformsAsk}
 use Rattle.papaya_store.specs.Store.{StoreState}
 use Rattle.papaya_store.specs.declared.pairs.Part.{Part}
@@ -47,7 +47,7 @@ use Rattle.papaya_seq.proofs.Ending.{left_of}
 use Rattle.papaya_seq.proofs.Grown.{copy_pairs, insertion_logs, logs_none, logs_still}
 use Rattle.papaya_seq.proofs.Served.{IsServed, left_unmade, served_after, served_pairs, unmade_served}
 use Rattle.papaya_seq.proofs.Inserting.{HasWritten}
-use Rattle.papaya_seq.proofs.InsertingRoot.{IsResting, IsRootStage, resting_more, unbeaten, written_more}
+use Rattle.papaya_seq.proofs.InsertingRoot.{IsRelying, IsRootStage, relying_more, unbeaten, written_more}
 use Rattle.papaya_seq.proofs.InsertingSteps.{copy_stays, value_stays}
 use Rattle.papaya_seq.proofs.Steps.{HasCome, IsMade, came_nears, made_alone, made_goes, made_more, made_none, made_tables}
 use Rattle.papaya_seq.proofs.KeyCalls.{keyed_insertion}
@@ -68,7 +68,7 @@ module _ {K V S A : Type 0} (eq : K → K → Bool) (hash : S → K → ℕ) (s 
     pub silence : r.answers ≡ None
     pub standing : IsStanding r.machine
     pub hand : IsAtHand value r.machine r.value
-    pub resting : next_of s.store ≡ 0 → IsResting eq hash s replace k value store r.machine
+    pub relying : next_of s.store ≡ 0 → IsRelying eq hash s replace k value store r.machine
     pub unlogged : IsUnlogged eq hash s (keyed_insertion replace k value) store (answering None r)
     -- it makes one pair
     pub served : IsServed r.machine.call.made r.machine.call.state
@@ -112,7 +112,7 @@ module _ {K V S A : Type 0} (eq : K → K → Bool) (hash : S → K → ℕ) (s 
         silence = refl;
         standing = subst IsStanding machine standing;
         hand = inl refl;
-        resting = λ last. inr (record { calling = refl; stage = last });
+        relying = λ last. inr (record { calling = refl; stage = last });
         unlogged = unlogged_none eq hash s (keyed_insertion replace k value) number;
         served = (refl, refl);
         logs = logs_none s.store s.store (refl, refl);
@@ -219,7 +219,7 @@ module _ {K V S A : Type 0} (eq : K → K → Bool) (hash : S → K → ℕ) (s 
         silence = silent.1 ∙ now.silence;
         standing = standing;
         hand = hand_more now.hand;
-        resting = λ last. resting_more eq hash s replace k value keys lawful fits store (answering None r) answer store' (answering None later) going silent.0 same came log_refusal (now.resting last);
+        relying = λ last. relying_more eq hash s replace k value keys lawful fits store (answering None r) answer store' (answering None later) going silent.0 same came log_refusal (now.relying last);
         unlogged = unlogged_more eq hash s (keyed_insertion replace k value) store (answering None r) answer store' (answering None later) going silent.0 same keys came now.unlogged;
         served = served_more (made_goes eq hash s (keyed_insertion replace k value) store (answering None r) answer store' (answering None later) going silent.0 same keys came);
         logs = logs_more r.machine.phase performs;
@@ -253,13 +253,13 @@ module _ {K V S A : Type 0} (eq : K → K → Bool) (hash : S → K → ℕ) (s 
       -- Where no pairs are being moved, a refusal is of a log, and of a call that may replace, or the key is absent.
       refused_where : (refused : Refused) → reply ≡ Reply_refused refused → (((map_in eq s.store k ≡ None) ⊎ IsResizing s) ⊎ ((replace ≡ true) × IsLogRefusal s refused))
       refused_where refused is = elim (cases_eq (next_of s.store) 0) [
-        | inl last ↦ by_resting (now.resting last)
+        | inl last ↦ by_relying (now.relying last)
         | inr moves ↦ inl (inr moves)
       ]
         where
-          by_resting : IsResting eq hash s replace k value store r.machine → (((map_in eq s.store k ≡ None) ⊎ IsResizing s) ⊎ ((replace ≡ true) × IsLogRefusal s refused))
-          by_resting (inl absent) = inl (inl absent)
-          by_resting (inr root) = inr (subst (IsRootStage eq hash s replace k value store) (ended root.calling ∙ ap Ended is) root.stage)
+          by_relying : IsRelying eq hash s replace k value store r.machine → (((map_in eq s.store k ≡ None) ⊎ IsResizing s) ⊎ ((replace ≡ true) × IsLogRefusal s refused))
+          by_relying (inl absent) = inl (inl absent)
+          by_relying (inr root) = inr (subst (IsRootStage eq hash s replace k value store) (ended root.calling ∙ ap Ended is) root.stage)
 
       caused_end : (refused : Refused) → reply ≡ Reply_refused refused → IsWriteCause s refused (left_in s store)
       caused_end refused is = now.caused refused (sym (ap reply_in e) ∙ ap Some is)

@@ -9,7 +9,7 @@ use Rattle.papaya_ask.specs.declared.search.Search.TheVariants.{Sizing, Looking,
 use Rattle.papaya_ask.specs.Search.{ask_of as search_ask}
 use Rattle.papaya_call.specs.Answers.{Says}
 use Rattle.papaya_call.specs.declared.machine.State.{State}
-use Rattle.papaya_call.specs.declared.machine.State.TheVariants.{AtRoot, Making, Opening, Searching, Writing, Offering, Showing, Pairing, Putting, Burying, Counting, Noting, Uncounting, Leaving, Growing, Ended}
+use Rattle.papaya_call.specs.declared.machine.State.TheVariants.{AtRoot, Making, Opening, Searching, Writing, Offering, Showing, Pairing, Putting, Deleting, Counting, Noting, Uncounting, Leaving, Growing, Ended}
 use Rattle.papaya_call.specs.declared.made.Made.{Made}
 use Rattle.papaya_call.specs.declared.write.Write.{Write}
 use Rattle.papaya_call.specs.Machine.{IsStandingState, asks}
@@ -18,7 +18,7 @@ use Rattle.papaya_chain.specs.declared.ask.Answer.{Answer}
 use Rattle.papaya_chain.specs.declared.machine.Phase.{Phase}
 use Rattle.papaya_chain.specs.declared.machine.Phase.TheVariants.{Calling, Linking, Copying as Copying_root}
 use Rattle.papaya_chain.specs.Machine.{ask_of, asks_in}
-use Rattle.papaya_rests.proofs.AloneSteps.{exchange_done}
+use Rattle.papaya_call_law.proofs.AloneSteps.{exchange_done}
 use Rattle.papaya_store.specs.Asks.{PerformsAsk}
 use Rattle.papaya_store.specs.Performs.{Performs}
 use Rattle.papaya_store.specs.Store.{StoreState}
@@ -66,7 +66,7 @@ module _ {K V S A : Type 0} (eq : K → K → Bool) (says : Says K V A) (store :
     value_stays replace made hash (Showing removal) standing performs = absurd standing.0
     value_stays replace made hash (Pairing purpose) standing performs = absurd standing.0
     value_stays replace made hash (Putting put) standing performs = absurd standing.0
-    value_stays replace made hash (Burying removal) standing performs = absurd standing.0
+    value_stays replace made hash (Deleting removal) standing performs = absurd standing.0
     value_stays replace made hash (Counting n) standing (e, added, stays) = inr (ap (λ q. q.value) stays)
     value_stays replace made hash (Noting n) standing (e, added, stays) = inr (ap (λ q. q.value) stays)
     value_stays replace made hash (Uncounting n) standing performs = absurd standing

@@ -9,7 +9,7 @@ use Rattle.papaya_words.specs.Word.{kind_of, pair_of as number_of}
 use Rattle.papaya_store.specs.declared.mode.Mode.{Mode}
 use Rattle.papaya_words.specs.declared.word.Kind.{Kind}
 use Rattle.papaya_words.specs.declared.word.Kind.TheVariants as kinds
-use Rattle.papaya_rests.specs.Alone.{IsBare}
+use Rattle.papaya_call_law.specs.Alone.{IsBare}
 use Rattle.papaya_ask.specs.declared.ask.At.TheVariants.{Next, Root, Slot}
 use Rattle.papaya_law.specs.ChainContent.{missing_in, unless_found}
 use Rattle.papaya_law.specs.Content.{lookup}
@@ -101,7 +101,7 @@ module _ {K V S : Type 0} (store : StoreState K V S) where
   kind_logged kinds.Marked n = listed_logged n (pair_of store n) refl
   kind_logged kinds.Empty n = All-nil (λ p. pair_of store p.number ≡ Some p)
   kind_logged kinds.Copied n = All-nil (λ p. pair_of store p.number ≡ Some p)
-  kind_logged kinds.Buried n = All-nil (λ p. pair_of store p.number ≡ Some p)
+  kind_logged kinds.Tombstone n = All-nil (λ p. pair_of store p.number ≡ Some p)
   kind_logged kinds.Closed n = All-nil (λ p. pair_of store p.number ≡ Some p)
 
   slots_logged : (words : List ℕ) → AreLogged (pairs_of_slots store words)
@@ -109,7 +109,7 @@ module _ {K V S : Type 0} (store : StoreState K V S) where
   slots_logged (word ∷ words) = All-append (λ p. pair_of store p.number ≡ Some p) (pairs_of_kind store (kind_of word) (number_of word)) (pairs_of_slots store words) (kind_logged (kind_of word) (number_of word)) (slots_logged words)
 
   module _ (eq : K → K → Bool) where
-    -- the pairs of a further table whose keys were not found before
+    -- the pairs of a next table whose keys were not found before
     found_logged : (o : Option (Stored K V)) (q : Stored K V) → pair_of store q.number ≡ Some q → AreLogged (unless_found o q)
     found_logged None q logged = All-cons (λ p. pair_of store p.number ≡ Some p) q [] logged (All-nil (λ p. pair_of store p.number ≡ Some p))
     found_logged (Some p) q logged = All-nil (λ p. pair_of store p.number ≡ Some p)

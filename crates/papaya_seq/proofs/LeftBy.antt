@@ -36,7 +36,7 @@ module _ {K V A : Type 0} where
   same_left (Retain a) k keyed m m' same = let f : None ≡ Some k = keyed in absurd cc
   same_left Walk k keyed m m' same = same
 
-  -- a call that begins a visit begins no resize
+  -- a call that begins a scan begins no resize
   no_resize : (w : Work K V A) (z : Resizer) → resizer_in (Some w) ≡ None → w ≡ works.Resize z → ⊥
   no_resize w z none is = let f : None ≡ Some z = sym none ∙ ap (λ (x : Work K V A). resizer_in (Some x)) is in absurd cc
 

@@ -1,9 +1,9 @@
 pub mod Alone
 pub mod Answered
 pub mod Answering
-pub mod Burying
+pub mod Deleting
 pub mod CallsDone
-pub mod AtOnce
+pub mod FastPath
 pub mod CallLengths
 pub mod Causes
 pub mod ComputeAsked
@@ -13,7 +13,7 @@ pub mod ComputeRun
 pub mod ComputeShown
 pub mod ComputeStages
 pub mod ComputeSteps
-pub mod ComputedAtOnce
+pub mod ComputedFast
 pub mod ComputesDone
 pub mod ComputingCopies
 pub mod CopyTurns
@@ -44,7 +44,7 @@ pub mod LookTurns
 pub mod NoPlace
 pub mod Numbered
 pub mod Numbering
-pub mod OwnSteps
+pub mod StepsOfOwn
 pub mod PairWritten
 pub mod RemovalDone
 pub mod RemovalRefused

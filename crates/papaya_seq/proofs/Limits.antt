@@ -2,7 +2,7 @@
 use Rattle.std.proofs.Common.{◌≡◌, ℕ, ◌<◌, ◌≤◌, Bool, List, [], ◌∷◌, Some, MatchOption, subst, arith}
 use Rattle.papaya_ask.specs.declared.ask.At.TheVariants.{Made as Made_word}
 use Rattle.papaya_law.specs.Allows.{AllAllowed, Allows}
-use Rattle.papaya_law.specs.Exchange.{Exchange, Open, Claim, Replace, Bury, Link, Mark, Close, Place, Finish, Advance, Promote, Abort, Take, Setting, State, after, run, start}
+use Rattle.papaya_law.specs.Exchange.{Exchange, Open, Claim, Replace, Delete, Link, Mark, Close, Place, Finish, Advance, Promote, Abort, Take, Setting, State, after, run, start}
 use Rattle.papaya_store.specs.declared.mode.Mode.{Mode}
 use Rattle.papaya_store.specs.Store.{StoreState, Stored}
 use Rattle.papaya_timeline.specs.Kept.{IsLawfulCore, low, setting_of}
@@ -17,7 +17,7 @@ allowed_most {K} {P} g n is (e ∷ es) s le (may, all) = allowed_most g n is es 
     step (Open t) may = le
     step (Claim t x p) may = le
     step (Replace t x p q) may = le
-    step (Bury t x p) may = le
+    step (Delete t x p) may = le
     step (Link t u) may = le
     step (Mark t x p) may = le
     step (Close t x) may = le
@@ -31,7 +31,7 @@ allowed_most {K} {P} g n is (e ∷ es) s le (may, all) = allowed_most g n is es 
 -- so no more were taken than the limit says
 pub made_most : {K V S A : Type 0} (eq : K → K → Bool) (hash : K → ℕ) (callers : List (Seat K V A)) (mode : Mode) (store : StoreState K V S) → IsLawfulCore eq hash store callers mode → (n : ℕ) → mode.limit ≡ Some n → store.words.made ≤ n
 made_most {K} {V} eq hash callers mode store lawful n is =
-    let (es, (tales, kept)) = lawful.law in
+    let (es, (call_traces, kept)) = lawful.law in
     let g : Setting K (Stored K V) = setting_of eq (low hash) mode store.words.tables in
     let coded : (run es start).made ≡ store.words.made = kept.coded Made_word in
     let most : (run es start).made ≤ n = allowed_most g n is es start (omega arith) kept.allowed in

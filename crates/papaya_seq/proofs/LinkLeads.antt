@@ -30,10 +30,10 @@ use Rattle.papaya_chain.specs.declared.machine.Machine.{Machine}
 use Rattle.papaya_chain.specs.declared.machine.Phase.{Phase}
 use Rattle.papaya_chain.specs.declared.machine.Phase.TheVariants.{Calling, Linking, Copying as Copying_root}
 use Rattle.papaya_chain.specs.Machine.{after, after_copied, after_in, after_linked, copying_after, link_after, onward}
-use Rattle.papaya_rests.specs.Copier.{link_in_carry, link_in_copying, link_in_settle}
-use Rattle.papaya_chain_rests.specs.Goes.{link_in}
-use Rattle.papaya_chain_rests.proofs.LinkStates as states
-use Rattle.papaya_chain_rests.proofs.LinkStates.{In, IsStable, Linked_in, Of}
+use Rattle.papaya_call_law.specs.Copier.{link_in_carry, link_in_copying, link_in_settle}
+use Rattle.papaya_chain_law.specs.Goes.{link_in}
+use Rattle.papaya_chain_law.proofs.LinkStates as states
+use Rattle.papaya_chain_law.proofs.LinkStates.{In, IsStable, Linked_in, Of}
 
 -- the making of a table begins
 abbrev pub IsBegun : Link → Type 0

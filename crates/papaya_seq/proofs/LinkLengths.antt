@@ -30,8 +30,8 @@ use Rattle.papaya_copy.specs.Step.{slot_of, step_ask}
 use Rattle.papaya_chain.specs.declared.ask.Answer.{Answer}
 use Rattle.papaya_chain.specs.declared.ask.Answer.TheVariants as answers
 use Rattle.papaya_chain.specs.Machine.{link_after}
-use Rattle.papaya_rests.specs.Copier.{link_in_carry, link_in_copying, link_in_settle, link_in_step}
-use Rattle.papaya_chain_rests.proofs.LinkStates.{In, Linked_in}
+use Rattle.papaya_call_law.specs.Copier.{link_in_carry, link_in_copying, link_in_settle, link_in_step}
+use Rattle.papaya_chain_law.proofs.LinkStates.{In, Linked_in}
 use Rattle.papaya_seq.proofs.LinkLeads.{IsBegun, IsLed}
 
 -- the length after one that is no less than the initial capacity is not either

@@ -17,7 +17,7 @@ use Rattle.papaya_call.specs.declared.compute.Purpose.TheVariants.{Fill, Replace
 use Rattle.papaya_call.specs.declared.compute.Remembered.{Remembered}
 use Rattle.papaya_call.specs.declared.machine.Machine.{Machine as Call_machine}
 use Rattle.papaya_call.specs.declared.machine.State.{State as Stage}
-use Rattle.papaya_call.specs.declared.machine.State.TheVariants.{AtRoot, Making, Opening, Searching, Writing, Offering, Showing, Pairing, Putting, Burying, Counting, Noting, Uncounting, Leaving, Growing, Ended}
+use Rattle.papaya_call.specs.declared.machine.State.TheVariants.{AtRoot, Making, Opening, Searching, Writing, Offering, Showing, Pairing, Putting, Deleting, Counting, Noting, Uncounting, Leaving, Growing, Ended}
 use Rattle.papaya_call.specs.declared.made.Grown.{Grown}
 use Rattle.papaya_call.specs.declared.made.Grown.TheVariants.{On, Pair}
 use Rattle.papaya_call.specs.declared.made.Made.{Made}
@@ -32,8 +32,8 @@ use Rattle.papaya_call.specs.Write.{made_of, made_to_write, served_ask, served_o
 use Rattle.papaya_chain.specs.declared.ask.Answer.TheVariants as answers
 use Rattle.papaya_chain.specs.declared.ask.Ask.TheVariants as chain_asks
 use Rattle.papaya_alone.specs.Limits.{IsNumberTaken, IsTakeAsk}
-use Rattle.papaya_rests.specs.Says.{MakesPair}
-use Rattle.papaya_rests.proofs.Makings.{IsMakeAsk, make_asks, makes_pair, pair_made}
+use Rattle.papaya_call_law.specs.Says.{MakesPair}
+use Rattle.papaya_call_law.proofs.Makings.{IsMakeAsk, make_asks, makes_pair, pair_made}
 use Rattle.papaya_seq.proofs.MadeAfter.{made_after}
 
 -- an insertion has made no pair yet
@@ -132,7 +132,7 @@ logged_after made n (Searching search) = (refl, λ h. h)
 logged_after made n (Offering gap) = (refl, λ h. h)
 logged_after made n (Showing removal) = (refl, λ h. h)
 logged_after made n (Putting put) = (refl, λ h. h)
-logged_after made n (Burying removal) = (refl, λ h. h)
+logged_after made n (Deleting removal) = (refl, λ h. h)
 logged_after made n (Counting claimed) = (refl, λ h. h)
 logged_after made n (Noting claimed) = (refl, λ h. h)
 logged_after made n (Uncounting i) = (refl, λ h. h)
@@ -223,7 +223,7 @@ module _ (m : Call_machine) where
   first_not (Offering gap) stands makes n first = makes
   first_not (Showing removal) stands makes n first = makes
   first_not (Putting put) stands makes n first = makes
-  first_not (Burying removal) stands makes n first = makes
+  first_not (Deleting removal) stands makes n first = makes
   first_not (Counting claimed) stands makes n first = makes
   first_not (Noting claimed) stands makes n first = makes
   first_not (Uncounting i) stands makes n first = makes
@@ -289,7 +289,7 @@ module _ (m : Call_machine) (has : m.made.number ≡ Taken) where
   logged_number n (Offering gap) = inl has
   logged_number n (Showing removal) = inl has
   logged_number n (Putting put) = inl has
-  logged_number n (Burying removal) = inl has
+  logged_number n (Deleting removal) = inl has
   logged_number n (Counting claimed) = inl has
   logged_number n (Noting claimed) = inl has
   logged_number n (Uncounting i) = inl has
@@ -297,8 +297,8 @@ module _ (m : Call_machine) (has : m.made.number ≡ Taken) where
   logged_number n (Growing need) = inl has
   logged_number n (Ended reply) = inl has
 
-  pub number_stays : (a : Call_answer) → KeepsNumber m.state a (after m a).made
-  number_stays = made_after m (KeepsNumber m.state) (record {
+  pub number_stable : (a : Call_answer) → KeepsNumber m.state a (after m a).made
+  number_stable = made_after m (KeepsNumber m.state) (record {
     same = λ _. inl has;
     told = λ _ count. inl (ap (λ y. (number_told (told_as m.made y count) m.made).number) has ∙ has);
     taken = λ _. inl (ap (λ y. (taken_as m.made y).number) has ∙ has);
@@ -307,7 +307,7 @@ module _ (m : Call_machine) (has : m.made.number ≡ Taken) where
 
 -- so a call without a pair and without a number had no number
 pub numberless_before : (m : Call_machine) (a : Call_answer) → IsStandingState m.task m.state → IsFirst m.task (after m a).made (after m a).remembered → IsNumberless (after m a).made → IsNumberless m.made
-numberless_before m a stands first none has = elim (number_stays m has a) [
+numberless_before m a stands first none has = elim (number_stable m has a) [
   | inl still ↦ none still
   | inr (n, is, makes) ↦ paired_first m stands makes n (subst (λ y. IsFirst m.task (after m y).made (after m y).remembered) is first)
 ]
@@ -342,7 +342,7 @@ takes_in made hash (Opening t) takes = absurd takes
 takes_in made hash (Offering gap) takes = absurd takes
 takes_in made hash (Showing removal) takes = absurd takes
 takes_in made hash (Putting put) takes = absurd takes
-takes_in made hash (Burying removal) takes = absurd takes
+takes_in made hash (Deleting removal) takes = absurd takes
 takes_in made hash (Counting claimed) takes = absurd takes
 takes_in made hash (Noting claimed) takes = absurd takes
 takes_in made hash (Uncounting n) takes = absurd takes

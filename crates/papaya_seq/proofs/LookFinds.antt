@@ -10,9 +10,9 @@ use Rattle.papaya_ask.specs.declared.call.Task.TheVariants.{Get as Get_task}
 use Rattle.papaya_ask.specs.declared.call.Reply.{Reply}
 use Rattle.papaya_ask.specs.declared.call.Reply.TheVariants.{Absent, Found, Inserted, Replaced, Occupied, Removed, Kept, Aborted, Done, Refused}
 use Rattle.papaya_call.specs.declared.machine.Machine.{Machine}
-use Rattle.papaya_rests.specs.Alone.{HasMetNone}
+use Rattle.papaya_call_law.specs.Alone.{HasMetNone}
 use Rattle.papaya_call.specs.Machine.{after, ask_of, started}
-use Rattle.papaya_rests.proofs.Tasks.{same_task}
+use Rattle.papaya_call_law.proofs.Tasks.{same_task}
 use Rattle.papaya_timeline.specs.Content.{map_of}
 use Rattle.papaya_timeline.specs.Kept.{IsLawfulCore}
 use Rattle.papaya_timeline.specs.Maps.{Map, Does}

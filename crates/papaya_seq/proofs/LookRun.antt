@@ -19,7 +19,7 @@ use Rattle.papaya_chain.specs.declared.ask.Ask.TheVariants as chain_asks
 use Rattle.papaya_chain.specs.declared.ask.Answer.TheVariants as answers
 use Rattle.papaya_chain.specs.declared.machine.Machine.{Machine as Chain_machine}
 use Rattle.papaya_chain.specs.Machine as chain
-use Rattle.papaya_rests.proofs.Tasks.{same_task}
+use Rattle.papaya_call_law.proofs.Tasks.{same_task}
 use Rattle.papaya_store.specs.declared.pairs.Part.TheVariants.{Own}
 use Rattle.papaya_store.specs.declared.pairs.Running.{Running}
 use Rattle.papaya_timeline.specs.declared.trace.Entry.{Entry}

@@ -20,21 +20,21 @@ use Rattle.papaya_ask.specs.declared.call.Task.TheVariants.{Get}
 use Rattle.papaya_call.specs.declared.compute.Remembered.{Remembered}
 use Rattle.papaya_call.specs.declared.machine.Machine.{Machine}
 use Rattle.papaya_call.specs.declared.machine.State.{State}
-use Rattle.papaya_call.specs.declared.machine.State.TheVariants.{AtRoot, Making, Opening, Searching, Writing, Offering, Showing, Pairing, Putting, Burying, Counting, Noting, Uncounting, Leaving, Growing, Ended}
+use Rattle.papaya_call.specs.declared.machine.State.TheVariants.{AtRoot, Making, Opening, Searching, Writing, Offering, Showing, Pairing, Putting, Deleting, Counting, Noting, Uncounting, Leaving, Growing, Ended}
 use Rattle.papaya_ask.specs.declared.search.Place.{Place}
 use Rattle.papaya_ask.specs.declared.search.Search.TheVariants.{Sizing, Looking, Reading, Comparing}
-use Rattle.papaya_ask.specs.declared.search.Seen.{Seen}
-use Rattle.papaya_ask.specs.declared.search.Seen.TheVariants as seen
+use Rattle.papaya_ask.specs.declared.search.Probed.{Probed}
+use Rattle.papaya_ask.specs.declared.search.Probed.TheVariants as seen
 use Rattle.papaya_call.specs.declared.made.Made.{Made}
 use Rattle.papaya_call.specs.declared.made.Number.{Number}
 use Rattle.papaya_call.specs.declared.made.Number.TheVariants.{Wanted, Free, Taken}
-use Rattle.papaya_rests.specs.Alone.{HasMetNone, IsCurrent, IsNumberRead, IsPrompt, IsRead, IsSeeker, IsUnmatched, left_in}
+use Rattle.papaya_call_law.specs.Alone.{HasMetNone, IsCurrent, IsNumberRead, IsPrompt, IsRead, IsSeeker, IsUnmatched, left_in}
 use Rattle.papaya_call.specs.Machine.{started, after, ask_of, asks, at_root, passes, goes_as}
-use Rattle.papaya_rests.proofs.AloneCurrent.{machine_stays}
-use Rattle.papaya_rests.proofs.AloneSteps.{machine_nears}
-use Rattle.papaya_rests.proofs.AloneUnmatched.{machine_meets_none}
+use Rattle.papaya_call_law.proofs.AloneCurrent.{machine_stable}
+use Rattle.papaya_call_law.proofs.AloneSteps.{machine_nears}
+use Rattle.papaya_call_law.proofs.AloneUnmatched.{machine_meets_none}
 use Rattle.papaya_ask.specs.Search.{IsSize, next_place, go_on, hinted, look_at, look, match_at, at_yes as search_compared}
-use Rattle.papaya_rests.proofs.Tasks.{same_task}
+use Rattle.papaya_call_law.proofs.Tasks.{same_task}
 use Rattle.papaya_store.specs.Performs.{size_of}
 use Rattle.papaya_store.specs.Store.{StoreState, Stored, pair_of}
 use Rattle.papaya_store.specs.Tables.{hint_at, table_of, word_at}
@@ -63,7 +63,7 @@ some_number : (n : ℕ) → (n == 0) ≡ false → n ≡ 0 → ⊥
 some_number n some zero = let f : true ≡ false = sym (eq-eqb n 0 zero) ∙ some in cc
 
 -- a search of table t that saw this asks for no table's size next, and stays in the table
-abbrev SeesPlace : ℕ → Seen → Type 0
+abbrev SeesPlace : ℕ → Probed → Type 0
 SeesPlace t (seen.On (Sizing u)) = ⊥
 SeesPlace t (seen.On (Looking at)) = at.table ≡ t
 SeesPlace t (seen.On (Reading at)) = at.table ≡ t
@@ -83,7 +83,7 @@ look_place word_kinds.Empty at word = tt
 look_place word_kinds.Live at word = refl
 look_place word_kinds.Marked at word = refl
 look_place word_kinds.Copied at word = refl
-look_place word_kinds.Buried at word = go_on_place at
+look_place word_kinds.Tombstone at word = go_on_place at
 look_place word_kinds.Closed at word = go_on_place at
 
 match_place : (kind : Kind) (at : Place) (word : ℕ) → SeesPlace at.table (match_at kind at word)
@@ -91,7 +91,7 @@ match_place word_kinds.Empty at word = tt
 match_place word_kinds.Live at word = tt
 match_place word_kinds.Marked at word = tt
 match_place word_kinds.Copied at word = refl
-match_place word_kinds.Buried at word = tt
+match_place word_kinds.Tombstone at word = tt
 match_place word_kinds.Closed at word = tt
 
 compared_place : (at : Place) (word : ℕ) (same : Bool) → SeesPlace at.table (search_compared (Comparing at word) same)
@@ -120,7 +120,7 @@ module _ (tables : ℕ) where
   passes_ahead Blocking fill t = omega arith
 
   -- a search stays in its table until it is over
-  goes_ahead : (mode : ResizeMode) (held : Remembered) (t : ℕ) (s : Seen) → SeesPlace t s → tables_ahead tables (goes_as Get mode held s) ≤ tables - t
+  goes_ahead : (mode : ResizeMode) (held : Remembered) (t : ℕ) (s : Probed) → SeesPlace t s → tables_ahead tables (goes_as Get mode held s) ≤ tables - t
   goes_ahead mode held t (seen.On (Sizing u)) place = absurd place
   goes_ahead mode held t (seen.On (Looking at)) place = omega (arith, place)
   goes_ahead mode held t (seen.On (Reading at)) place = omega (arith, place)
@@ -133,7 +133,7 @@ module _ (tables : ℕ) where
 stays_ahead : {tables tables' steps steps' : ℕ} → tables' ≤ tables → steps' < steps → 2 ^ 41 * tables' + steps' < 2 ^ 41 * tables + steps
 stays_ahead fewer nearer = omega (arith, fewer, nearer)
 
--- and so does one to a further table
+-- and so does one to a next table
 enters : (tables t n : ℕ) → t < n → n ≤ tables → 2 ^ 41 * (tables - n) + 2 ^ 40 < 2 ^ 41 * (tables - t) + 8
 enters tables t n up low = omega (arith, up, low)
 
@@ -154,7 +154,7 @@ module _ {K V S : Type 0} (store : StoreState K V S) where
   IsLooking (Offering gap) = ⊥
   IsLooking (Pairing purpose) = ⊥
   IsLooking (Putting put) = ⊥
-  IsLooking (Burying removal) = ⊥
+  IsLooking (Deleting removal) = ⊥
   IsLooking (Counting n) = ⊥
   IsLooking (Noting n) = ⊥
   IsLooking (Uncounting n) = ⊥
@@ -165,7 +165,7 @@ module _ {K V S : Type 0} (store : StoreState K V S) where
   passes_looking Blocking fill t = tt
 
   -- where a search leads that asks for no table's size next
-  goes_looking : (mode : ResizeMode) (held : Remembered) (t : ℕ) (s : Seen) → SeesPlace t s → IsLooking (goes_as Get mode held s)
+  goes_looking : (mode : ResizeMode) (held : Remembered) (t : ℕ) (s : Probed) → SeesPlace t s → IsLooking (goes_as Get mode held s)
   goes_looking mode held t (seen.On (Sizing u)) place = absurd place
   goes_looking mode held t (seen.On (Looking at)) place = tt
   goes_looking mode held t (seen.On (Reading at)) place = tt
@@ -190,7 +190,7 @@ module _ {K V S : Type 0} (store : StoreState K V S) where
   look_replies made hash (Offering gap) reply looking e = absurd looking
   look_replies made hash (Pairing purpose) reply looking e = absurd looking
   look_replies made hash (Putting put) reply looking e = absurd looking
-  look_replies made hash (Burying removal) reply looking e = absurd looking
+  look_replies made hash (Deleting removal) reply looking e = absurd looking
   look_replies made hash (Counting n) reply looking e = absurd looking
   look_replies made hash (Noting n) reply looking e = absurd looking
   look_replies made hash (Uncounting n) reply looking e = absurd looking
@@ -227,7 +227,7 @@ module _ {K V S : Type 0} (store : StoreState K V S) where
     looks_in (Offering gap) answer looking told = absurd looking
     looks_in (Pairing purpose) answer looking told = absurd looking
     looks_in (Putting put) answer looking told = absurd looking
-    looks_in (Burying removal) answer looking told = absurd looking
+    looks_in (Deleting removal) answer looking told = absurd looking
     looks_in (Counting n) answer looking told = absurd looking
     looks_in (Noting n) answer looking told = absurd looking
     looks_in (Uncounting n) answer looking told = absurd looking
@@ -294,7 +294,7 @@ module _ {K V S : Type 0} (store : StoreState K V S) where
     lowers_in (Offering gap) answer looking read told = absurd looking
     lowers_in (Pairing purpose) answer looking read told = absurd looking
     lowers_in (Putting put) answer looking read told = absurd looking
-    lowers_in (Burying removal) answer looking read told = absurd looking
+    lowers_in (Deleting removal) answer looking read told = absurd looking
     lowers_in (Counting n) answer looking read told = absurd looking
     lowers_in (Noting n) answer looking read told = absurd looking
     lowers_in (Uncounting n) answer looking read told = absurd looking
@@ -317,7 +317,7 @@ module _ {K V S : Type 0} (store : StoreState K V S) where
     prompt_in task sized (Offering gap) answer looking told = absurd looking
     prompt_in task sized (Pairing purpose) answer looking told = absurd looking
     prompt_in task sized (Putting put) answer looking told = absurd looking
-    prompt_in task sized (Burying removal) answer looking told = absurd looking
+    prompt_in task sized (Deleting removal) answer looking told = absurd looking
     prompt_in task sized (Counting n) answer looking told = absurd looking
     prompt_in task sized (Noting n) answer looking told = absurd looking
     prompt_in task sized (Uncounting n) answer looking told = absurd looking
@@ -347,7 +347,7 @@ module _ {K V S : Type 0} (store : StoreState K V S) where
     unmatched_in none (Offering gap) answer looking told = absurd looking
     unmatched_in none (Pairing purpose) answer looking told = absurd looking
     unmatched_in none (Putting put) answer looking told = absurd looking
-    unmatched_in none (Burying removal) answer looking told = absurd looking
+    unmatched_in none (Deleting removal) answer looking told = absurd looking
     unmatched_in none (Counting n) answer looking told = absurd looking
     unmatched_in none (Noting n) answer looking told = absurd looking
     unmatched_in none (Uncounting n) answer looking told = absurd looking
@@ -369,7 +369,7 @@ none_replies made hash (Showing removal) reply none e = absurd none
 none_replies made hash (Offering gap) reply none e = absurd none
 none_replies made hash (Pairing purpose) reply none e = absurd none
 none_replies made hash (Putting put) reply none e = absurd none
-none_replies made hash (Burying removal) reply none e = absurd none
+none_replies made hash (Deleting removal) reply none e = absurd none
 none_replies made hash (Counting n) reply none e = absurd none
 none_replies made hash (Noting n) reply none e = absurd none
 none_replies made hash (Uncounting n) reply none e = absurd none
@@ -400,7 +400,7 @@ module _ {K V S : Type 0} (eq : K → K → Bool) (hash : K → ℕ) (mode : Mod
   -- and what it has read stands there still
   pub lookup_current : IsCurrent (λ at. word_at store.words at) m → IsCurrent (λ at. word_at store.words at) (after m answer)
   lookup_current current =
-      machine_stays (λ at. word_at store.words at) (λ at. word_at store.words at) m current.bare answer current.number current.read
+      machine_stable (λ at. word_at store.words at) (λ at. word_at store.words at) m current.bare answer current.number current.read
       (prompt_in store matches m.made m.hash m.task lawful.core.sizes m.state answer looking told)
 
   -- where no pair of the log matches, it meets none

@@ -118,7 +118,7 @@ module _ {K V S : Type 0} (eq : K → K → Bool) (hash : K → ℕ) (mode : Mod
         let goes = answered (Leaving t) (Word_read (word_at store.words (Next t))) refl (subst HasCome leaves kept) in
         (goes.0, subst (λ s. left_at (numbered (word_at store.words (Next t))) < left_at s) (sym leaves) goes.1)
 
-    -- where no further table is searched, it has ended
+    -- where no next table is searched, it has ended
     pub passed_last : (t : ℕ) → mode.resize ≡ Blocking → HasCome (passes Get mode.resize None t) → HasCome (Ended Absent)
     passed_last t blocking kept = subst HasCome (ap (λ (x : ResizeMode). passes Get x None t) blocking) kept
 

@@ -7,7 +7,7 @@ use Rattle.papaya_ask.specs.declared.call.Task.{Task}
 use Rattle.papaya_ask.specs.declared.call.Task.TheVariants as tasks
 use Rattle.papaya_call.specs.declared.machine.Machine.{Machine as Call_machine}
 use Rattle.papaya_call.specs.declared.machine.State.{State as Stage}
-use Rattle.papaya_call.specs.declared.machine.State.TheVariants.{AtRoot, Making, Opening, Searching, Writing, Offering, Showing, Pairing, Putting, Burying, Counting, Noting, Uncounting, Leaving, Growing, Ended}
+use Rattle.papaya_call.specs.declared.machine.State.TheVariants.{AtRoot, Making, Opening, Searching, Writing, Offering, Showing, Pairing, Putting, Deleting, Counting, Noting, Uncounting, Leaving, Growing, Ended}
 use Rattle.papaya_call.specs.declared.made.Made.{Made}
 use Rattle.papaya_call.specs.Made.{answered, taken, told}
 use Rattle.papaya_call.specs.Machine.{after, made_at_exchanged, made_at_op, made_at_word, made_decided, made_in, number_told, write_made, write_taken}
@@ -36,7 +36,7 @@ module _ (m : Call_machine) (Holds : Call_answer → Made → Type 0) where
     word_read (Offering gap) count = h.same a
     word_read (Showing removal) count = h.same a
     word_read (Putting put) count = h.same a
-    word_read (Burying removal) count = h.same a
+    word_read (Deleting removal) count = h.same a
     word_read (Counting claimed) count = h.same a
     word_read (Noting claimed) count = h.same a
     word_read (Uncounting n) count = h.same a
@@ -58,7 +58,7 @@ module _ (m : Call_machine) (Holds : Call_answer → Made → Type 0) where
     exchanged (Offering gap) = h.same a
     exchanged (Showing removal) = h.same a
     exchanged (Putting put) = h.same a
-    exchanged (Burying removal) = h.same a
+    exchanged (Deleting removal) = h.same a
     exchanged (Counting claimed) = h.same a
     exchanged (Noting claimed) = h.same a
     exchanged (Uncounting n) = h.same a
@@ -82,7 +82,7 @@ module _ (m : Call_machine) (Holds : Call_answer → Made → Type 0) where
     op_answered kind (Writing write) = h.same a
     op_answered kind (Pairing purpose) = h.same a
     op_answered kind (Putting put) = h.same a
-    op_answered kind (Burying removal) = h.same a
+    op_answered kind (Deleting removal) = h.same a
     op_answered kind (Counting claimed) = h.same a
     op_answered kind (Noting claimed) = h.same a
     op_answered kind (Uncounting n) = h.same a

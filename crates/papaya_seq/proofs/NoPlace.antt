@@ -17,17 +17,17 @@ use Rattle.papaya_law.specs.Meaning.{map_left}
 use Rattle.papaya_law.specs.View.{look, view, IsPassed}
 use Rattle.papaya_law.proofs.Codes.{code_empty}
 use Rattle.papaya_law.proofs.OneMap.{means_map}
-use Rattle.papaya_rests.specs.Rests.{HasComeTo, RestsGrowing, RestsStage}
-use Rattle.papaya_rests.specs.Told.{word_of}
-use Rattle.papaya_rests.proofs.RestsNames.{come_reached}
-use Rattle.papaya_rests.proofs.RestsRemovals.{moving_further}
+use Rattle.papaya_call_law.specs.Relies.{HasComeTo, ReliesGrowing, ReliesStage}
+use Rattle.papaya_call_law.specs.Told.{word_of}
+use Rattle.papaya_call_law.proofs.ReliesNames.{come_reached}
+use Rattle.papaya_call_law.proofs.ReliesRemovals.{moving_further}
 use Rattle.papaya_store.specs.declared.pairs.Running.{Running}
 use Rattle.papaya_store.specs.Store.{Stored}
 use Rattle.papaya_store.specs.Tables.{table_of, word_at, word_in}
 use Rattle.papaya_timeline.specs.Callers.{running}
 use Rattle.papaya_timeline.specs.Content.{map_in}
 use Rattle.papaya_timeline.specs.Core.{CoreState, IsCore}
-use Rattle.papaya_timeline.specs.Kept.{IsCall, IsKept, Tale, coding_of, low, setting_of}
+use Rattle.papaya_timeline.specs.Kept.{CallTrace, IsCall, IsKept, coding_of, low, setting_of}
 use Rattle.papaya_timeline.proofs.KeptLemmas.{IsLawfulKeys, hashed_setting, map_kept}
 use Rattle.papaya_seq.specs.Map.{next_in, next_of}
 
@@ -36,7 +36,7 @@ next_word : (o : Option TableWords) → next_in o ≡ 0 → word_in (λ v. v.nex
 next_word None e = refl
 next_word (Some t) e = e
 
-module _ {K V S A : Type 0} (eq : K → K → Bool) (hash : K → ℕ) (law : IsLawfulKeys eq hash) (s : CoreState K V S A) (core : IsCore s.store s.callers s.mode) (es : List (Exchange (Stored K V))) (tales : ℕ → Tale K V) (kept : IsKept eq hash s.mode s.store s.callers es tales) (caller : ℕ) (r : Running K V A) (was : running s.callers caller ≡ Some r) where
+module _ {K V S A : Type 0} (eq : K → K → Bool) (hash : K → ℕ) (law : IsLawfulKeys eq hash) (s : CoreState K V S A) (core : IsCore s.store s.callers s.mode) (es : List (Exchange (Stored K V))) (call_traces : ℕ → CallTrace K V) (kept : IsKept eq hash s.mode s.store s.callers es call_traces) (caller : ℕ) (r : Running K V A) (was : running s.callers caller ≡ Some r) where
   abbrev g : Setting K (Stored K V)
   g = setting_of eq (low hash) s.mode s.store.words.tables
 
@@ -46,12 +46,12 @@ module _ {K V S A : Type 0} (eq : K → K → Bool) (hash : K → ℕ) (law : Is
   hashed : IsHashed g c
   hashed = hashed_setting eq hash law s core
 
-  pub call : IsCall eq hash s.mode s.store r es (tales caller)
+  pub call : IsCall eq hash s.mode s.store r es (call_traces caller)
   call = kept.calls caller r was
 
   -- the exchanges so far, and the words that they leave
   abbrev all : List (Exchange (Stored K V))
-  all = (tales caller).begun ++ (tales caller).since
+  all = (call_traces caller).begun ++ (call_traces caller).since
 
   abbrev now : State (Stored K V)
   now = run all first_state
@@ -64,7 +64,7 @@ module _ {K V S A : Type 0} (eq : K → K → Bool) (hash : K → ℕ) (law : Is
 
   -- what the exchanges leave of the key is what the map has
   left_in_map : map_in eq s.store call.key ≡ map_left g all call.key
-  left_in_map = map_kept eq hash law s es tales core kept call.key ∙ ap (λ (l : List (Exchange (Stored K V))). map_left g l call.key) (sym call.split)
+  left_in_map = map_kept eq hash law s es call_traces core kept call.key ∙ ap (λ (l : List (Exchange (Stored K V))). map_left g l call.key) (sym call.split)
 
   -- where there is no table, no key is in the map
   pub rootless_absent : s.store.words.root ≡ 0 → map_in eq s.store call.key ≡ None
@@ -73,15 +73,15 @@ module _ {K V S A : Type 0} (eq : K → K → Bool) (hash : K → ℕ) (law : Is
   -- An insertion that replaces nothing and is about to write in the root has found a place for its key, which is not in the map.
   pub writing_absent : (write : Write) → r.machine.call.task ≡ Insert false → r.machine.call.state ≡ Writing write → write.place.table ≡ s.store.words.root → word_at s.store.words (Slot write.place.table write.place.probe.i) ≡ write.old → map_in eq s.store call.key ≡ None
   writing_absent write inserts writes here read =
-      let may_write = subst (λ task. RestsStage g c (tales caller).begun (tales caller).since call.key (tales caller).hands.call task (Writing write)) inserts
-      (subst (RestsStage g c (tales caller).begun (tales caller).since call.key (tales caller).hands.call r.machine.call.task) writes call.rests.call.stage) in
+      let may_write = subst (λ task. ReliesStage g c (call_traces caller).begun (call_traces caller).since call.key (call_traces caller).loaded.call task (Writing write)) inserts
+      (subst (ReliesStage g c (call_traces caller).begun (call_traces caller).since call.key (call_traces caller).loaded.call r.machine.call.task) writes call.relies.call.stage) in
       let at = may_write.stands in
       let zero_word : write.old ≡ 0 = elim may_write.old [ inl none ↦ none | inr replaced ↦ let never = replaced.0 in absurd cc ] in
       let place_is : write.place.probe.i ≡ g.place call.key write.place.table write.place.probe.len = at.slot in
       let word : word_of g c now (Slot write.place.table write.place.probe.i) ≡ 0 = ap (λ (l : List (Exchange (Stored K V))). word_of g c (run l first_state) (Slot write.place.table write.place.probe.i)) call.split ∙ kept.coded (Slot write.place.table write.place.probe.i) ∙ read ∙ zero_word in
       let empty : now.slot write.place.table (g.place call.key write.place.table write.place.probe.len) ≡ Empty = ap (now.slot write.place.table) (sym place_is) ∙ code_empty g c (now.slot write.place.table write.place.probe.i) word in
       left_in_map
-      ∙ (means_map g hashed.lawful all may call.key).empty write.place.table write.place.probe.len (come_reached g c hashed (tales caller).begun (tales caller).since may call.key write.place.table at.come) (λ _. root_is ∙ sym here) at.within at.before
+      ∙ (means_map g hashed.lawful all may call.key).empty write.place.table write.place.probe.len (come_reached g c hashed (call_traces caller).begun (call_traces caller).since may call.key write.place.table at.come) (λ _. root_is ∙ sym here) at.within at.before
       (ap (view g call.key) empty)
 
   module _ (last : next_of s.store ≡ 0) where
@@ -94,21 +94,21 @@ module _ {K V S A : Type 0} (eq : K → K → Bool) (hash : K → ℕ) (law : Is
         ∙ next_word (table_of s.store.words.tables s.store.words.root) last
 
     -- a search that passed the root has met each pair there is
-    passed_absent : (t : ℕ) → t ≡ s.store.words.root → HasComeTo g c (tales caller).begun (tales caller).since call.key t → IsPassed g.places (look g now call.key) t → map_in eq s.store call.key ≡ None
+    passed_absent : (t : ℕ) → t ≡ s.store.words.root → HasComeTo g c (call_traces caller).begun (call_traces caller).since call.key t → IsPassed g.places (look g now call.key) t → map_in eq s.store call.key ≡ None
     passed_absent t here come passed =
         left_in_map
-        ∙ (means_map g hashed.lawful all may call.key).over t (come_reached g c hashed (tales caller).begun (tales caller).since may call.key t come) passed
+        ∙ (means_map g hashed.lawful all may call.key).over t (come_reached g c hashed (call_traces caller).begun (call_traces caller).since may call.key t come) passed
         (elim (cases_Bool g.blocking) [ inl blocking ↦ inl (blocking, root_is ∙ sym here) | inr going ↦ inr (going, next_is t here) ])
 
     -- no pair of the root is being copied
-    needs_absent : (task : Task) (need : Need) → needed need ≡ s.store.words.root → RestsGrowing g c (tales caller).begun (tales caller).since call.key task need → map_in eq s.store call.key ≡ None
-    needs_absent task (Room t) here rests = passed_absent t here rests.1.0 rests.1.1
-    needs_absent task (Pair_at t x) here rests =
-        let more = moving_further g c hashed.lawful (tales caller).begun (tales caller).since may call.key t x rests.1.1 in
+    needs_absent : (task : Task) (need : Need) → needed need ≡ s.store.words.root → ReliesGrowing g c (call_traces caller).begun (call_traces caller).since call.key task need → map_in eq s.store call.key ≡ None
+    needs_absent task (Room t) here relies = passed_absent t here relies.1.0 relies.1.1
+    needs_absent task (Pair_at t x) here relies =
+        let more = moving_further g c hashed.lawful (call_traces caller).begun (call_traces caller).since may call.key t x relies.1.1 in
         let none = next_is t here in
         absurd (omega (arith, more, none))
 
     -- a call that needs a table after the root
     pub growing_absent : (need : Need) → r.machine.call.state ≡ Growing need → needed need ≡ s.store.words.root → map_in eq s.store call.key ≡ None
     growing_absent need grows here =
-        needs_absent r.machine.call.task need here (subst (RestsStage g c (tales caller).begun (tales caller).since call.key (tales caller).hands.call r.machine.call.task) grows call.rests.call.stage)
+        needs_absent r.machine.call.task need here (subst (ReliesStage g c (call_traces caller).begun (call_traces caller).since call.key (call_traces caller).loaded.call r.machine.call.task) grows call.relies.call.stage)

@@ -20,7 +20,7 @@ use Rattle.papaya_chain.specs.declared.ask.Answer.{Answer}
 use Rattle.papaya_chain.specs.declared.ask.Answer.TheVariants as answers
 use Rattle.papaya_chain.specs.declared.machine.Machine.{Machine}
 use Rattle.papaya_chain.specs.Machine.{after, ask_of, started}
-use Rattle.papaya_rests.specs.Alone.{IsNumberRead}
+use Rattle.papaya_call_law.specs.Alone.{IsNumberRead}
 use Rattle.papaya_alone.specs.Limits.{HasNumber, IsLogging, IsNumberTaken, IsPairLogged, IsTakeAsk}
 use Rattle.papaya_alone.proofs.AtLimit.{limit_each, limit_logs, limit_takes}
 use Rattle.papaya_store.specs.declared.pairs.Running.{Running}
@@ -77,7 +77,7 @@ module _ {K V S : Type 0} (s s' : StoreState K V S) where
       matched (s'.words.made ≡ s.words.made) refuse _ _ h (λ _ refused. ap (λ (y : StoreState K V S). y.words.made) refused.1)
       (λ _ makes. elim makes [ inl refused ↦ ap (λ (y : StoreState K V S). y.words.made) refused.1 | inr made ↦ ap (λ (y : StoreState K V S). y.words.made) made.2 ])
 
-  -- What an answered ask does to the log of pairs, and to how many numbers were taken for them.
+  -- What an answered ask does to the arena of pairs, and to how many numbers were taken for them.
   pub record IsLogStep (ask : Ask) (answer : Answer) : Type 0 where
     pub pairs : (length s'.pairs ≡ length s.pairs) ⊎ (IsPairLogged ask answer × (length s'.pairs ≡ length s.pairs + 1))
     pub up : s.words.made ≤ s'.words.made

@@ -9,11 +9,11 @@ use Rattle.papaya_law.specs.Code.{Coding}
 use Rattle.papaya_law.specs.Grows.{Comes}
 use Rattle.papaya_law.specs.Invariant.{named}
 use Rattle.papaya_law.specs.Copying.{IsCopied, IsSettled, IsTaker, IsTarget}
-use Rattle.papaya_law.specs.Exchange.{Word, Empty, Closed, Live, Marked, Copied, Buried, Exchange, Open, Claim, Replace, Bury, Link, Mark, Close, Place, Finish, Advance, Promote, Abort, Take, Setting, State, after, run, start}
+use Rattle.papaya_law.specs.Exchange.{Word, Empty, Closed, Live, Marked, Copied, Tombstone, Exchange, Open, Claim, Replace, Delete, Link, Mark, Close, Place, Finish, Advance, Promote, Abort, Take, Setting, State, after, run, start}
 use Rattle.papaya_law.specs.Hints.{IsHint, IsHintOf}
 use Rattle.papaya_law.specs.View.{IsNextPlace, IsReached, View}
 use Rattle.papaya_law.proofs.Moments.{allowed_append, run-append}
-use Rattle.papaya_rests.specs.Told.{word_of}
+use Rattle.papaya_call_law.specs.Told.{word_of}
 use Rattle.papaya_store.specs.declared.mode.Mode.{Mode}
 use Rattle.papaya_store.specs.Store.{StoreState, Stored}
 use Rattle.papaya_store.specs.Tables.{hint_at, table_of, word_at}
@@ -69,7 +69,7 @@ module _ {K P : Type 0} (g : Setting K P) (limit : Option ℕ) where
     settled_there n (Live p) h = h
     settled_there n (Marked p) h = h
     settled_there n (Copied p) h = h
-    settled_there n (Buried p) h = h
+    settled_there n (Tombstone p) h = h
 
     -- an exchange that takes no number is allowed there
     abbrev AllowsThere : Exchange P → Type 0
@@ -80,7 +80,7 @@ module _ {K P : Type 0} (g : Setting K P) (limit : Option ℕ) where
     allows_there (Open t) may = may
     allows_there (Claim t x p) may = record { empty = may.empty; reached = reached_there (g.key p) t may.reached; place = place_there (g.key p) _ t x may.place }
     allows_there (Replace t x p q) may = record { live = may.live; reached = reached_there (g.key p) t may.reached; same = may.same; kept = may.kept }
-    allows_there (Bury t x p) may = record { live = may.live; reached = reached_there (g.key p) t may.reached }
+    allows_there (Delete t x p) may = record { live = may.live; reached = reached_there (g.key p) t may.reached }
     allows_there (Link t n) may = record {
       last = may.last;
       on = may.on;
@@ -112,7 +112,7 @@ module _ {K P : Type 0} (g : Setting K P) (limit : Option ℕ) where
   all_there m (Open t ∷ es) s (may, all) = (allows_there m s (Open t) may, all_there m es (after s (Open t)) all)
   all_there m (Claim t x p ∷ es) s (may, all) = (allows_there m s (Claim t x p) may, all_there m es (after s (Claim t x p)) all)
   all_there m (Replace t x p q ∷ es) s (may, all) = (allows_there m s (Replace t x p q) may, all_there m es (after s (Replace t x p q)) all)
-  all_there m (Bury t x p ∷ es) s (may, all) = (allows_there m s (Bury t x p) may, all_there m es (after s (Bury t x p)) all)
+  all_there m (Delete t x p ∷ es) s (may, all) = (allows_there m s (Delete t x p) may, all_there m es (after s (Delete t x p)) all)
   all_there m (Link t n ∷ es) s (may, all) = (allows_there m s (Link t n) may, all_there m es (after s (Link t n)) all)
   all_there m (Mark t x p ∷ es) s (may, all) = (allows_there m s (Mark t x p) may, all_there m es (after s (Mark t x p)) all)
   all_there m (Close t x ∷ es) s (may, all) = (allows_there m s (Close t x) may, all_there m es (after s (Close t x)) all)
@@ -139,7 +139,7 @@ stripped_run m [] s = refl
 stripped_run m (Open t ∷ es) s = stripped_run m es (after s (Open t))
 stripped_run m (Claim t x p ∷ es) s = stripped_run m es (after s (Claim t x p))
 stripped_run m (Replace t x p q ∷ es) s = stripped_run m es (after s (Replace t x p q))
-stripped_run m (Bury t x p ∷ es) s = stripped_run m es (after s (Bury t x p))
+stripped_run m (Delete t x p ∷ es) s = stripped_run m es (after s (Delete t x p))
 stripped_run m (Link t n ∷ es) s = stripped_run m es (after s (Link t n))
 stripped_run m (Mark t x p ∷ es) s = stripped_run m es (after s (Mark t x p))
 stripped_run m (Close t x ∷ es) s = stripped_run m es (after s (Close t x))
@@ -220,7 +220,7 @@ module _ {K V S : Type 0} (eq : K → K → Bool) (hash : K → ℕ) (store : St
   hint_there (Live p) n h = h
   hint_there (Marked p) n h = h
   hint_there (Copied p) n h = h
-  hint_there (Buried p) n h = h
+  hint_there (Tombstone p) n h = h
 
   -- the words with the limit keep to the law
   kept' : IsKept {A = Unit {0}} eq hash mode' store' [] es' lawful.lawful.law.1.0
@@ -234,7 +234,7 @@ module _ {K V S : Type 0} (eq : K → K → Bool) (hash : K → ℕ) (store : St
     tables_few = kept.tables_few;
     calls = λ d q e. absurd cc;
     resizers = λ d z e. absurd cc;
-    visitors = λ d v e. absurd cc;
+    scanners = λ d v e. absurd cc;
     apart = λ d e q r x. absurd cc;
   }
 
@@ -242,7 +242,7 @@ module _ {K V S : Type 0} (eq : K → K → Bool) (hash : K → ℕ) (store : St
   pub numbered_lawful : length store.pairs ≤ made → IsLawfulMap eq hash store' mode' initial
   numbered_lawful each = record {
     lawful = record {
-      core = record { chunked = lawful.lawful.core.chunked; limit = fits; sizes = lawful.lawful.core.sizes; standing = λ d q e. absurd cc; going = λ d q e. absurd cc; resizers = λ d z e. absurd cc; visitors = λ d v e. absurd cc };
+      core = record { chunked = lawful.lawful.core.chunked; limit = fits; sizes = lawful.lawful.core.sizes; standing = λ d q e. absurd cc; going = λ d q e. absurd cc; resizers = λ d z e. absurd cc; scanners = λ d v e. absurd cc };
       law = (es', (lawful.lawful.law.1.0, kept'));
     };
     counted = lawful.counted ∙ ap (λ (l : List (Stored K V)). pos (length l)) (sym (numbered_content store made eq));

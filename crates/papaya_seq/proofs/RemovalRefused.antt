@@ -1,4 +1,4 @@
--- Why a removal is refused: there is no further table, or memory was short.
+-- Why a removal is refused: there is no next table, or memory was short.
 use Rattle.std.proofs.Common.{◌≡◌, ⊎_elim, inl, inr, ℕ, ◌^◌, ◌<◌, ◌-◌, ◌==◌, Bool, true, false, cond, Option, None, Some, slice_get, refl, sym, ◌∙◌, ap, subst}
 use denote.Ref.{Bor}
 use Rattle.std.specs.Fn.{Mut}
@@ -22,9 +22,9 @@ use Rattle.papaya_chain.specs.declared.ask.Answer.{Answer}
 use Rattle.papaya_chain.specs.declared.ask.Answer.TheVariants as answers
 use Rattle.papaya_chain.specs.declared.machine.Machine.{Machine}
 use Rattle.papaya_chain.specs.Machine.{after, ask_of, asks_in, started}
-use Rattle.papaya_chain_rests.specs.Goes.{IsCause, IsToMake, WasNotMade, WouldBeTooLong, link_in}
-use Rattle.papaya_chain_rests.proofs.LinkStates.{In}
-use Rattle.papaya_rests.specs.Rests.{IsNumberAsk}
+use Rattle.papaya_chain_law.specs.Goes.{IsCause, IsToMake, WasNotMade, WouldBeTooLong, link_in}
+use Rattle.papaya_chain_law.proofs.LinkStates.{In}
+use Rattle.papaya_call_law.specs.Relies.{IsNumberAsk}
 use Rattle.papaya_store.specs.Copies.{PerformsCopy}
 use Rattle.papaya_store.specs.Performs.{Exchanges, size_of}
 use Rattle.papaya_store.specs.Store.{StoreState}

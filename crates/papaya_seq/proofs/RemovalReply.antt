@@ -4,7 +4,7 @@ use denote.Ref.{Bor}
 use Rattle.std.proofs.lemmas.Bool.{cases_Bool}
 use Rattle.std.specs.Cmp.{IsEquivalence}
 use Rattle.std.specs.Fn.{Mut}
-use Rattle.papaya_rests.specs.Says.{Agrees, said_of_removal}
+use Rattle.papaya_call_law.specs.Says.{Agrees, said_of_removal}
 use Rattle.papaya_words.specs.declared.probe.Refused.{Refused as Refused_words}
 use Rattle.papaya_ask.specs.declared.call.Reply.{Reply}
 use Rattle.papaya_ask.specs.declared.call.Reply.TheVariants.{Absent, Found, Inserted, Replaced, Occupied, Removed, Kept, Aborted, Done, Refused}

@@ -12,7 +12,7 @@ use Rattle.papaya_call.specs.Machine.{ask_of as call_ask_of, goes_as, passes, re
 use Rattle.papaya_call.specs.Remove.{grave_word}
 use Rattle.papaya_call.specs.declared.compute.Remembered.{Remembered}
 use Rattle.papaya_call.specs.declared.machine.State.{State}
-use Rattle.papaya_call.specs.declared.machine.State.TheVariants.{AtRoot, Making, Opening, Searching, Writing, Offering, Showing, Pairing, Putting, Burying, Counting, Noting, Uncounting, Leaving, Growing, Ended}
+use Rattle.papaya_call.specs.declared.machine.State.TheVariants.{AtRoot, Making, Opening, Searching, Writing, Offering, Showing, Pairing, Putting, Deleting, Counting, Noting, Uncounting, Leaving, Growing, Ended}
 use Rattle.papaya_call.specs.declared.remove.Removal.{Removal}
 use Rattle.papaya_call.specs.declared.made.Made.{Made}
 use Rattle.papaya_ask.specs.Search.{hinted, look}
@@ -23,15 +23,15 @@ use Rattle.papaya_ask.specs.declared.call.Reply.{Reply}
 use Rattle.papaya_ask.specs.declared.call.Reply.TheVariants.{Absent, Refused as Reply_refused}
 use Rattle.papaya_ask.specs.declared.call.Task.TheVariants.{RemoveIf}
 use Rattle.papaya_ask.specs.declared.search.Search.TheVariants.{Sizing, Looking, Reading, Comparing}
-use Rattle.papaya_ask.specs.declared.search.Seen.{Seen}
-use Rattle.papaya_ask.specs.declared.search.Seen.TheVariants as seen
+use Rattle.papaya_ask.specs.declared.search.Probed.{Probed}
+use Rattle.papaya_ask.specs.declared.search.Probed.TheVariants as seen
 use Rattle.papaya_chain.specs.declared.ask.Answer.{Answer}
 use Rattle.papaya_chain.specs.declared.ask.Answer.TheVariants as answers
 use Rattle.papaya_chain.specs.declared.machine.Machine.{Machine}
 use Rattle.papaya_chain.specs.declared.machine.Phase.TheVariants.{Calling}
 use Rattle.papaya_chain.specs.Machine.{after, ask_of, asks_in, started}
-use Rattle.papaya_rests.specs.Alone.{IsRead}
-use Rattle.papaya_rests.proofs.AloneSteps.{exchange_done}
+use Rattle.papaya_call_law.specs.Alone.{IsRead}
+use Rattle.papaya_call_law.proofs.AloneSteps.{exchange_done}
 use Rattle.papaya_store.specs.Performs.{size_of}
 use Rattle.papaya_store.specs.Store.{StoreState, Stored, pair_of}
 use Rattle.papaya_store.specs.Tables.{Tables, hint_at, put, put_in, table_of, word_at}
@@ -107,7 +107,7 @@ abbrev pub IsRootStage : ℕ → State → Type 0
 IsRootStage root AtRoot = Unit {0}
 IsRootStage root (Searching search) = IsSearchIn (λ word. IsSettledKind (kind_of word)) root search
 IsRootStage root (Showing removal) = Unit {0}
-IsRootStage root (Burying removal) = Unit {0}
+IsRootStage root (Deleting removal) = Unit {0}
 IsRootStage root (Uncounting n) = Unit {0}
 IsRootStage root (Leaving t) = t ≡ root
 IsRootStage root (Ended reply) = IsEnd reply
@@ -118,7 +118,7 @@ passes_root root (Incremental chunk) fill t here = here
 passes_root root Blocking fill t here = tt
 
 -- where a search of it leads
-goes_root : (root : ℕ) (mode : ResizeMode) (held : Remembered) (sight : Seen) → IsSeenIn (λ word. IsSettledKind (kind_of word)) root sight → IsRootStage root (goes_as RemoveIf mode held sight)
+goes_root : (root : ℕ) (mode : ResizeMode) (held : Remembered) (sight : Probed) → IsSeenIn (λ word. IsSettledKind (kind_of word)) root sight → IsRootStage root (goes_as RemoveIf mode held sight)
 goes_root root mode held (seen.On search) is = is
 goes_root root mode held (seen.Empty at) is = tt
 goes_root root mode held (seen.Here at word) (here, settled, uncopied) = subst (λ kind. IsRootStage root (removes kind at word)) (sym (settled_live (kind_of word) settled uncopied)) tt
@@ -187,7 +187,7 @@ module _ {K V S F : Type 0} (g : Mut F (Bor K × (Bor V × Unit {0})) Bool) (mat
       stays (Searching (Comparing place word)) (Yes (matches_in matches (pair_of s (number_of word)))) answer e (same_root s s' same) refl
       (goes_root s.words.root mode held _ (compared_in (λ n. IsSettledKind (kind_of n)) s.words.root (Comparing place word) (matches_in matches (pair_of s (number_of word))) stage))
   root_stays (Showing removal) answer stage read (shown, same) = shown_root removal answer (pair_of s (number_of removal.word)) shown (same_root s s' same)
-  root_stays (Burying removal) answer stage read (exchanges, _) =
+  root_stays (Deleting removal) answer stage read (exchanges, _) =
       let n = removal.place.table in
       let i = removal.place.probe.i in
       let done : (answer ≡ Exchanged) × (s' ≡ record s { words = put s.words (Slot n i) (grave_word removal.word) }) = exchange_done _ _ (word_at s.words (Slot n i)) removal.word read exchanges in
@@ -199,7 +199,7 @@ module _ {K V S F : Type 0} (g : Mut F (Bor K × (Bor V × Unit {0})) Bool) (mat
         slots = ap (λ u. slots_in (table_of w.tables u)) root ∙ long.slots;
         next = ap (λ u. next_in (table_of w.tables u)) root ∙ long.next;
       } in
-      stays (Burying removal) Exchanged answer done.0 (subst (IsRootOf s) (sym done.1) later) refl tt
+      stays (Deleting removal) Exchanged answer done.0 (subst (IsRootOf s) (sym done.1) later) refl tt
   root_stays (Uncounting n) answer stage read (e, (number, is), _) =
       stays (Uncounting n) Ok_done answer e (record {
         root = ap (λ (y : StoreState K V S). y.words.root) is;

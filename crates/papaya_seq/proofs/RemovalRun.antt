@@ -6,7 +6,7 @@ use Rattle.papaya_ask.specs.declared.ask.Ask.TheVariants.{Done as Ask_done}
 use Rattle.papaya_ask.specs.declared.call.Reply.{Reply}
 use Rattle.papaya_ask.specs.declared.call.Reply.TheVariants.{Refused as Reply_refused}
 use Rattle.papaya_words.specs.declared.probe.Refused.{Refused}
-use Rattle.papaya_chain_rests.specs.Goes.{IsCause}
+use Rattle.papaya_chain_law.specs.Goes.{IsCause}
 use Rattle.papaya_ask.specs.declared.call.Task.TheVariants.{RemoveIf}
 use Rattle.papaya_alone.specs.Ahead.{IsPhaseRead}
 use Rattle.papaya_call.specs.Machine.{IsStandingState}
@@ -17,9 +17,9 @@ use Rattle.papaya_chain.specs.declared.machine.Machine.{Machine}
 use Rattle.papaya_chain.specs.declared.machine.Phase.{Phase}
 use Rattle.papaya_chain.specs.declared.machine.Phase.TheVariants.{Calling, Linking, Copying as Copying_root}
 use Rattle.papaya_chain.specs.Machine.{IsFit, IsFitAsk, IsStanding, after, ask_of, asks_in, started}
-use Rattle.papaya_rests.specs.Alone.{IsRead}
-use Rattle.papaya_rests.specs.Says.{said_in, said_of_removal}
-use Rattle.papaya_rests.proofs.RestsHeld.{ended_in}
+use Rattle.papaya_call_law.specs.Alone.{IsRead}
+use Rattle.papaya_call_law.specs.Says.{said_in, said_of_removal}
+use Rattle.papaya_call_law.proofs.ReliesHeld.{ended_in}
 use Rattle.papaya_store.specs.Asks.{PerformsAsk}
 use Rattle.papaya_store.specs.Store.{StoreState}
 use Rattle.papaya_store.specs.Tables.{word_at}

@@ -13,7 +13,7 @@ use Rattle.papaya_call.specs.Machine.{IsStandingState, after as call_after, agre
 use Rattle.papaya_call.specs.declared.compute.Remembered.{Remembered}
 use Rattle.papaya_call.specs.declared.machine.Machine.{Machine as Call_machine}
 use Rattle.papaya_call.specs.declared.machine.State.{State}
-use Rattle.papaya_call.specs.declared.machine.State.TheVariants.{AtRoot, Making, Opening, Searching, Writing, Offering, Showing, Pairing, Putting, Burying, Counting, Noting, Uncounting, Leaving, Growing, Ended}
+use Rattle.papaya_call.specs.declared.machine.State.TheVariants.{AtRoot, Making, Opening, Searching, Writing, Offering, Showing, Pairing, Putting, Deleting, Counting, Noting, Uncounting, Leaving, Growing, Ended}
 use Rattle.papaya_call.specs.declared.remove.Removal.{Removal}
 use Rattle.papaya_call.specs.declared.made.Made.{Made}
 use Rattle.papaya_ask.specs.Search.{at_yes as search_compared, hinted, look}
@@ -24,19 +24,19 @@ use Rattle.papaya_ask.specs.declared.call.Reply.TheVariants.{Absent}
 use Rattle.papaya_ask.specs.declared.call.Task.{Task}
 use Rattle.papaya_ask.specs.declared.call.Task.TheVariants.{RemoveIf}
 use Rattle.papaya_ask.specs.declared.search.Search.TheVariants.{Sizing, Looking, Reading, Comparing}
-use Rattle.papaya_ask.specs.declared.search.Seen.{Seen}
-use Rattle.papaya_ask.specs.declared.search.Seen.TheVariants as seen
+use Rattle.papaya_ask.specs.declared.search.Probed.{Probed}
+use Rattle.papaya_ask.specs.declared.search.Probed.TheVariants as seen
 use Rattle.papaya_chain.specs.declared.ask.Answer.{Answer}
 use Rattle.papaya_chain.specs.declared.ask.Answer.TheVariants as answers
 use Rattle.papaya_chain.specs.declared.machine.Machine.{Machine}
 use Rattle.papaya_chain.specs.declared.machine.Phase.{Phase}
 use Rattle.papaya_chain.specs.declared.machine.Phase.TheVariants.{Calling, Linking, Copying as Copying_root}
 use Rattle.papaya_chain.specs.Machine.{after, ask_of, asks_in}
-use Rattle.papaya_chain_rests.specs.Goes.{Goes, IsOwnStep}
-use Rattle.papaya_chain_rests.specs.Rests.{left_by}
-use Rattle.papaya_rests.specs.Alone.{IsRead}
-use Rattle.papaya_rests.specs.Says.{Said, Agrees, Inserts, Makes, Removes, said_in}
-use Rattle.papaya_rests.proofs.AloneSteps.{exchange_done}
+use Rattle.papaya_chain_law.specs.Goes.{Goes, IsOwnStep}
+use Rattle.papaya_chain_law.specs.Relies.{left_by}
+use Rattle.papaya_call_law.specs.Alone.{IsRead}
+use Rattle.papaya_call_law.specs.Says.{Said, Agrees, Inserts, Makes, Removes, said_in}
+use Rattle.papaya_call_law.proofs.AloneSteps.{exchange_done}
 use Rattle.papaya_store.specs.Performs.{size_of}
 use Rattle.papaya_store.specs.Store.{StoreState, Stored, pair_of}
 use Rattle.papaya_store.specs.Tables.{hint_at, table_of, word_at}
@@ -57,11 +57,11 @@ removes_unsaid kinds.Empty at word = refl
 removes_unsaid kinds.Live at word = refl
 removes_unsaid kinds.Marked at word = refl
 removes_unsaid kinds.Copied at word = refl
-removes_unsaid kinds.Buried at word = refl
+removes_unsaid kinds.Tombstone at word = refl
 removes_unsaid kinds.Closed at word = refl
 
 -- a search leads to such a state
-goes_unsaid : (mode : ResizeMode) (held : Remembered) (sight : Seen) → IsUnsaid (goes_as RemoveIf mode held sight)
+goes_unsaid : (mode : ResizeMode) (held : Remembered) (sight : Probed) → IsUnsaid (goes_as RemoveIf mode held sight)
 goes_unsaid mode held (seen.On search) = refl
 goes_unsaid mode held (seen.Empty at) = refl
 goes_unsaid mode held (seen.Here at word) = removes_unsaid (kind_of word) at word
@@ -88,7 +88,7 @@ aside_unsaid (Offering gap) t e = absurd cc
 aside_unsaid (Showing removal) t e = absurd cc
 aside_unsaid (Pairing purpose) t e = absurd cc
 aside_unsaid (Putting given) t e = absurd cc
-aside_unsaid (Burying removal) t e = absurd cc
+aside_unsaid (Deleting removal) t e = absurd cc
 aside_unsaid (Counting n) t e = absurd cc
 aside_unsaid (Noting n) t e = absurd cc
 aside_unsaid (Uncounting n) t e = absurd cc
@@ -149,9 +149,9 @@ module _ {K V S F : Type 0} (g : Mut F (Bor K × (Bor V × Unit {0})) Bool) (mat
           subst (λ a. IsJudgedIn (call_after (at (Searching (Comparing place word))) a).state f') (sym e)
           (unjudged (goes_as RemoveIf mode held (search_compared (Comparing place word) (matches_in matches (pair_of s (number_of word))))) f f' (goes_unsaid mode held (search_compared (Comparing place word) (matches_in matches (pair_of s (number_of word))))) same alike)
       own_judged (Showing removal) answer stands read alike (shown, _) = shown_judged removal answer (pair_of s (number_of removal.word)) refl alike shown
-      own_judged (Burying removal) answer stands read judged (exchanges, same) =
+      own_judged (Deleting removal) answer stands read judged (exchanges, same) =
           let done = exchange_done _ _ (word_at s.words (Slot removal.place.table removal.place.probe.i)) removal.word read exchanges in
-          subst (λ a. IsJudgedIn (call_after (at (Burying removal)) a).state f') (sym done.0) judged
+          subst (λ a. IsJudgedIn (call_after (at (Deleting removal)) a).state f') (sym done.0) judged
       own_judged (Uncounting n) answer stands read judged (e, _, same) = subst (λ a. IsJudgedIn (call_after (at (Uncounting n)) a).state f') (sym e) judged
       own_judged (Leaving t) answer stands read alike (e, _, same) =
           subst (λ a. IsJudgedIn (call_after (at (Leaving t)) a).state f') (sym e) (unjudged (left RemoveIf held.fill t (word_at s.words (Next t))) f f' (left_unsaid held.fill t (word_at s.words (Next t))) same alike)
@@ -179,7 +179,7 @@ module _ {K V S F : Type 0} (g : Mut F (Bor K × (Bor V × Unit {0})) Bool) (mat
     aside_call made hashed (Showing removal) t answer e told = absurd cc
     aside_call made hashed (Pairing purpose) t answer e told = absurd cc
     aside_call made hashed (Putting given) t answer e told = absurd cc
-    aside_call made hashed (Burying removal) t answer e told = absurd cc
+    aside_call made hashed (Deleting removal) t answer e told = absurd cc
     aside_call made hashed (Counting n) t answer e told = absurd cc
     aside_call made hashed (Noting n) t answer e told = absurd cc
     aside_call made hashed (Uncounting n) t answer e told = absurd cc

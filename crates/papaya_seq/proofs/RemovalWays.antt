@@ -16,7 +16,7 @@ use Rattle.papaya_chain.specs.declared.machine.Phase.{Phase}
 use Rattle.papaya_chain.specs.declared.machine.Phase.TheVariants.{Calling, Linking, Copying as Copying_root}
 use Rattle.papaya_chain.specs.Machine.{IsFit, IsFitAsk, IsStanding, after, ask_of, asks_in, started}
 use Rattle.papaya_call.specs.Machine.{IsStandingState, ask_of as call_ask_of}
-use Rattle.papaya_rests.specs.Rests.{IsNumberAsk}
+use Rattle.papaya_call_law.specs.Relies.{IsNumberAsk}
 use Rattle.papaya_store.specs.Store.{StoreState}
 use Rattle.papaya_store.specs.Tables.{word_at}
 use Rattle.papaya_alone.specs.Ahead.{IsPhaseRead}
@@ -25,7 +25,7 @@ use Rattle.papaya_timeline.proofs.KeptLemmas.{IsLawfulKeys}
 use Rattle.papaya_seq.specs.Map.{IsLawfulMap, MapState, next_of, slots_of}
 use Rattle.papaya_seq.proofs.Ending.{left_of}
 use Rattle.papaya_seq.proofs.Lawful.{IsMatched, MatchesNone, decided}
-use Rattle.papaya_chain_rests.specs.Goes.{IsCause}
+use Rattle.papaya_chain_law.specs.Goes.{IsCause}
 use Rattle.papaya_seq.proofs.Causes.{IsNoTableRefusal}
 use Rattle.papaya_seq.proofs.RemovalRefused.{IsCounting, cause_table, counting_begun, counting_more}
 use Rattle.papaya_seq.proofs.RemovalRoot.{IsInRoot, IsRootStage, in_root_begun, in_root_more}

@@ -4,7 +4,7 @@ use denote.Ref.{Bor}
 use Rattle.std.specs.Fn.{Mut}
 use Rattle.std.specs.Prelude.{◌==◌}
 use Rattle.papaya_call.specs.declared.machine.State.{State}
-use Rattle.papaya_call.specs.declared.machine.State.TheVariants.{AtRoot, Making, Opening, Searching, Writing, Offering, Showing, Pairing, Putting, Burying, Counting, Noting, Uncounting, Leaving, Growing, Ended}
+use Rattle.papaya_call.specs.declared.machine.State.TheVariants.{AtRoot, Making, Opening, Searching, Writing, Offering, Showing, Pairing, Putting, Deleting, Counting, Noting, Uncounting, Leaving, Growing, Ended}
 use Rattle.papaya_call.specs.Machine.{IsStandingState, asks as call_asks}
 use Rattle.papaya_call.specs.declared.made.Made.{Made}
 use Rattle.papaya_ask.specs.declared.ask.Answer.{Answer as Call_answer}
@@ -24,7 +24,7 @@ use Rattle.papaya_chain.specs.declared.ask.Ask.{Ask}
 use Rattle.papaya_chain.specs.declared.ask.Ask.TheVariants as asks
 use Rattle.papaya_chain.specs.declared.machine.Machine.{Machine}
 use Rattle.papaya_chain.specs.Machine.{ask_of}
-use Rattle.papaya_rests.specs.Rests.{IsNumberAsk}
+use Rattle.papaya_call_law.specs.Relies.{IsNumberAsk}
 use Rattle.papaya_store.specs.Asks.{PerformsAsk}
 use Rattle.papaya_store.specs.Copies.{PerformsCopy}
 use Rattle.papaya_store.specs.Performs.{Exchanges, Judges, Performs, ShowsPair, same}
@@ -85,7 +85,7 @@ removal_asks made hash (Offering gap) stands going = absurd stands.0
 removal_asks made hash (Showing removal) stands going = tt
 removal_asks made hash (Pairing purpose) stands going = absurd stands.0
 removal_asks made hash (Putting put) stands going = absurd stands.0
-removal_asks made hash (Burying removal) stands going = tt
+removal_asks made hash (Deleting removal) stands going = tt
 removal_asks made hash (Counting n) stands going = absurd stands
 removal_asks made hash (Noting n) stands going = absurd stands
 removal_asks made hash (Uncounting n) stands going = tt
@@ -107,7 +107,7 @@ removal_numbers made hash (Offering gap) stands asks = asks
 removal_numbers made hash (Showing removal) stands asks = asks
 removal_numbers made hash (Pairing purpose) stands asks = stands.0
 removal_numbers made hash (Putting put) stands asks = stands.0
-removal_numbers made hash (Burying removal) stands asks = asks
+removal_numbers made hash (Deleting removal) stands asks = asks
 removal_numbers made hash (Counting n) stands asks = asks
 removal_numbers made hash (Noting n) stands asks = asks
 removal_numbers made hash (Uncounting n) stands asks = asks

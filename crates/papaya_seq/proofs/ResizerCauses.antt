@@ -21,8 +21,8 @@ use Rattle.papaya_chain.specs.declared.resizer.State.{State}
 use Rattle.papaya_chain.specs.declared.resizer.State.TheVariants as stages
 use Rattle.papaya_chain.specs.Resizer.{after, after_in, ask_of, asks_in, at_next, at_root, judges, makes, reply_in, reply_of}
 use Rattle.papaya_chain.specs.Room.{room_of}
-use Rattle.papaya_chain_rests.specs.Resizers.{HasLink, IsResizeCause, IsTooMuchRoom, WasNotMade, WouldBeTooLong}
-use Rattle.papaya_chain_rests.proofs.CopyRefusals.{copying_asks}
+use Rattle.papaya_chain_law.specs.Resizers.{HasLink, IsResizeCause, IsTooMuchRoom, WasNotMade, WouldBeTooLong}
+use Rattle.papaya_chain_law.proofs.CopyRefusals.{copying_asks}
 use Rattle.papaya_store.specs.Copies.{PerformsCopy}
 use Rattle.papaya_store.specs.Performs.{size_of}
 use Rattle.papaya_store.specs.Store.{StoreState}
@@ -69,7 +69,7 @@ IsCalm root stages.Done = Unit {0}
 IsCalm root _ = ⊥
 
 module _ {K V S : Type 0} (eq : K → K → Bool) (hash : S → K → ℕ) (s : MapState K V S) (resize : Resize) where
-  -- why it is refused: no room is for so many pairs, or there is no further table
+  -- why it is refused: no room is for so many pairs, or there is no next table
   abbrev pub IsCauseOf : Resize → Refused → MapState K V S → Type 0
   IsCauseOf (resizes.Reserve more) refused s' = IsReserveCause eq s more refused s'
   IsCauseOf resizes.CopyAll refused s' = IsNoTableRefusal s' refused

@@ -28,9 +28,9 @@ use Rattle.papaya_chain.specs.declared.resizer.State.TheVariants as stages
 use Rattle.papaya_chain.specs.Machine as machine
 use Rattle.papaya_chain.specs.Resizer.{after, after_in, ask_of, asks_in, at_count, at_last, at_next, at_root, called, copied, copies as copies_root, counted, judges, linked, makes, over, told_root}
 use Rattle.papaya_chain.specs.Room.{entries_of, room_of, room_of_len}
-use Rattle.papaya_rests.specs.Copier.{link_in_copying}
-use Rattle.papaya_chain_rests.proofs.CopyRefusals.{copying_asks}
-use Rattle.papaya_chain_rests.proofs.LinkStates.{In, Linked_in}
+use Rattle.papaya_call_law.specs.Copier.{link_in_copying}
+use Rattle.papaya_chain_law.proofs.CopyRefusals.{copying_asks}
+use Rattle.papaya_chain_law.proofs.LinkStates.{In, Linked_in}
 use Rattle.papaya_store.specs.Copies.{PerformsCopy}
 use Rattle.papaya_store.specs.Performs.{size_of}
 use Rattle.papaya_store.specs.Store.{StoreState}

@@ -21,9 +21,9 @@ use Rattle.papaya_chain.specs.declared.resizer.State.TheVariants as stages
 use Rattle.papaya_chain.specs.Machine as machine
 use Rattle.papaya_chain.specs.Resizer.{after_in, at_count, at_last, at_next, at_root, called, copied, copies, counted, judges, linked, makes, over, told_root}
 use Rattle.papaya_chain.specs.Room.{room_of}
-use Rattle.papaya_rests.specs.Copier.{link_in_copying}
-use Rattle.papaya_chain_rests.specs.Resizers.{HasLink}
-use Rattle.papaya_chain_rests.proofs.LinkStates.{Copied_holds, In, Linked_in, Of, copying_after, link_after}
+use Rattle.papaya_call_law.specs.Copier.{link_in_copying}
+use Rattle.papaya_chain_law.specs.Resizers.{HasLink}
+use Rattle.papaya_chain_law.proofs.LinkStates.{Copied_holds, In, Linked_in, Of, copying_after, link_after}
 use Rattle.papaya_seq.proofs.Sizes.{IsSizedLink, New, Told, is_sized, sized_beside, stable}
 
 -- `Sized` is what the number of a table and that of its slots are.

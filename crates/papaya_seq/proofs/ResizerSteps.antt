@@ -19,7 +19,7 @@ use Rattle.papaya_chain.specs.declared.resizer.Resizer.{Resizer}
 use Rattle.papaya_chain.specs.declared.resizer.State.{State}
 use Rattle.papaya_chain.specs.declared.resizer.State.TheVariants as stages
 use Rattle.papaya_chain.specs.Resizer.{after, ask_of, asks_in, begun, begun_in, kind_of_ask, reply_in, reply_of}
-use Rattle.papaya_chain_rests.specs.Resizers.{IsResizeCause}
+use Rattle.papaya_chain_law.specs.Resizers.{IsResizeCause}
 use Rattle.papaya_law.specs.Exchange.{run, start as first_state}
 use Rattle.papaya_law.specs.Meaning.{map_left}
 use Rattle.papaya_law.proofs.OneMap.{keeping}
@@ -37,7 +37,7 @@ use Rattle.papaya_timeline.specs.Begins.{begun_work}
 use Rattle.papaya_timeline.specs.Callers.{resizing}
 use Rattle.papaya_timeline.specs.Core.{CoreState}
 use Rattle.papaya_timeline.specs.Ends.{budget_of}
-use Rattle.papaya_timeline.specs.Kept.{coding_of, low, setting_of, told_tales}
+use Rattle.papaya_timeline.specs.Kept.{coding_of, low, setting_of, told_call_traces}
 use Rattle.papaya_timeline.specs.Maps.{key_of}
 use Rattle.papaya_timeline.specs.Resized.{IsLoneResizer, IsLoneWork, IsNearerResized, IsResized, lone_resizer_measure}
 use Rattle.papaya_timeline.specs.Resizes.{Resizes}
@@ -185,26 +185,26 @@ module _ {K V S H : Type 0} (eq : K → K → Bool) (input : K → List (List �
       -- each table stays, with its slots
       pub resize_grown : HasMoreTables store.words.tables store'.words.tables
       resize_grown =
-          let (es, (tales, kept)) = lone.lawful.law in
-          (stage_left eq (hash store.hasher) keys_now hash false now es (tales 0) lone.lawful.core z refl kept.allowed kept.coded kept.made kept.hints (kept.resizers 0 z refl) z.state refl ask asked answer store' performs).grown
+          let (es, (call_traces, kept)) = lone.lawful.law in
+          (stage_left eq (hash store.hasher) keys_now hash false now es (call_traces 0) lone.lawful.core z refl kept.allowed kept.coded kept.made kept.hints (kept.resizers 0 z refl) z.state refl ask asked answer store' performs).grown
 
       -- it takes no number for a pair
       resize_taken : store'.words.made ≡ store.words.made
       resize_taken =
-          let (es, (tales, kept)) = lone.lawful.law in
+          let (es, (call_traces, kept)) = lone.lawful.law in
           let g = setting_of eq (low (hash store.hasher)) s.mode store.words.tables in
           let placed = tables_hashed eq (hash store.hasher) keys_now s.mode store.words.tables lone.lawful.core.sizes in
           copied_made store store' eq hash false ask answer
-          (λ old new is. resizer_names g (coding_of (low (hash store.hasher))) placed (run es first_state) (map_left g es) (keeping g placed.lawful es kept.allowed) z (tales 0).hands (kept.resizers 0 z refl).rests (Exchange Made old new) (asked ∙ ap Some is))
+          (λ old new is. resizer_names g (coding_of (low (hash store.hasher))) placed (run es first_state) (map_left g es) (keeping g placed.lawful es kept.allowed) z (call_traces 0).loaded (kept.resizers 0 z refl).relies (Exchange Made old new) (asked ∙ ap Some is))
           performs
 
       -- a refusal has a cause
       pub resize_caused : (refused : Refused) → reply ≡ Some (Reply_refused refused) → IsResizeCause z answer refused
       resize_caused refused e =
-          let (es, (tales, kept)) = lone.lawful.law in
-          let rests = kept.resizers 0 z refl in
-          let left = stage_left eq (hash store.hasher) keys_now hash false now es (tales 0) lone.lawful.core z refl kept.allowed kept.coded kept.made kept.hints rests z.state refl ask asked answer store' performs in
-          resizer_refused (setting_of eq (low (hash store.hasher)) s.mode store.words.tables) (coding_of (low (hash store.hasher))) (run es first_state) z (tales 0).hands rests.rests answer left.made left.hands' left.told refused e
+          let (es, (call_traces, kept)) = lone.lawful.law in
+          let relies = kept.resizers 0 z refl in
+          let left = stage_left eq (hash store.hasher) keys_now hash false now es (call_traces 0) lone.lawful.core z refl kept.allowed kept.coded kept.made kept.hints relies z.state refl ask asked answer store' performs in
+          resizer_refused (setting_of eq (low (hash store.hasher)) s.mode store.words.tables) (coding_of (low (hash store.hasher))) (run es first_state) z (call_traces 0).loaded relies.relies answer left.made left.loaded' left.told refused e
 
       -- it is a step of the core
       made_step : Resizes eq hash false now 0 (seated_work store' (goes_on reply (works.Resize next)) s.mode s.initial) event reply
@@ -227,12 +227,12 @@ module _ {K V S H : Type 0} (eq : K → K → Bool) (input : K → List (List �
       root_kept : 0 < store.words.root → 0 < store'.words.root
       unfolding made_step
       root_kept =
-          let (es, (tales, kept)) = lone.lawful.law in
+          let (es, (call_traces, kept)) = lone.lawful.law in
           let then : CoreState K V S (Unit {0}) = seated_work store' (goes_on reply (works.Resize next)) s.mode s.initial in
-          let left = resize_left eq (hash store.hasher) keys_now false now 0 then event reply made_step refl es tales lone.lawful.core kept in
-          root_stays eq (hash store.hasher) keys_now s.mode store store' now.callers then.callers es left.made tales (told_tales tales 0 left.made left.hands') kept
+          let left = resize_left eq (hash store.hasher) keys_now false now 0 then event reply made_step refl es call_traces lone.lawful.core kept in
+          root_stays eq (hash store.hasher) keys_now s.mode store store' now.callers then.callers es left.made call_traces (told_call_traces call_traces 0 left.made left.loaded') kept
           (resize-core eq hash false now 0 then event reply made_step lone.lawful.core)
-          (resize_kept eq (hash store.hasher) keys_now false now 0 then event reply made_step refl es tales lone.lawful.core kept)
+          (resize_kept eq (hash store.hasher) keys_now false now 0 then event reply made_step refl es call_traces lone.lawful.core kept)
 
       -- which comes nearer its end
       stepped_to : (o : Option Reply) → reply ≡ o → Resizes eq hash false now 0 (seated_work store' (goes_on o (works.Resize next)) s.mode s.initial) event o

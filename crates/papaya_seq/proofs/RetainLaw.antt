@@ -1,4 +1,4 @@
--- The burial of a pair of the root of a map that no call is under way in, while no pairs are being moved.
+-- The deletion of a pair of the root of a map that no call is under way in, while no pairs are being moved.
 use Rattle.std.proofs.Common.{◌≡◌, ◌⊎◌, inl, inr, ⊎_elim, ℕ, zero, suc, ◌<◌, ◌≤◌, ◌^◌, Bool, cond, pos, ◌+ℤ◌, List, [], ◌∷◌, ◌++◌, length, slice_index, slice_set, Option, Some, None, FitsSigned, append-nil, refl, sym, ◌∙◌, ap, subst, arith, lt-ltb}
 use Rattle.std.specs.Prelude.{negsuc}
 use Rattle.std.specs.Int.{w64, int_wrap}
@@ -7,16 +7,16 @@ use Rattle.std.proofs.lemmas.Bool.{cases_lt}
 use Rattle.std.proofs.lemmas.Int.{fits_signed_from_abs, ints, int_wrap_fits}
 use Rattle.papaya_words.specs.Counter.{added}
 use Rattle.papaya_words.specs.Table.{TableWords}
-use Rattle.papaya_words.specs.Word.{buried_word, kind_of, pair_of as number_of}
+use Rattle.papaya_words.specs.Word.{kind_of, pair_of as number_of, tombstone_word}
 use Rattle.papaya_words.specs.declared.word.Kind.TheVariants as kinds
 use Rattle.papaya_ask.specs.Search.{IsSize}
 use Rattle.papaya_ask.specs.declared.ask.At.{At}
 use Rattle.papaya_ask.specs.declared.ask.At.TheVariants.{Root, Next, Aborted, Done, Slot, Made}
-use Rattle.papaya_chain_rests.specs.Told.{no_hands}
-use Rattle.papaya_law.specs.Allows.{MayBury}
+use Rattle.papaya_chain_law.specs.Told.{nothing_loaded}
+use Rattle.papaya_law.specs.Allows.{MayDelete}
 use Rattle.papaya_law.specs.ChainContent.{joined}
 use Rattle.papaya_law.specs.Code.{Coding, IsHashed, IsOfKind, code}
-use Rattle.papaya_law.specs.Exchange.{Buried, Live, Bury, Exchange, Setting, State, after, run, start}
+use Rattle.papaya_law.specs.Exchange.{Tombstone, Live, Delete, Exchange, Setting, State, after, run, start}
 use Rattle.papaya_law.specs.Grows.{Comes}
 use Rattle.papaya_law.specs.Invariant.{named}
 use Rattle.papaya_law.specs.Meaning.{map_left}
@@ -26,10 +26,10 @@ use Rattle.papaya_law.proofs.CodeViews.{word_of_kind}
 use Rattle.papaya_law.proofs.Moments.{allowed_append, run-append}
 use Rattle.papaya_law.proofs.OneMap.{keeping, root_reached}
 use Rattle.papaya_law.proofs.Slots.{put_elsewhere, put_there, slot_cases}
-use Rattle.papaya_rests.specs.Told.{word_of}
+use Rattle.papaya_call_law.specs.Told.{word_of}
 use Rattle.papaya_timeline.specs.Content.{content, pairs_from, pairs_of_kind, pairs_of_slots}
 use Rattle.papaya_timeline.specs.Core.{CoreState}
-use Rattle.papaya_timeline.specs.Kept.{IsKept, IsLawfulCore, Tale, coding_of, low, setting_of}
+use Rattle.papaya_timeline.specs.Kept.{CallTrace, IsKept, IsLawfulCore, coding_of, low, setting_of}
 use Rattle.papaya_store.specs.Store.{StoreState, Stored, pair_of}
 use Rattle.papaya_store.specs.Tables.{put, table_of, word_at, word_in, written}
 use Rattle.papaya_timeline.proofs.CoreLemmas.{cases_same}
@@ -50,10 +50,10 @@ module _ {K V S : Type 0} (s : StoreState K V S) (i : ℕ) where
   abbrev pub root_word : ℕ
   root_word = word_at s.words (Slot s.words.root i)
 
-  -- its pair was buried, and is counted no more
-  abbrev pub buried_at : StoreState K V S
-  buried_at = record s {
-    words = put s.words (Slot s.words.root i) (buried_word (number_of root_word));
+  -- its pair was deleted, and is counted no more
+  abbrev pub tombstone_at : StoreState K V S
+  tombstone_at = record s {
+    words = put s.words (Slot s.words.root i) (tombstone_word (number_of root_word));
     count = added s.count 0 (negsuc 0);
   }
 
@@ -89,8 +89,8 @@ module _ {K V S : Type 0} (eq : K → K → Bool) (hash : K → ℕ) (s : MapSta
   abbrev es : List (Exchange (Stored K V))
   es = lawful.lawful.law.0
 
-  abbrev tales : ℕ → Tale K V
-  tales = lawful.lawful.law.1.0
+  abbrev call_traces : ℕ → CallTrace K V
+  call_traces = lawful.lawful.law.1.0
 
   abbrev now : State (Stored K V)
   now = run es start
@@ -102,12 +102,12 @@ module _ {K V S : Type 0} (eq : K → K → Bool) (hash : K → ℕ) (s : MapSta
   word = root_word s.store i
 
   abbrev grave : ℕ
-  grave = buried_word (number_of word)
+  grave = tombstone_word (number_of word)
 
   abbrev store' : StoreState K V S
-  store' = buried_at s.store i
+  store' = tombstone_at s.store i
 
-  kept : IsKept {A = Unit {0}} eq hash s.mode s.store [] es tales
+  kept : IsKept {A = Unit {0}} eq hash s.mode s.store [] es call_traces
   kept = lawful.lawful.law.1.1
 
   hashed : IsHashed g c
@@ -156,42 +156,42 @@ module _ {K V S : Type 0} (eq : K → K → Bool) (hash : K → ℕ) (s : MapSta
   root_is : now.root ≡ root
   root_is = kept.coded Root
 
-  -- its burial is allowed
-  may : MayBury g now root i p
+  -- its deletion is allowed
+  may : MayDelete g now root i p
   may = record {
     live = lives.1;
     reached = subst (IsReached g now p.key) root_is (root_reached g now (map_left g es) (keeping g hashed.lawful es kept.allowed) p.key (subst (λ n. 0 < n) (sym root_is) root_some));
   }
 
   abbrev made : List (Exchange (Stored K V))
-  made = Bury root i p ∷ []
+  made = Delete root i p ∷ []
 
-  ran : run (es ++ made) start ≡ after now (Bury root i p)
+  ran : run (es ++ made) start ≡ after now (Delete root i p)
   ran = run-append es made start
 
-  grave_is : code g c (Buried p) ≡ grave
-  grave_is = ap buried_word (sym number_is)
+  grave_is : code g c (Tombstone p) ≡ grave
+  grave_is = ap tombstone_word (sym number_is)
 
   -- the words after it
   coded' : (at : At) → word_of g c (run (es ++ made) start) at ≡ word_at store'.words at
   coded' at = ap (λ z. word_of g c z at) ran ∙ elim (cases_place at (Slot root i)) [
-    | inl same ↦ ap (word_of g c (after now (Bury root i p))) same ∙ ap (code g c) (put_there now root i (Buried p) root i (refl, refl)).0 ∙ grave_is ∙ sym (placed-here s.store.words (Slot root i) grave placed) ∙ ap (word_at (put s.store.words (Slot root i) grave)) (sym same)
+    | inl same ↦ ap (word_of g c (after now (Delete root i p))) same ∙ ap (code g c) (put_there now root i (Tombstone p) root i (refl, refl)).0 ∙ grave_is ∙ sym (placed-here s.store.words (Slot root i) grave placed) ∙ ap (word_at (put s.store.words (Slot root i) grave)) (sym same)
     | inr differ ↦ others at differ ∙ kept.coded at ∙ sym (placed-other s.store.words (Slot root i) grave placed at differ)
   ]
     where
-      others : (at : At) → (at ≡ Slot root i → ⊥) → word_of g c (after now (Bury root i p)) at ≡ word_of g c now at
+      others : (at : At) → (at ≡ Slot root i → ⊥) → word_of g c (after now (Delete root i p)) at ≡ word_of g c now at
       others Root differ = refl
       others Made differ = refl
       others (Next t) differ = refl
       others (Aborted t) differ = refl
       others (Done t chunk) differ = refl
-      others (Slot t x) differ = ap (code g c) (put_elsewhere now root i (Buried p) t x (λ same. differ (ap (λ y. Slot y x) (sym same.0) ∙ ap (Slot root) (sym same.1))))
+      others (Slot t x) differ = ap (code g c) (put_elsewhere now root i (Tombstone p) t x (λ same. differ (ap (λ y. Slot y x) (sym same.0) ∙ ap (Slot root) (sym same.1))))
 
   -- a pair that a slot names stood in one
   slots' : (t x : ℕ) (q : Stored K V) → named ((run (es ++ made) start).slot t x) ≡ Some q → Stands now q ⊎ ⊥
   slots' t x q names =
-      let name : named ((after now (Bury root i p)).slot t x) ≡ Some q = ap (λ (z : State (Stored K V)). named (z.slot t x)) (sym ran) ∙ names in
-      elim (slot_cases now root i (Buried p) t x) [
+      let name : named ((after now (Delete root i p)).slot t x) ≡ Some q = ap (λ (z : State (Stored K V)). named (z.slot t x)) (sym ran) ∙ names in
+      elim (slot_cases now root i (Tombstone p) t x) [
         | inl (same, other) ↦ inl (t, x, ap named (sym same) ∙ name)
         | inr (here, at, is) ↦ inl (root, i, ap named lives.1 ∙ sym (ap named is) ∙ name)
       ]
@@ -199,7 +199,7 @@ module _ {K V S : Type 0} (eq : K → K → Bool) (hash : K → ℕ) (s : MapSta
   abbrev core' : CoreState K V S (Unit {0})
   core' = core_of (record { store = store'; mode = s.mode; initial = s.initial })
 
-  leaving : IsLeaving eq hash keys (core_of s) 0 core' refl es tales lawful.lawful.core kept made no_hands (λ q. ⊥)
+  leaving : IsLeaving eq hash keys (core_of s) 0 core' refl es call_traces lawful.lawful.core kept made nothing_loaded (λ q. ⊥)
   leaving = record {
     allowed = allowed_append g es made start kept.allowed (may, tt);
     keys = λ at k h. h;
@@ -216,8 +216,8 @@ module _ {K V S : Type 0} (eq : K → K → Bool) (hash : K → ℕ) (s : MapSta
     mine_apart = λ d r runs differ q q' mine other. absurd mine;
   }
 
-  kept' : (tales' : ℕ → Tale K V) × IsKept {A = Unit {0}} eq hash s.mode store' [] (es ++ made) tales'
-  kept' = (_, leaves_kept eq hash keys (core_of s) 0 core' refl es tales lawful.lawful.core kept made no_hands leaving None refl (λ r e. absurd cc) (λ z e. absurd cc) (λ v e. absurd cc) (λ r e. absurd cc))
+  kept' : (call_traces' : ℕ → CallTrace K V) × IsKept {A = Unit {0}} eq hash s.mode store' [] (es ++ made) call_traces'
+  kept' = (_, leaves_kept eq hash keys (core_of s) 0 core' refl es call_traces lawful.lawful.core kept made nothing_loaded leaving None refl (λ r e. absurd cc) (λ z e. absurd cc) (λ v e. absurd cc) (λ r e. absurd cc))
 
   -- the root table after it
   written_is : written (Slot root i) table grave ≡ record table { slots = slice_set table.slots i grave }
@@ -240,7 +240,7 @@ module _ {K V S : Type 0} (eq : K → K → Bool) (hash : K → ℕ) (s : MapSta
 
   -- the grave has no pair
   pub grave_bare : pairs_of_word s.store grave ≡ []
-  grave_bare = ap (λ kd. pairs_of_kind s.store kd (number_of grave)) (ap kind_of (sym grave_is) ∙ code_kind g c (Buried p))
+  grave_bare = ap (λ kd. pairs_of_kind s.store kd (number_of grave)) (ap kind_of (sym grave_is) ∙ code_kind g c (Tombstone p))
 
   sizes' : (n : ℕ) (t : TableWords) → table_of store'.words.tables n ≡ Some t → IsSize (length t.slots) t.limit
   sizes' n t e = elim (cases_same n root) [
@@ -253,7 +253,7 @@ module _ {K V S : Type 0} (eq : K → K → Bool) (hash : K → ℕ) (s : MapSta
 
   lawful_core : IsLawfulCore {A = Unit {0}} eq hash store' [] s.mode
   lawful_core = record {
-    core = record { chunked = lawful.lawful.core.chunked; limit = lawful.lawful.core.limit; sizes = sizes'; standing = λ d q e. absurd cc; going = λ d q e. absurd cc; resizers = λ d z e. absurd cc; visitors = λ d v e. absurd cc };
+    core = record { chunked = lawful.lawful.core.chunked; limit = lawful.lawful.core.limit; sizes = sizes'; standing = λ d q e. absurd cc; going = λ d q e. absurd cc; resizers = λ d z e. absurd cc; scanners = λ d v e. absurd cc };
     law = (es ++ made, kept');
   }
 
@@ -285,8 +285,8 @@ module _ {K V S : Type 0} (eq : K → K → Bool) (hash : K → ℕ) (s : MapSta
         ∙ int_wrap_fits w64 (pos m) fit
 
     -- the map is in order after it
-    pub buried_lawful : IsLawfulMap eq hash store' s.mode s.initial
-    buried_lawful = record {
+    pub tombstone_lawful : IsLawfulMap eq hash store' s.mode s.initial
+    tombstone_lawful = record {
       lawful = lawful_core;
       counted = counted';
       power = lawful.power;

@@ -3,7 +3,7 @@ use Rattle.std.proofs.Common.{◌≡◌, ◌⊎◌, inl, inr, ℕ, suc, ◌<◌,
 use denote.Ref.{Bor}
 use Rattle.std.specs.Fn.{Mut}
 use Rattle.papaya_words.specs.Table.{TableWords}
-use Rattle.papaya_words.specs.Word.{buried_word, kind_of, pair_of as number_of}
+use Rattle.papaya_words.specs.Word.{kind_of, pair_of as number_of, tombstone_word}
 use Rattle.papaya_words.specs.declared.word.Kind.TheVariants as kinds
 use Rattle.papaya_ask.specs.declared.ask.Answer.{Answer}
 use Rattle.papaya_ask.specs.declared.ask.Answer.TheVariants.{Yes}
@@ -18,7 +18,7 @@ use Rattle.papaya_timeline.proofs.StoreLemmas.{matched}
 use Rattle.papaya_seq.specs.Map.{IsLawfulMap, MapState, Unchanged, next_of, slots_in, slots_of}
 use Rattle.papaya_seq.specs.Removes.{IsShown}
 use Rattle.papaya_seq.specs.Retains.{Answers, IsRetained, IsRetaining, Retains, root_words, slot_words}
-use Rattle.papaya_seq.proofs.RetainLaw.{buried_at, root_word, grave_bare, last_content, next_same, root_same, words_set}
+use Rattle.papaya_seq.proofs.RetainLaw.{tombstone_at, root_word, grave_bare, last_content, next_same, root_same, words_set}
 use Rattle.papaya_seq.proofs.RetainLists.{bare_pairs, drop_more, drop_there, live_pairs, retains_more, set_before, set_behind, set_long, set_there, slots_more, slots_same, take_all}
 use Rattle.papaya_seq.proofs.Unmarked.{last_next, unmarked}
 use Rattle.papaya_seq.proofs.WalkLists.{pairs_of_word}
@@ -33,12 +33,12 @@ word_slot i None within = absurd (omega (arith, within))
 word_slot i (Some t) within = refl
 
 module _ {K V S : Type 0} (s : StoreState K V S) (i : ℕ) where
-  -- A slot of the root was visited: its pair, if it has one, was shown, and stays or was buried.
-  abbrev pub IsVisited : {F : Type 0} → Mut F (Bor K × (Bor V × Unit {0})) Bool → F → StoreState K V S
+  -- A slot of the root was scanned: its pair, if it has one, was shown, and stays or was deleted.
+  abbrev pub IsScanned : {F : Type 0} → Mut F (Bor K × (Bor V × Unit {0})) Bool → F → StoreState K V S
       → F → Type 0
-  IsVisited g f s' f' = ((kind_of (root_word s i) ≡ kinds.Live → ⊥) × (s' ≡ s) × (f' ≡ f))
+  IsScanned g f s' f' = ((kind_of (root_word s i) ≡ kinds.Live → ⊥) × (s' ≡ s) × (f' ≡ f))
       ⊎ ((p : Stored K V) × (kind_of (root_word s i) ≡ kinds.Live) × (pair_of s (number_of (root_word s i)) ≡ Some p)
-      × (agrees : Bool) × Answers g f p agrees f' × (s' ≡ cond agrees s (buried_at s i)))
+      × (agrees : Bool) × Answers g f p agrees f' × (s' ≡ cond agrees s (tombstone_at s i)))
 
 module _ {F K V S : Type 0} (g : Mut F (Bor K × (Bor V × Unit {0})) Bool) (s : MapState K V S) (f : F) where
   pub retaining_begins : next_of s.store ≡ 0 → IsRetaining g s f 0 s f
@@ -98,18 +98,18 @@ module _ {F K V S : Type 0} (g : Mut F (Bor K × (Bor V × Unit {0})) Bool) (s :
           (retained_more here here is (root_words s'.store) refl low_words' (ap (pairs_of_word s.store) (sym word_is) ∙ is) next);
     }
 
-    -- or its pair was buried
-    goes : s''.store ≡ buried_at s'.store i → kind_of (root_word s'.store i) ≡ kinds.Live → (p : Stored K V) → pair_of s'.store (number_of (root_word s'.store i)) ≡ Some p → Answers g f' p false f'' → IsRetaining g s f (suc i) s'' f''
+    -- or its pair was deleted
+    goes : s''.store ≡ tombstone_at s'.store i → kind_of (root_word s'.store i) ≡ kinds.Live → (p : Stored K V) → pair_of s'.store (number_of (root_word s'.store i)) ≡ Some p → Answers g f' p false f'' → IsRetaining g s f (suc i) s'' f''
     goes same live p logged answers =
-        let grave : ℕ = buried_word (number_of (root_word s'.store i)) in
-        let set : root_words (buried_at s'.store i) ≡ slice_set (root_words s'.store) i grave = words_set eq hash s' lawful keys i low live in
+        let grave : ℕ = tombstone_word (number_of (root_word s'.store i)) in
+        let set : root_words (tombstone_at s'.store i) ≡ slice_set (root_words s'.store) i grave = words_set eq hash s' lawful keys i low live in
         let here : pairs_of_word s.store (root_word s'.store i) ≡ p ∷ [] = live_pairs s.store (root_word s'.store i) p live (sym (retaining.pairs (number_of (root_word s'.store i))) ∙ logged) in
         let long : length (slice_set (root_words s'.store) i grave) ≡ length (root_words s'.store) = set_long (root_words s'.store) i grave in
         let none : pairs_of_word s.store grave ≡ [] = pairs_same grave (grave_bare eq hash s' lawful keys i low live) in
         record {
           last = ap next_of same ∙ next_same eq hash s' lawful keys i low live ∙ retaining.last;
           root = ap (λ (y : StoreState K V S). y.words.root) same ∙ root_same eq hash s' lawful keys i low live ∙ retaining.root;
-          long = ap slots_of same ∙ sym (words_many (table_of (buried_at s'.store i).words.tables (buried_at s'.store i).words.root)) ∙ ap length set ∙ long ∙ words_many (table_of s'.store.words.tables s'.store.words.root) ∙ retaining.long;
+          long = ap slots_of same ∙ sym (words_many (table_of (tombstone_at s'.store i).words.tables (tombstone_at s'.store i).words.root)) ∙ ap length set ∙ long ∙ words_many (table_of s'.store.words.tables s'.store.words.root) ∙ retaining.long;
           keeps = record {
             hasher = ap (λ (y : StoreState K V S). y.hasher) same ∙ retaining.keeps.hasher;
             mode = mode ∙ retaining.keeps.mode;
@@ -128,14 +128,14 @@ module _ {F K V S : Type 0} (g : Mut F (Bor K × (Bor V × Unit {0})) Bool) (s :
         pairs_same word none = sym (append-nil (pairs_of_word s.store word)) ∙ sym (slots_same s.store s'.store retaining.pairs (word ∷ [])) ∙ ap (λ l. l ++ []) none
 
     -- a slot further
-    pub visited_more : IsVisited s'.store i g f' s''.store f'' → IsRetaining g s f (suc i) s'' f''
-    visited_more (inl (unlive, same, alike)) =
+    pub scanned_more : IsScanned s'.store i g f' s''.store f'' → IsRetaining g s f (suc i) s'' f''
+    scanned_more (inl (unlive, same, alike)) =
         stays same [] (bare_pairs s.store (root_word s'.store i) unlive (unmarked eq hash [] s'.mode s'.store keys lawful.lawful s'.store.words.root (last_next s'.store retaining.last) i)) (refl, alike)
-    visited_more (inr (p, live, logged, true, answers, same)) =
+    scanned_more (inr (p, live, logged, true, answers, same)) =
         stays same (p ∷ []) (live_pairs s.store (root_word s'.store i) p live (sym (retaining.pairs (number_of (root_word s'.store i))) ∙ logged)) (true, f'', [], answers, (refl, refl), refl)
-    visited_more (inr (p, live, logged, false, answers, same)) = goes same live p logged answers
+    scanned_more (inr (p, live, logged, false, answers, same)) = goes same live p logged answers
 
-  -- all slots were visited
+  -- all slots were scanned
   pub retaining_ends : (eq : K → K → Bool) (s0 : StoreState K V S) → next_of s.store ≡ 0 → Unchanged eq s0 s.store → (next_of s0 ≡ 0 → s.store ≡ s0) → AreApart eq (λ p. p.key) (content eq s.store) → (n : ℕ) → n ≡ slots_of s.store → (s' : MapState K V S) (f' : F) → IsRetaining g s f n s' f' → IsRetained g eq f s0 s'.store
   retaining_ends eq s0 last unchanged alone apart n all s' f' retaining =
       let words : n ≡ length (root_words s.store) = all ∙ sym (words_many (table_of s.store.words.tables s.store.words.root)) in

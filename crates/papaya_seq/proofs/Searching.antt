@@ -12,9 +12,9 @@ use Rattle.papaya_ask.specs.declared.call.Task.{Task}
 use Rattle.papaya_ask.specs.declared.call.Task.TheVariants.{Get, Insert, RemoveIf, Compute}
 use Rattle.papaya_ask.specs.declared.search.Place.{Place}
 use Rattle.papaya_ask.specs.declared.search.Search.TheVariants.{Sizing, Looking, Reading, Comparing}
-use Rattle.papaya_ask.specs.declared.search.Seen.{Seen}
-use Rattle.papaya_ask.specs.declared.search.Seen.TheVariants.{On, Over}
-use Rattle.papaya_ask.specs.Search.{IsSeen, at_yes, first_place, go_on, hinted, look, look_at, match_at, next_place}
+use Rattle.papaya_ask.specs.declared.search.Probed.{Probed}
+use Rattle.papaya_ask.specs.declared.search.Probed.TheVariants.{On, Over}
+use Rattle.papaya_ask.specs.Search.{IsProbed, at_yes, first_place, go_on, hinted, look, look_at, match_at, next_place}
 use Rattle.papaya_call.specs.declared.machine.Machine.{Machine}
 use Rattle.papaya_call.specs.declared.machine.State.{State}
 use Rattle.papaya_call.specs.declared.machine.State.TheVariants.{AtRoot, Making, Searching}
@@ -29,7 +29,7 @@ use Rattle.papaya_seq.specs.declared.search.Turn.{Turn}
 use Rattle.papaya_seq.specs.declared.search.Turn.TheVariants as turns
 
 -- what is left to a search that has seen this
-abbrev left_seen : Seen → ℕ
+abbrev left_seen : Probed → ℕ
 left_seen (On (Looking at)) = left_at at
 left_seen (On (Reading at)) = 3 * (at.limit + 1 - at.probe.len)
 left_seen (On (Comparing at word)) = 3 * (at.limit - at.probe.len) + 2
@@ -51,7 +51,7 @@ look_left kinds.Empty at word within = omega (arith, within)
 look_left kinds.Live at word within = omega (arith, within)
 look_left kinds.Marked at word within = omega (arith, within)
 look_left kinds.Copied at word within = omega (arith, within)
-look_left kinds.Buried at word within = let next = on_left at within in omega (arith, next)
+look_left kinds.Tombstone at word within = let next = on_left at within in omega (arith, next)
 look_left kinds.Closed at word within = let next = on_left at within in omega (arith, next)
 
 match_left : (kind : Kind) (at : Place) (word : ℕ) → left_seen (match_at kind at word) ≡ 0
@@ -59,7 +59,7 @@ match_left kinds.Empty at word = refl
 match_left kinds.Live at word = refl
 match_left kinds.Marked at word = refl
 match_left kinds.Copied at word = refl
-match_left kinds.Buried at word = refl
+match_left kinds.Tombstone at word = refl
 match_left kinds.Closed at word = refl
 
 -- and a comparison
@@ -82,7 +82,7 @@ pub hinted_turned : (at : Place) (hash hint : ℕ) → ((place : Place) → hint
 hinted_turned at hash hint = cond_both (may_hold hint hash) (On (Reading at)) (go_on at) (λ s. ((place : Place) → s ≡ On (Reading place) → ⊥) → IsTurned s) (λ _ none. absurd (none at refl)) (λ _ none. on_turned at)
 
 -- a word whose pair's key is not to be compared
-abbrev Uncompared : Seen → Type 0
+abbrev Uncompared : Probed → Type 0
 Uncompared seen = ((at : Place) (word : ℕ) → seen ≡ On (Comparing at word) → ⊥) → IsTurned seen
 
 pub look_turned : (kind : Kind) (at : Place) (word : ℕ) → Uncompared (look_at kind at word)
@@ -90,7 +90,7 @@ look_turned kinds.Empty at word = λ none. tt
 look_turned kinds.Live at word = λ none. none at word refl
 look_turned kinds.Marked at word = λ none. none at word refl
 look_turned kinds.Copied at word = λ none. none at word refl
-look_turned kinds.Buried at word = λ none. on_turned at
+look_turned kinds.Tombstone at word = λ none. on_turned at
 look_turned kinds.Closed at word = λ none. on_turned at
 
 match_turned : (kind : Kind) (at : Place) (word : ℕ) → IsTurned (match_at kind at word)
@@ -98,7 +98,7 @@ match_turned kinds.Empty at word = tt
 match_turned kinds.Live at word = tt
 match_turned kinds.Marked at word = tt
 match_turned kinds.Copied at word = tt
-match_turned kinds.Buried at word = tt
+match_turned kinds.Tombstone at word = tt
 match_turned kinds.Closed at word = tt
 
 -- after a comparison it is so
@@ -120,7 +120,7 @@ stands_look words kinds.Empty at word is empty = ap kind_of is ∙ empty
 stands_look words kinds.Live at word is e = is
 stands_look words kinds.Marked at word is e = is
 stands_look words kinds.Copied at word is e = is
-stands_look words kinds.Buried at word is e = stands_on words at
+stands_look words kinds.Tombstone at word is e = stands_on words at
 stands_look words kinds.Closed at word is e = stands_on words at
 
 stands_match : (words : At → ℕ) (kind : Kind) (at : Place) (word : ℕ) → words (Slot at.table at.probe.i) ≡ word → StandsBy words (match_at kind at word)
@@ -128,7 +128,7 @@ stands_match words kinds.Empty at word is = is
 stands_match words kinds.Live at word is = is
 stands_match words kinds.Marked at word is = is
 stands_match words kinds.Copied at word is = tt
-stands_match words kinds.Buried at word is = is
+stands_match words kinds.Tombstone at word is = is
 stands_match words kinds.Closed at word is = is
 
 -- and so does a comparison
@@ -155,7 +155,7 @@ module _ {K V S : Type 0} (matches : K → Bool) (store : StoreState K V S) wher
     sees_begun at m = ([], refl)
 
     -- what it sees from a place that it came to, it sees from the first one
-    pub sees_on : (at place : Place) (seen : Seen) → Sees matches store hash at (On (Looking place)) → Sees matches store hash place seen → Sees matches store hash at seen
+    pub sees_on : (at place : Place) (seen : Probed) → Sees matches store hash at (On (Looking place)) → Sees matches store hash place seen → Sees matches store hash at seen
     sees_on at place seen before goes_on m =
         let came = before m in
         let more = goes_on m in
@@ -175,7 +175,7 @@ module _ {K V S : Type 0} (matches : K → Bool) (store : StoreState K V S) wher
       sees_hint m = (Word_read hint_there ∷ [], (tt, refl, refl))
 
       -- and the word after it
-      pub reads_on : (place : Place) (seen : Seen) → hinted at hash hint_there ≡ On (Reading place) → SeesFrom matches store hash (Searching (Reading place)) seen → Sees matches store hash at seen
+      pub reads_on : (place : Place) (seen : Probed) → hinted at hash hint_there ≡ On (Reading place) → SeesFrom matches store hash (Searching (Reading place)) seen → Sees matches store hash at seen
       reads_on place seen reads goes_on m =
           let looks : Machine = record m { hash = hash; state = Searching (Looking at) } in
           let loads : Machine = record m { hash = hash; state = Searching (Reading place) } in
@@ -198,8 +198,8 @@ module _ {K V S : Type 0} (matches : K → Bool) (store : StoreState K V S) wher
           (Word_read word_there ∷ Yes same ∷ [], comes_on (Word_read word_there ∷ []) (Yes same ∷ []) looks asks led came (tt, refl, refl))
 
       -- what was seen is a turn
-      pub turn_seen : (state : State) (turn : Turn) (seen : Seen) → seen_by turn ≡ seen → SeesFrom matches store hash state seen → IsSeen seen → StandsBy (λ w. word_at store.words w) seen → IsMatchedBy matches store hash seen → IsTurnFrom matches store hash state turn
-      turn_seen state turn seen is sees within stands matched = record { sees = subst (SeesFrom matches store hash state) (sym is) sees; within = subst IsSeen (sym is) within; stands = subst (StandsBy (λ w. word_at store.words w)) (sym is) stands; matched = subst (IsMatchedBy matches store hash) (sym is) matched }
+      pub turn_seen : (state : State) (turn : Turn) (seen : Probed) → seen_by turn ≡ seen → SeesFrom matches store hash state seen → IsProbed seen → StandsBy (λ w. word_at store.words w) seen → IsMatchedBy matches store hash seen → IsTurnFrom matches store hash state turn
+      turn_seen state turn seen is sees within stands matched = record { sees = subst (SeesFrom matches store hash state) (sym is) sees; within = subst IsProbed (sym is) within; stands = subst (StandsBy (λ w. word_at store.words w)) (sym is) stands; matched = subst (IsMatchedBy matches store hash) (sym is) matched }
 
       -- a hint or a word alone finds no pair
       matched_on : IsMatchedBy matches store hash (go_on at)
@@ -213,7 +213,7 @@ module _ {K V S : Type 0} (matches : K → Bool) (store : StoreState K V S) wher
       matched_look kinds.Live word = tt
       matched_look kinds.Marked word = tt
       matched_look kinds.Copied word = tt
-      matched_look kinds.Buried word = matched_on
+      matched_look kinds.Tombstone word = matched_on
       matched_look kinds.Closed word = matched_on
 
       matched_kind : (kind : Kind) (word : ℕ) → matches_in matches (pair_of store (number_of word)) ≡ true → IsMatchedBy matches store hash (match_at kind at word)
@@ -221,7 +221,7 @@ module _ {K V S : Type 0} (matches : K → Bool) (store : StoreState K V S) wher
       matched_kind kinds.Live word is = is
       matched_kind kinds.Marked word is = is
       matched_kind kinds.Copied word is = tt
-      matched_kind kinds.Buried word is = is
+      matched_kind kinds.Tombstone word is = is
       matched_kind kinds.Closed word is = is
 
       -- a comparison finds one that matches
@@ -234,14 +234,14 @@ module _ {K V S : Type 0} (matches : K → Bool) (store : StoreState K V S) wher
     turns_on at place turn before next = record { sees = sees_on at place (seen_by turn) before.sees next.sees; within = next.within; stands = next.stands; matched = next.matched }
 
     -- a root that is there was loaded, and its size asked for
-    pub sees_root : (slots limit : ℕ) → size_of (table_of store.words.tables store.words.root) ≡ Size slots limit → (seen : Seen) → Sees matches store hash (first_place hash store.words.root slots limit) seen → SeesFrom matches store hash AtRoot seen
+    pub sees_root : (slots limit : ℕ) → size_of (table_of store.words.tables store.words.root) ≡ Size slots limit → (seen : Probed) → Sees matches store hash (first_place hash store.words.root slots limit) seen → SeesFrom matches store hash AtRoot seen
     sees_root slots limit size seen sees m =
         let root : ℕ = store.words.root in
         let some : root ≡ 0 → ⊥ = λ zero. let none : Ok_done ≡ Size slots limit = sym (ap (λ n. size_of (table_of store.words.tables n)) zero) ∙ size in absurd cc in
         let begun : Machine = record m { hash = hash; state = AtRoot } in
         let sizes : Machine = record m { hash = hash; state = Searching (Sizing root) } in
         let looks : Machine = record m { hash = hash; state = Searching (Looking (first_place hash root slots limit)) } in
-        let loaded : Comes matches store begun (Word_read root ∷ []) sizes = (tt, refl, ap (λ (s : State). record m { hash = hash; state = s }) (sym (root_searched m.task m.remembered.fill root some))) in
+        let as_loaded : Comes matches store begun (Word_read root ∷ []) sizes = (tt, refl, ap (λ (s : State). record m { hash = hash; state = s }) (sym (root_searched m.task m.remembered.fill root some))) in
         let sized : Comes matches store sizes (Size slots limit ∷ []) looks = (tt, sym size, refl) in
         let more = sees m in
-        (Word_read root ∷ (Size slots limit ∷ more.0), comes_on (Word_read root ∷ []) (Size slots limit ∷ more.0) begun sizes (record m { hash = hash; state = goes m seen }) loaded (comes_on (Size slots limit ∷ []) more.0 sizes looks (record m { hash = hash; state = goes m seen }) sized more.1))
+        (Word_read root ∷ (Size slots limit ∷ more.0), comes_on (Word_read root ∷ []) (Size slots limit ∷ more.0) begun sizes (record m { hash = hash; state = goes m seen }) as_loaded (comes_on (Size slots limit ∷ []) more.0 sizes looks (record m { hash = hash; state = goes m seen }) sized more.1))

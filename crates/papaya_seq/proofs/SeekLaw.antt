@@ -16,7 +16,7 @@ use Rattle.papaya_chain.specs.declared.ask.Ask.TheVariants as asks
 use Rattle.papaya_chain.specs.declared.ask.Answer.{Answer}
 use Rattle.papaya_chain.specs.declared.machine.Machine.{Machine}
 use Rattle.papaya_chain.specs.Machine.{IsFit, after, ask_of}
-use Rattle.papaya_chain_rests.proofs.Names.{call_asks}
+use Rattle.papaya_chain_law.proofs.Names.{call_asks}
 use Rattle.papaya_store.specs.Store.{StoreState, pair_of}
 use Rattle.papaya_timeline.specs.Advances.{reply_in}
 use Rattle.papaya_timeline.specs.Kept.{IsLawfulCore}
@@ -29,7 +29,7 @@ use Rattle.papaya_seq.proofs.Ending.{left_of}
 use Rattle.papaya_seq.proofs.Lawful.{MatchesNone}
 use Rattle.papaya_seq.proofs.Seeking.{IsSeeking, Seeks, own_hashed, own_setting}
 use Rattle.papaya_seq.proofs.SeekTurns.{IsAnswered, IsTurn, turn_caused, turned}
-use Rattle.papaya_chain_rests.specs.Goes.{IsCause}
+use Rattle.papaya_chain_law.specs.Goes.{IsCause}
 use Rattle.papaya_seq.proofs.SeekSteps as steps
 use Rattle.papaya_seq.proofs.CallLengths.{long_left}
 use Rattle.papaya_seq.proofs.SeekSteps.{turn_nears}
@@ -79,18 +79,18 @@ module _ {K V S F : Type 0} (eq : K → K → Bool) (hash : S → K → ℕ) (g 
 pub seek_core : {K V S : Type 0} (eq : K → K → Bool) (hash : S → K → ℕ) (s : MapState K V S) (h : ℕ) (store : StoreState K V S) (m : Machine) → IsSeeking eq hash s h store m → IsLawfulCore {A = Unit {0}} eq (hash store.hasher) store [] s.mode
 seek_core {K = K} {V = V} {S = S} eq hash s h store m seeking =
     subst (λ y. IsLawfulCore {A = Unit {0}} eq (hash y) store [] s.mode) (sym (ap (λ (y : StoreState K V S). y.hasher) seeking.logs))
-    (record { core = seeking.core; law = (seeking.tale.begun ++ seeking.tale.since, ((λ d. seeking.tale), seeking.kept)) })
+    (record { core = seeking.core; law = (seeking.call_trace.begun ++ seeking.call_trace.since, ((λ d. seeking.call_trace), seeking.kept)) })
 
 -- and those of a map that is in order: it has as many pairs as before
 pub seek_lawful : {K V S : Type 0} (eq : K → K → Bool) (hash : S → K → ℕ) (s : MapState K V S) (h : ℕ) (keys : IsLawfulKeys eq (hash s.store.hasher)) (fits : h < 2 ^ 64) (lawful : IsLawfulMap eq (hash s.store.hasher) s.store s.mode s.initial) (store : StoreState K V S) (m : Machine) → IsSeeking eq hash s h store m → IsLawfulMap eq (hash store.hasher) store s.mode s.initial
 seek_lawful {K = K} {V = V} {S = S} eq hash s h keys fits lawful store m seeking =
-    let (es, (tales, kept)) = lawful.lawful.law in
+    let (es, (call_traces, kept)) = lawful.lawful.law in
     let first = own_hashed eq hash s h keys fits s.store lawful.lawful.core in
     let later = own_hashed eq hash s h keys fits store seeking.core in
     let same : length (content eq store) ≡ length (content eq s.store) =
     one_length (own_setting eq hash s h store.words.tables) later.lawful (content eq store) (content eq s.store)
-    (content_apart eq (hash s.store.hasher) s.mode store later [] (seeking.tale.begun ++ seeking.tale.since) (λ d. seeking.tale) seeking.kept)
-    (content_apart eq (hash s.store.hasher) s.mode s.store first [] es tales kept) seeking.same in
+    (content_apart eq (hash s.store.hasher) s.mode store later [] (seeking.call_trace.begun ++ seeking.call_trace.since) (λ d. seeking.call_trace) seeking.kept)
+    (content_apart eq (hash s.store.hasher) s.mode s.store first [] es call_traces kept) seeking.same in
     record {
       lawful = seek_core eq hash s h store m seeking;
       counted = ap (λ (y : StoreState K V S). int_wrap w64 (y.count.sum +ℤ pos 0)) seeking.logs ∙ lawful.counted ∙ ap pos (sym same);

@@ -27,13 +27,13 @@ use Rattle.papaya_chain.specs.declared.machine.Phase.TheVariants.{Calling}
 use Rattle.papaya_chain.specs.Machine.{IsFit, IsFitAsk, IsStanding, after, ask_of, asks_in, follows_of, kind_of_ask}
 use Rattle.papaya_chain.specs.declared.ask.Ask.TheVariants as asks
 use Rattle.papaya_chain.specs.declared.ask.Answer.TheVariants as answers
-use Rattle.papaya_chain_rests.specs.Goes.{IsInOrder, IsOwnStep, link_in}
-use Rattle.papaya_chain_rests.specs.Told.{IsTold}
-use Rattle.papaya_chain_rests.proofs.Goes.{machine_goes}
-use Rattle.papaya_chain_rests.proofs.Names.{call_asks}
-use Rattle.papaya_chain_rests.proofs.Order.{in_order}
-use Rattle.papaya_chain_rests.proofs.Replies.{chain_task}
-use Rattle.papaya_chain_rests.proofs.Standing.{chain_ask_fits, chain_stands}
+use Rattle.papaya_chain_law.specs.Goes.{IsInOrder, IsOwnStep, link_in}
+use Rattle.papaya_chain_law.specs.Told.{IsTold}
+use Rattle.papaya_chain_law.proofs.Goes.{machine_goes}
+use Rattle.papaya_chain_law.proofs.Names.{call_asks}
+use Rattle.papaya_chain_law.proofs.Order.{in_order}
+use Rattle.papaya_chain_law.proofs.Replies.{chain_task}
+use Rattle.papaya_chain_law.proofs.Standing.{chain_ask_fits, chain_stands}
 use Rattle.papaya_alone.specs.Ahead.{IsCurrent}
 use Rattle.papaya_alone.specs.Prompt.{IsBounded, IsServedAsk}
 use Rattle.papaya_alone.proofs.ChainLaw.{call_current, call_nears}
@@ -47,10 +47,10 @@ use Rattle.papaya_law.specs.Invariant.{IsSound}
 use Rattle.papaya_law.specs.Meaning.{map_left}
 use Rattle.papaya_law.proofs.Logs.{on_comes}
 use Rattle.papaya_law.proofs.OneMap.{keeping, keeping_sound}
-use Rattle.papaya_rests.specs.Alone.{HasMetNone, IsSeeker, IsUnmatched}
-use Rattle.papaya_rests.specs.Copier.{HasWords}
-use Rattle.papaya_rests.specs.Told.{word_of}
-use Rattle.papaya_rests.proofs.AloneUnmatched.{machine_meets_none}
+use Rattle.papaya_call_law.specs.Alone.{HasMetNone, IsSeeker, IsUnmatched}
+use Rattle.papaya_call_law.specs.Copier.{HasWords}
+use Rattle.papaya_call_law.specs.Told.{word_of}
+use Rattle.papaya_call_law.proofs.AloneUnmatched.{machine_meets_none}
 use Rattle.papaya_store.specs.Asks.{PerformsAsk}
 use Rattle.papaya_store.specs.Performs.{own_key, Exchanges, MakesTable, Refuses}
 use Rattle.papaya_store.specs.declared.pairs.Running.{Running}
@@ -60,11 +60,11 @@ use Rattle.papaya_store.specs.Copies.{PerformsCopy}
 use Rattle.papaya_timeline.proofs.KeptAnswer.{IsAnswered as IsLeft}
 use Rattle.papaya_timeline.specs.Advances.{reply_in}
 use Rattle.papaya_timeline.specs.Core.{IsCore}
-use Rattle.papaya_timeline.specs.Kept.{IsKept, IsMadeFor, Tale, slots_in}
+use Rattle.papaya_timeline.specs.Kept.{CallTrace, IsKept, IsMadeFor, slots_in}
 use Rattle.papaya_timeline.specs.Solo.{whatever}
 use Rattle.papaya_timeline.proofs.BudgetSpends.{kept_bounded, budget_bounded}
 use Rattle.papaya_timeline.proofs.KeptSettings.{IsLawfulKeys}
-use Rattle.papaya_chain_rests.proofs.LinkMade.{is_made, machine_made, made_is}
+use Rattle.papaya_chain_law.proofs.LinkMade.{is_made, machine_made, made_is}
 use Rattle.papaya_timeline.proofs.MadeTables.{copy_made}
 use Rattle.papaya_timeline.proofs.StoreLemmas.{AllSized, IsKeptAsked, numbered, performed_ask, unnumbered, matched}
 use Rattle.papaya_timeline.specs.Ends.{budget_in, budget_of}
@@ -115,20 +115,20 @@ module _ {K V S : Type 0} (eq : K → K → Bool) (hash : S → K → ℕ) (s : 
   abbrev cq : Coding (Option K) (Stored K V)
   cq = turns.cq eq hash s h keys fits store m answer store' seeking going turn
 
-  abbrev tale : Tale K V
-  tale = seeking.tale
+  abbrev call_trace : CallTrace K V
+  call_trace = seeking.call_trace
 
   abbrev es : List (Exchange (Stored K V))
-  es = tale.begun ++ tale.since
+  es = call_trace.begun ++ call_trace.since
 
   abbrev r : Running K V (Unit {0})
   r = turns.r eq hash s h keys fits store m answer store' seeking going turn
 
-  abbrev left : IsLeft gq cq store r es tale (own_key store r) None (ask_of m) answer store' r
+  abbrev left : IsLeft gq cq store r es call_trace (own_key store r) None (ask_of m) answer store' r
   left = turns.left eq hash s h keys fits store m answer store' seeking going turn
 
   abbrev es' : List (Exchange (Stored K V))
-  es' = tale.begun ++ (tale.since ++ left.made)
+  es' = call_trace.begun ++ (call_trace.since ++ left.made)
 
   hashed : IsHashed gq cq
   hashed = turns.hashed eq hash s h keys fits store m answer store' seeking going turn
@@ -164,19 +164,19 @@ module _ {K V S : Type 0} (eq : K → K → Bool) (hash : S → K → ℕ) (s : 
   seek_fit = fits_all.fit
 
   pub core' : IsCore {A = Unit {0}} store' [] s.mode
-  core' = record { chunked = seeking.core.chunked; limit = seeking.core.limit; sizes = numbered store'.words.tables fits_all.sized; standing = λ d q e. absurd cc; going = λ d q e. absurd cc; resizers = λ d z e. absurd cc; visitors = λ d v e. absurd cc }
+  core' = record { chunked = seeking.core.chunked; limit = seeking.core.limit; sizes = numbered store'.words.tables fits_all.sized; standing = λ d q e. absurd cc; going = λ d q e. absurd cc; resizers = λ d z e. absurd cc; scanners = λ d v e. absurd cc }
 
   pub standing' : IsStanding (after m answer)
   standing' = chain_stands m seeking.standing answer seek_fit
 
   -- it is an answer to what was asked
   ordered : IsInOrder m answer m.phase
-  ordered = in_order gq cq tale.begun tale.since None m tale.hands (run es start) answer left.made left.hands seeking.rests left.told
+  ordered = in_order gq cq call_trace.begun call_trace.since None m call_trace.loaded (run es start) answer left.made left.loaded seeking.relies left.told
 
   -- the words are bounded, and what it asks is served
   pub bounded : IsBounded gq (run es start)
   bounded =
-      let all = kept_bounded eq (hash s.store.hasher) keys s.mode store [] seeking.core es (λ d. tale) seeking.kept in
+      let all = kept_bounded eq (hash s.store.hasher) keys s.mode store [] seeking.core es (λ d. call_trace) seeking.kept in
       record { number = λ t on. all.number t on; size = λ t limit on places. all.size t limit on places }
 
   pub served : IsServedAsk m.call.task (ask_of m) answer
@@ -198,7 +198,7 @@ module _ {K V S : Type 0} (eq : K → K → Bool) (hash : S → K → ℕ) (s : 
   words_are = fun_ext (λ at. coded at)
 
   pub words'_are : word_of gq cq (run es' start) ≡ word_at store'.words
-  words'_are = fun_ext (λ at. ap (λ l. word_of gq cq (run l start) at) (sym (append_assoc tale.begun tale.since left.made)) ∙ left.coded at)
+  words'_are = fun_ext (λ at. ap (λ l. word_of gq cq (run l start) at) (sym (append_assoc call_trace.begun call_trace.since left.made)) ∙ left.coded at)
 
   has_words : HasWords gq (link_in m.phase)
   has_words = turns.has_words eq hash s h keys fits store m answer store' seeking going turn
@@ -208,24 +208,24 @@ module _ {K V S : Type 0} (eq : K → K → Bool) (hash : S → K → ℕ) (s : 
 
   current' : IsCurrent (word_at store'.words) (after m answer)
   current' = subst (λ words. IsCurrent words (after m answer)) words'_are
-      (call_current gq cq (hashed) tale.begun tale.since (may) bounded None m tale.hands seeking.rests has_words read answer left.made left.hands left.told served)
+      (call_current gq cq (hashed) call_trace.begun call_trace.since (may) bounded None m call_trace.loaded seeking.relies has_words read answer left.made left.loaded left.told served)
 
   seeker : IsSeeker m.call.task
   seeker = subst IsSeeker (sym seeking.task) tt
 
-  -- it has met no pair still, or a further table was refused
+  -- it has met no pair still, or a next table was refused
   own_seeks : IsOwnStep m answer → Seeks (after m answer).call.state
   own_seeks own =
       let asking : ask_of m ≡ asks.Call (calls.ask_of m.call) = ap (asks_in m.call) own.phase in
       let met : HasMetNone m.call.state = met_none m.call.made m.call.hash m.call.state seeking.seeks (ap reply_in (sym asking) ∙ going) in
       subst (λ (y : Call_machine). Seeks y.state) (sym own.call) (seeks_none _ (machine_meets_none m.call seeker own.told met
       (unmatched (calls.ask_of m.call) own.told own.is (subst (λ y. IsTurn eq hash store y answer store') asking turn)
-      (subst (λ y. IsTold gq cq None (run es start) (kind_of_ask m) (follows_of m) tale.hands y answer left.made left.hands) asking left.told))))
+      (subst (λ y. IsTold gq cq None (run es start) (kind_of_ask m) (follows_of m) call_trace.loaded y answer left.made left.loaded) asking left.told))))
     where
       same_told : (a b : Call_answer) → answer ≡ answers.Call a → answer ≡ answers.Call b → a ≡ b
       same_told a b e f = let g : answers.Call a ≡ answers.Call b = sym e ∙ f in cc
 
-      unmatched : (ask : Call_ask) (told : Call_answer) → answer ≡ answers.Call told → IsTurn eq hash store (asks.Call ask) answer store' → IsTold gq cq None (run es start) (kind_of_ask m) (follows_of m) tale.hands (asks.Call ask) answer left.made left.hands → IsUnmatched ask told
+      unmatched : (ask : Call_ask) (told : Call_answer) → answer ≡ answers.Call told → IsTurn eq hash store (asks.Call ask) answer store' → IsTold gq cq None (run es start) (kind_of_ask m) (follows_of m) call_trace.loaded (asks.Call ask) answer left.made left.loaded → IsUnmatched ask told
       unmatched (Load at) told is (a, a_is, looks, same) t = (_, same_told told a is a_is ∙ looks)
       unmatched (LoadHint i x) told is (a, a_is, looks, same) t = (_, same_told told a is a_is ∙ looks)
       unmatched (SameKey n) told is (a, a_is, looks, same) t = same_told told a is a_is ∙ looks
@@ -263,8 +263,8 @@ module _ {K V S : Type 0} (eq : K → K → Bool) (hash : S → K → ℕ) (s : 
     counted = λ calling. let (told, is, looks, same) = own_turn calling in (told, is, looks_count (calls.ask_of m.call) told looks (ap (λ (y : StoreState K V S). y.count) same));
     copy = λ ask e. subst (λ a. IsTurn eq hash store a answer store') e turn;
     first = λ calling making. absurd (subst Seeks making seeking.seeks);
-    stays = root_stays {A = Unit {0}} eq (hash s.store.hasher) keys s.mode store store' [] [] es left.made (λ d. tale) (λ d. turns.tale' eq hash s h keys fits store m answer store' seeking going turn) seeking.kept core'
-        (subst (λ l. IsKept {A = Unit {0}} eq (hash s.store.hasher) s.mode store' [] l (λ d. turns.tale' eq hash s h keys fits store m answer store' seeking going turn)) (sym (append_assoc tale.begun tale.since left.made)) (turns.kept' eq hash s h keys fits store m answer store' seeking going turn));
+    stays = root_stays {A = Unit {0}} eq (hash s.store.hasher) keys s.mode store store' [] [] es left.made (λ d. call_trace) (λ d. turns.call_trace' eq hash s h keys fits store m answer store' seeking going turn) seeking.kept core'
+        (subst (λ l. IsKept {A = Unit {0}} eq (hash s.store.hasher) s.mode store' [] l (λ d. turns.call_trace' eq hash s h keys fits store m answer store' seeking going turn)) (sym (append_assoc call_trace.begun call_trace.since left.made)) (turns.kept' eq hash s h keys fits store m answer store' seeking going turn));
   }
     where
       own_turn : m.phase ≡ Calling → IsTurn eq hash store (asks.Call (calls.ask_of m.call)) answer store'
@@ -280,10 +280,10 @@ module _ {K V S : Type 0} (eq : K → K → Bool) (hash : S → K → ℕ) (s : 
   -- so it is in order after the answer
   pub seek_turn : IsSeeking eq hash s h store' (after m answer)
   seek_turn = record {
-    tale = turns.tale' eq hash s h keys fits store m answer store' seeking going turn;
+    call_trace = turns.call_trace' eq hash s h keys fits store m answer store' seeking going turn;
     core = core';
     kept = turns.kept' eq hash s h keys fits store m answer store' seeking going turn;
-    rests = turns.rests' eq hash s h keys fits store m answer store' seeking going turn;
+    relies = turns.relies' eq hash s h keys fits store m answer store' seeking going turn;
     last = λ p l. ⊎_elim (λ old. left.logged p.number p (seeking.last p old)) (λ stood. turns.stood_logged eq hash s h keys fits store m answer store' seeking going turn p stood) (left.last p l);
     carried = λ p l. ⊎_elim (λ old. left.logged p.number p (seeking.carried p old)) (λ told. left.logged p.number p (seeking.last p told)) (left.carried p l);
     made = λ p l. elim (left.new p l) [ inl old ↦ left.logged p.number p (seeking.made p old) | inr new ↦ new.2 ];
@@ -325,11 +325,11 @@ module _ {K V S : Type 0} (eq : K → K → Bool) (hash : S → K → ℕ) (s : 
   copy_exchanges at old new e hit =
       let no_open = turns.no_open eq hash s h keys fits store m answer store' seeking going turn in
       let stands : word_of gq cq now at ≡ old = coded at ∙ eqb-true (word_at store.words at) old hit in
-      let x = asked_copy gq cq store r es tale (own_key store r) hashed None refl may seeking.rests coded seeking.kept.made no_open seeking.links refl (λ t. refl) (λ t. refl) at old new e stands in
-      let placed = placed_copy gq cq store r es tale (own_key store r) hashed None refl may seeking.rests coded seeking.kept.made no_open seeking.links refl (λ t. refl) (λ t. refl) at old new e in
-      write_spends store.words at new placed (copy_chunk gq cq now (length store.words.tables) sound slots_most cut_low on_low (kind_of_ask m) at new tale.hands.kept x.0 x.1 x.2)
+      let x = asked_copy gq cq store r es call_trace (own_key store r) hashed None refl may seeking.relies coded seeking.kept.made no_open seeking.links refl (λ t. refl) (λ t. refl) at old new e stands in
+      let placed = placed_copy gq cq store r es call_trace (own_key store r) hashed None refl may seeking.relies coded seeking.kept.made no_open seeking.links refl (λ t. refl) (λ t. refl) at old new e in
+      write_spends store.words at new placed (copy_chunk gq cq now (length store.words.tables) sound slots_most cut_low on_low (kind_of_ask m) at new call_trace.loaded.kept x.0 x.1 x.2)
       (subst (λ y. changes_at (length store.words.tables) at new < changes_at (length store.words.tables) at y) (coded at)
-      (copy_fewer gq cq now (length store.words.tables) sound slots_most cut_low on_low (kind_of_ask m) at new tale.hands.kept x.0 x.1 x.2 (sym x.3.here)))
+      (copy_fewer gq cq now (length store.words.tables) sound slots_most cut_low on_low (kind_of_ask m) at new call_trace.loaded.kept x.0 x.1 x.2 (sym x.3.here)))
 
   same_words : store' ≡ store → budget_of store' ≡ budget_of store
   same_words same = ap (λ (y : StoreState K V S). budget_of y) same
@@ -377,14 +377,14 @@ module _ {K V S : Type 0} (eq : K → K → Bool) (hash : S → K → ℕ) (s : 
       by_ask (asks.Copy ask) e copied = spends_copy ask e copied
 
   few : (budget_of store').exchanges < 2 ^ 128
-  few = budget_bounded eq (hash s.store.hasher) keys s.mode store' [] (core') es' (λ d. turns.tale' eq hash s h keys fits store m answer store' seeking going turn) (turns.kept' eq hash s h keys fits store m answer store' seeking going turn)
+  few = budget_bounded eq (hash s.store.hasher) keys s.mode store' [] (core') es' (λ d. turns.call_trace' eq hash s h keys fits store m answer store' seeking going turn) (turns.kept' eq hash s h keys fits store m answer store' seeking going turn)
 
   -- the measure falls
   falls : measure (budget_of store') store'.words.root (after m answer) < measure (budget_of store) store.words.root m
   falls =
       subst (λ n. measure (budget_of store') n (after m answer) < measure (budget_of store) store.words.root m) (ap (λ f. f Root) (words'_are))
       (subst (λ n. measure (budget_of store') (run es' start).root (after m answer) < measure (budget_of store) n m) (ap (λ f. f Root) (words_are))
-      (call_nears gq cq hashed tale.begun tale.since may (bounded) None m tale.hands seeking.rests has_words (read) answer left.made left.hands left.told
+      (call_nears gq cq hashed call_trace.begun call_trace.since may (bounded) None m call_trace.loaded seeking.relies has_words (read) answer left.made left.loaded left.told
       (served) (budget_of store) (budget_of store') spends few (standing')))
 
   pub turn_nears : left_of store' (after m answer) < left_of store m

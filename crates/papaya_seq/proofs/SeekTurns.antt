@@ -22,11 +22,11 @@ use Rattle.papaya_chain.specs.declared.ask.Answer.{Answer}
 use Rattle.papaya_chain.specs.declared.ask.Answer.TheVariants as answers
 use Rattle.papaya_chain.specs.declared.machine.Machine.{Machine}
 use Rattle.papaya_chain.specs.Machine.{after, ask_of, follows_of, kind_of_ask}
-use Rattle.papaya_chain_rests.specs.Rests.{Rests}
-use Rattle.papaya_chain_rests.specs.Told.{IsTold}
-use Rattle.papaya_chain_rests.proofs.Learns.{all_learns}
-use Rattle.papaya_chain_rests.proofs.Names.{call_asks, copies_there}
-use Rattle.papaya_chain_rests.proofs.Stays.{all_carries as rests_carries}
+use Rattle.papaya_chain_law.specs.Relies.{Relies}
+use Rattle.papaya_chain_law.specs.Told.{IsTold}
+use Rattle.papaya_chain_law.proofs.Learns.{all_learns}
+use Rattle.papaya_chain_law.proofs.Names.{call_asks, copies_there}
+use Rattle.papaya_chain_law.proofs.Stable.{all_carries as relies_carries}
 use Rattle.papaya_law.specs.Allows.{AllAllowed}
 use Rattle.papaya_law.specs.Class.{IsOn}
 use Rattle.papaya_law.specs.Code.{Coding, IsHashed}
@@ -44,10 +44,10 @@ use Rattle.papaya_law.specs.Invariant.{named}
 use Rattle.papaya_law.specs.Later.{IsLater}
 use Rattle.papaya_law.proofs.Hints.{hint_agrees, hint_lasts}
 use Rattle.papaya_law.proofs.Later.{later_run}
-use Rattle.papaya_rests.specs.Copier.{HasWords, IsCopyAsked}
-use Rattle.papaya_rests.specs.Rests.{change_after, change_in}
-use Rattle.papaya_rests.specs.Told.{Hands as Call_hands, IsTold as IsCallTold, told_of, word_of}
-use Rattle.papaya_rests.proofs.RestsNames.{IsNamed, ask_named}
+use Rattle.papaya_call_law.specs.Copier.{HasWords, IsCopyAsked}
+use Rattle.papaya_call_law.specs.Relies.{change_after, change_in}
+use Rattle.papaya_call_law.specs.Told.{IsTold as IsCallTold, LoadedPairs as Call_loaded, told_of, word_of}
+use Rattle.papaya_call_law.proofs.ReliesNames.{IsNamed, ask_named}
 use Rattle.papaya_store.specs.Copies.{IsCallAnswer, PerformsCopy}
 use Rattle.papaya_store.specs.Performs.{own_key, size_of}
 use Rattle.papaya_store.specs.Store.{StoreState, Stored, pair_of}
@@ -57,13 +57,13 @@ use Rattle.papaya_store.specs.declared.pairs.Running.{Running}
 use Rattle.papaya_timeline.specs.Advances.{reply_in}
 use Rattle.papaya_timeline.specs.Content.{map_in}
 use Rattle.papaya_timeline.specs.Core.{IsCore}
-use Rattle.papaya_timeline.specs.Kept.{IsKept, IsLogged, IsMade, IsMadeFor, Tale, places_in, slots_in}
+use Rattle.papaya_timeline.specs.Kept.{CallTrace, IsKept, IsLogged, IsMade, IsMadeFor, places_in, slots_in}
 use Rattle.papaya_timeline.proofs.KeptAnswer.{IsAnswered as IsLeft, Stands, own_told, quiet, told_last, told_made}
 use Rattle.papaya_ask.specs.declared.call.Reply.TheVariants.{Refused as Reply_refused}
 use Rattle.papaya_words.specs.declared.probe.Refused.{Refused}
-use Rattle.papaya_chain_rests.specs.Goes.{IsCause, link_in}
-use Rattle.papaya_chain_rests.proofs.Order.{in_order}
-use Rattle.papaya_chain_rests.proofs.Refusals.{chain_refused}
+use Rattle.papaya_chain_law.specs.Goes.{IsCause, link_in}
+use Rattle.papaya_chain_law.proofs.Order.{in_order}
+use Rattle.papaya_chain_law.proofs.Refusals.{chain_refused}
 use Rattle.papaya_timeline.proofs.CoreLemmas.{reply_asked}
 use Rattle.papaya_timeline.proofs.KeptCopied.{Suits, answered_copy}
 use Rattle.papaya_timeline.proofs.KeptMap.{kept_map}
@@ -198,11 +198,11 @@ module _ {K V S : Type 0} (eq : K → K → Bool) (hash : S → K → ℕ) (s : 
   abbrev pub gq' : Setting (Option K) (Stored K V)
   gq' = sought_setting eq hash s h store'.words.tables
 
-  abbrev pub tale : Tale K V
-  tale = seeking.tale
+  abbrev pub call_trace : CallTrace K V
+  call_trace = seeking.call_trace
 
   abbrev pub es : List (Exchange (Stored K V))
-  es = tale.begun ++ tale.since
+  es = call_trace.begun ++ call_trace.since
 
   -- the call as one of a core, which has no key there
   abbrev pub r : Running K V (Unit {0})
@@ -238,14 +238,14 @@ module _ {K V S : Type 0} (eq : K → K → Bool) (hash : S → K → ℕ) (s : 
 
   -- what an answer leaves, where it is this
   abbrev Leaves : Ask → Answer → Type 0
-  Leaves ask a = IsLeft gq cq store r es tale (own_key store r) None ask a store' r
+  Leaves ask a = IsLeft gq cq store r es call_trace (own_key store r) None ask a store' r
 
   -- a look leaves the words
-  answered_quietly : (ask : Call_ask) → ask_of m ≡ asks.Call ask → (told : Call_answer) (hands : Call_hands (Stored K V)) → store' ≡ store → IsCallTold gq cq None (run es start) (kind_of_ask m) tale.hands.call ask told [] hands
-      → IsLook ask → ((p : Stored K V) → hands.last ≡ Some p → (tale.hands.call.last ≡ Some p) ⊎ Stands (run es start) p) → hands.made ≡ tale.hands.call.made → Leaves (asks.Call ask) (answers.Call told)
-  answered_quietly ask e told hands same tells look stood made =
-      quiet gq cq store r es tale (own_key store r) hashed None seeking.rests coded seeking.kept.made refl (asks.Call ask) e (answers.Call told) store' r (record tale.hands { call = hands }) store.count same refl
-      (own_told gq cq store r es tale (own_key store r) hashed None seeking.rests coded seeking.kept.made ask told [] hands tells) (unmoved ask look) stood (λ p l. inl l) made
+  answered_quietly : (ask : Call_ask) → ask_of m ≡ asks.Call ask → (told : Call_answer) (loaded : Call_loaded (Stored K V)) → store' ≡ store → IsCallTold gq cq None (run es start) (kind_of_ask m) call_trace.loaded.call ask told [] loaded
+      → IsLook ask → ((p : Stored K V) → loaded.last ≡ Some p → (call_trace.loaded.call.last ≡ Some p) ⊎ Stands (run es start) p) → loaded.made ≡ call_trace.loaded.call.made → Leaves (asks.Call ask) (answers.Call told)
+  answered_quietly ask e told loaded same tells look stood made =
+      quiet gq cq store r es call_trace (own_key store r) hashed None seeking.relies coded seeking.kept.made refl (asks.Call ask) e (answers.Call told) store' r (record call_trace.loaded { call = loaded }) store.count same refl
+      (own_told gq cq store r es call_trace (own_key store r) hashed None seeking.relies coded seeking.kept.made ask told [] loaded tells) (unmoved ask look) stood (λ p l. inl l) made
       (λ t is which. elim which [ inl (slots, limit, chunks, f) ↦ (let asked : ask ≡ MakeTable slots limit chunks = cc in subst IsLook asked look) | inr (slots, limit, chunks, f) ↦ absurd cc ])
     where
       unmoved : (ask : Call_ask) → IsLook ask → change_after (kind_of_ask m) ask told (change_in m.call.state) ≡ change_in m.call.state
@@ -257,15 +257,15 @@ module _ {K V S : Type 0} (eq : K → K → Bool) (hash : S → K → ℕ) (s : 
 
   answered_look : (ask : Call_ask) → ask_of m ≡ asks.Call ask → (told : Call_answer) → Looks store ask told → store' ≡ store → Leaves (asks.Call ask) (answers.Call told)
   answered_look (Load at) e told is same =
-      answered_quietly (Load at) e told (told_of (run es start) at tale.hands.call) same (is ∙ ap Word_read (sym (coded at)), refl, refl) tt
-      (told_last gq cq store r es tale (own_key store r) at) (told_made gq cq store r es tale (own_key store r) at)
-  answered_look (LoadHint t x) e told is same = answered_quietly (LoadHint t x) e told tale.hands.call same ((hint_at store.words t x, hints t x, is), (refl, refl)) tt (λ p l. inl l) refl
-  answered_look (SameKey n) e told is same = answered_quietly (SameKey n) e told tale.hands.call same ((λ p l number. is), (refl, refl)) tt (λ p l. inl l) refl
+      answered_quietly (Load at) e told (told_of (run es start) at call_trace.loaded.call) same (is ∙ ap Word_read (sym (coded at)), refl, refl) tt
+      (told_last gq cq store r es call_trace (own_key store r) at) (told_made gq cq store r es call_trace (own_key store r) at)
+  answered_look (LoadHint t x) e told is same = answered_quietly (LoadHint t x) e told call_trace.loaded.call same ((hint_at store.words t x, hints t x, is), (refl, refl)) tt (λ p l. inl l) refl
+  answered_look (SameKey n) e told is same = answered_quietly (SameKey n) e told call_trace.loaded.call same ((λ p l number. is), (refl, refl)) tt (λ p l. inl l) refl
   answered_look (SizeOf n) e told is same =
       let call = m.call in
-      let on : IsOn (run es start).first (run es start).next n = subst (IsNamed gq cq hashed tale.begun tale.since may None) (call_asks m (SizeOf n) e).1 (ask_named gq cq hashed tale.begun tale.since may None tale.hands.call call.task call.hash call.made call.state seeking.rests.call.stage) in
-      let words = on_there gq cq store r es tale (own_key store r) hashed None refl may seeking.rests coded seeking.kept.made no_open seeking.links refl (λ t. refl) (λ t. refl) n on in
-      answered_quietly (SizeOf n) e told tale.hands.call same
+      let on : IsOn (run es start).first (run es start).next n = subst (IsNamed gq cq hashed call_trace.begun call_trace.since may None) (call_asks m (SizeOf n) e).1 (ask_named gq cq hashed call_trace.begun call_trace.since may None call_trace.loaded.call call.task call.hash call.made call.state seeking.relies.call.stage) in
+      let words = on_there gq cq store r es call_trace (own_key store r) hashed None refl may seeking.relies coded seeking.kept.made no_open seeking.links refl (λ t. refl) (λ t. refl) n on in
+      answered_quietly (SizeOf n) e told call_trace.loaded.call same
       ((words.0.limit, sym (ap places_in words.1), is ∙ ap size_of words.1 ∙ ap (λ y. Size y words.0.limit) (sym (ap slots_in words.1))), (refl, refl)) tt (λ p l. inl l) refl
   answered_look ask e told is same = absurd is
 
@@ -276,28 +276,28 @@ module _ {K V S : Type 0} (eq : K → K → Bool) (hash : S → K → ℕ) (s : 
       by_ask : (ask : Ask) → ask_of m ≡ ask → IsTurn eq hash store ask answer store' → Leaves ask answer
       by_ask (asks.Call ask) e (told, is, looks, same) = subst (Leaves (asks.Call ask)) (sym is) (answered_look ask e told looks same)
       by_ask (asks.Copy ask) e copied =
-          answered_copy eq hash gq cq store r es tale (own_key store r) hashed None refl may seeking.rests coded seeking.kept.made hints seeking.last seeking.carried no_open seeking.links refl suits false ask e answer store' r copied refl
+          answered_copy eq hash gq cq store r es call_trace (own_key store r) hashed None refl may seeking.relies coded seeking.kept.made hints seeking.last seeking.carried no_open seeking.links refl suits false ask e answer store' r copied refl
 
   -- the exchanges after it
   abbrev pub since' : List (Exchange (Stored K V))
-  since' = tale.since ++ left.made
+  since' = call_trace.since ++ left.made
 
   abbrev pub es' : List (Exchange (Stored K V))
-  es' = tale.begun ++ since'
+  es' = call_trace.begun ++ since'
 
   assoc : es ++ left.made ≡ es'
-  assoc = append_assoc tale.begun tale.since left.made
+  assoc = append_assoc call_trace.begun call_trace.since left.made
 
-  abbrev pub tale' : Tale K V
-  tale' = record { begun = tale.begun; since = since'; hands = left.hands; visit = tale.visit }
+  abbrev pub call_trace' : CallTrace K V
+  call_trace' = record { begun = call_trace.begun; since = since'; loaded = left.loaded; scan = call_trace.scan }
 
   -- a table that is about to be linked has its words
   pub has_words : HasWords gq (link_in m.phase)
   has_words = link_words gq store (λ t. refl) (link_in m.phase) seeking.links
 
-  -- they were allowed, and the machine rests on them
-  pub learnt : AllAllowed gq start es' × Rests gq cq tale.begun since' None (after m answer) left.hands
-  learnt = all_learns gq cq hashed tale.begun tale.since may None m tale.hands seeking.rests answer (λ _. has_words) left.made left.hands left.told
+  -- they were allowed, and the machine relies on them
+  pub learnt : AllAllowed gq start es' × Relies gq cq call_trace.begun since' None (after m answer) left.loaded
+  learnt = all_learns gq cq hashed call_trace.begun call_trace.since may None m call_trace.loaded seeking.relies answer (λ _. has_words) left.made left.loaded left.told
 
   all_own : AllAllowed g start es'
   all_own = all_alike gq g (alike_back g gq (key_alike g (λ k. false) h)) es' start learnt.0
@@ -309,8 +309,8 @@ module _ {K V S : Type 0} (eq : K → K → Bool) (hash : S → K → ℕ) (s : 
   agrees : Agrees On g g'
   agrees = grown_agrees eq (hash s.store.hasher) s.mode s.mode store.words.tables store'.words.tables refl left.grown On (λ t on. left.there t on.0 (subst (λ l. Comes (run l start) t) (sym assoc) (on_comes (run es' start) t on)))
 
-  pub rests' : Rests gq' cq tale.begun since' None (after m answer) left.hands
-  rests' = rests_carries gq gq' cq hashed tale.begun since' learnt.0 (key_agrees On g g' agrees (λ k. false) h) None (after m answer) left.hands learnt.1
+  pub relies' : Relies gq' cq call_trace.begun since' None (after m answer) left.loaded
+  relies' = relies_carries gq gq' cq hashed call_trace.begun since' learnt.0 (key_agrees On g g' agrees (λ k. false) h) None (after m answer) left.loaded learnt.1
 
   pub still_there : (t : ℕ) → IsMade store t → IsMade store' t
   still_there t w = let grown = left.grown t w.0 w.1 in (grown.0, grown.1)
@@ -336,7 +336,7 @@ module _ {K V S : Type 0} (eq : K → K → Bool) (hash : S → K → ℕ) (s : 
   ]
 
   -- the words keep to the law
-  pub kept' : IsKept {A = Unit {0}} eq (hash s.store.hasher) s.mode store' [] es' (λ d. tale')
+  pub kept' : IsKept {A = Unit {0}} eq (hash s.store.hasher) s.mode store' [] es' (λ d. call_trace')
   kept' = record {
     allowed = all_carries g own_law.lawful g' es' start (λ k. None) (start_keeps g own_law.lawful) all_own agrees;
     coded = λ at. ap (λ l. word_of g c (run l start) at) (sym assoc) ∙ sym (sought_word eq hash s h store.words.tables (run (es ++ left.made) start) at) ∙ left.coded at;
@@ -347,7 +347,7 @@ module _ {K V S : Type 0} (eq : K → K → Bool) (hash : S → K → ℕ) (s : 
     tables_few = left.tables_few seeking.kept.tables_few;
     calls = λ d q e. absurd cc;
     resizers = λ d z e. absurd cc;
-    visitors = λ d v e. absurd cc;
+    scanners = λ d v e. absurd cc;
     apart = λ d e q q' x. absurd cc;
   }
 
@@ -359,34 +359,34 @@ module _ {K V S : Type 0} (eq : K → K → Bool) (hash : S → K → ℕ) (s : 
       by_ask (asks.Call ask) e (told, is, looks, same) = ap (λ (y : StoreState K V S). y.words.made) same
       by_ask (asks.Copy ask) e copied =
           copied_made store store' eq hash false ask answer
-          (λ old new is. copies_there gq cq hashed tale.begun tale.since may None m tale.hands seeking.rests (copies.Exchange Made_word old new) (e ∙ ap asks.Copy is)) copied
+          (λ old new is. copies_there gq cq hashed call_trace.begun call_trace.since may None m call_trace.loaded seeking.relies (copies.Exchange Made_word old new) (e ∙ ap asks.Copy is)) copied
 
   -- a refusal has a cause
   pub turn_caused : (refused : Refused) → reply_in (ask_of (after m answer)) ≡ Some (Reply_refused refused) → IsCause m answer refused
   turn_caused refused e =
-      chain_refused gq cq None (run es start) m answer refused tale.hands left.made left.hands left.told
-      (in_order gq cq tale.begun tale.since None m tale.hands (run es start) answer left.made left.hands seeking.rests left.told)
+      chain_refused gq cq None (run es start) m answer refused call_trace.loaded left.made left.loaded left.told
+      (in_order gq cq call_trace.begun call_trace.since None m call_trace.loaded (run es start) answer left.made left.loaded seeking.relies left.told)
       (λ reply done. let f : Some reply ≡ None = sym (ap reply_in done) ∙ going in absurd cc) (reply_asked (ask_of (after m answer)) (Reply_refused refused) e)
 
   -- no exchange of the answer changes the map
-  unmoved_map : (made : List (Exchange (Stored K V))) → left.made ≡ made → (made ≡ []) ⊎ ((kind : Option StepKind) × (at : At) × (new : ℕ) × (by : Exchange (Stored K V)) × IsCopyAsked cq kind at new (run es start) tale.hands.kept by × (made ≡ by ∷ [])) → (k : K) → map_left g es' k ≡ map_left g es k
-  unmoved_map made is (inl none) k = ap (λ l. map_left g (tale.begun ++ (tale.since ++ l)) k) (is ∙ none) ∙ ap (λ l. map_left g (tale.begun ++ l) k) (append-nil tale.since)
+  unmoved_map : (made : List (Exchange (Stored K V))) → left.made ≡ made → (made ≡ []) ⊎ ((kind : Option StepKind) × (at : At) × (new : ℕ) × (by : Exchange (Stored K V)) × IsCopyAsked cq kind at new (run es start) call_trace.loaded.kept by × (made ≡ by ∷ [])) → (k : K) → map_left g es' k ≡ map_left g es k
+  unmoved_map made is (inl none) k = ap (λ l. map_left g (call_trace.begun ++ (call_trace.since ++ l)) k) (is ∙ none) ∙ ap (λ l. map_left g (call_trace.begun ++ l) k) (append-nil call_trace.since)
   unmoved_map made is (inr (kind, at, new, by, asked, one)) k =
       ap (λ l. map_left g l k) (sym assoc)
       ∙ ap (λ f. f k) (map_of-append g es left.made (λ j. None))
       ∙ ap (λ l. map_of g (map_left g es) l k) (is ∙ one)
-      ∙ copy_still g cq kind at new (run es start) tale.hands.kept by asked (map_left g es) k
+      ∙ copy_still g cq kind at new (run es start) call_trace.loaded.kept by asked (map_left g es) k
 
-  no_exchange : (ask : Ask) → ask_of m ≡ ask → IsTurn eq hash store ask answer store' → (left.made ≡ []) ⊎ ((kind : Option StepKind) × (at : At) × (new : ℕ) × (by : Exchange (Stored K V)) × IsCopyAsked cq kind at new (run es start) tale.hands.kept by × (left.made ≡ by ∷ []))
-  no_exchange (asks.Call ask) e looks = inl (look_made ask (asked_look m seeking.seeks going ask e) (subst (λ y. IsTold gq cq None (run es start) (kind_of_ask m) (follows_of m) tale.hands y answer left.made left.hands) e left.told))
+  no_exchange : (ask : Ask) → ask_of m ≡ ask → IsTurn eq hash store ask answer store' → (left.made ≡ []) ⊎ ((kind : Option StepKind) × (at : At) × (new : ℕ) × (by : Exchange (Stored K V)) × IsCopyAsked cq kind at new (run es start) call_trace.loaded.kept by × (left.made ≡ by ∷ []))
+  no_exchange (asks.Call ask) e looks = inl (look_made ask (asked_look m seeking.seeks going ask e) (subst (λ y. IsTold gq cq None (run es start) (kind_of_ask m) (follows_of m) call_trace.loaded y answer left.made left.loaded) e left.told))
     where
-      look_made : (ask : Call_ask) → IsLook ask → IsTold gq cq None (run es start) (kind_of_ask m) (follows_of m) tale.hands (asks.Call ask) answer left.made left.hands → left.made ≡ []
+      look_made : (ask : Call_ask) → IsLook ask → IsTold gq cq None (run es start) (kind_of_ask m) (follows_of m) call_trace.loaded (asks.Call ask) answer left.made left.loaded → left.made ≡ []
       look_made (Load at) look told = told.tells.1
       look_made (LoadHint t x) look told = told.tells.1.0
       look_made (SameKey n) look told = told.tells.1.0
       look_made (SizeOf n) look told = told.tells.1.0
       look_made other look told = absurd look
-  no_exchange (asks.Copy ask) e copied = elim (copy_told gq cq (run es start) (kind_of_ask m) (follows_of m) tale.hands ask answer left.made left.hands (subst (λ y. IsTold gq cq None (run es start) (kind_of_ask m) (follows_of m) tale.hands y answer left.made left.hands) e left.told)) [
+  no_exchange (asks.Copy ask) e copied = elim (copy_told gq cq (run es start) (kind_of_ask m) (follows_of m) call_trace.loaded ask answer left.made left.loaded (subst (λ y. IsTold gq cq None (run es start) (kind_of_ask m) (follows_of m) call_trace.loaded y answer left.made left.loaded) e left.told)) [
     | inl none ↦ inl none
     | inr one ↦ inr (kind_of_ask m, one.at, one.new, one.by, one.asked, one.made)
   ]
@@ -394,7 +394,7 @@ module _ {K V S : Type 0} (eq : K → K → Bool) (hash : S → K → ℕ) (s : 
   -- so the map is as it was
   pub map_stays : (core' : IsCore {A = Unit {0}} store' [] s.mode) (k : K) → map_in eq store' k ≡ map_in eq store k
   map_stays core' k =
-      kept_map eq (hash s.store.hasher) s.mode store' (own_hashed eq hash s h keys fits store' core') [] es' (λ d. tale') kept' k
+      kept_map eq (hash s.store.hasher) s.mode store' (own_hashed eq hash s h keys fits store' core') [] es' (λ d. call_trace') kept' k
       ∙ ap (λ f. f k) (map_of_carries g g' On agrees es' (λ y. None))
       ∙ unmoved_map left.made refl (no_exchange (ask_of m) refl turn) k
-      ∙ sym (kept_map eq (hash s.store.hasher) s.mode store own_law [] es (λ d. tale) seeking.kept k)
+      ∙ sym (kept_map eq (hash s.store.hasher) s.mode store own_law [] es (λ d. call_trace) seeking.kept k)

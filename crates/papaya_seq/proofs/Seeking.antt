@@ -15,24 +15,24 @@ use Rattle.papaya_call.specs.declared.machine.State.TheVariants.{AtRoot, Searchi
 use Rattle.papaya_chain.specs.declared.machine.Machine.{Machine}
 use Rattle.papaya_chain.specs.Machine.{IsStanding, started}
 use Rattle.papaya_copy.specs.declared.link.Link.TheVariants.{Linking}
-use Rattle.papaya_chain_rests.specs.Goes.{link_in}
-use Rattle.papaya_chain_rests.specs.Rests.{Rests}
-use Rattle.papaya_chain_rests.specs.Told.{no_hands}
-use Rattle.papaya_chain_rests.proofs.Standing.{started_stands}
+use Rattle.papaya_chain_law.specs.Goes.{link_in}
+use Rattle.papaya_chain_law.specs.Relies.{Relies}
+use Rattle.papaya_chain_law.specs.Told.{nothing_loaded}
+use Rattle.papaya_chain_law.proofs.Standing.{started_stands}
 use Rattle.papaya_alone.specs.Ahead.{IsCurrent}
 use Rattle.papaya_law.specs.Code.{Coding, IsHashed}
-use Rattle.papaya_law.specs.Exchange.{Setting, State as Words, Word, Empty, Closed, Live, Marked, Copied, Buried}
+use Rattle.papaya_law.specs.Exchange.{Setting, State as Words, Word, Empty, Closed, Live, Marked, Copied, Tombstone}
 use Rattle.papaya_law.specs.Hints.{IsHintOf}
 use Rattle.papaya_law.specs.Further.{IsLawfulKey, coding_with, with_key}
 use Rattle.papaya_law.proofs.Further.{key_code, key_lawful}
-use Rattle.papaya_rests.specs.Rests.{IsModeOf}
-use Rattle.papaya_rests.proofs.RestsLearnPairs.{wanted_rests}
-use Rattle.papaya_rests.specs.Told.{IsOneOf, word_of}
+use Rattle.papaya_call_law.specs.Relies.{IsModeOf}
+use Rattle.papaya_call_law.proofs.ReliesLearnPairs.{wanted_relies}
+use Rattle.papaya_call_law.specs.Told.{IsOneOf, word_of}
 use Rattle.papaya_store.specs.Store.{StoreState, Stored}
 use Rattle.papaya_store.specs.Tables.{table_of, word_at}
 use Rattle.papaya_timeline.specs.Core.{IsCore}
-use Rattle.papaya_chain_rests.specs.VisitTold as visits
-use Rattle.papaya_timeline.specs.Kept.{IsKept, IsLogged, IsMadeFor, Tale, coding_of, is_blocking, low, setting_of, slots_in}
+use Rattle.papaya_chain_law.specs.ScanTold as scans
+use Rattle.papaya_timeline.specs.Kept.{CallTrace, IsKept, IsLogged, IsMadeFor, coding_of, is_blocking, low, setting_of, slots_in}
 use Rattle.papaya_timeline.proofs.KeptSettings.{IsLawfulKeys, tables_hashed}
 use Rattle.papaya_seq.proofs.CallLengths.{IsLong, long_begun}
 use Rattle.papaya_seq.proofs.Numbered.{begun_number}
@@ -72,13 +72,13 @@ module _ {K V S : Type 0} (eq : K → K → Bool) (hash : S → K → ℕ) (s : 
 
   -- What holds between two answers: just the words may be others, by exchanges of copies.
   pub record IsSeeking (store : StoreState K V S) (m : Machine) : Type 0 where
-    pub tale : Tale K V
+    pub call_trace : CallTrace K V
     pub core : IsCore {A = Unit {0}} store [] s.mode
-    pub kept : IsKept {A = Unit {0}} eq (hash s.store.hasher) s.mode store [] (tale.begun ++ tale.since) (λ d. tale)
-    pub rests : Rests (sought_setting store.words.tables) sought_coding tale.begun tale.since None m tale.hands
-    pub last : (p : Stored K V) → tale.hands.call.last ≡ Some p → IsLogged store p
-    pub carried : (p : Stored K V) → tale.hands.kept ≡ Some p → IsLogged store p
-    pub made : (p : Stored K V) → IsOneOf tale.hands.call.made p → IsLogged store p
+    pub kept : IsKept {A = Unit {0}} eq (hash s.store.hasher) s.mode store [] (call_trace.begun ++ call_trace.since) (λ d. call_trace)
+    pub relies : Relies (sought_setting store.words.tables) sought_coding call_trace.begun call_trace.since None m call_trace.loaded
+    pub last : (p : Stored K V) → call_trace.loaded.call.last ≡ Some p → IsLogged store p
+    pub carried : (p : Stored K V) → call_trace.loaded.kept ≡ Some p → IsLogged store p
+    pub made : (p : Stored K V) → IsOneOf call_trace.loaded.call.made p → IsLogged store p
     pub links : (behind t chunks : ℕ) → link_in m.phase ≡ Some (Linking behind t chunks) → IsMadeFor store t chunks
     pub standing : IsStanding m
     pub current : IsCurrent (word_at store.words) m
@@ -107,7 +107,7 @@ module _ {K V S : Type 0} (eq : K → K → Bool) (hash : S → K → ℕ) (s : 
   sought_hint tables (Live p) n h = h
   sought_hint tables (Marked p) n h = h
   sought_hint tables (Copied p) n h = h
-  sought_hint tables (Buried p) n h = h
+  sought_hint tables (Tombstone p) n h = h
 
   pub own_hint : (tables : List TableWords) (w : Word (Stored K V)) (n : ℕ) → IsHintOf (sought_setting tables) sought_coding w n → IsHintOf (own_setting tables) own_coding w n
   own_hint tables Empty n h = h
@@ -115,7 +115,7 @@ module _ {K V S : Type 0} (eq : K → K → Bool) (hash : S → K → ℕ) (s : 
   own_hint tables (Live p) n h = h
   own_hint tables (Marked p) n h = h
   own_hint tables (Copied p) n h = h
-  own_hint tables (Buried p) n h = h
+  own_hint tables (Tombstone p) n h = h
 
   module _ (keys : IsLawfulKeys eq (hash s.store.hasher)) (fits : h < 2 ^ 64) where
     -- the map's own keys are placed by their hashes
@@ -132,18 +132,18 @@ module _ {K V S : Type 0} (eq : K → K → Bool) (hash : S → K → ℕ) (s : 
     -- a removal that begins
     pub seek_begin : (number : ℕ) → IsLawfulMap eq (hash s.store.hasher) s.store s.mode s.initial → IsSeeking s.store (started RemoveIf h s.mode.resize s.initial number s.mode.limit)
     seek_begin number lawful =
-        let (es, (tales, kept)) = lawful.lawful.law in
-        let tale : Tale K V = record { begun = es; since = []; hands = no_hands; visit = visits.no_hands } in
+        let (es, (call_traces, kept)) = lawful.lawful.law in
+        let call_trace : CallTrace K V = record { begun = es; since = []; loaded = nothing_loaded; scan = scans.nothing_loaded } in
         let same_es : es ≡ es ++ [] = sym (append-nil es) in
         let core = lawful.lawful.core in
         record {
-          tale = tale;
+          call_trace = call_trace;
           core = core;
-          kept = subst (λ l. IsKept {A = Unit {0}} eq (hash s.store.hasher) s.mode s.store [] l (λ d. tale)) same_es
-              (record { allowed = kept.allowed; coded = kept.coded; hints = kept.hints; made = kept.made; logged = kept.logged; few = kept.few; tables_few = kept.tables_few; calls = λ d r e. absurd cc; resizers = λ d z e. absurd cc; visitors = λ d v e. absurd cc; apart = λ d e r q x. absurd cc });
-          rests = record {
+          kept = subst (λ l. IsKept {A = Unit {0}} eq (hash s.store.hasher) s.mode s.store [] l (λ d. call_trace)) same_es
+              (record { allowed = kept.allowed; coded = kept.coded; hints = kept.hints; made = kept.made; logged = kept.logged; few = kept.few; tables_few = kept.tables_few; calls = λ d r e. absurd cc; resizers = λ d z e. absurd cc; scanners = λ d v e. absurd cc; apart = λ d e r q x. absurd cc });
+          relies = record {
             cut = λ x. refl;
-            call = record { hash = refl; mode = mode_of s.mode.resize; made = record { keys = λ q l. absurd l; limit = refl; number_is = wanted_rests (sought_setting s.store.words.tables) sought_coding es [] None s.mode.limit; own_is = tt; of_is = tt; fill_is = tt; choice_is = tt }; stage = tt };
+            call = record { hash = refl; mode = mode_of s.mode.resize; made = record { keys = λ q l. absurd l; limit = refl; number_is = wanted_relies (sought_setting s.store.words.tables) sought_coding es [] None s.mode.limit; own_is = tt; of_is = tt; fill_is = tt; choice_is = tt }; stage = tt };
             phase = tt;
           };
           last = λ p l. absurd cc;

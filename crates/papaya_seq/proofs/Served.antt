@@ -8,7 +8,7 @@ use Rattle.papaya_ask.specs.declared.call.Reply.TheVariants.{Replaced}
 use Rattle.papaya_ask.specs.declared.call.Task.TheVariants.{Insert}
 use Rattle.papaya_call.specs.declared.machine.Machine.{Machine}
 use Rattle.papaya_call.specs.declared.machine.State.{State}
-use Rattle.papaya_call.specs.declared.machine.State.TheVariants.{AtRoot, Making, Opening, Searching, Writing, Offering, Showing, Pairing, Putting, Burying, Counting, Noting, Uncounting, Leaving, Growing, Ended}
+use Rattle.papaya_call.specs.declared.machine.State.TheVariants.{AtRoot, Making, Opening, Searching, Writing, Offering, Showing, Pairing, Putting, Deleting, Counting, Noting, Uncounting, Leaving, Growing, Ended}
 use Rattle.papaya_call.specs.declared.made.Grown.{Grown}
 use Rattle.papaya_call.specs.declared.made.Grown.TheVariants.{On, Pair}
 use Rattle.papaya_call.specs.declared.made.Made.{Made}
@@ -17,8 +17,8 @@ use Rattle.papaya_call.specs.Compute.{in_place_of}
 use Rattle.papaya_call.specs.Made.{answered, grown, taken, told}
 use Rattle.papaya_call.specs.Machine.{after, made_in, made_to_pair, number_told, write_made, write_taken}
 use Rattle.papaya_call.specs.Write.{claimed_by, made_to_write, serves, write_grown}
-use Rattle.papaya_chain_rests.specs.Rests.{left_by}
-use Rattle.papaya_rests.proofs.Makings.{write_then, write_then_is}
+use Rattle.papaya_chain_law.specs.Relies.{left_by}
+use Rattle.papaya_call_law.proofs.Makings.{write_then, write_then_is}
 use Rattle.papaya_seq.proofs.Causes.{IsPairStage, PairsFirst}
 use Rattle.papaya_seq.proofs.Logs.{IsFirst, IsUnmade, answered_like, grown_like, like_unmade, placed_serves, taken_like, told_like}
 use Rattle.papaya_seq.proofs.MadeAfter.{HoldsOfMade, made_after}
@@ -44,7 +44,7 @@ unmade_served made (Offering gap) h = h
 unmade_served made (Showing removal) h = h
 unmade_served made (Pairing purpose) h = h
 unmade_served made (Putting put) h = h
-unmade_served made (Burying removal) h = h
+unmade_served made (Deleting removal) h = h
 unmade_served made (Uncounting n) h = h
 unmade_served made (Leaving t) h = h
 unmade_served made (Growing need) h = h
@@ -65,7 +65,7 @@ left_unmade made (Offering gap) t left h = h
 left_unmade made (Showing removal) t left h = h
 left_unmade made (Pairing purpose) t left h = h
 left_unmade made (Putting put) t left h = h
-left_unmade made (Burying removal) t left h = h
+left_unmade made (Deleting removal) t left h = h
 left_unmade made (Uncounting n) t left h = h
 
 -- so one that is to make a pair has made none
@@ -153,7 +153,7 @@ module _ (m : Machine) where
   served_in (Offering gap) answer unbeaten h = others (Offering gap) h (λ n. h) answer
   served_in (Showing removal) answer unbeaten h = others (Showing removal) h (λ n. h) answer
   served_in (Putting put) answer unbeaten h = others (Putting put) h (λ n. h) answer
-  served_in (Burying removal) answer unbeaten h = others (Burying removal) h (λ n. h) answer
+  served_in (Deleting removal) answer unbeaten h = others (Deleting removal) h (λ n. h) answer
   served_in (Uncounting i) answer unbeaten h = others (Uncounting i) h (λ n. h) answer
   served_in (Leaving t) answer unbeaten h = others (Leaving t) h (λ n. h) answer
   served_in (Growing need) answer unbeaten h = others (Growing need) h (λ n. h) answer

@@ -20,9 +20,9 @@ use Rattle.papaya_chain.specs.declared.machine.Phase.{Phase}
 use Rattle.papaya_chain.specs.declared.machine.Phase.TheVariants.{Calling, Linking, Copying as Copying_root}
 use Rattle.papaya_chain.specs.Machine as machine
 use Rattle.papaya_chain.specs.Machine.{ask_of, asks_in}
-use Rattle.papaya_chain_rests.specs.Goes.{link_in}
-use Rattle.papaya_chain_rests.proofs.CopyRefusals.{copying_asks}
-use Rattle.papaya_chain_rests.proofs.LinkStates.{In, IsStable, Linked_in, Of, machine_holds}
+use Rattle.papaya_chain_law.specs.Goes.{link_in}
+use Rattle.papaya_chain_law.proofs.CopyRefusals.{copying_asks}
+use Rattle.papaya_chain_law.proofs.LinkStates.{In, IsStable, Linked_in, Of, machine_holds}
 use Rattle.papaya_store.specs.Performs.{size_of}
 
 -- `Sized` is what the number of a table and that of its slots are.

@@ -4,20 +4,20 @@ use Rattle.papaya_words.specs.declared.probe.Refused.{Refused}
 use Rattle.papaya_store.specs.declared.mode.Mode.{Mode}
 use Rattle.papaya_ask.specs.declared.call.Reply.{Reply}
 use Rattle.papaya_ask.specs.declared.call.Reply.TheVariants.{Refused as Reply_refused}
-use Rattle.papaya_rests.specs.Rests.{change_in}
-use Rattle.papaya_rests.specs.Says.{IsSaidBy, Said, ShowsPairs, StandsOn}
+use Rattle.papaya_call_law.specs.Relies.{change_in}
+use Rattle.papaya_call_law.specs.Says.{IsSaidBy, Said, ShowsPairs, StandsOn}
 use Rattle.papaya_ask.specs.declared.ask.At.TheVariants.{Made}
 use Rattle.papaya_ask.specs.declared.copy_ask.CopyAsk.TheVariants.{Exchange}
 use Rattle.papaya_chain.specs.declared.ask.Answer.{Answer}
 use Rattle.papaya_chain.specs.declared.ask.Ask.TheVariants as asks
 use Rattle.papaya_chain.specs.declared.machine.Machine.{Machine}
 use Rattle.papaya_chain.specs.Machine.{after, ask_of, kind_of_ask}
-use Rattle.papaya_chain_rests.specs.Goes.{Goes, IsCause, IsInOrder, IsOwnStep}
-use Rattle.papaya_chain_rests.proofs.Goes.{machine_goes}
-use Rattle.papaya_chain_rests.proofs.Names.{copies_there}
-use Rattle.papaya_chain_rests.proofs.Order.{in_order}
-use Rattle.papaya_chain_rests.proofs.Refusals.{chain_refused}
-use Rattle.papaya_chain_rests.proofs.Replies.{chain_said, chain_shows, chain_task}
+use Rattle.papaya_chain_law.specs.Goes.{Goes, IsCause, IsInOrder, IsOwnStep}
+use Rattle.papaya_chain_law.proofs.Goes.{machine_goes}
+use Rattle.papaya_chain_law.proofs.Names.{copies_there}
+use Rattle.papaya_chain_law.proofs.Order.{in_order}
+use Rattle.papaya_chain_law.proofs.Refusals.{chain_refused}
+use Rattle.papaya_chain_law.proofs.Replies.{chain_said, chain_shows, chain_task}
 use Rattle.papaya_law.specs.Allows.{AllAllowed}
 use Rattle.papaya_law.specs.Exchange.{run, start as first_state}
 use Rattle.papaya_store.specs.Asks.{PerformsAsk}
@@ -32,7 +32,7 @@ use Rattle.papaya_timeline.specs.Advances.{Advances, event_of, goes_on, reply_in
 use Rattle.papaya_timeline.specs.Callers.{as_work, call_in, running}
 use Rattle.papaya_timeline.specs.Core.{CoreState}
 use Rattle.papaya_timeline.specs.Ends.{IsLone, IsNearer, lone_measure}
-use Rattle.papaya_timeline.specs.Kept.{IsLawfulCore, coding_of, low, setting_of, told_tales}
+use Rattle.papaya_timeline.specs.Kept.{IsLawfulCore, coding_of, low, setting_of, told_call_traces}
 use Rattle.papaya_timeline.specs.Resized.{IsLoneWork}
 use Rattle.papaya_timeline.specs.Runs.{History, StepsRun, with_event, with_step}
 use Rattle.papaya_timeline.specs.Solo.{whatever}
@@ -139,13 +139,13 @@ module _ {K V S : Type 0} (eq : K → K → Bool) (hash : S → K → ℕ) (s : 
     -- a refusal has a cause
     pub made_caused : (refused : Refused) → reply ≡ Some (Reply_refused refused) → IsCause r.machine answer refused
     made_caused refused e =
-        let (es, (tales, kept)) = now_lawful.law in
-        let left = kept_steps.left eq (hash s.store.hasher) keys whatever hash false now 0 (seated store' (Some r) s.mode s.initial) r answer later refl performs (ap hash came.hasher) refl es tales now_lawful.core kept in
+        let (es, (call_traces, kept)) = now_lawful.law in
+        let left = kept_steps.left eq (hash s.store.hasher) keys whatever hash false now 0 (seated store' (Some r) s.mode s.initial) r answer later refl performs (ap hash came.hasher) refl es call_traces now_lawful.core kept in
         let call_kept = kept.calls 0 r refl in
         let g = setting_of eq (low (hash s.store.hasher)) s.mode store.words.tables in
         let c = coding_of (low (hash s.store.hasher)) in
-        chain_refused g c call_kept.key (run es first_state) r.machine answer refused (tales 0).hands left.made left.hands left.told
-        (in_order g c (tales 0).begun (tales 0).since call_kept.key r.machine (tales 0).hands (run es first_state) answer left.made left.hands call_kept.rests left.told)
+        chain_refused g c call_kept.key (run es first_state) r.machine answer refused (call_traces 0).loaded left.made left.loaded left.told
+        (in_order g c (call_traces 0).begun (call_traces 0).since call_kept.key r.machine (call_traces 0).loaded (run es first_state) answer left.made left.loaded call_kept.relies left.told)
         (now_lawful.core.going 0 r refl) (reply_asked (ask_of (after r.machine answer)) (Reply_refused refused) e)
 
     -- it is a step of the core
@@ -167,15 +167,15 @@ module _ {K V S : Type 0} (eq : K → K → Bool) (hash : S → K → ℕ) (s : 
 
     -- what it leaves of the law
     step : IsStep eq (hash s.store.hasher) keys false now 0 (seated store' (goes_on reply next) s.mode s.initial) event reply made_step now_lawful.law.0 now_lawful.law.1.0
-    step = let (es, (tales, kept)) = now_lawful.law in kept_step eq (hash s.store.hasher) keys false now 0 (seated store' (goes_on reply next) s.mode s.initial) event reply made_step (ap hash came.hasher) es tales now_lawful.core kept
+    step = let (es, (call_traces, kept)) = now_lawful.law in kept_step eq (hash s.store.hasher) keys false now 0 (seated store' (goes_on reply next) s.mode s.initial) event reply made_step (ap hash came.hasher) es call_traces now_lawful.core kept
 
     -- the answer is one to what was asked
     pub made_ordered : IsInOrder r.machine answer r.machine.phase
     unfolding made_step
     made_ordered =
-        let (es, (tales, kept)) = now_lawful.law in
+        let (es, (call_traces, kept)) = now_lawful.law in
         let call_kept = step.call in
-        in_order (setting_of eq (low (hash s.store.hasher)) s.mode store.words.tables) (coding_of (low (hash s.store.hasher))) (tales 0).begun (tales 0).since call_kept.key r.machine (tales 0).hands (run es first_state) answer step.made step.hands call_kept.rests step.told
+        in_order (setting_of eq (low (hash s.store.hasher)) s.mode store.words.tables) (coding_of (low (hash s.store.hasher))) (call_traces 0).begun (call_traces 0).since call_kept.key r.machine (call_traces 0).loaded (run es first_state) answer step.made step.loaded call_kept.relies step.told
 
     -- the call steps for itself, or was set aside
     pub made_goes : Goes r.machine answer
@@ -183,18 +183,18 @@ module _ {K V S : Type 0} (eq : K → K → Bool) (hash : S → K → ℕ) (s : 
 
     -- it has the map's limit
     limit_is : r.machine.call.made.limit ≡ s.mode.limit
-    limit_is = let (es, (tales, kept)) = now_lawful.law in (kept.calls 0 r refl).rests.call.made.limit
+    limit_is = let (es, (call_traces, kept)) = now_lawful.law in (kept.calls 0 r refl).relies.call.made.limit
 
     -- and takes no number while it copies
     takes_none : (old new : ℕ) → ask_of r.machine ≡ asks.Copy (Exchange Made old new) → ⊥
     takes_none old new e =
-        let (es, (tales, kept)) = now_lawful.law in
+        let (es, (call_traces, kept)) = now_lawful.law in
         let call_kept = kept.calls 0 r refl in
         let g = setting_of eq (low (hash s.store.hasher)) s.mode store.words.tables in
         copies_there g (coding_of (low (hash s.store.hasher))) (tables_hashed eq (hash s.store.hasher) keys s.mode store.words.tables now_lawful.core.sizes)
-        (tales 0).begun (tales 0).since (subst (AllAllowed g first_state) (sym call_kept.split) kept.allowed) call_kept.key r.machine (tales 0).hands call_kept.rests (Exchange Made old new) e
+        (call_traces 0).begun (call_traces 0).since (subst (AllAllowed g first_state) (sym call_kept.split) kept.allowed) call_kept.key r.machine (call_traces 0).loaded call_kept.relies (Exchange Made old new) e
 
-    -- what it does to the log of pairs, and to how many numbers were taken
+    -- what it does to the arena of pairs, and to how many numbers were taken
     pub made_logs : IsLogStep store store' (ask_of r.machine) answer
     made_logs = log_step eq whatever hash false r.machine store store' r later (came.lone going).current.number takes_none answer performs
 
@@ -239,7 +239,7 @@ module _ {K V S : Type 0} (eq : K → K → Bool) (hash : S → K → ℕ) (s : 
     pub came_more : HasCome store' next
     unfolding made_step
     came_more =
-        let (es, (tales, kept)) = now_lawful.law in
+        let (es, (call_traces, kept)) = now_lawful.law in
         let core = advance-core eq whatever hash false now 0 (seated store' (goes_on reply next) s.mode s.initial) event reply made_step now_lawful.core in
         let told = chain_task r.machine answer made_ordered in
         record {
@@ -248,7 +248,7 @@ module _ {K V S : Type 0} (eq : K → K → Bool) (hash : S → K → ℕ) (s : 
           history = with_step 1 0 event reply came.history;
           runs = (now, came.history, subst (λ o. StepsRun eq whatever hash 1 0 came.steps (start eq hash s call.call came.number) (with_event 0 0 Begun []) (seated store o s.mode s.initial) came.history) under_way came.runs, inl (event, reply, inl made_step, refl));
           replied = λ x e. last_entry event reply came.history x e;
-          lawful = record { core = core; law = (es ++ step.made, (told_tales tales 0 step.made step.hands, step.kept)) };
+          lawful = record { core = core; law = (es ++ step.made, (told_call_traces call_traces 0 step.made step.loaded, step.kept)) };
           lone = next_lone;
           own = step.own.own ∙ ap Some step.own_key ∙ sym step.call.own ∙ came.own;
           task = told.0 ∙ came.task;
@@ -258,7 +258,7 @@ module _ {K V S : Type 0} (eq : K → K → Bool) (hash : S → K → ℕ) (s : 
           numbered = numbered_more eq whatever hash false r.machine store store' r later (came.lone going).current.number takes_none answer performs s.mode.limit limit_is came.numbered;
           long = long_more s eq hash store store' r.machine answer going
               (performed_so eq hash store store' r.machine answer r later refl performs (came.lone going).current
-              (root_stays eq (hash s.store.hasher) keys s.mode store store' now.callers (seated store' (goes_on reply next) s.mode s.initial).callers es step.made tales (told_tales tales 0 step.made step.hands) kept core step.kept)) came.long;
+              (root_stays eq (hash s.store.hasher) keys s.mode store store' now.callers (seated store' (goes_on reply next) s.mode s.initial).callers es step.made call_traces (told_call_traces call_traces 0 step.made step.loaded) kept core step.kept)) came.long;
         }
 
   -- one more ask is answered

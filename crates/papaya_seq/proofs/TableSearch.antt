@@ -8,8 +8,8 @@ use Rattle.papaya_ask.specs.Search.{at_size, at_word, at_yes, go_on, hinted, loo
 use Rattle.papaya_ask.specs.declared.search.Place.{Place}
 use Rattle.papaya_ask.specs.declared.search.Search.{Search}
 use Rattle.papaya_ask.specs.declared.search.Search.TheVariants.{Sizing, Looking, Reading, Comparing}
-use Rattle.papaya_ask.specs.declared.search.Seen.{Seen}
-use Rattle.papaya_ask.specs.declared.search.Seen.TheVariants as seen
+use Rattle.papaya_ask.specs.declared.search.Probed.{Probed}
+use Rattle.papaya_ask.specs.declared.search.Probed.TheVariants as seen
 use Rattle.papaya_alone.specs.Rank.{table_of}
 use Rattle.papaya_store.specs.Store.{Stored}
 use Rattle.papaya_seq.specs.Looks.{matches_in}
@@ -35,7 +35,7 @@ module _ (May : ℕ → Type 0) where
   IsSearchIn t search = (table_of search ≡ t) × MayCompare search
 
   -- what a search of the table has seen
-  abbrev pub IsSeenIn : ℕ → Seen → Type 0
+  abbrev pub IsSeenIn : ℕ → Probed → Type 0
   IsSeenIn t (seen.On search) = IsSearchIn t search
   IsSeenIn t (seen.Empty at) = at.table ≡ t
   IsSeenIn t (seen.Here at word) = (at.table ≡ t) × May word × (kind_of word ≡ kinds.Copied → ⊥)
@@ -51,7 +51,7 @@ module _ (May : ℕ → Type 0) where
 
     look_in : (kind : Kind) (at : Place) (word : ℕ) → at.table ≡ t → (IsPairKind kind → May word) → IsSeenIn t (look_at kind at word)
     look_in kinds.Empty at word here may = here
-    look_in kinds.Buried at word here may = go_on_in at here
+    look_in kinds.Tombstone at word here may = go_on_in at here
     look_in kinds.Closed at word here may = go_on_in at here
     look_in kinds.Live at word here may = (here, may tt)
     look_in kinds.Marked at word here may = (here, may tt)
@@ -62,7 +62,7 @@ module _ (May : ℕ → Type 0) where
     match_in kinds.Empty at word is here may = (here, may, λ copied. cc (is, copied))
     match_in kinds.Live at word is here may = (here, may, λ copied. cc (is, copied))
     match_in kinds.Marked at word is here may = (here, may, λ copied. cc (is, copied))
-    match_in kinds.Buried at word is here may = (here, may, λ copied. cc (is, copied))
+    match_in kinds.Tombstone at word is here may = (here, may, λ copied. cc (is, copied))
     match_in kinds.Closed at word is here may = (here, may, λ copied. cc (is, copied))
 
     -- whatever it is answered

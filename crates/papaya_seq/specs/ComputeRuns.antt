@@ -26,7 +26,7 @@ use Rattle.papaya_seq.specs.Computes.{Takes}
 use Rattle.papaya_seq.specs.Computing.{IsComputed}
 use Rattle.papaya_seq.specs.Drives.{IsReplied, at_hand}
 use Rattle.papaya_seq.specs.Looks.{Comes}
-use Rattle.papaya_seq.specs.Writes.{IsWritten, burying}
+use Rattle.papaya_seq.specs.Writes.{IsWritten, deleting}
 use Rattle.papaya_seq.specs.declared.search.Turn.{Turn}
 use Rattle.papaya_seq.specs.declared.search.Turn.TheVariants as turns
 
@@ -65,7 +65,7 @@ IsOperated {V = V} s hashed at key (Insert v) result s' = (reply : Reply) × (le
 IsOperated s hashed at key Remove result s' =
     ((at.old ≡ 0) × (result ≡ Err RemoveNothing) × (s' ≡ s))
     ⊎ ((at.old ≢ 0) × (result ≡ Ok (Removed (number_of at.old)))
-    × (s' ≡ burying s (record { place = at.place; word = at.old })))
+    × (s' ≡ deleting s (record { place = at.place; word = at.old })))
 IsOperated s hashed at key (Abort t) result s' = (result ≡ Ok (Aborted t)) × (s' ≡ s)
 
 -- a closure may be shown what a search found: the pair of a Live word, or that there is none
@@ -97,7 +97,7 @@ module _ {K V S T : Type 0} (eq : K → K → Bool) (hash : S → K → ℕ) (ke
     pub computed : IsComputed reply (ended_by operation) result
 
   -- so it has, whatever the map's settings are
-  abbrev pub IsComputedAtOnce : (hashed : ℕ) → StoreState K V S
+  abbrev pub IsComputedFast : (hashed : ℕ) → StoreState K V S
       → Option ℕ × Result (Computed ℕ T) Refused → StoreState K V S → Type 0
-  IsComputedAtOnce hashed s done s' = (mode : ResizeMode) (initial : ℕ)
+  IsComputedFast hashed s done s' = (mode : ResizeMode) (initial : ℕ)
       → IsComputedFrom s (started Compute hashed mode initial None) done.0 done.1 s'

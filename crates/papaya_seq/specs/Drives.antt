@@ -79,8 +79,8 @@ module _ {K V S : Type 0} (eq : K → K → Bool) (hash : S → K → ℕ) where
     pub value : value_left end.value ≡ left
 
   -- an insertion has replied, whatever the map's settings are
-  abbrev pub IsInsertedAtOnce : (hashed : ℕ) → Bool → K → V → StoreState K V S
+  abbrev pub IsInsertedFast : (hashed : ℕ) → Bool → K → V → StoreState K V S
       → Reply × Option V → StoreState K V S → Type 0
-  IsInsertedAtOnce hashed replace key value s done s' = (mode : ResizeMode) (initial : ℕ)
+  IsInsertedFast hashed replace key value s done s' = (mode : ResizeMode) (initial : ℕ)
       → IsReplied s (at_hand (started (Insert replace) hashed mode initial None) key (Some value))
       done.0 done.1 s'

@@ -1,11 +1,11 @@
 pub mod Answered
-pub mod Buries
 pub mod Calls
 pub mod Clones
 pub mod ComputeRuns
 pub mod Computes
 pub mod Computing
 pub mod Copies
+pub mod Deletes
 pub mod Drives
 pub mod Ends
 pub mod Entries

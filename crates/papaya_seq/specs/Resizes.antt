@@ -21,13 +21,13 @@ module _ {K V S : Type 0} (eq : K → K → Bool) where
       × (entries ≤ slots_of s')
 
   -- Why room is refused: for want of memory, as no table has so many slots, or as there is no
-  -- further table.
+  -- next table.
   abbrev pub IsReserveCause : MapState K V S → (more : ℕ) → Refused → MapState K V S → Type 0
   IsReserveCause s more refused s' = (refused ≡ Memory)
       ⊎ ((refused ≡ Capacity) × (IsTooMuch (pairs_with s.store more) ⊎ HasNoTable s'))
 
 -- The end of a resize is refused only while pairs are being moved: for want of memory, or as there is
--- no further table.
+-- no next table.
 abbrev pub IsCopyCause : {K V S : Type 0} → MapState K V S → Refused → MapState K V S → Type 0
 IsCopyCause s refused s' = IsResizing s
     × ((refused ≡ Memory) ⊎ ((refused ≡ Capacity) × HasNoTable s'))

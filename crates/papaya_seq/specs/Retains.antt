@@ -48,7 +48,7 @@ root_words store = slot_words (table_of store.words.tables store.words.root)
 
 module _ {F K V S : Type 0} (g : Mut F (Bor K × (Bor V × Unit {0})) Bool) (s : MapState K V S)
     (f : F) where
-  -- The slots of the root before this one were visited, of the map that was s when the closure
+  -- The slots of the root before this one were scanned, of the map that was s when the closure
   -- was f.
   pub record IsRetaining (i : ℕ) (s' : MapState K V S) (f' : F) : Type 0 where
     pub last : next_of s'.store ≡ 0

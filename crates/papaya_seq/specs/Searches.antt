@@ -7,9 +7,9 @@ use Rattle.papaya_ask.specs.declared.ask.At.{At}
 use Rattle.papaya_ask.specs.declared.ask.At.TheVariants.{Slot}
 use Rattle.papaya_ask.specs.declared.search.Place.{Place}
 use Rattle.papaya_ask.specs.declared.search.Search.TheVariants.{Sizing, Looking, Reading, Comparing}
-use Rattle.papaya_ask.specs.declared.search.Seen.{Seen}
-use Rattle.papaya_ask.specs.declared.search.Seen.TheVariants.{On, Empty, Here, Over}
-use Rattle.papaya_ask.specs.Search.{IsSeen}
+use Rattle.papaya_ask.specs.declared.search.Probed.{Probed}
+use Rattle.papaya_ask.specs.declared.search.Probed.TheVariants.{On, Empty, Here, Over}
+use Rattle.papaya_ask.specs.Search.{IsProbed}
 use Rattle.papaya_call.specs.declared.machine.Machine.{Machine}
 use Rattle.papaya_call.specs.declared.machine.State.{State}
 use Rattle.papaya_call.specs.declared.machine.State.TheVariants.{AtRoot, Searching}
@@ -21,7 +21,7 @@ use Rattle.papaya_seq.specs.declared.search.Turn.{Turn}
 use Rattle.papaya_seq.specs.declared.search.Turn.TheVariants as turns
 
 -- the search loads no word and compares no key next, and asks for no size
-abbrev pub IsTurned : Seen → Type 0
+abbrev pub IsTurned : Probed → Type 0
 IsTurned (On (Sizing t)) = ⊥
 IsTurned (On (Looking at)) = Unit {0}
 IsTurned (On (Reading at)) = ⊥
@@ -31,7 +31,7 @@ IsTurned (Here at word) = Unit {0}
 IsTurned (Over t) = Unit {0}
 
 -- what a turn has seen
-abbrev pub seen_by : Turn → Seen
+abbrev pub seen_by : Turn → Probed
 seen_by (turns.Next at) = On (Looking at)
 seen_by (turns.Empty at) = Empty at
 seen_by (turns.Here at word) = Here at word
@@ -49,7 +49,7 @@ left_to _ = 0
 
 -- Where nothing was seen, the word at the place is of an empty slot, and where a pair was found, or is
 -- to be compared, it names the pair.
-abbrev pub StandsBy : (At → ℕ) → Seen → Type 0
+abbrev pub StandsBy : (At → ℕ) → Probed → Type 0
 StandsBy words (Empty at) = kind_of (words (Slot at.table at.probe.i)) ≡ Is_empty
 StandsBy words (Here at word) = words (Slot at.table at.probe.i) ≡ word
 StandsBy words (On (Comparing at word)) = words (Slot at.table at.probe.i) ≡ word
@@ -57,25 +57,25 @@ StandsBy words _ = Unit {0}
 
 module _ {K V S : Type 0} (matches : K → Bool) (store : StoreState K V S) (hash : ℕ) where
   -- a pair that was found has a key that matches
-  abbrev pub IsMatchedBy : Seen → Type 0
+  abbrev pub IsMatchedBy : Probed → Type 0
   IsMatchedBy (Here at word) = matches_in matches (pair_of store (number_of word)) ≡ true
   IsMatchedBy _ = Unit {0}
 
   -- Any call of this hash that stands here comes to where what was seen leads it, when each of its
   -- asks is answered by what stands in the tables.
-  abbrev pub SeesFrom : State → Seen → Type 0
+  abbrev pub SeesFrom : State → Probed → Type 0
   SeesFrom state seen = (m : Machine) → (answers : List Answer)
       × Comes matches store (record m { hash = hash; state = state }) answers
       (record m { hash = hash; state = goes m seen })
 
   -- so it does from this place
-  abbrev pub Sees : Place → Seen → Type 0
+  abbrev pub Sees : Place → Probed → Type 0
   Sees at seen = SeesFrom (Searching (Looking at)) seen
 
   -- A turn leads on from this state so.
   pub record IsTurnFrom (state : State) (turn : Turn) : Type 0 where
     pub sees : SeesFrom state (seen_by turn)
-    pub within : IsSeen (seen_by turn)
+    pub within : IsProbed (seen_by turn)
     pub stands : StandsBy (λ at. word_at store.words at) (seen_by turn)
     pub matched : IsMatchedBy (seen_by turn)
 

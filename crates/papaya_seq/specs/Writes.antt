@@ -39,9 +39,9 @@ module _ {K V S : Type 0} (s : StoreState K V S) where
     count = added s.count 0 (pos 1);
   }
 
-  -- a pair was buried, and is counted no more
-  abbrev pub burying : Removal → StoreState K V S
-  burying removal = record s {
+  -- a pair was deleted, and is counted no more
+  abbrev pub deleting : Removal → StoreState K V S
+  deleting removal = record s {
     words = put s.words (slot_of removal.place) (grave_word removal.word);
     count = added s.count 0 (negsuc 0);
   }

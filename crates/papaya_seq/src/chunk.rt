@@ -17,7 +17,7 @@ ghost use Rattle.papaya_words.specs.declared.probe.ResizeMode as modes;
 ghost use Rattle.papaya_seq.specs.Copies.{CopiesCall, CopiesResizer, IsSized, Settles, Steps, settled_as};
 
 use papaya_ask::ask::{Answer, At};
-use papaya_ask::search::{Place, Search, Seen};
+use papaya_ask::search::{Place, Probed, Search};
 use papaya_chain::machine::{Machine, Phase};
 use papaya_chain::resizer::{Resizer, State};
 use papaya_copy::carry::Carry;
@@ -47,8 +47,8 @@ fn find_place<K: Hash + Eq, V, S: BuildHasher>(
     let mut place = place;
     loop {
         match place.hinted(hash, store.hint(place.table, place.probe.i)) {
-            Seen::On(Search::Looking(next)) => place = next,
-            Seen::On(Search::Reading(_)) => {
+            Probed::On(Search::Looking(next)) => place = next,
+            Probed::On(Search::Reading(_)) => {
                 if store.word(At::Slot(place.table, place.probe.i)) == 0 {
                     return Carry::Placing { hash, place };
                 }
@@ -137,7 +137,7 @@ fn copy_slot<K: Hash + Eq, V, S: BuildHasher>(
     }
     match Word(word).kind() {
         Kind::Live => move_pair(store, mode, slot, word),
-        Kind::Copied | Kind::Buried | Kind::Closed => None,
+        Kind::Copied | Kind::Tombstone | Kind::Closed => None,
         Kind::Empty | Kind::Marked => Some(Settle::Looking),
     }
 }
@@ -160,7 +160,7 @@ fn copy_slots<K: Hash + Eq, V, S: BuildHasher>(
         }
         chunk.at += 1;
         if chunk.at >= chunk.end {
-            return Step::Advancing(chunk.scan);
+            return Step::Advancing(chunk.cursor);
         }
     }
 }

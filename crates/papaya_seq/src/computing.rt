@@ -5,11 +5,11 @@ ghost use Rattle.papaya_words.specs.Word.{kind_of, pair_of as number_of};
 ghost use Rattle.papaya_words.specs.declared.word.Kind.TheVariants.{Live};
 ghost use Rattle.papaya_ask.specs.Search.{IsSize};
 ghost use Rattle.papaya_keys.specs.Hashes.{hash_of};
-ghost use Rattle.papaya_rests.specs.Alone.{IsBare};
+ghost use Rattle.papaya_call_law.specs.Alone.{IsBare};
 ghost use Rattle.papaya_store.specs.Store.{pair_of};
 ghost use Rattle.papaya_store.specs.Tables.{table_of, word_at};
 ghost use Rattle.papaya_timeline.specs.Content.{map_in};
-ghost use Rattle.papaya_seq.specs.ComputeRuns.{IsComputedAtOnce, IsOperated, TakesAt};
+ghost use Rattle.papaya_seq.specs.ComputeRuns.{IsComputedFast, IsOperated, TakesAt};
 ghost use Rattle.papaya_seq.specs.Computes.{ComputesBy, Says, Takes};
 ghost use Rattle.papaya_seq.specs.Computing.{IsComputed, IsKept, Replies};
 ghost use Rattle.papaya_seq.specs.MadeAlone.{IsComputedAlone};
@@ -136,7 +136,7 @@ fn operate<K: Hash + Eq + Drop, V: Drop, S: BuildHasher, T: Drop>(
 /// Makes a compute at once, or gives key and closure back: where there is no root, where the root has
 /// no place for the key, and where the key's pair is being moved.
 #[inline(always)]
-fn compute_at_once<
+fn compute_fast<
     K: Hash + Eq + Drop,
     V: Drop,
     S: BuildHasher,
@@ -154,7 +154,7 @@ fn compute_at_once<
     requires bare { IsBare (λ at. word_at store.old.words at) }
     requires takes { (turn : _) → IsRootTurn (K.eq key) store.old hash turn
         → TakesAt (F.pre f) store.old turn }
-    ensures ok { IfOk result (λ done. IsComputedAtOnce K.eq
+    ensures ok { IfOk result (λ done. IsComputedFast K.eq
         (hash_of K.hash_input S.build_hasher S.Hasher.write S.Hasher.finish) key (Says (F.post f))
         hash store.old done store.new) }
     ensures err { IfErr result (λ back. (back ≡ (key, f)) × (store.new ≡ store.old)) }
@@ -195,18 +195,18 @@ impl<K: Hash + Eq + Drop, V: Drop, S: BuildHasher> HashMap<K, V, S> {
     {
         // A call that takes a number for its pair goes by the machine.
         if self.mode.limit.is_some() {
-            return self.compute_stepwise(key, f);
+            return self.compute_slow(key, f);
         }
         let hash = self.store.hash(&key);
-        match compute_at_once(&mut self.store, self.alloc, key, f, hash) {
+        match compute_fast(&mut self.store, self.alloc, key, f, hash) {
             Ok(done) => done,
-            Err((key, f)) => self.compute_stepwise(key, f),
+            Err((key, f)) => self.compute_slow(key, f),
         }
     }
 
     /// The same by the machine, step by step.
     #[inline(never)]
-    fn compute_stepwise<T: Drop, F: FnOnce(Option<(&K, &V)>) -> Operation<V, T>>(
+    fn compute_slow<T: Drop, F: FnOnce(Option<(&K, &V)>) -> Operation<V, T>>(
         &mut self,
         key: K,
         f: F,

@@ -11,7 +11,7 @@ ghost use Rattle.papaya_seq.specs.Map.{IsTryCause, IsWriteCauseAt, KeepsAndGrows
 use crate::chunk::copy_for_call;
 use crate::copies::copies_from;
 use crate::seq::HashMap;
-use crate::writing::insert_at_once;
+use crate::writing::insert_fast;
 use papaya_ask::ask::Ask as CallAsk;
 use papaya_ask::call::{Reply, Task};
 use papaya_call::answers::Listed;
@@ -54,24 +54,18 @@ impl<K: Hash + Eq + Drop, V: Drop, S: BuildHasher> HashMap<K, V, S> {
     {
         // A call that takes a number for its pair goes by the machine.
         if self.mode.limit.is_some() {
-            return self.insert_stepwise(key, value, replace, State::AtRoot);
+            return self.insert_slow(key, value, replace, State::AtRoot);
         }
         let hash = self.store.hash(&key);
-        match insert_at_once(&mut self.store, self.alloc, key, value, hash, replace) {
+        match insert_fast(&mut self.store, self.alloc, key, value, hash, replace) {
             Ok(done) => done,
-            Err((key, value, state)) => self.insert_stepwise(key, value, replace, state),
+            Err((key, value, state)) => self.insert_slow(key, value, replace, state),
         }
     }
 
     /// The same by the machine, step by step, from this state on.
     #[inline(never)]
-    fn insert_stepwise(
-        &mut self,
-        key: K,
-        value: V,
-        replace: bool,
-        state: State,
-    ) -> (Reply, Option<V>)
+    fn insert_slow(&mut self, key: K, value: V, replace: bool, state: State) -> (Reply, Option<V>)
         requires { IsLedTo (K.eq key) self.old.store
             (hash_of K.hash_input S.build_hasher S.Hasher.write S.Hasher.finish
             self.old.store.hasher key) replace state }

@@ -3,14 +3,14 @@ ghost use Rattle.std.specs.Prelude.{◌≡◌, ℕ, Bool, IsSome, MatchOption, S
 ghost use Rattle.papaya_words.specs.Word.{pair_of as number_of};
 ghost use Rattle.papaya_ask.specs.Search.{IsSize};
 ghost use Rattle.papaya_store.specs.Tables.{table_of, word_at};
-ghost use Rattle.papaya_seq.specs.Buries.{IsBuried, IsRemovedAtOnce};
+ghost use Rattle.papaya_seq.specs.Deletes.{IsDeleted, IsRemovedFast};
 ghost use Rattle.papaya_words.specs.declared.probe.Refused.{Refused};
 ghost use Rattle.papaya_store.specs.Store.{pair_of};
 ghost use Rattle.papaya_seq.specs.Map.{KeepsRemoving};
 ghost use Rattle.papaya_seq.specs.Resizes.{IsCopyCause};
 ghost use Rattle.papaya_seq.specs.Removes.{IsRemovalAnswer, IsRemovalAsk, IsRemovalBy, IsShown};
 ghost use Rattle.papaya_seq.specs.Removes.{Judges};
-ghost use Rattle.papaya_seq.specs.Writes.{burying, slot_of};
+ghost use Rattle.papaya_seq.specs.Writes.{deleting, slot_of};
 
 use crate::chunk::copy_for_call;
 use crate::copies::copies_from;
@@ -81,23 +81,23 @@ fn answer_removal<K: Hash + Eq, V, S: BuildHasher, Q: Equivalent<K>, F: FnMut(&K
     }
 }
 
-/// Buries a pair, and counts it out.
+/// Deletes a pair, and counts it out.
 #[inline(always)]
 pub(crate) fn take_out<K: Hash + Eq, V, S: BuildHasher>(
     store: &mut Store<K, V, S>,
     removal: Removal,
 )
     requires { word_at store.old.words (slot_of removal.place) ≡ removal.word }
-    ensures { store.new ≡ burying store.old removal }
+    ensures { store.new ≡ deleting store.old removal }
 {
     let at = At::Slot(removal.place.table, removal.place.probe.i);
-    let _ = store.exchange(at, removal.word, Word::buried(removal.pair()).0);
+    let _ = store.exchange(at, removal.word, Word::tombstone(removal.pair()).0);
     store.add_to_shard(0, -1);
 }
 
-/// Shows the pair to the closure of a removal, and buries it where the closure agrees.
+/// Shows the pair to the closure of a removal, and deletes it where the closure agrees.
 #[inline(always)]
-fn bury<K: Hash + Eq, V, S: BuildHasher, F: FnMut(&K, &V) -> bool>(
+fn delete<K: Hash + Eq, V, S: BuildHasher, F: FnMut(&K, &V) -> bool>(
     store: &mut Store<K, V, S>,
     removal: Removal,
     agrees: &mut F,
@@ -106,7 +106,8 @@ fn bury<K: Hash + Eq, V, S: BuildHasher, F: FnMut(&K, &V) -> bool>(
     requires stands { word_at store.old.words (slot_of removal.place) ≡ removal.word }
     requires logged { IsSome (pair_of store.old (number_of removal.word)) }
     ensures callable { F.IsAlwaysCallable agrees.new }
-    ensures buried { (matches : K → Bool) → IsBuried F.FnMut matches removal store.old agrees.old
+    ensures tombstone { (matches : K → Bool)
+        → IsDeleted F.FnMut matches removal store.old agrees.old
         result store.new agrees.new }
 {
     let pair = removal.pair();
@@ -122,7 +123,7 @@ fn bury<K: Hash + Eq, V, S: BuildHasher, F: FnMut(&K, &V) -> bool>(
 /// Removes a key's pair at once. Nothing is done where there is no root, where the root has all its
 /// places filled, and where the pair is being moved.
 #[inline(always)]
-fn remove_at_once<K: Hash + Eq, V, S: BuildHasher, Q: Equivalent<K>, F: FnMut(&K, &V) -> bool>(
+fn remove_fast<K: Hash + Eq, V, S: BuildHasher, Q: Equivalent<K>, F: FnMut(&K, &V) -> bool>(
     store: &mut Store<K, V, S>,
     key: &Q,
     hash: u64,
@@ -133,13 +134,13 @@ fn remove_at_once<K: Hash + Eq, V, S: BuildHasher, Q: Equivalent<K>, F: FnMut(&K
         → IsSize (length t.slots) t.limit }
     ensures callable { F.IsAlwaysCallable agrees.new }
     ensures removed { MatchOption result ((store.new ≡ store.old) × (agrees.new ≡ agrees.old))
-        (λ reply. IsRemovedAtOnce F.FnMut (Q.matches key.now) hash store.old agrees.old reply
+        (λ reply. IsRemovedFast F.FnMut (Q.matches key.now) hash store.old agrees.old reply
         store.new agrees.new) }
 {
     match search_root(store, key, hash) {
         Some(Turn::Empty(_)) => Some(Reply::Absent),
         Some(Turn::Here(place, word)) if Word(word).kind() == Kind::Live => {
-            Some(bury(store, Removal { place, word }, agrees))
+            Some(delete(store, Removal { place, word }, agrees))
         }
         _ => None,
     }
@@ -162,15 +163,15 @@ impl<K: Hash + Eq + Drop, V: Drop, S: BuildHasher> HashMap<K, V, S> {
         ensures keeps { KeepsRemoving self.old self.new }
     {
         let hash = self.store.hash(key);
-        match remove_at_once(&mut self.store, key, hash, &mut agrees) {
+        match remove_fast(&mut self.store, key, hash, &mut agrees) {
             Some(reply) => reply,
-            None => self.remove_stepwise(key, agrees),
+            None => self.remove_slow(key, agrees),
         }
     }
 
     /// The same by the machine, step by step.
     #[inline(never)]
-    fn remove_stepwise<Q: Equivalent<K>, F: FnMut(&K, &V) -> bool>(
+    fn remove_slow<Q: Equivalent<K>, F: FnMut(&K, &V) -> bool>(
         &mut self,
         key: &Q,
         mut agrees: F,

@@ -42,11 +42,11 @@ impl<K: Hash + Eq + Drop, V: Drop, S: BuildHasher> HashMap<K, V, S> {
     /// Makes room ahead for so many more pairs: `reserve` of 0.2.5. No pair of the map changes.
     ///
     /// Where the root has too few slots, the resize that is under way is ended, and then pairs are
-    /// moved to a further table, in either mode. Where it has enough nothing is done.
+    /// moved to a next table, in either mode. Where it has enough nothing is done.
     ///
     /// `Refused::Capacity` for more pairs than a table of [`papaya_words::limits::MAX_TABLE_LEN`]
     /// slots is made for; the map is as it was then. Else refused as
-    /// [`HashMap::insert`] is that needs a further table, and what was moved stays moved.
+    /// [`HashMap::insert`] is that needs a next table, and what was moved stays moved.
     pub fn reserve(&mut self, additional: usize) -> Result<(), Refused>
         ensures ok { OnOk result (HasRoomFor K.eq self.old.store additional self.new.store) }
         ensures err { IfErr result (λ e. IsReserveCause K.eq self.old additional e self.new) }
@@ -59,10 +59,10 @@ impl<K: Hash + Eq + Drop, V: Drop, S: BuildHasher> HashMap<K, V, S> {
         self.resize_by(Resize::Reserve(additional))
     }
 
-    /// Ends the resize that is under way: all pairs are moved to the further table. Where none are
+    /// Ends the resize that is under way: all pairs are moved to the next table. Where none are
     /// being moved it does nothing, and is not refused. No pair of the map changes.
     ///
-    /// Refused as [`HashMap::insert`] is that needs a further table, and what was moved stays moved.
+    /// Refused as [`HashMap::insert`] is that needs a next table, and what was moved stays moved.
     pub fn copy_all(&mut self) -> Result<(), Refused>
         ensures ok { OnOk result (next_of self.new.store ≡ 0) }
         ensures err { IfErr result (λ e. IsCopyCause self.old e self.new) }

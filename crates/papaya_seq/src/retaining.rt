@@ -12,7 +12,7 @@ use papaya_words::word::{Kind, Word};
 use std::hash::{BuildHasher, Hash};
 
 impl<K: Hash + Eq + Drop, V: Drop, S: BuildHasher> HashMap<K, V, S> {
-    /// Shows the pair in a slot of the root to the closure, and buries it if the closure does not
+    /// Shows the pair in a slot of the root to the closure, and deletes it if the closure does not
     /// agree.
     fn retain_at<F: FnMut(&K, &V) -> bool>(&mut self, table: u64, slot: usize, agrees: &mut F)
         requires callable { F.IsAlwaysCallable agrees.old }
@@ -20,7 +20,7 @@ impl<K: Hash + Eq + Drop, V: Drop, S: BuildHasher> HashMap<K, V, S> {
         requires last { next_of self.old.store ≡ 0 }
         requires within { slot < slots_of self.old.store }
         ensures callable { F.IsAlwaysCallable agrees.new }
-        ensures visited { (s : _) (f : _) → IsRetaining F.FnMut s f slot self.old agrees.old
+        ensures scanned { (s : _) (f : _) → IsRetaining F.FnMut s f slot self.old agrees.old
             → IsRetaining F.FnMut s f (slot + 1) self.new agrees.new }
     {
         // By this read the count is known to have 64 bits.
@@ -34,7 +34,7 @@ impl<K: Hash + Eq + Drop, V: Drop, S: BuildHasher> HashMap<K, V, S> {
             Answer::Yes(false) => {}
             _ => return,
         }
-        let grave = Word::buried(word.pair());
+        let grave = Word::tombstone(word.pair());
         let _ = self.store.exchange(at, word.0, grave.0);
         self.store.add_to_shard(0, -1);
     }

@@ -7,7 +7,7 @@ ghost use Rattle.papaya_seq.specs.declared.search.Turn.TheVariants.{Next};
 
 use crate::lookup::matches;
 use papaya_ask::ask::{Answer, At};
-use papaya_ask::search::{Place, Search, Seen};
+use papaya_ask::search::{Place, Probed, Search};
 use papaya_keys::guard::Equivalent;
 use papaya_store::store::Store;
 use papaya_words::word::Word;
@@ -28,16 +28,16 @@ pub(crate) enum Turn {
 
 /// What a search has seen that loads no word and compares no key next, as a turn.
 #[inline(always)]
-fn turn_of(seen: Seen) -> Turn
+fn turn_of(seen: Probed) -> Turn
     requires { IsTurned seen }
     ensures { seen_by result ≡ seen }
 {
     match seen {
-        Seen::On(Search::Looking(at)) => Turn::Next(at),
-        Seen::Empty(at) => Turn::Empty(at),
-        Seen::Here(at, word) => Turn::Here(at, word),
-        Seen::Over(table) => Turn::Over(table),
-        Seen::On(_) => unreachable!(),
+        Probed::On(Search::Looking(at)) => Turn::Next(at),
+        Probed::Empty(at) => Turn::Empty(at),
+        Probed::Here(at, word) => Turn::Here(at, word),
+        Probed::Over(table) => Turn::Over(table),
+        Probed::On(_) => unreachable!(),
     }
 }
 
@@ -55,7 +55,7 @@ fn read_at<K: Hash + Eq, V, S: BuildHasher, Q: Equivalent<K>>(
     let word = store.word(At::Slot(at.table, at.probe.i));
     let seen = at.look(word);
     match seen {
-        Seen::On(Search::Comparing(place, named)) => {
+        Probed::On(Search::Comparing(place, named)) => {
             let same = matches(store, Word(named).pair(), key);
             turn_of(Search::Comparing(place, named).at_yes(same))
         }
@@ -78,7 +78,7 @@ fn look_at<K: Hash + Eq, V, S: BuildHasher, Q: Equivalent<K>>(
     let hint = store.hint(at.table, at.probe.i);
     let seen = at.hinted(hash, hint);
     match seen {
-        Seen::On(Search::Reading(place)) => read_at(store, key, place),
+        Probed::On(Search::Reading(place)) => read_at(store, key, place),
         _ => turn_of(seen),
     }
 }

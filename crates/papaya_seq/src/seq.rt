@@ -235,7 +235,7 @@ impl<K: Hash + Eq, V, S: BuildHasher> HashMap<K, V, S> {
         self.store.root().map_or(0, |table| table.len())
     }
 
-    /// Are pairs being moved to a further table? While they are not, a removal takes no memory and
+    /// Are pairs being moved to a next table? While they are not, a removal takes no memory and
     /// is never refused.
     pub fn resizing(&self) -> bool
         ensures { MatchBool result (next_of self.now.store ≢ 0) (next_of self.now.store ≡ 0) }
@@ -348,8 +348,8 @@ impl<K: Hash + Eq + Drop, V: Drop, S: BuildHasher> HashMap<K, V, S> {
     /// A table whose places are filled is followed by a further one, and while pairs are being moved
     /// to it, each call that may change the map moves a chunk of them, or with `Blocking` all.
     ///
-    /// `Refused::Memory` where a growth was refused. `Refused::Capacity` where the log of pairs is
-    /// full, and where a further table is needed, and there are as many as there may be or it would
+    /// `Refused::Memory` where a growth was refused. `Refused::Capacity` where the arena of pairs
+    /// is full, and where a next table is needed, and there are as many as there may be or it would
     /// have more than [`papaya_words::limits::MAX_TABLE_LEN`] slots. `Refused::Limit` where the map
     /// has a limit, and as many numbers were taken for pairs. The map is as it was then, and what was
     /// handed in is dropped, at once or with the map.
@@ -473,8 +473,8 @@ impl<K: Hash + Eq + Drop, V: Drop, S: BuildHasher> HashMap<K, V, S> {
     }
 
     /// Removes a key's pair, and answers its value: `remove` of 0.2.5. While no pairs are being moved
-    /// to a further table ([`HashMap::resizing`]), it takes no memory and is not refused. Else it
-    /// may be, as [`HashMap::insert`] is for want of a further table.
+    /// to a next table ([`HashMap::resizing`]), it takes no memory and is not refused. Else it
+    /// may be, as [`HashMap::insert`] is for want of a next table.
     pub fn remove<Q: Equivalent<K>>(&mut self, key: &Q) -> Result<Option<&V>, Refused>
         ensures* removes { sem 𝓛 (ends_so K.row V.row S.row S.Hasher.row K.Hash S.BuildHasher
             S.Hasher.Hasher self.entry (IsRemoved K.eq (Q.matches key.now) (λ p. p.value) self.old

@@ -4,10 +4,10 @@ ghost use Rattle.std.specs.Prelude.{◌≡◌, ◌≢◌, ℕ, IfOk, IfErr, IsSo
 ghost use Rattle.papaya_words.specs.Word.{pair_of as number_of};
 ghost use Rattle.papaya_ask.specs.Search.{IsSize};
 ghost use Rattle.papaya_keys.specs.Hashes.{hash_of};
-ghost use Rattle.papaya_rests.specs.Alone.{IsBare};
+ghost use Rattle.papaya_call_law.specs.Alone.{IsBare};
 ghost use Rattle.papaya_store.specs.Store.{pair_of};
 ghost use Rattle.papaya_store.specs.Tables.{table_of, word_at};
-ghost use Rattle.papaya_seq.specs.Drives.{IsInsertedAtOnce, IsLedTo};
+ghost use Rattle.papaya_seq.specs.Drives.{IsInsertedFast, IsLedTo};
 ghost use Rattle.papaya_seq.specs.Writes.{IsWritten, slot_of};
 
 use crate::insertion::value_left;
@@ -72,7 +72,7 @@ pub(crate) fn write<K: Hash + Eq + Drop, V: Drop, S: BuildHasher>(
 /// Inserts a pair at once, or gives it back, with where its machine goes on: where there is no root,
 /// where the root has no place for its key, and where its key's pair is being moved.
 #[inline(always)]
-pub(crate) fn insert_at_once<K: Hash + Eq + Drop, V: Drop, S: BuildHasher>(
+pub(crate) fn insert_fast<K: Hash + Eq + Drop, V: Drop, S: BuildHasher>(
     store: &mut Store<K, V, S>,
     alloc: Global,
     key: K,
@@ -83,7 +83,7 @@ pub(crate) fn insert_at_once<K: Hash + Eq + Drop, V: Drop, S: BuildHasher>(
     requires sized { (n : ℕ) (t : _) → table_of store.old.words.tables n ≡ Some t
         → IsSize (length t.slots) t.limit }
     requires bare { IsBare (λ at. word_at store.old.words at) }
-    ensures ok { IfOk result (λ done. IsInsertedAtOnce K.eq
+    ensures ok { IfOk result (λ done. IsInsertedFast K.eq
         (hash_of K.hash_input S.build_hasher S.Hasher.write S.Hasher.finish) hash replace key value
         store.old done store.new) }
     ensures err { IfErr result (λ back. (back.0 ≡ key) × (back.1 ≡ value) × (store.new ≡ store.old)

@@ -113,7 +113,7 @@ fn empties(rt: &impl Abort, map: &mut Numbers) {
 }
 
 /// Nine slots of a map have had pairs, and nothing else: seven are left, and then none, so that the
-/// next pair asks for a further table, which is as long as the map was made for.
+/// next pair asks for a next table, which is as long as the map was made for.
 fn fills_again(rt: &impl Abort, map: &mut Numbers) {
     fills(rt, map, &[(7, 16, false)]);
     empties(rt, map);
@@ -229,7 +229,7 @@ fn stores_again(map: &mut Numbers, key: u64) -> Result<bool, Refused> {
     }
 }
 
-/// Nine keys, of which the last asks for a further table; then the end of the resize, and room: is
+/// Nine keys, of which the last asks for a next table; then the end of the resize, and room: is
 /// each key there after each call?
 fn refusals_keep(map: &mut Numbers) -> Result<bool, Refused> {
     for key in 0..9u64 {

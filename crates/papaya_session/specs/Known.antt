@@ -1,6 +1,6 @@
 -- What a session shows.
 use Rattle.std.specs.Prelude.{ℕ, List}
-use Rattle.papaya_book.specs.declared.rule.own.Given.{Given}
+use Rattle.papaya_book.specs.declared.rule.own.CapacityCause.{CapacityCause}
 use Rattle.papaya_book.specs.Logs.{Stored}
 use Rattle.papaya_lookup.specs.History.{Change}
 use Rattle.papaya_map.specs.Fixed.{Fixed}
@@ -14,5 +14,5 @@ pub record Known (K V S : Type 0) : Type 0 where
   pub history : List (Change K (Stored K V))
   pub made : List (Change K (Stored K V))
   pub tables : List ℕ
-  pub given : List Given
+  pub given : List CapacityCause
   pub taken : ℕ

@@ -14,7 +14,7 @@ ghost use Rattle.papaya_lookup.specs.Answers.{IsAnsweredBetween, IsPairAnsweredB
 ghost use Rattle.papaya_lookup.specs.History.{IsLegalHistory, Makes, key_of};
 ghost use Rattle.papaya_map.specs.Limited.{IsWriteRefusal};
 ghost use Rattle.papaya_map.specs.Storing.{IsThereBy, IsTried, IsTriedWith, IsUpdated, IsUpserted, stored};
-ghost use Rattle.papaya_sweep.specs.Leaving.{HasDropped, HasKept, IsCleared};
+ghost use Rattle.papaya_scan.specs.Leaving.{HasDropped, HasKept, IsCleared};
 
 use papaya_call::answers::Operation;
 use papaya_keys::compute::Compute;
@@ -22,7 +22,7 @@ use papaya_keys::guard::Equivalent;
 use papaya_keys::occupied::OccupiedError;
 use papaya_map::map::{HashMap, HashMapRef, Pass};
 use papaya_map::told::Told;
-use papaya_sweep::walk::Iter;
+use papaya_scan::walk::Iter;
 use papaya_words::probe::Refused;
 use std::hash::{BuildHasher, BuildHasherDefault, FoldHasher, Hash};
 use std::marker::Model;
@@ -292,7 +292,7 @@ impl<'a, K: Hash + Eq + Drop, V: Drop, S: BuildHasher> Session<'a, K, V, S> {
     /// a key that is stored stays: the one that was handed in is dropped then.
     ///
     /// `Refused::Memory` where a growth was refused. `Refused::Capacity` where a log is full, or a
-    /// further table would be too long. Refused, it changes nothing.
+    /// next table would be too long. Refused, it changes nothing.
     pub fn insert<R: Wait>(&mut self, rt: &R, key: K, value: V) -> Result<Option<&'a V>, Refused>
         ensures map { self.new.map ≡ self.old.map }
         ensures seen { IsPrefix self.old.history self.new.history }

@@ -49,7 +49,7 @@ fn walked<R: Wait>(rt: &R, session: &mut NumbersSession<'_>) -> Result<(u64, u64
 }
 
 /// Of the keys 2 and 3 a retain leaves 2, and a clear none.
-fn sweeps<R: Wait + Abort>(rt: &R, session: &mut NumbersSession<'_>) {
+fn scans<R: Wait + Abort>(rt: &R, session: &mut NumbersSession<'_>) {
     is(rt, session.reserve(rt, 100), Ok(()));
     is(rt, session.insert(rt, 2, 20), Ok(None));
     is(rt, session.insert(rt, 3, 30), Ok(None));
@@ -117,7 +117,7 @@ fn each_call_of_a_session(rt: HostRuntime) -> Result<(), Fail> {
     let mut session = Session::new(&map);
     stores(&rt, &mut session);
     removes(&rt, &mut session);
-    sweeps(&rt, &mut session);
+    scans(&rt, &mut session);
     meets(&rt, &map);
     Ok(())
 }

@@ -6,7 +6,7 @@ use Rattle.papaya_words.specs.declared.probe.Refused.{Refused}
 use Rattle.papaya_book.specs.Logs.{Stored}
 use Rattle.papaya_change.specs.Showings.{HasSaid, Judges}
 use Rattle.papaya_lookup.specs.History.{Change}
-use Rattle.papaya_sweep.specs.Leaving.{HasKept}
+use Rattle.papaya_scan.specs.Leaving.{HasKept}
 use Rattle.papaya_set.specs.Shared.{JudgesKey}
 
 -- the closure of a map, `w`, asks the closure of keys that it holds

@@ -11,7 +11,7 @@ ghost use Rattle.papaya_change.specs.Writing.{IsMemoryOrCapacity};
 ghost use Rattle.papaya_lookup.specs.History.{IsLegalHistory, history_of, key_of};
 ghost use Rattle.papaya_map.specs.Limited.{IsPlainRefusal};
 ghost use Rattle.papaya_map.specs.Plain.{IsDone, IsOfHistory, of_its_history, rule_of, unpinned};
-ghost use Rattle.papaya_sweep.specs.Leaving.{HasKept, IsCleared};
+ghost use Rattle.papaya_scan.specs.Leaving.{HasKept, IsCleared};
 ghost use Rattle.papaya_set.specs.Shared.{IsContained, IsInserted, IsKeyFound, IsRemovedKey};
 ghost use Rattle.papaya_set.specs.Shared.{IsContainedBetween, IsInsertedBetween};
 ghost use Rattle.papaya_set.specs.Shared.{IsKeyFoundBetween, IsRemovedKeyBetween, JudgesKey};

@@ -10,7 +10,7 @@ ghost use Rattle.papaya_change.specs.Writing.{IsMemoryOrCapacity};
 ghost use Rattle.papaya_lookup.specs.History.{IsLegalHistory, history_of, key_of};
 ghost use Rattle.papaya_map.specs.Limited.{IsPlainRefusal};
 ghost use Rattle.papaya_map.specs.Plain.{IsOfHistory, of_its_history, rule_of};
-ghost use Rattle.papaya_sweep.specs.Leaving.{HasKept, IsCleared};
+ghost use Rattle.papaya_scan.specs.Leaving.{HasKept, IsCleared};
 ghost use Rattle.papaya_set.specs.Shared.{IsContained, IsInserted, IsKeyFound, IsRemovedKey};
 ghost use Rattle.papaya_set.specs.Shared.{IsContainedBetween, IsInsertedBetween};
 ghost use Rattle.papaya_set.specs.Shared.{IsKeyFoundBetween, IsRemovedKeyBetween, JudgesKey};
@@ -250,7 +250,7 @@ impl<'a, K: Hash + Eq + Drop, S: BuildHasher> HashSetRef<'a, K, S> {
     /// key that is stored stays. Of threads that store equal keys at once just one is answered true.
     ///
     /// `Refused::Memory` where a growth was refused. `Refused::Capacity` where a log is full, or a
-    /// further table would be too long. `Refused::Limit` where the set has a limit on keys, and as
+    /// next table would be too long. `Refused::Limit` where the set has a limit on keys, and as
     /// many were logged, or were about to be. Refused, it changes nothing.
     pub fn insert<R: Wait>(&self, rt: &R, key: K) -> Result<bool, Refused>
         ensures* own { sem 𝓛 (of_its_history (EventOf K.row unit-field.row S.row).coded.code

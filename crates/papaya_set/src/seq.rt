@@ -206,7 +206,7 @@ impl<K: Hash + Eq + Drop, S: BuildHasher> HashSet<K, S> {
     }
 
     /// Removes a key, and answers whether it was there: `remove` of 0.2.5. Refused as
-    /// [`HashMap::remove`], so only while keys are being moved to a further table.
+    /// [`HashMap::remove`], so only while keys are being moved to a next table.
     pub fn remove<Q: Equivalent<K>>(&mut self, key: &Q) -> Result<bool, Refused>
         ensures taken { IsTaken K.eq (Q.matches key.now) self.old result self.new }
         ensures never { next_of self.old.store ≡ 0 → IsOk result }

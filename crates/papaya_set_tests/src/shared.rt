@@ -49,7 +49,7 @@ fn sum<R: Wait>(rt: &R, set: &Keys) -> Result<u64, Refused> {
 }
 
 /// Many keys come, some go, and then all.
-fn sweeps<R: Wait + Abort>(rt: &R, set: &Keys) {
+fn scans<R: Wait + Abort>(rt: &R, set: &Keys) {
     let pinned = set.pin_owned();
     is(rt, pinned.reserve(rt, 5), Ok(()));
     is(rt, set.extend_ref(rt, &[any(1), any(2), any(4)]), Ok(()));
@@ -66,7 +66,7 @@ fn a_pinned_set_answers(rt: HostRuntime) -> Result<(), Fail> {
     let set: Keys = HashSet::new(&rt, rt.alloc())?;
     stores(&rt, &set.pin());
     removes(&rt, &set.pin());
-    sweeps(&rt, &set);
+    scans(&rt, &set);
     Ok(())
 }
 

@@ -56,9 +56,9 @@ module _ {K V : Type 0} (log : List (Pair K V)) where
 
   -- it stays in a longer log
   module _ (more : List (Pair K V)) where
-    key_stays : (n : ℕ) (k : K) (o : Option (Pair K V)) → slice_get log n ≡ o → key_brought o ≡ Some k → key_brought (slice_get (log ++ more) n) ≡ Some k
-    key_stays n k None e h = let f : None ≡ Some k = h in cc
-    key_stays n k (Some p) e h = ap key_brought (get-append log more n p e) ∙ h
+    key_stable : (n : ℕ) (k : K) (o : Option (Pair K V)) → slice_get log n ≡ o → key_brought o ≡ Some k → key_brought (slice_get (log ++ more) n) ≡ Some k
+    key_stable n k None e h = let f : None ≡ Some k = h in cc
+    key_stable n k (Some p) e h = ap key_brought (get-append log more n p e) ∙ h
 
     value_stays : (n : ℕ) (v : V) (o : Option (Pair K V)) → slice_get log n ≡ o → value_brought o ≡ Some v → value_brought (slice_get (log ++ more) n) ≡ Some v
     value_stays n v None e h = let f : None ≡ Some v = h in cc
@@ -66,7 +66,7 @@ module _ {K V : Type 0} (log : List (Pair K V)) where
 
     pub key-more : (key : Part K) (k : K) → key_in log key ≡ Some k → key_in (log ++ more) key ≡ Some k
     key-more (Own j) k h = h
-    key-more (Logged n) k h = key_stays n k (slice_get log n) refl (ap key_brought refl ∙ h)
+    key-more (Logged n) k h = key_stable n k (slice_get log n) refl (ap key_brought refl ∙ h)
 
     pub value-more : (value : Part V) (v : V) → value_in log value ≡ Some v → value_in (log ++ more) value ≡ Some v
     value-more (Own w) v h = h

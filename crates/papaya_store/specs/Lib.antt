@@ -5,5 +5,5 @@ pub mod Store
 pub mod Tables
 pub mod Copies
 pub mod Asks
--- one ask of a call that visits a table
-pub mod Visits
+-- one ask of a call that scans a table
+pub mod Scans

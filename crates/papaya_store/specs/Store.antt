@@ -5,7 +5,7 @@ use Rattle.papaya_store.specs.declared.pairs.Pair.{Pair}
 use Rattle.papaya_store.specs.Pairs.{key_in, key_part, value_in, value_part}
 use Rattle.papaya_store.specs.Tables.{Tables}
 
--- the words, the log of pairs, the count, and the hasher
+-- the words, the arena of pairs, the count, and the hasher
 pub record StoreState (K V S : Type 0) : Type 0 where
   pub words : Tables
   pub pairs : List (Pair K V)

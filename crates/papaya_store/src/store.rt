@@ -1,5 +1,5 @@
-//! What the machines of all callers ask about: the words of the tables, the log of pairs, how many
-//! numbers were taken for them, and the count.
+//! What the machines of all callers ask about: the words of the tables, the arena of pairs, how
+//! many numbers were taken for them, and the count.
 ghost use Rattle.std.specs.Prelude.{◌≡◌, ℤ, ◌+◌, ◌-◌, ◌<◌, ◌^◌, ◌⊎◌, [], ◌∷◌, ◌++◌, ◌+ℤ◌, length};
 ghost use Rattle.std.specs.Prelude.{vec_len, vec_capacity, Some, None, FitsSigned, MatchOption};
 ghost use Rattle.std.specs.Prelude.{OnOk, IfOk, IfErr, IsSome, ◌*◌, ◌≤◌, slice_get};

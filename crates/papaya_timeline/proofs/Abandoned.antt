@@ -5,9 +5,9 @@ use Rattle.std.specs.Int.{w64, int_wrap}
 use Rattle.papaya_call.specs.Answers.{Says}
 use Rattle.papaya_ask.specs.declared.call.Call.{Call}
 use Rattle.papaya_chain.specs.Machine.{ask_of}
-use Rattle.papaya_chain_rests.specs.Goes.{owed_in}
+use Rattle.papaya_chain_law.specs.Goes.{owed_in}
 use Rattle.papaya_keys.specs.Hashes.{hash_of}
-use Rattle.papaya_rests.specs.Rests.{change_in}
+use Rattle.papaya_call_law.specs.Relies.{change_in}
 use Rattle.papaya_store.specs.declared.pairs.Running.{Running}
 use Rattle.papaya_store.specs.Store.{KeepsPairs}
 use Rattle.papaya_timeline.specs.declared.seat.Seat.{Seat}

@@ -1,4 +1,4 @@
--- A call as it begins: on one key, to resize the map, or to visit a table.
+-- A call as it begins: on one key, to resize the map, or to scan a table.
 use Rattle.std.proofs.Common.{rules, ◌≡◌, ℕ, List, Option, None, Some, true, false, refl, sym, ◌∙◌, ap}
 use Rattle.papaya_ask.specs.declared.call.Call.{Call}
 use Rattle.papaya_ask.specs.declared.call.Call.TheVariants.{Get, Insert, TryInsert, RemoveIf, Compute, Reserve, CopyAll, Clear, Retain, Walk}
@@ -11,18 +11,18 @@ use Rattle.papaya_chain.specs.Resizer as resizer
 use Rattle.papaya_store.specs.declared.pairs.Running.{Running}
 use Rattle.papaya_timeline.specs.declared.seat.Work.{Work}
 use Rattle.papaya_timeline.specs.declared.seat.Work.TheVariants as works
-use Rattle.papaya_timeline.specs.Begins.{answers_of_call, begun, begun_work, handed, task_of_call, value_of_call, visitor_begun}
-use Rattle.papaya_timeline.specs.Callers.{call_in, resizer_in, visitor_in}
+use Rattle.papaya_timeline.specs.Begins.{answers_of_call, begun, begun_work, handed, scanner_begun, task_of_call, value_of_call}
+use Rattle.papaya_timeline.specs.Callers.{call_in, resizer_in, scanner_in}
 use Rattle.papaya_timeline.specs.Kept.{HasAnswers}
 use Rattle.papaya_timeline.specs.Maps.{key_of}
-use Rattle.papaya_chain.specs.declared.visitor.Visit.{Visit}
-use Rattle.papaya_chain.specs.declared.visitor.Visit.TheVariants as visits
-use Rattle.papaya_store.specs.declared.visits.Visiting.{Visiting}
+use Rattle.papaya_chain.specs.declared.scanner.Scan.{Scan}
+use Rattle.papaya_chain.specs.declared.scanner.Scan.TheVariants as scans
+use Rattle.papaya_store.specs.declared.scans.Scanning.{Scanning}
 use Rattle.papaya_timeline.proofs.CallersLemmas.{same_item}
 use Rattle.papaya_store.specs.declared.mode.Mode.{Mode}
 use Rattle.papaya_words.specs.declared.probe.ResizeMode.{ResizeMode}
 use Rattle.papaya_call.specs.Machine as calls
-use Rattle.papaya_rests.specs.Says.{Said, StandsOn}
+use Rattle.papaya_call_law.specs.Says.{Said, StandsOn}
 use Rattle.papaya_store.specs.declared.pairs.Pair.{Pair}
 use Rattle.papaya_store.specs.declared.pairs.Part.{Part}
 use Rattle.papaya_store.specs.declared.pairs.Part.TheVariants.{Own}
@@ -69,12 +69,12 @@ module _ {K V A : Type 0} (hash : K → ℕ) (mode : Mode) (initial number : ℕ
     pub no_key : key_of call ≡ None
     pub is : z ≡ resizer.begun resize mode.resize initial number
 
-  -- a call that visits a table
-  pub record IsVisitBegun (call : Call K V A) (v : Visiting A) : Type 0 where
-    pub visit : Visit
+  -- a call that scans a table
+  pub record IsScanBegun (call : Call K V A) (v : Scanning A) : Type 0 where
+    pub scan : Scan
     pub no_key : key_of call ≡ None
-    pub has : HasAnswers visit (answers_of_call call)
-    pub is : v ≡ visitor_begun mode.resize initial number visit (answers_of_call call)
+    pub has : HasAnswers scan (answers_of_call call)
+    pub is : v ≡ scanner_begun mode.resize initial number scan (answers_of_call call)
 
   -- what was put into a seat is what it is
   same_call : (q r : Running K V A) (w : Work K V A) → w ≡ works.Call q → w ≡ works.Call r → r ≡ q
@@ -89,20 +89,20 @@ module _ {K V A : Type 0} (hash : K → ℕ) (mode : Mode) (initial number : ℕ
   no_resizer : (r : Running K V A) (z : Resizer) (w : Work K V A) → w ≡ works.Call r → w ≡ works.Resize z → ⊥
   no_resizer r z w is e = let f : Some r ≡ None = ap (λ (w : Work K V A). call_in (Some w)) (sym is ∙ e) in absurd cc
 
-  same_visitor : (u v : Visiting A) (w : Work K V A) → w ≡ works.Visit u → w ≡ works.Visit v → v ≡ u
-  same_visitor u v w is e = sym (same_item u v (ap (λ (w : Work K V A). visitor_in (Some w)) (sym is ∙ e)))
+  same_scanner : (u v : Scanning A) (w : Work K V A) → w ≡ works.Scan u → w ≡ works.Scan v → v ≡ u
+  same_scanner u v w is e = sym (same_item u v (ap (λ (w : Work K V A). scanner_in (Some w)) (sym is ∙ e)))
 
-  call_not_visit : (v : Visiting A) (r : Running K V A) (w : Work K V A) → w ≡ works.Visit v → w ≡ works.Call r → ⊥
-  call_not_visit v r w is e = let f : None ≡ Some r = ap (λ (w : Work K V A). call_in (Some w)) (sym is ∙ e) in absurd cc
+  call_not_scan : (v : Scanning A) (r : Running K V A) (w : Work K V A) → w ≡ works.Scan v → w ≡ works.Call r → ⊥
+  call_not_scan v r w is e = let f : None ≡ Some r = ap (λ (w : Work K V A). call_in (Some w)) (sym is ∙ e) in absurd cc
 
-  resizer_not_visit : (v : Visiting A) (z : Resizer) (w : Work K V A) → w ≡ works.Visit v → w ≡ works.Resize z → ⊥
-  resizer_not_visit v z w is e = let f : None ≡ Some z = ap (λ (w : Work K V A). resizer_in (Some w)) (sym is ∙ e) in absurd cc
+  resizer_not_scan : (v : Scanning A) (z : Resizer) (w : Work K V A) → w ≡ works.Scan v → w ≡ works.Resize z → ⊥
+  resizer_not_scan v z w is e = let f : None ≡ Some z = ap (λ (w : Work K V A). resizer_in (Some w)) (sym is ∙ e) in absurd cc
 
-  visit_not_call : (r : Running K V A) (v : Visiting A) (w : Work K V A) → w ≡ works.Call r → w ≡ works.Visit v → ⊥
-  visit_not_call r v w is e = let f : None ≡ Some v = ap (λ (w : Work K V A). visitor_in (Some w)) (sym is ∙ e) in absurd cc
+  scan_not_call : (r : Running K V A) (v : Scanning A) (w : Work K V A) → w ≡ works.Call r → w ≡ works.Scan v → ⊥
+  scan_not_call r v w is e = let f : None ≡ Some v = ap (λ (w : Work K V A). scanner_in (Some w)) (sym is ∙ e) in absurd cc
 
-  visit_not_resizer : (z : Resizer) (v : Visiting A) (w : Work K V A) → w ≡ works.Resize z → w ≡ works.Visit v → ⊥
-  visit_not_resizer z v w is e = let f : None ≡ Some v = ap (λ (w : Work K V A). visitor_in (Some w)) (sym is ∙ e) in absurd cc
+  scan_not_resizer : (z : Resizer) (v : Scanning A) (w : Work K V A) → w ≡ works.Resize z → w ≡ works.Scan v → ⊥
+  scan_not_resizer z v w is e = let f : None ≡ Some v = ap (λ (w : Work K V A). scanner_in (Some w)) (sym is ∙ e) in absurd cc
 
   pub call_begun : (call : Call K V A) (r : Running K V A) → begun_work hash mode initial number call ≡ works.Call r → IsBegun call r
   call_begun (Get k) r e = record { key = k; task = tasks.Get; key_is = refl; task_is = refl; is = same_call (begun hash mode initial number tasks.Get k None None) r _ refl e }
@@ -112,9 +112,9 @@ module _ {K V A : Type 0} (hash : K → ℕ) (mode : Mode) (initial number : ℕ
   call_begun (Compute k a) r e = record { key = k; task = tasks.Compute; key_is = refl; task_is = refl; is = same_call (begun hash mode initial number tasks.Compute k None (Some a)) r _ refl e }
   call_begun (Reserve more) r e = absurd (no_call (resizer.begun (resizes.Reserve more) mode.resize initial number) r _ refl e)
   call_begun CopyAll r e = absurd (no_call (resizer.begun resizes.CopyAll mode.resize initial number) r _ refl e)
-  call_begun Clear r e = absurd (call_not_visit (visitor_begun mode.resize initial number visits.Clear None) r _ refl e)
-  call_begun (Retain a) r e = absurd (call_not_visit (visitor_begun mode.resize initial number visits.Retain (Some a)) r _ refl e)
-  call_begun Walk r e = absurd (call_not_visit (visitor_begun mode.resize initial number visits.Walk None) r _ refl e)
+  call_begun Clear r e = absurd (call_not_scan (scanner_begun mode.resize initial number scans.Clear None) r _ refl e)
+  call_begun (Retain a) r e = absurd (call_not_scan (scanner_begun mode.resize initial number scans.Retain (Some a)) r _ refl e)
+  call_begun Walk r e = absurd (call_not_scan (scanner_begun mode.resize initial number scans.Walk None) r _ refl e)
 
   pub resizer_begun_is : (call : Call K V A) (z : Resizer) → begun_work hash mode initial number call ≡ works.Resize z → IsResizeBegun call z
   resizer_begun_is (Get k) z e = absurd (no_resizer (begun hash mode initial number tasks.Get k None None) z _ refl e)
@@ -124,21 +124,21 @@ module _ {K V A : Type 0} (hash : K → ℕ) (mode : Mode) (initial number : ℕ
   resizer_begun_is (Compute k a) z e = absurd (no_resizer (begun hash mode initial number tasks.Compute k None (Some a)) z _ refl e)
   resizer_begun_is (Reserve more) z e = record { resize = resizes.Reserve more; no_key = refl; is = same_resizer (resizer.begun (resizes.Reserve more) mode.resize initial number) z _ refl e }
   resizer_begun_is CopyAll z e = record { resize = resizes.CopyAll; no_key = refl; is = same_resizer (resizer.begun resizes.CopyAll mode.resize initial number) z _ refl e }
-  resizer_begun_is Clear z e = absurd (resizer_not_visit (visitor_begun mode.resize initial number visits.Clear None) z _ refl e)
-  resizer_begun_is (Retain a) z e = absurd (resizer_not_visit (visitor_begun mode.resize initial number visits.Retain (Some a)) z _ refl e)
-  resizer_begun_is Walk z e = absurd (resizer_not_visit (visitor_begun mode.resize initial number visits.Walk None) z _ refl e)
+  resizer_begun_is Clear z e = absurd (resizer_not_scan (scanner_begun mode.resize initial number scans.Clear None) z _ refl e)
+  resizer_begun_is (Retain a) z e = absurd (resizer_not_scan (scanner_begun mode.resize initial number scans.Retain (Some a)) z _ refl e)
+  resizer_begun_is Walk z e = absurd (resizer_not_scan (scanner_begun mode.resize initial number scans.Walk None) z _ refl e)
 
-  pub visitor_begun_is : (call : Call K V A) (v : Visiting A) → begun_work hash mode initial number call ≡ works.Visit v → IsVisitBegun call v
-  visitor_begun_is (Get k) v e = absurd (visit_not_call (begun hash mode initial number tasks.Get k None None) v _ refl e)
-  visitor_begun_is (Insert k w) v e = absurd (visit_not_call (begun hash mode initial number (tasks.Insert true) k (Some w) None) v _ refl e)
-  visitor_begun_is (TryInsert k w) v e = absurd (visit_not_call (begun hash mode initial number (tasks.Insert false) k (Some w) None) v _ refl e)
-  visitor_begun_is (RemoveIf k a) v e = absurd (visit_not_call (begun hash mode initial number tasks.RemoveIf k None (Some a)) v _ refl e)
-  visitor_begun_is (Compute k a) v e = absurd (visit_not_call (begun hash mode initial number tasks.Compute k None (Some a)) v _ refl e)
-  visitor_begun_is (Reserve more) v e = absurd (visit_not_resizer (resizer.begun (resizes.Reserve more) mode.resize initial number) v _ refl e)
-  visitor_begun_is CopyAll v e = absurd (visit_not_resizer (resizer.begun resizes.CopyAll mode.resize initial number) v _ refl e)
-  visitor_begun_is Clear v e = record { visit = visits.Clear; no_key = refl; has = tt; is = same_visitor (visitor_begun mode.resize initial number visits.Clear None) v _ refl e }
-  visitor_begun_is (Retain a) v e = record { visit = visits.Retain; no_key = refl; has = (a, refl); is = same_visitor (visitor_begun mode.resize initial number visits.Retain (Some a)) v _ refl e }
-  visitor_begun_is Walk v e = record { visit = visits.Walk; no_key = refl; has = tt; is = same_visitor (visitor_begun mode.resize initial number visits.Walk None) v _ refl e }
+  pub scanner_begun_is : (call : Call K V A) (v : Scanning A) → begun_work hash mode initial number call ≡ works.Scan v → IsScanBegun call v
+  scanner_begun_is (Get k) v e = absurd (scan_not_call (begun hash mode initial number tasks.Get k None None) v _ refl e)
+  scanner_begun_is (Insert k w) v e = absurd (scan_not_call (begun hash mode initial number (tasks.Insert true) k (Some w) None) v _ refl e)
+  scanner_begun_is (TryInsert k w) v e = absurd (scan_not_call (begun hash mode initial number (tasks.Insert false) k (Some w) None) v _ refl e)
+  scanner_begun_is (RemoveIf k a) v e = absurd (scan_not_call (begun hash mode initial number tasks.RemoveIf k None (Some a)) v _ refl e)
+  scanner_begun_is (Compute k a) v e = absurd (scan_not_call (begun hash mode initial number tasks.Compute k None (Some a)) v _ refl e)
+  scanner_begun_is (Reserve more) v e = absurd (scan_not_resizer (resizer.begun (resizes.Reserve more) mode.resize initial number) v _ refl e)
+  scanner_begun_is CopyAll v e = absurd (scan_not_resizer (resizer.begun resizes.CopyAll mode.resize initial number) v _ refl e)
+  scanner_begun_is Clear v e = record { scan = scans.Clear; no_key = refl; has = tt; is = same_scanner (scanner_begun mode.resize initial number scans.Clear None) v _ refl e }
+  scanner_begun_is (Retain a) v e = record { scan = scans.Retain; no_key = refl; has = (a, refl); is = same_scanner (scanner_begun mode.resize initial number scans.Retain (Some a)) v _ refl e }
+  scanner_begun_is Walk v e = record { scan = scans.Walk; no_key = refl; has = tt; is = same_scanner (scanner_begun mode.resize initial number scans.Walk None) v _ refl e }
 
 -- a call that begins stands on nothing that its closure said
 pub begun_stands : (task : Task) (hash : ℕ) (mode : ResizeMode) (initial : ℕ) (limit : Option ℕ) (said : Said) → StandsOn (calls.started task hash mode initial limit) said → ⊥

@@ -7,12 +7,12 @@ use Rattle.papaya_ask.specs.declared.ask.StepKind.TheVariants as kinds
 use Rattle.papaya_law.specs.Allows.{Allows}
 use Rattle.papaya_law.specs.Class.{IsOn}
 use Rattle.papaya_law.specs.Code.{Coding, code, kind}
-use Rattle.papaya_law.specs.Exchange.{Setting, Word, Empty, Closed, Live, Marked, Copied, Buried, State, Exchange, Promote, after, slot_put}
+use Rattle.papaya_law.specs.Exchange.{Setting, Word, Empty, Closed, Live, Marked, Copied, Tombstone, State, Exchange, Promote, after, slot_put}
 use Rattle.papaya_law.specs.Invariant.{IsSound}
 use Rattle.papaya_law.proofs.Chain.{walk_between}
 use Rattle.papaya_law.proofs.Codes.{code_kind}
-use Rattle.papaya_rests.specs.Copier.{IsCopyAsked}
-use Rattle.papaya_rests.specs.Told.{Hands, IsAsked, word_of}
+use Rattle.papaya_call_law.specs.Copier.{IsCopyAsked}
+use Rattle.papaya_call_law.specs.Told.{IsAsked, LoadedPairs, word_of}
 use Rattle.papaya_timeline.specs.Ends.{changes_of, changes_of_word, links_of}
 use Rattle.papaya_timeline.proofs.BudgetTables.{IsChunkOf, changes_at}
 use Rattle.papaya_timeline.proofs.CallersLemmas.{differs}
@@ -43,30 +43,30 @@ module _ {K P : Type 0} (g : Setting K P) (c : Coding K P) (s : State P) (tables
   slot_fewer t x new v w was is less = let before = slot_before t x v was in let later = slot_after t x new w is in omega (arith, before, later, less)
 
   -- what a call asks for; a table that it opens was made
-  pub call_fewer : (kind : Option StepKind) (at : At) (new : ℕ) (hands : Hands P) (k : K) (e : Exchange P) → IsAsked g c k kind at new s hands e → Allows g s e → new ≡ word_of g c (after s e) at → (at ≡ Root → new ≤ tables) → IsFewer kind (changes_at tables at new) (changes_at tables at (word_of g c s at))
-  call_fewer (Some kinds.Open) Root new hands k e is may written made =
+  pub call_fewer : (kind : Option StepKind) (at : At) (new : ℕ) (loaded : LoadedPairs P) (k : K) (e : Exchange P) → IsAsked g c k kind at new s loaded e → Allows g s e → new ≡ word_of g c (after s e) at → (at ≡ Root → new ≤ tables) → IsFewer kind (changes_at tables at new) (changes_at tables at (word_of g c s at))
+  call_fewer (Some kinds.Open) Root new loaded k e is may written made =
       let opens = subst (Allows g s) is may in
       let none = opens.0 in
       let some = opens.1 in
       let low = made refl in
       omega (arith, none, some, low)
-  call_fewer (Some kinds.Take) Made new hands k e is may written made = refl
-  call_fewer (Some kinds.Claim) (Slot t x) new hands k e (q, own, key, is) may written made =
+  call_fewer (Some kinds.Take) Made new loaded k e is may written made = refl
+  call_fewer (Some kinds.Claim) (Slot t x) new loaded k e (q, own, key, is) may written made =
       slot_fewer t x new Empty (Live q) (subst (Allows g s) is may).empty (subst (λ y. new ≡ word_of g c (after s y) (Slot t x)) is written) (omega arith)
-  call_fewer (Some kinds.Replace) (Slot t x) new hands k e (p, q, live, own, key, is) may written made =
+  call_fewer (Some kinds.Replace) (Slot t x) new loaded k e (p, q, live, own, key, is) may written made =
       slot_after t x new (Live q) (subst (λ y. new ≡ word_of g c (after s y) (Slot t x)) is written) ∙ sym (slot_before t x (Live p) live)
-  call_fewer (Some kinds.Bury) (Slot t x) new hands k e (p, live, is) may written made =
-      slot_fewer t x new (Live p) (Buried p) live (subst (λ y. new ≡ word_of g c (after s y) (Slot t x)) is written) (omega arith)
-  call_fewer _ _ new hands k e is may written made = absurd is
+  call_fewer (Some kinds.Delete) (Slot t x) new loaded k e (p, live, is) may written made =
+      slot_fewer t x new (Live p) (Tombstone p) live (subst (λ y. new ≡ word_of g c (after s y) (Slot t x)) is written) (omega arith)
+  call_fewer _ _ new loaded k e is may written made = absurd is
 
   -- a call asks for no word of a chunk
-  pub call_chunk : (kind : Option StepKind) (at : At) (new : ℕ) (hands : Hands P) (k : K) (e : Exchange P) → IsAsked g c k kind at new s hands e → IsChunkOf at
-  call_chunk (Some kinds.Open) Root new hands k e is = tt
-  call_chunk (Some kinds.Take) Made new hands k e is = tt
-  call_chunk (Some kinds.Claim) (Slot t x) new hands k e is = tt
-  call_chunk (Some kinds.Replace) (Slot t x) new hands k e is = tt
-  call_chunk (Some kinds.Bury) (Slot t x) new hands k e is = tt
-  call_chunk _ _ new hands k e is = absurd is
+  pub call_chunk : (kind : Option StepKind) (at : At) (new : ℕ) (loaded : LoadedPairs P) (k : K) (e : Exchange P) → IsAsked g c k kind at new s loaded e → IsChunkOf at
+  call_chunk (Some kinds.Open) Root new loaded k e is = tt
+  call_chunk (Some kinds.Take) Made new loaded k e is = tt
+  call_chunk (Some kinds.Claim) (Slot t x) new loaded k e is = tt
+  call_chunk (Some kinds.Replace) (Slot t x) new loaded k e is = tt
+  call_chunk (Some kinds.Delete) (Slot t x) new loaded k e is = tt
+  call_chunk _ _ new loaded k e is = absurd is
 
   module _ (sound : IsSound g s) (sizes : (t : ℕ) → g.size t ≤ 2 ^ 32) (cut : (x : ℕ) → g.chunk_of x ≤ x) (low : (t : ℕ) → IsOn s.first s.next t → t ≤ tables) where
     -- a table to which the root goes is a later one

@@ -24,8 +24,8 @@ use Rattle.papaya_law.specs.Invariant.{IsSound}
 use Rattle.papaya_law.specs.Meaning.{map_left}
 use Rattle.papaya_law.proofs.Logs.{on_comes}
 use Rattle.papaya_law.proofs.OneMap.{keeping, keeping_sound}
-use Rattle.papaya_rests.specs.Told.{IsAsked, IsWritten, word_of}
-use Rattle.papaya_rests.specs.Copier.{IsCopyAsked}
+use Rattle.papaya_call_law.specs.Told.{IsAsked, IsWritten, word_of}
+use Rattle.papaya_call_law.specs.Copier.{IsCopyAsked}
 use Rattle.papaya_chain.specs.declared.ask.Ask.{Ask}
 use Rattle.papaya_chain.specs.declared.ask.Ask.TheVariants as asks
 use Rattle.papaya_chain.specs.declared.ask.Answer.{Answer}
@@ -43,7 +43,7 @@ use Rattle.papaya_timeline.specs.declared.seat.Seat.{Seat}
 use Rattle.papaya_timeline.specs.Callers.{running}
 use Rattle.papaya_timeline.specs.Core.{IsCore}
 use Rattle.papaya_timeline.specs.Ends.{budget_in, budget_of, exchanges_in}
-use Rattle.papaya_timeline.specs.Kept.{IsCall, IsKept, IsMade, Tale, coding_of, low, places_in, setting_of, slots_in}
+use Rattle.papaya_timeline.specs.Kept.{CallTrace, IsCall, IsKept, IsMade, coding_of, low, places_in, setting_of, slots_in}
 use Rattle.papaya_timeline.proofs.BudgetLaw.{IsFewer, call_chunk, call_fewer, copy_chunk, copy_fewer}
 use Rattle.papaya_timeline.proofs.BudgetTables.{IsChunkOf, changes_at, exchanges_few, noted-budget, placed-changes}
 use Rattle.papaya_timeline.proofs.KeptExchange.{changes, root_empty}
@@ -82,7 +82,7 @@ made_spends : (w : Tables) (n slots limit chunks : ℕ) → length w.tables < MA
 made_spends w n slots limit chunks few = let more : length (w.tables ++ new_table n slots limit chunks ∷ []) ≡ length w.tables + 1 = length-append w.tables (new_table n slots limit chunks ∷ []) in omega (arith, more, few)
 
 module _ {K V S A : Type 0} (eq : K → K → Bool) (hash : K → ℕ) (law : IsLawfulKeys eq hash) (mode : Mode) (store : StoreState K V S) (callers : List (Seat K V A)) (core : IsCore store callers mode)
-    (es : List (Exchange (Stored K V))) (tales : ℕ → Tale K V) (kept : IsKept eq hash mode store callers es tales) where
+    (es : List (Exchange (Stored K V))) (call_traces : ℕ → CallTrace K V) (kept : IsKept eq hash mode store callers es call_traces) where
   -- the setting, the coding and the state
   abbrev g : Setting K (Stored K V)
   g = setting_of eq (low hash) mode store.words.tables
@@ -184,13 +184,13 @@ module _ {K V S A : Type 0} (eq : K → K → Bool) (hash : K → ℕ) (law : Is
 
   module _ (caller : ℕ) (r : Running K V A) (was : running callers caller ≡ Some r) where
     -- the call's own facts
-    abbrev call : IsCall eq hash mode store r es (tales caller)
+    abbrev call : IsCall eq hash mode store r es (call_traces caller)
     call = kept.calls caller r was
 
-    abbrev tale : Tale K V
-    tale = tales caller
+    abbrev call_trace : CallTrace K V
+    call_trace = call_traces caller
 
-    may : AllAllowed g start (tale.begun ++ tale.since)
+    may : AllAllowed g start (call_trace.begun ++ call_trace.since)
     may = subst (AllAllowed g start) (sym call.split) kept.allowed
 
     -- an exchange of the call was made
@@ -198,24 +198,24 @@ module _ {K V S A : Type 0} (eq : K → K → Bool) (hash : K → ℕ) (law : Is
     call_exchanges at old new e hit =
         let stood : word_at store.words at ≡ old = eqb-true (word_at store.words at) old hit in
         let stands : word_of g c now at ≡ old = kept.coded at ∙ stood in
-        let x = asked_call g c store r es tale (Some call.key) hashed call.key call.split may call.rests kept.coded kept.made call.opens call.links call.own (λ t. refl) (λ t. refl) at old new e stands in
-        let placed = placed_call g c store r es tale (Some call.key) hashed call.key call.split may call.rests kept.coded kept.made call.opens call.links call.own (λ t. refl) (λ t. refl) at old new e (changes now tale.hands.call new g c call.key (kind_of_ask r.machine) at x.0 x.1).place in
+        let x = asked_call g c store r es call_trace (Some call.key) hashed call.key call.split may call.relies kept.coded kept.made call.opens call.links call.own (λ t. refl) (λ t. refl) at old new e stands in
+        let placed = placed_call g c store r es call_trace (Some call.key) hashed call.key call.split may call.relies kept.coded kept.made call.opens call.links call.own (λ t. refl) (λ t. refl) at old new e (changes now call_trace.loaded.call new g c call.key (kind_of_ask r.machine) at x.0 x.1).place in
         let opened : at ≡ Root → new ≤ length store.words.tables = λ root.
-        let none : now.root ≡ 0 = root_empty g c call.key now tale.hands.call new (kind_of_ask r.machine) x.0 (subst (λ y. IsAsked g c call.key (kind_of_ask r.machine) y new now tale.hands.call x.0) root x.1) x.2 in
+        let none : now.root ≡ 0 = root_empty g c call.key now call_trace.loaded.call new (kind_of_ask r.machine) x.0 (subst (λ y. IsAsked g c call.key (kind_of_ask r.machine) y new now call_trace.loaded.call x.0) root x.1) x.2 in
         let zero : old ≡ 0 = sym stands ∙ ap (word_of g c now) root ∙ none in
         made_low new (call.opens new (e ∙ ap (λ y. asks.Call (Ask_exchange y old new)) root ∙ ap (λ y. asks.Call (Ask_exchange Root y new)) zero))
         in
-        write_spends_kind store.words at new placed (call_chunk g c now (length store.words.tables) (kind_of_ask r.machine) at new tale.hands.call call.key x.0 x.1) (kind_of_ask r.machine)
+        write_spends_kind store.words at new placed (call_chunk g c now (length store.words.tables) (kind_of_ask r.machine) at new call_trace.loaded.call call.key x.0 x.1) (kind_of_ask r.machine)
         (subst (λ y. IsFewer (kind_of_ask r.machine) (changes_at (length store.words.tables) at new) (changes_at (length store.words.tables) at y)) (kept.coded at)
-        (call_fewer g c now (length store.words.tables) (kind_of_ask r.machine) at new tale.hands.call call.key x.0 x.1 x.2 (sym x.3.here) opened))
+        (call_fewer g c now (length store.words.tables) (kind_of_ask r.machine) at new call_trace.loaded.call call.key x.0 x.1 x.2 (sym x.3.here) opened))
 
     -- and one of its copy
     copy_exchanges : (at : At) (old new : ℕ) → ask_of r.machine ≡ asks.Copy (copies.Exchange at old new) → (word_at store.words at == old) ≡ true → ((budget_in (put store.words at new)).tables ≡ (budget_of store).tables) × ((budget_in (put store.words at new)).exchanges < (budget_of store).exchanges)
     copy_exchanges at old new e hit =
         let stands : word_of g c now at ≡ old = kept.coded at ∙ eqb-true (word_at store.words at) old hit in
-        let x = asked_copy g c store r es tale (Some call.key) hashed call.key call.split may call.rests kept.coded kept.made call.opens call.links call.own (λ t. refl) (λ t. refl) at old new e stands in
-        let placed = placed_copy g c store r es tale (Some call.key) hashed call.key call.split may call.rests kept.coded kept.made call.opens call.links call.own (λ t. refl) (λ t. refl) at old new e in
-        copy_spent at new (kind_of_ask r.machine) tale.hands.kept x.0 x.1 x.2 x.3 placed
+        let x = asked_copy g c store r es call_trace (Some call.key) hashed call.key call.split may call.relies kept.coded kept.made call.opens call.links call.own (λ t. refl) (λ t. refl) at old new e stands in
+        let placed = placed_copy g c store r es call_trace (Some call.key) hashed call.key call.split may call.relies kept.coded kept.made call.opens call.links call.own (λ t. refl) (λ t. refl) at old new e in
+        copy_spent at new (kind_of_ask r.machine) call_trace.loaded.kept x.0 x.1 x.2 x.3 placed
 
     module _ (says : Says K V A) (refuse : Bool) (store' : StoreState K V S) (later : Running K V A) where
       -- an exchange, made or lost

@@ -5,10 +5,10 @@ use Rattle.std.proofs.lemmas.Option.{slice_get_within}
 use Rattle.papaya_chain.specs.declared.resizer.Resizer.{Resizer}
 use Rattle.papaya_store.specs.declared.pairs.Running.{Running}
 use Rattle.papaya_timeline.specs.declared.seat.Work.{Work}
-use Rattle.papaya_timeline.specs.declared.seat.Work.TheVariants.{Call, Resize, Visit}
+use Rattle.papaya_timeline.specs.declared.seat.Work.TheVariants.{Call, Resize, Scan}
 use Rattle.papaya_timeline.specs.declared.seat.Seat.{Seat}
-use Rattle.papaya_timeline.specs.Callers.{as_work, call_in, resizer_in, resizing, running, visiting, visitor_in, working, with_call, with_work, with_seat, IsSeated, IsSeatAt}
-use Rattle.papaya_store.specs.declared.visits.Visiting.{Visiting}
+use Rattle.papaya_timeline.specs.Callers.{as_work, call_in, resizer_in, resizing, running, scanning, scanner_in, working, with_call, with_work, with_seat, IsSeated, IsSeatAt}
+use Rattle.papaya_store.specs.declared.scans.Scanning.{Scanning}
 
 -- what a place of a list has, it has alone
 pub same_item : {A : Type 0} (x y : A) → Some x ≡ Some y → x ≡ y
@@ -168,19 +168,19 @@ module _ {K V A : Type 0} where
   call-under_way None r e = let f : None ≡ Some r = e in cc
   call-under_way (Some (Call q)) r e = ap (λ (y : Running K V A). Some (Call y)) (same_item q r e)
   call-under_way (Some (Resize z)) r e = let f : None ≡ Some r = e in cc
-  call-under_way (Some (Visit v)) r e = let f : None ≡ Some r = e in cc
+  call-under_way (Some (Scan v)) r e = let f : None ≡ Some r = e in cc
 
   pub resizer-under_way : (work : Option (Work K V A)) (z : Resizer) → resizer_in work ≡ Some z → work ≡ Some (Resize z)
   resizer-under_way None z e = let f : None ≡ Some z = e in cc
   resizer-under_way (Some (Call q)) z e = let f : None ≡ Some z = e in cc
   resizer-under_way (Some (Resize y)) z e = ap (λ (x : Resizer). Some (Resize x)) (same_item y z e)
-  resizer-under_way (Some (Visit v)) z e = let f : None ≡ Some z = e in cc
+  resizer-under_way (Some (Scan v)) z e = let f : None ≡ Some z = e in cc
 
-  pub visitor-under_way : (work : Option (Work K V A)) (v : Visiting A) → visitor_in work ≡ Some v → work ≡ Some (Visit v)
-  visitor-under_way None v e = let f : None ≡ Some v = e in cc
-  visitor-under_way (Some (Call q)) v e = let f : None ≡ Some v = e in cc
-  visitor-under_way (Some (Resize z)) v e = let f : None ≡ Some v = e in cc
-  visitor-under_way (Some (Visit u)) v e = ap (λ (x : Visiting A). Some (Visit x)) (same_item u v e)
+  pub scanner-under_way : (work : Option (Work K V A)) (v : Scanning A) → scanner_in work ≡ Some v → work ≡ Some (Scan v)
+  scanner-under_way None v e = let f : None ≡ Some v = e in cc
+  scanner-under_way (Some (Call q)) v e = let f : None ≡ Some v = e in cc
+  scanner-under_way (Some (Resize z)) v e = let f : None ≡ Some v = e in cc
+  scanner-under_way (Some (Scan u)) v e = ap (λ (x : Scanning A). Some (Scan x)) (same_item u v e)
 
   -- a seat that was added leaves each caller's call, and so does work that was put into another's seat
   pub running-with_seat : (seats : List (Seat K V A)) (caller other : ℕ) → running (with_seat seats caller) other ≡ running seats other
@@ -189,8 +189,8 @@ module _ {K V A : Type 0} where
   pub resizing-with_seat : (seats : List (Seat K V A)) (caller other : ℕ) → resizing (with_seat seats caller) other ≡ resizing seats other
   resizing-with_seat seats caller other = ap resizer_in (working-with_seat seats caller other)
 
-  pub visiting-with_seat : (seats : List (Seat K V A)) (caller other : ℕ) → visiting (with_seat seats caller) other ≡ visiting seats other
-  visiting-with_seat seats caller other = ap visitor_in (working-with_seat seats caller other)
+  pub scanning-with_seat : (seats : List (Seat K V A)) (caller other : ℕ) → scanning (with_seat seats caller) other ≡ scanning seats other
+  scanning-with_seat seats caller other = ap scanner_in (working-with_seat seats caller other)
 
   pub running-elsewhere : (seats : List (Seat K V A)) (caller other : ℕ) (work : Option (Work K V A)) → other ≢ caller → running (with_work seats caller work) other ≡ running seats other
   running-elsewhere seats caller other work differ = ap call_in (working-other seats caller other work differ)
@@ -198,8 +198,8 @@ module _ {K V A : Type 0} where
   pub resizing-elsewhere : (seats : List (Seat K V A)) (caller other : ℕ) (work : Option (Work K V A)) → other ≢ caller → resizing (with_work seats caller work) other ≡ resizing seats other
   resizing-elsewhere seats caller other work differ = ap resizer_in (working-other seats caller other work differ)
 
-  pub visiting-elsewhere : (seats : List (Seat K V A)) (caller other : ℕ) (work : Option (Work K V A)) → other ≢ caller → visiting (with_work seats caller work) other ≡ visiting seats other
-  visiting-elsewhere seats caller other work differ = ap visitor_in (working-other seats caller other work differ)
+  pub scanning-elsewhere : (seats : List (Seat K V A)) (caller other : ℕ) (work : Option (Work K V A)) → other ≢ caller → scanning (with_work seats caller work) other ≡ scanning seats other
+  scanning-elsewhere seats caller other work differ = ap scanner_in (working-other seats caller other work differ)
 
   pub running-other : (seats : List (Seat K V A)) (caller other : ℕ) (call : Option (Running K V A)) → other ≢ caller → running (with_call seats caller call) other ≡ running seats other
   running-other seats caller other call differ = running-elsewhere seats caller other (as_work call) differ
@@ -211,8 +211,8 @@ module _ {K V A : Type 0} where
   pub resizing-here : (seats : List (Seat K V A)) (caller : ℕ) (work : Option (Work K V A)) (z : Resizer) → resizing (with_work seats caller work) caller ≡ Some z → work ≡ Some (Resize z)
   resizing-here seats caller work z e = working-same seats caller work (Resize z) (resizer-under_way (working (with_work seats caller work) caller) z e)
 
-  pub visiting-here : (seats : List (Seat K V A)) (caller : ℕ) (work : Option (Work K V A)) (v : Visiting A) → visiting (with_work seats caller work) caller ≡ Some v → work ≡ Some (Visit v)
-  visiting-here seats caller work v e = working-same seats caller work (Visit v) (visitor-under_way (working (with_work seats caller work) caller) v e)
+  pub scanning-here : (seats : List (Seat K V A)) (caller : ℕ) (work : Option (Work K V A)) (v : Scanning A) → scanning (with_work seats caller work) caller ≡ Some v → work ≡ Some (Scan v)
+  scanning-here seats caller work v e = working-same seats caller work (Scan v) (scanner-under_way (working (with_work seats caller work) caller) v e)
 
   -- a caller whose work was taken out has none
   pub idle-here : (seats : List (Seat K V A)) (caller : ℕ) → working (with_work seats caller None) caller ≡ None
@@ -228,7 +228,7 @@ module _ {K V A : Type 0} where
       let differ : other ≢ caller = λ same. (let f : None ≡ Some w = sym (idle-here seats caller) ∙ ap (working (with_work seats caller None)) (sym same) ∙ e in absurd cc) in
       (differ, sym (working-other seats caller other None differ) ∙ e)
 
-  -- so it is with a call on one key, and then there is no resizer, and no visitor
+  -- so it is with a call on one key, and then there is no resizer, and no scanner
   pub call-put : (call : Option (Running K V A)) (r : Running K V A) → as_work call ≡ Some (Call r) → call ≡ Some r
   call-put None r e = let f : None ≡ Some (Call r) = e in cc
   call-put (Some q) r e = ap call_in e
@@ -237,9 +237,9 @@ module _ {K V A : Type 0} where
   no-resizer None z e = let f : None ≡ Some (Resize z) = e in absurd cc
   no-resizer (Some q) z e = let f : Some q ≡ None = ap call_in e in absurd cc
 
-  pub no-visitor : (call : Option (Running K V A)) (v : Visiting A) → as_work call ≡ Some (Visit v) → ⊥
-  no-visitor None v e = let f : None ≡ Some (Visit v) = e in absurd cc
-  no-visitor (Some q) v e = let f : Some q ≡ None = ap call_in e in absurd cc
+  pub no-scanner : (call : Option (Running K V A)) (v : Scanning A) → as_work call ≡ Some (Scan v) → ⊥
+  no-scanner None v e = let f : None ≡ Some (Scan v) = e in absurd cc
+  no-scanner (Some q) v e = let f : Some q ≡ None = ap call_in e in absurd cc
 
   pub running-same : (seats : List (Seat K V A)) (caller : ℕ) (call : Option (Running K V A)) (r : Running K V A) → running (with_call seats caller call) caller ≡ Some r → call ≡ Some r
   running-same seats caller call r e = call-put call r (running-here seats caller (as_work call) r e)

@@ -21,13 +21,13 @@ use Rattle.papaya_chain.specs.declared.ask.Answer.TheVariants as answers
 use Rattle.papaya_chain.specs.declared.machine.Machine.{Machine}
 use Rattle.papaya_chain.specs.declared.machine.Phase.TheVariants.{Calling}
 use Rattle.papaya_chain.specs.Machine.{IsStanding, after, ask_of, asks_in, kind_in, kind_of_ask}
-use Rattle.papaya_rests.specs.Rests.{change_in}
-use Rattle.papaya_rests.specs.Says.{IsSaidChange, show}
-use Rattle.papaya_rests.proofs.SaysChanges.{machine_aborted, machine_changed}
-use Rattle.papaya_chain_rests.specs.Goes.{Goes, IsOwnStep}
-use Rattle.papaya_chain_rests.specs.Rests.{left_by}
-use Rattle.papaya_chain_rests.proofs.Names.{call_asks}
-use Rattle.papaya_chain_rests.proofs.Replies.{anew, aside_asks}
+use Rattle.papaya_call_law.specs.Relies.{change_in}
+use Rattle.papaya_call_law.specs.Says.{IsSaidChange, show}
+use Rattle.papaya_call_law.proofs.SaysChanges.{machine_aborted, machine_changed}
+use Rattle.papaya_chain_law.specs.Goes.{Goes, IsOwnStep}
+use Rattle.papaya_chain_law.specs.Relies.{left_by}
+use Rattle.papaya_chain_law.proofs.Names.{call_asks}
+use Rattle.papaya_chain_law.proofs.Replies.{anew, aside_asks}
 use Rattle.papaya_timeline.specs.declared.trace.Event.TheVariants.{Changed, Other}
 use Rattle.papaya_timeline.specs.Advances.{call_event, event_of}
 use Rattle.papaya_timeline.proofs.MachineLemmas as call_laws

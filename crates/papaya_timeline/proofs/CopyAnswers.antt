@@ -20,11 +20,11 @@ use Rattle.papaya_law.specs.Grows.{Comes}
 use Rattle.papaya_law.specs.Invariant.{named}
 use Rattle.papaya_law.proofs.Logs.{on_comes}
 use Rattle.papaya_law.proofs.Moments.{run-append}
-use Rattle.papaya_rests.specs.Copier.{AreThere, IsCopyAsked, IsThere, last_after, told_last}
-use Rattle.papaya_rests.specs.Told.{IsWritten, or_last, word_of}
+use Rattle.papaya_call_law.specs.Copier.{AreThere, IsCopyAsked, IsThere, last_after, told_last}
+use Rattle.papaya_call_law.specs.Told.{IsWritten, or_last, word_of}
 use Rattle.papaya_chain.specs.declared.ask.Answer.{Answer}
 use Rattle.papaya_chain.specs.declared.ask.Answer.TheVariants as answers
-use Rattle.papaya_chain_rests.specs.Told.{Hands, IsCopyTold, told_of}
+use Rattle.papaya_chain_law.specs.Told.{IsCopyTold, LoadedPairs, told_of}
 use Rattle.papaya_store.specs.Copies.{IsHash, PerformsCopy, hash_in, same_keys}
 use Rattle.papaya_store.specs.Performs.{Exchanges, MakesTable, Refuses, size_of}
 use Rattle.papaya_store.specs.Store.{StoreState, Stored, pair_of, stored_in}
@@ -47,16 +47,16 @@ pub record Suits {Q K V S : Type 0} (eq : K → K → Bool) (hashes : S → K �
   pub hashes_of : (p : Stored K V) → c.hash (g.key p) ≡ hashes store.hasher p.key % 2 ^ 64
   pub sames : (p q : Stored K V) → g.same (g.key p) (g.key q) ≡ eq p.key q.key
 
-module _ {Q K V S : Type 0} (g : Setting Q (Stored K V)) (c : Coding Q (Stored K V)) (store : StoreState K V S) (es : List (Exchange (Stored K V))) (hands : Hands (Stored K V)) where
+module _ {Q K V S : Type 0} (g : Setting Q (Stored K V)) (c : Coding Q (Stored K V)) (store : StoreState K V S) (es : List (Exchange (Stored K V))) (loaded : LoadedPairs (Stored K V)) where
   -- the words as the law has them
   abbrev now : State (Stored K V)
   now = run es start
 
   -- What an answer leaves, of which this was told: no pair and no table is gone, the words are those that the exchanges leave, and no slot names a pair that none named.
-  pub record IsLeft (Tells : List (Exchange (Stored K V)) → Hands (Stored K V) → Type 0) (a : Answer) (store' : StoreState K V S) : Type 0 where
+  pub record IsLeft (Tells : List (Exchange (Stored K V)) → LoadedPairs (Stored K V) → Type 0) (a : Answer) (store' : StoreState K V S) : Type 0 where
     pub made : List (Exchange (Stored K V))
-    pub hands' : Hands (Stored K V)
-    pub told : Tells made hands'
+    pub loaded' : LoadedPairs (Stored K V)
+    pub told : Tells made loaded'
     pub hasher_is : store'.hasher ≡ store.hasher
     pub pairs_are : store'.pairs ≡ store.pairs
     pub sum_is : store'.count.sum ≡ store.count.sum
@@ -66,14 +66,14 @@ module _ {Q K V S : Type 0} (g : Setting Q (Stored K V)) (c : Coding Q (Stored K
     pub hints : KeepsHints g c now store.words store'.words
     pub there : (t : ℕ) → 0 < t → Comes (run (es ++ made) start) t → IsMade store t
     pub slots : (t x : ℕ) (p : Stored K V) → named ((run (es ++ made) start).slot t x) ≡ Some p → Stands now p
-    pub last : (p : Stored K V) → hands'.call.last ≡ Some p → (hands.call.last ≡ Some p) ⊎ Stands now p
-    pub carried : (p : Stored K V) → hands'.kept ≡ Some p → (hands.kept ≡ Some p) ⊎ (hands.call.last ≡ Some p)
-    pub same_made : hands'.call.made ≡ hands.call.made
+    pub last : (p : Stored K V) → loaded'.call.last ≡ Some p → (loaded.call.last ≡ Some p) ⊎ Stands now p
+    pub carried : (p : Stored K V) → loaded'.kept ≡ Some p → (loaded.kept ≡ Some p) ⊎ (loaded.call.last ≡ Some p)
+    pub same_made : loaded'.call.made ≡ loaded.call.made
     -- a table that was made is there
     pub opens : (t : ℕ) → a ≡ answers.Call (Made_number t) → IsMade store' t
 
   -- no pair is gone from the log
-  pub left_logged : {Tells : List (Exchange (Stored K V)) → Hands (Stored K V) → Type 0} {a : Answer} {store' : StoreState K V S} → IsLeft Tells a store' → (n : ℕ) (p : Stored K V) → pair_of store n ≡ Some p → pair_of store' n ≡ Some p
+  pub left_logged : {Tells : List (Exchange (Stored K V)) → LoadedPairs (Stored K V) → Type 0} {a : Answer} {store' : StoreState K V S} → IsLeft Tells a store' → (n : ℕ) (p : Stored K V) → pair_of store n ≡ Some p → pair_of store' n ≡ Some p
   left_logged {Tells} {a} {store'} left n p h = ap (λ l. stored_in l n (slice_get l n)) left.pairs_are ∙ h
 
   module _ (coded : (at : At) → word_of g c now at ≡ word_at store.words at) (there : (t : ℕ) → 0 < t → Comes now t → IsMade store t) where
@@ -82,13 +82,13 @@ module _ {Q K V S : Type 0} (g : Setting Q (Stored K V)) (c : Coding Q (Stored K
     none_made = ap (λ l. run l start) (append-nil es)
 
     -- an answer that leaves the store as it was
-    pub quiet_left : (Tells : List (Exchange (Stored K V)) → Hands (Stored K V) → Type 0) (a : Answer) (store' : StoreState K V S) (hands' : Hands (Stored K V)) → store' ≡ store → Tells [] hands'
-        → ((p : Stored K V) → hands'.call.last ≡ Some p → (hands.call.last ≡ Some p) ⊎ Stands now p)
-        → ((p : Stored K V) → hands'.kept ≡ Some p → (hands.kept ≡ Some p) ⊎ (hands.call.last ≡ Some p))
-        → hands'.call.made ≡ hands.call.made → ((t : ℕ) → a ≡ answers.Call (Made_number t) → ⊥) → IsLeft Tells a store'
-    quiet_left Tells a store' hands' same told last carried made never = subst (IsLeft Tells a) (sym same) (record {
+    pub quiet_left : (Tells : List (Exchange (Stored K V)) → LoadedPairs (Stored K V) → Type 0) (a : Answer) (store' : StoreState K V S) (loaded' : LoadedPairs (Stored K V)) → store' ≡ store → Tells [] loaded'
+        → ((p : Stored K V) → loaded'.call.last ≡ Some p → (loaded.call.last ≡ Some p) ⊎ Stands now p)
+        → ((p : Stored K V) → loaded'.kept ≡ Some p → (loaded.kept ≡ Some p) ⊎ (loaded.call.last ≡ Some p))
+        → loaded'.call.made ≡ loaded.call.made → ((t : ℕ) → a ≡ answers.Call (Made_number t) → ⊥) → IsLeft Tells a store'
+    quiet_left Tells a store' loaded' same told last carried made never = subst (IsLeft Tells a) (sym same) (record {
       made = [];
-      hands' = hands';
+      loaded' = loaded';
       told = told;
       hasher_is = refl;
       pairs_are = refl;
@@ -106,18 +106,18 @@ module _ {Q K V S : Type 0} (g : Setting Q (Stored K V)) (c : Coding Q (Stored K
     })
 
     -- an exchange that was made
-    pub exchanged_left : (Tells : List (Exchange (Stored K V)) → Hands (Stored K V) → Type 0) (at : At) (new : ℕ) (by : Exchange (Stored K V)) (hands' : Hands (Stored K V)) → Tells (by ∷ []) hands'
+    pub exchanged_left : (Tells : List (Exchange (Stored K V)) → LoadedPairs (Stored K V) → Type 0) (at : At) (new : ℕ) (by : Exchange (Stored K V)) (loaded' : LoadedPairs (Stored K V)) → Tells (by ∷ []) loaded'
         → IsPlaced store.words.tables at → IsWritten g c now at new (state_after now by)
         → ((t : ℕ) → 0 < t → Comes (state_after now by) t → IsMade store t)
         → ((t x : ℕ) (p : Stored K V) → named ((state_after now by).slot t x) ≡ Some p → Stands now p)
-        → ((p : Stored K V) → hands'.call.last ≡ Some p → (hands.call.last ≡ Some p) ⊎ Stands now p)
-        → hands'.kept ≡ hands.kept → hands'.call.made ≡ hands.call.made
+        → ((p : Stored K V) → loaded'.call.last ≡ Some p → (loaded.call.last ≡ Some p) ⊎ Stands now p)
+        → loaded'.kept ≡ loaded.kept → loaded'.call.made ≡ loaded.call.made
         → IsLeft Tells (answers.Call Exchanged) (record store { words = put store.words at new })
-    exchanged_left Tells at new by hands' told placed written comes slots last kept made =
+    exchanged_left Tells at new by loaded' told placed written comes slots last kept made =
         let to : run (es ++ by ∷ []) start ≡ state_after now by = run-append es (by ∷ []) start in
         record {
           made = by ∷ [];
-          hands' = hands';
+          loaded' = loaded';
           told = told;
           hasher_is = refl;
           pairs_are = refl;
@@ -141,10 +141,10 @@ module _ {Q K V S : Type 0} (g : Setting Q (Stored K V)) (c : Coding Q (Stored K
         ]
 
     -- a hint that was written
-    noted_left : (Tells : List (Exchange (Stored K V)) → Hands (Stored K V) → Type 0) (t x n : ℕ) (a : Answer) (store' : StoreState K V S) → store' ≡ record store { words = note store.words t x n } → Tells [] hands → IsHint g c now t x n → ((u : ℕ) → a ≡ answers.Call (Made_number u) → ⊥) → IsLeft Tells a store'
+    noted_left : (Tells : List (Exchange (Stored K V)) → LoadedPairs (Stored K V) → Type 0) (t x n : ℕ) (a : Answer) (store' : StoreState K V S) → store' ≡ record store { words = note store.words t x n } → Tells [] loaded → IsHint g c now t x n → ((u : ℕ) → a ≡ answers.Call (Made_number u) → ⊥) → IsLeft Tells a store'
     noted_left Tells t x n a store' same told may never = subst (IsLeft Tells a) (sym same) (record {
       made = [];
-      hands' = hands;
+      loaded' = loaded;
       told = told;
       hasher_is = refl;
       pairs_are = refl;
@@ -162,16 +162,16 @@ module _ {Q K V S : Type 0} (g : Setting Q (Stored K V)) (c : Coding Q (Stored K
     })
 
     -- a table that was made, or refused
-    pub table_left : (Tells : List (Exchange (Stored K V)) → Hands (Stored K V) → Type 0) (slots limit chunks : ℕ) (a : Call_answer) (store' : StoreState K V S) → Tells [] hands → (Refuses MAX_TABLES (length store.words.tables) a × (store' ≡ store)) ⊎ MakesTable a slots limit chunks store store' → IsLeft Tells (answers.Call a) store'
+    pub table_left : (Tells : List (Exchange (Stored K V)) → LoadedPairs (Stored K V) → Type 0) (slots limit chunks : ℕ) (a : Call_answer) (store' : StoreState K V S) → Tells [] loaded → (Refuses MAX_TABLES (length store.words.tables) a × (store' ≡ store)) ⊎ MakesTable a slots limit chunks store store' → IsLeft Tells (answers.Call a) store'
     table_left Tells slots limit chunks a store' told (inl (refuses, same)) =
         let no = refusal _ _ a refuses in
-        quiet_left Tells (answers.Call a) store' hands same told (λ p h. inl h) (λ p h. inl h) refl (λ t is. let f : answers.Call (Was_refused no.0) ≡ answers.Call (Made_number t) = sym (ap answers.Call no.1) ∙ is in absurd cc)
+        quiet_left Tells (answers.Call a) store' loaded same told (λ p h. inl h) (λ p h. inl h) refl (λ t is. let f : answers.Call (Was_refused no.0) ≡ answers.Call (Made_number t) = sym (ap answers.Call no.1) ∙ is in absurd cc)
     table_left Tells slots limit chunks a store' told (inr (is, few, grown)) =
         let n : ℕ = length store.words.tables + 1 in
         let wider : StoreState K V S = record store { words = record store.words { tables = store.words.tables ++ new_table n slots limit chunks ∷ [] } } in
         subst (IsLeft Tells (answers.Call a)) (sym grown) (record {
           made = [];
-          hands' = hands;
+          loaded' = loaded;
           told = told;
           hasher_is = refl;
           pairs_are = refl;
@@ -189,12 +189,12 @@ module _ {Q K V S : Type 0} (g : Setting Q (Stored K V)) (c : Coding Q (Stored K
         })
 
     -- the pair that the word at a place names
-    named_last : (t x : ℕ) (p : Stored K V) (o : Option (Stored K V)) → named (now.slot t x) ≡ o → or_last o hands.call.last ≡ Some p → (hands.call.last ≡ Some p) ⊎ Stands now p
+    named_last : (t x : ℕ) (p : Stored K V) (o : Option (Stored K V)) → named (now.slot t x) ≡ o → or_last o loaded.call.last ≡ Some p → (loaded.call.last ≡ Some p) ⊎ Stands now p
     named_last t x p None e h = inl h
     named_last t x p (Some q) e h = inr (t, x, e ∙ h)
 
     -- the pair that a copy was told of stood in the slot that was loaded, or it was told of before
-    told_stood : (at : At) (p : Stored K V) → told_last now at hands.call.last ≡ Some p → (hands.call.last ≡ Some p) ⊎ Stands now p
+    told_stood : (at : At) (p : Stored K V) → told_last now at loaded.call.last ≡ Some p → (loaded.call.last ≡ Some p) ⊎ Stands now p
     told_stood Root p h = inl h
     told_stood (Next t) p h = inl h
     told_stood (Aborted t) p h = inl h
@@ -204,24 +204,24 @@ module _ {Q K V S : Type 0} (g : Setting Q (Stored K V)) (c : Coding Q (Stored K
 
     -- Who asks for this names what is there, and may make the exchange; the table that it follows and the one that it links are there. A hint that it reads, and one that it writes, may be there.
     pub record IsAsker (kind : Option StepKind) (follows : ℕ) (ask : CopyAsk) : Type 0 where
-      pub names : AreThere g c now hands.call.last hands.kept ask
-      pub may : (at : At) (old new : ℕ) → ask ≡ Copy_exchange at old new → word_of g c now at ≡ old → (e : Exchange (Stored K V)) × IsCopyAsked c kind at new now hands.kept e × Allows g now e × IsWritten g c now at new (state_after now e)
+      pub names : AreThere g c now loaded.call.last loaded.kept ask
+      pub may : (at : At) (old new : ℕ) → ask ≡ Copy_exchange at old new → word_of g c now at ≡ old → (e : Exchange (Stored K V)) × IsCopyAsked c kind at new now loaded.kept e × Allows g now e × IsWritten g c now at new (state_after now e)
       pub low : (slots limit chunks : ℕ) → ask ≡ MakeTable slots limit chunks → follows ≤ length store.words.tables
       pub links : (behind old t : ℕ) → ask ≡ Copy_exchange (Next behind) old t → IsMade store t
       pub reads : (t x : ℕ) → ask ≡ LoadHint t x → IsHint g c now t x (hint_at store.words t x)
       pub writes : (t x n : ℕ) → ask ≡ WriteHint t x n → IsHint g c now t x n
 
-    module _ (eq : K → K → Bool) (hashes : S → K → ℕ) (last : (p : Stored K V) → hands.call.last ≡ Some p → pair_of store p.number ≡ Some p) (carried : (p : Stored K V) → hands.kept ≡ Some p → pair_of store p.number ≡ Some p) (suits : Suits eq hashes g c store) (kind : Option StepKind) (follows : ℕ) where
+    module _ (eq : K → K → Bool) (hashes : S → K → ℕ) (last : (p : Stored K V) → loaded.call.last ≡ Some p → pair_of store p.number ≡ Some p) (carried : (p : Stored K V) → loaded.kept ≡ Some p → pair_of store p.number ≡ Some p) (suits : Suits eq hashes g c store) (kind : Option StepKind) (follows : ℕ) where
       -- what the asker is told
-      abbrev pub Hears : CopyAsk → Answer → List (Exchange (Stored K V)) → Hands (Stored K V) → Type 0
-      Hears ask a made hands' = IsCopyTold g c now kind follows hands ask a made hands'
+      abbrev pub Hears : CopyAsk → Answer → List (Exchange (Stored K V)) → LoadedPairs (Stored K V) → Type 0
+      Hears ask a made loaded' = IsCopyTold g c now kind follows loaded ask a made loaded'
 
       -- a table of the chain was made
       on_there : (t : ℕ) → IsOn now.first now.next t → IsMade store t
       on_there t on = there t on.0 (on_comes now t on)
 
       -- a word that is named is there
-      pub placed : (at : At) → IsThere g c now hands.call.last hands.kept at → IsPlaced store.words.tables at
+      pub placed : (at : At) → IsThere g c now loaded.call.last loaded.kept at → IsPlaced store.words.tables at
       placed Root h = tt
       placed (Next t) on = on_there t on
       placed (Aborted t) on = on_there t on
@@ -235,29 +235,29 @@ module _ {Q K V S : Type 0} (g : Setting Q (Stored K V)) (c : Coding Q (Stored K
           matched (IsLeft (Hears (Copy_exchange at old new) (answers.Call a)) (answers.Call a) store') (word_at store.words at == old) _ _ h
           (λ hit done.
           let x = asker.may at old new refl (coded at ∙ eqb-true (word_at store.words at) old hit) in
-          let on : IsCopied_on now hands.call.last new at x.0 = copies now hands.call.last new g c hands.kept kind at x.0 x.1 x.2 in
-          let hands' : Hands (Stored K V) = told_of (last_after x.0 hands.call.last) hands in
-          let told : Hears (Copy_exchange at old new) (answers.Call Exchanged) (x.0 ∷ []) hands' =
+          let on : IsCopied_on now loaded.call.last new at x.0 = copies now loaded.call.last new g c loaded.kept kind at x.0 x.1 x.2 in
+          let loaded' : LoadedPairs (Stored K V) = told_of (last_after x.0 loaded.call.last) loaded in
+          let told : Hears (Copy_exchange at old new) (answers.Call Exchanged) (x.0 ∷ []) loaded' =
           subst (λ b. MatchBool b
-          ((answers.Call Exchanged ≡ answers.Call Exchanged) × ((y : Exchange (Stored K V)) × IsCopyAsked c kind at new now hands.kept y × (x.0 ∷ [] ≡ y ∷ []) × (hands' ≡ told_of (last_after y hands.call.last) hands)))
-          ((answers.Call Exchanged ≡ answers.Call (Found_instead (word_of g c now at))) × (x.0 ∷ [] ≡ []) × (hands' ≡ told_of (told_last now at hands.call.last) hands)))
+          ((answers.Call Exchanged ≡ answers.Call Exchanged) × ((y : Exchange (Stored K V)) × IsCopyAsked c kind at new now loaded.kept y × (x.0 ∷ [] ≡ y ∷ []) × (loaded' ≡ told_of (last_after y loaded.call.last) loaded)))
+          ((answers.Call Exchanged ≡ answers.Call (Found_instead (word_of g c now at))) × (x.0 ∷ [] ≡ []) × (loaded' ≡ told_of (told_last now at loaded.call.last) loaded)))
           (sym (ap (λ y. y == old) (coded at) ∙ hit)) (refl, (x.0, x.1, refl, refl)) in
           subst (λ y. IsLeft (Hears (Copy_exchange at old new) (answers.Call y)) (answers.Call y) store') (sym done.0)
           (subst (IsLeft (Hears (Copy_exchange at old new) (answers.Call Exchanged)) (answers.Call Exchanged)) (sym done.1)
-          (exchanged_left (Hears (Copy_exchange at old new) (answers.Call Exchanged)) at new x.0 hands' told (placed at asker.names) x.3
+          (exchanged_left (Hears (Copy_exchange at old new) (answers.Call Exchanged)) at new x.0 loaded' told (placed at asker.names) x.3
           (λ t some comes. elim (on.comes t comes) [
             | inl before ↦ there t some before
             | inr (u, next, same_table) ↦ asker.links u old t (ap (λ y. Copy_exchange y old new) next ∙ ap (λ y. Copy_exchange (Next u) old y) same_table)
           ])
           on.slots on.last_is refl refl)))
           (λ miss lost.
-          let hands' : Hands (Stored K V) = told_of (told_last now at hands.call.last) hands in
+          let loaded' : LoadedPairs (Stored K V) = told_of (told_last now at loaded.call.last) loaded in
           let nothing : List (Exchange (Stored K V)) = [] in
           let is : answers.Call a ≡ answers.Call (Found_instead (word_of g c now at)) = ap answers.Call (lost.0 ∙ ap Found_instead (sym (coded at))) in
-          quiet_left (Hears (Copy_exchange at old new) (answers.Call a)) (answers.Call a) store' hands' lost.1
+          quiet_left (Hears (Copy_exchange at old new) (answers.Call a)) (answers.Call a) store' loaded' lost.1
           (subst (λ b. MatchBool b
-          ((answers.Call a ≡ answers.Call Exchanged) × ((y : Exchange (Stored K V)) × IsCopyAsked c kind at new now hands.kept y × (nothing ≡ y ∷ []) × (hands' ≡ told_of (last_after y hands.call.last) hands)))
-          ((answers.Call a ≡ answers.Call (Found_instead (word_of g c now at))) × (nothing ≡ nothing) × (hands' ≡ hands')))
+          ((answers.Call a ≡ answers.Call Exchanged) × ((y : Exchange (Stored K V)) × IsCopyAsked c kind at new now loaded.kept y × (nothing ≡ y ∷ []) × (loaded' ≡ told_of (last_after y loaded.call.last) loaded)))
+          ((answers.Call a ≡ answers.Call (Found_instead (word_of g c now at))) × (nothing ≡ nothing) × (loaded' ≡ loaded')))
           (sym (ap (λ y. y == old) (coded at) ∙ miss)) (is, refl, refl))
           (told_stood at) (λ p h. inl h) refl (λ t made. let f = sym (ap answers.Call lost.0) ∙ made in absurd cc))
 
@@ -269,13 +269,13 @@ module _ {Q K V S : Type 0} (g : Setting Q (Stored K V)) (c : Coding Q (Stored K
       -- each ask
       pub copied_left : (refuse : Bool) (ask : CopyAsk) → IsAsker kind follows ask → (a : Answer) (store' : StoreState K V S) → PerformsCopy eq hashes refuse ask store a store' → IsLeft (Hears ask a) a store'
       copied_left refuse (Load at) asker a store' (is, same) =
-          quiet_left (Hears (Load at) a) a store' (told_of (told_last now at hands.call.last) hands) same
+          quiet_left (Hears (Load at) a) a store' (told_of (told_last now at loaded.call.last) loaded) same
           (is ∙ ap (λ y. answers.Call (Word_read y)) (sym (coded at)), refl, refl)
           (told_stood at) (λ p h. inl h) refl (λ t made. let f = sym is ∙ made in absurd cc)
       copied_left refuse (Copy_exchange at old new) asker a store' (told, is, h) =
           subst (λ y. IsLeft (Hears (Copy_exchange at old new) y) y store') (sym is) (exchanged at old new asker told store' h)
       copied_left refuse (LoadHint t x) asker a store' (is, same) =
-          quiet_left (Hears (LoadHint t x) a) a store' hands same
+          quiet_left (Hears (LoadHint t x) a) a store' loaded same
           ((hint_at store.words t x, asker.reads t x refl, is), (refl, refl))
           (λ p h. inl h) (λ p h. inl h) refl (λ u made. let f = sym is ∙ made in absurd cc)
       copied_left refuse (WriteHint t x n) asker a store' (is, same) =
@@ -283,11 +283,11 @@ module _ {Q K V S : Type 0} (g : Setting Q (Stored K V)) (c : Coding Q (Stored K
       copied_left refuse (SizeOf n) asker a store' (is, same) =
           let words = on_there n asker.names in
           let size : a ≡ answers.Call (Size (g.size n) words.0.limit) = is ∙ ap (λ o. answers.Call (size_of o)) words.1 ∙ ap (λ y. answers.Call (Size y words.0.limit)) (sym (suits.sizes n ∙ ap slots_in words.1)) in
-          quiet_left (Hears (SizeOf n) a) a store' hands same
+          quiet_left (Hears (SizeOf n) a) a store' loaded same
           ((words.0.limit, sym (suits.places n ∙ ap places_in words.1), size), (refl, refl))
           (λ p h. inl h) (λ p h. inl h) refl (λ t made. let f = sym size ∙ made in absurd cc)
       copied_left refuse (HashOf n) asker a store' (is, fits, same) =
-          quiet_left (Hears (HashOf n) a) a store' (record hands { kept = hands.call.last }) same (
+          quiet_left (Hears (HashOf n) a) a store' (record loaded { kept = loaded.call.last }) same (
             λ p l number.
                 let there_is : pair_of store n ≡ Some p = subst (λ m. pair_of store m ≡ Some p) (sym (suits.numbers p) ∙ number) (last p l) in
                 let told : a ≡ answers.Hash (hashes store.hasher p.key) = is ∙ ap (hash_in (hashes store.hasher)) there_is in
@@ -301,7 +301,7 @@ module _ {Q K V S : Type 0} (g : Setting Q (Stored K V)) (c : Coding Q (Stored K
           by_pair None t e = absurd cc
           by_pair (Some p) t e = absurd cc
       copied_left refuse (SamePair m n) asker a store' (is, same) =
-          quiet_left (Hears (SamePair m n) a) a store' hands same (
+          quiet_left (Hears (SamePair m n) a) a store' loaded same (
             (λ p q l number_p k number_q.
                 let first : pair_of store m ≡ Some p = subst (λ i. pair_of store i ≡ Some p) (sym (suits.numbers p) ∙ number_p) (carried p l) in
                 let second : pair_of store n ≡ Some q = subst (λ i. pair_of store i ≡ Some q) (sym (suits.numbers q) ∙ number_q) (last q k) in
@@ -310,10 +310,10 @@ module _ {Q K V S : Type 0} (g : Setting Q (Stored K V)) (c : Coding Q (Stored K
           )
           (λ p h. inl h) (λ p h. inl h) refl (λ t made. let f = sym is ∙ made in absurd cc)
       copied_left refuse Count asker a store' (is, same) =
-          quiet_left (Hears Count a) a store' hands same ((_, is), (refl, refl)) (λ p h. inl h) (λ p h. inl h) refl (λ t made. let f = sym is ∙ made in absurd cc)
+          quiet_left (Hears Count a) a store' loaded same ((_, is), (refl, refl)) (λ p h. inl h) (λ p h. inl h) refl (λ t made. let f = sym is ∙ made in absurd cc)
       copied_left refuse (MakeTable slots limit chunks) asker a store' (told, is, h) =
           subst (λ y. IsLeft (Hears (MakeTable slots limit chunks) y) y store') (sym is)
           (matched (IsLeft (Hears (MakeTable slots limit chunks) (answers.Call told)) (answers.Call told) store') refuse _ _ h
-          (λ _ none. quiet_left (Hears (MakeTable slots limit chunks) (answers.Call told)) (answers.Call told) store' hands none.1 (inl (Memory, ap answers.Call none.0), (refl, refl)) (λ p h. inl h) (λ p h. inl h) refl
+          (λ _ none. quiet_left (Hears (MakeTable slots limit chunks) (answers.Call told)) (answers.Call told) store' loaded none.1 (inl (Memory, ap answers.Call none.0), (refl, refl)) (λ p h. inl h) (λ p h. inl h) refl
           (λ t made. let f : answers.Call (Was_refused Memory) ≡ answers.Call (Made_number t) = sym (ap answers.Call none.0) ∙ made in absurd cc))
           (λ _ makes. table_left (Hears (MakeTable slots limit chunks) (answers.Call told)) slots limit chunks told store' (table_told slots limit chunks asker told store' makes, (refl, refl)) makes))

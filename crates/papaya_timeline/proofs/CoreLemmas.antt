@@ -26,20 +26,20 @@ use Rattle.papaya_ask.specs.declared.copy_ask.CopyAsk.{CopyAsk}
 use Rattle.papaya_store.specs.Copies.{PerformsCopy}
 use Rattle.papaya_timeline.specs.declared.seat.Work.{Work}
 use Rattle.papaya_timeline.specs.declared.seat.Work.TheVariants as works
-use Rattle.papaya_timeline.proofs.Begun.{call_begun, resizer_begun_is, visitor_begun_is}
+use Rattle.papaya_timeline.proofs.Begun.{call_begun, resizer_begun_is, scanner_begun_is}
 use Rattle.papaya_store.specs.declared.pairs.Running.{Running}
 use Rattle.papaya_timeline.specs.declared.seat.Seat.{Seat}
-use Rattle.papaya_timeline.specs.Callers.{resizing, running, visiting, with_seat, with_work}
+use Rattle.papaya_timeline.specs.Callers.{resizing, running, scanning, with_seat, with_work}
 use Rattle.papaya_store.specs.Tables.{Tables}
 use Rattle.papaya_store.specs.Store.{StoreState}
-use Rattle.papaya_chain_rests.proofs.Standing.{started_stands}
+use Rattle.papaya_chain_law.proofs.Standing.{started_stands}
 use Rattle.papaya_store.specs.Asks.{PerformsAsk}
 use Rattle.papaya_timeline.specs.Core.{IsCore, IsGoing}
 use Rattle.papaya_store.specs.New.{HasCapacity}
 use Rattle.papaya_keys.proofs.TableSizes.{table_size}
-use Rattle.papaya_timeline.proofs.CallersLemmas.{resizing-elsewhere, resizing-here, resizing-with_seat, running-elsewhere, running-here, running-with_seat, visiting-elsewhere, visiting-here, visiting-with_seat}
-use Rattle.papaya_chain.specs.Visitor as visitors
-use Rattle.papaya_store.specs.declared.visits.Visiting.{Visiting}
+use Rattle.papaya_timeline.proofs.CallersLemmas.{resizing-elsewhere, resizing-here, resizing-with_seat, running-elsewhere, running-here, running-with_seat, scanning-elsewhere, scanning-here, scanning-with_seat}
+use Rattle.papaya_chain.specs.Scanner as scanners
+use Rattle.papaya_store.specs.declared.scans.Scanning.{Scanning}
 use Rattle.papaya_timeline.proofs.StoreLemmas.{AllSized, numbered, unnumbered, performed_ask, performed_copy, append-sized}
 use Rattle.papaya_store.specs.declared.mode.Mode.{Mode}
 use Rattle.papaya_call.specs.Made.{IsLimit}
@@ -79,25 +79,25 @@ begun-core {K} {V} {A} hash mode initial number call chunked limits power = (
     unreplied resizes.CopyAll = refl
     unreplied (resizes.Reserve more) = refl
 
--- and so does one that visits a table
-pub begun-visitor : {K V A : Type 0} (hash : K → ℕ) (mode : Mode) (initial number : ℕ) (call : Call K V A) → IsChunked mode.resize → IsPowerOfTwo initial → (v : Visiting A) → begun_work hash mode initial number call ≡ works.Visit v → visitors.IsStandingVisitor v.visitor × (visitors.reply_of v.visitor ≡ None)
-begun-visitor {A = A} hash mode initial number call chunked power v e =
-    let is = visitor_begun_is hash mode initial number call v e in
-    subst (λ (y : Visiting A). visitors.IsStandingVisitor y.visitor × (visitors.reply_of y.visitor ≡ None)) (sym is.is)
+-- and so does one that scans a table
+pub begun-scanner : {K V A : Type 0} (hash : K → ℕ) (mode : Mode) (initial number : ℕ) (call : Call K V A) → IsChunked mode.resize → IsPowerOfTwo initial → (v : Scanning A) → begun_work hash mode initial number call ≡ works.Scan v → scanners.IsStandingScanner v.scanner × (scanners.reply_of v.scanner ≡ None)
+begun-scanner {A = A} hash mode initial number call chunked power v e =
+    let is = scanner_begun_is hash mode initial number call v e in
+    subst (λ (y : Scanning A). scanners.IsStandingScanner y.scanner × (scanners.reply_of y.scanner ≡ None)) (sym is.is)
     (record { chunked = chunked; initial = power; state = standing_in mode.resize }, unreplied mode.resize)
   where
-    standing_in : (mode : ResizeMode) → visitors.IsStandingIn (visitors.begun_in mode)
+    standing_in : (mode : ResizeMode) → scanners.IsStandingIn (scanners.begun_in mode)
     standing_in (Incremental chunk) = tt
     standing_in Blocking = tt
 
-    unreplied : (mode : ResizeMode) → visitors.reply_in (visitors.begun_in mode) ≡ None
+    unreplied : (mode : ResizeMode) → scanners.reply_in (scanners.begun_in mode) ≡ None
     unreplied (Incremental chunk) = refl
     unreplied Blocking = refl
 
 module _ {K V S A : Type 0} where
   -- work was put into a seat, or taken out of it
-  pub with_work-core : (store : StoreState K V S) (callers : List (Seat K V A)) (mode : Mode) (caller : ℕ) (work : Option (Work K V A)) → IsCore store callers mode → ((r : Running K V A) → work ≡ Some (works.Call r) → IsStanding r.machine × IsGoing r.machine) → ((z : Resizer) → work ≡ Some (works.Resize z) → IsStandingResizer z × (reply_of z ≡ None)) → ((v : Visiting A) → work ≡ Some (works.Visit v) → visitors.IsStandingVisitor v.visitor × (visitors.reply_of v.visitor ≡ None)) → IsCore store (with_work callers caller work) mode
-  with_work-core store callers mode caller work core stands resizes visits = record {
+  pub with_work-core : (store : StoreState K V S) (callers : List (Seat K V A)) (mode : Mode) (caller : ℕ) (work : Option (Work K V A)) → IsCore store callers mode → ((r : Running K V A) → work ≡ Some (works.Call r) → IsStanding r.machine × IsGoing r.machine) → ((z : Resizer) → work ≡ Some (works.Resize z) → IsStandingResizer z × (reply_of z ≡ None)) → ((v : Scanning A) → work ≡ Some (works.Scan v) → scanners.IsStandingScanner v.scanner × (scanners.reply_of v.scanner ≡ None)) → IsCore store (with_work callers caller work) mode
+  with_work-core store callers mode caller work core stands resizes scans = record {
     chunked = core.chunked;
     limit = core.limit;
     sizes = core.sizes;
@@ -113,9 +113,9 @@ module _ {K V S A : Type 0} where
       | inl same ↦ resizes z (resizing-here callers caller work z (subst (λ (d : ℕ). resizing (with_work callers caller work) d ≡ Some z) same e))
       | inr differ ↦ core.resizers other z (sym (resizing-elsewhere callers caller other work differ) ∙ e)
     ];
-    visitors = λ other v e. elim (cases_same other caller) [
-      | inl same ↦ visits v (visiting-here callers caller work v (subst (λ (d : ℕ). visiting (with_work callers caller work) d ≡ Some v) same e))
-      | inr differ ↦ core.visitors other v (sym (visiting-elsewhere callers caller other work differ) ∙ e)
+    scanners = λ other v e. elim (cases_same other caller) [
+      | inl same ↦ scans v (scanning-here callers caller work v (subst (λ (d : ℕ). scanning (with_work callers caller work) d ≡ Some v) same e))
+      | inr differ ↦ core.scanners other v (sym (scanning-elsewhere callers caller other work differ) ∙ e)
     ];
   }
 
@@ -132,7 +132,7 @@ module _ {K V S A : Type 0} where
     standing = λ other r e. core.standing other r (sym (running-with_seat callers caller other) ∙ e);
     going = λ other r e. core.going other r (sym (running-with_seat callers caller other) ∙ e);
     resizers = λ other z e. core.resizers other z (sym (resizing-with_seat callers caller other) ∙ e);
-    visitors = λ other v e. core.visitors other v (sym (visiting-with_seat callers caller other) ∙ e);
+    scanners = λ other v e. core.scanners other v (sym (scanning-with_seat callers caller other) ∙ e);
   }
 
   -- an ask of a caller was answered
@@ -144,7 +144,7 @@ module _ {K V S A : Type 0} where
     standing = core.standing;
     going = core.going;
     resizers = core.resizers;
-    visitors = core.visitors;
+    scanners = core.scanners;
   }
 
   -- so it is with one of a copy
@@ -156,7 +156,7 @@ module _ {K V S A : Type 0} where
     standing = core.standing;
     going = core.going;
     resizers = core.resizers;
-    visitors = core.visitors;
+    scanners = core.scanners;
   }
 
 no-tables : (words : Tables) → words ≡ record { root = 0; tables = []; made = 0 } → AllSized words.tables
@@ -176,5 +176,5 @@ new-core store callers mode capacity initial chunked limits power most words non
   standing = λ caller r e. let f : None ≡ Some r = sym (ap (λ (y : List (Seat _ _ _)). running y caller) none) ∙ e in cc;
   going = λ caller r e. let f : None ≡ Some r = sym (ap (λ (y : List (Seat _ _ _)). running y caller) none) ∙ e in absurd cc;
   resizers = λ caller z e. let f : None ≡ Some z = sym (ap (λ (y : List (Seat _ _ _)). resizing y caller) none) ∙ e in absurd cc;
-  visitors = λ caller v e. let f : None ≡ Some v = sym (ap (λ (y : List (Seat _ _ _)). visiting y caller) none) ∙ e in absurd cc;
+  scanners = λ caller v e. let f : None ≡ Some v = sym (ap (λ (y : List (Seat _ _ _)). scanning y caller) none) ∙ e in absurd cc;
 }

@@ -18,7 +18,7 @@ use Rattle.papaya_law.proofs.ChainContent.{chain_apart}
 use Rattle.papaya_law.proofs.OneMap.{keeping}
 use Rattle.papaya_timeline.specs.declared.seat.Seat.{Seat}
 use Rattle.papaya_timeline.specs.Content.{content, listed, pairs_from, pairs_of_kind, pairs_of_slots}
-use Rattle.papaya_timeline.specs.Kept.{IsKept, IsLogged, Tale, setting_of, coding_of, low}
+use Rattle.papaya_timeline.specs.Kept.{IsKept, IsLogged, CallTrace, setting_of, coding_of, low}
 use Rattle.papaya_store.specs.Store.{StoreState, Stored, pair_of}
 use Rattle.papaya_store.specs.Tables.{table_of}
 use Rattle.papaya_store.proofs.Logs.{pair_below, pair_number}
@@ -46,7 +46,7 @@ module _ {K V S : Type 0} (store : StoreState K V S) where
   kind_logged kinds.Marked n = listed_logged n (pair_of store n) refl
   kind_logged kinds.Empty n = tt
   kind_logged kinds.Copied n = tt
-  kind_logged kinds.Buried n = tt
+  kind_logged kinds.Tombstone n = tt
   kind_logged kinds.Closed n = tt
 
   -- the pairs of a table
@@ -135,7 +135,7 @@ module _ {K V S : Type 0} (eq : K → K → Bool) (hash : K → ℕ) (mode : Mod
   abbrev c : Coding K (Stored K V)
   c = coding_of (low hash)
 
-  module _ {A : Type 0} (callers : List (Seat K V A)) (es : List (Exchange (Stored K V))) (tales : ℕ → Tale K V) (kept : IsKept eq hash mode store callers es tales) where
+  module _ {A : Type 0} (callers : List (Seat K V A)) (es : List (Exchange (Stored K V))) (call_traces : ℕ → CallTrace K V) (kept : IsKept eq hash mode store callers es call_traces) where
     -- the words of the law
     abbrev now : State (Stored K V)
     now = run es start
@@ -144,7 +144,7 @@ module _ {K V S : Type 0} (eq : K → K → Bool) (hash : K → ℕ) (mode : Mod
     pub content_apart : AreApart eq (λ p. p.key) (content eq store)
     content_apart =
         subst (AreApart eq (λ p. p.key))
-        (sym (kept_content eq hash mode store hashed callers es tales kept))
+        (sym (kept_content eq hash mode store hashed callers es call_traces kept))
         (chain_apart g hashed.lawful now (map_left g es) (keeping g hashed.lawful es kept.allowed) (length store.words.tables) now.root)
 
     -- the content is never longer than a log may be

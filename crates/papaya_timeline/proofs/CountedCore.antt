@@ -26,17 +26,17 @@ module _ {K V S A H : Type 0} (eq : K → K → Bool) (input : K → List (List 
   pub stepped_sound : (says : Says K V A) (refuse : Bool) (s : CoreState K V S A) (caller : ℕ) (store' : StoreState K V S) (callers' : List (Seat K V A)) (before : Running K V A) (a : Answer) (later : Running K V A) → running s.callers caller ≡ Some before → PerformsAsk eq says (hash_of input build write finish) refuse (ask_of before.machine) s.store before a store' later → later.machine ≡ before.machine
       → callers' ≡ with_call s.callers caller (goes_on (reply_in (ask_of (after before.machine a))) (record later { machine = after before.machine a })) → IsCore store' callers' s.mode → Lawful eq input build write finish classes respects s → IsCounted eq s.store s.callers → IsLawfulCore eq (hash_of input build write finish store'.hasher) store' callers' s.mode × IsCounted eq store' callers'
   stepped_sound says refuse s caller store' callers' before a later was performs machine callers core lawful counted =
-      let (es, (tales, kept)) = lawful.law in (
+      let (es, (call_traces, kept)) = lawful.law in (
         stepped_lawful eq input build write finish classes respects says refuse s caller store' callers' before a later was performs machine callers core lawful,
         counted_step eq (hash_of input build write finish s.store.hasher) (keys_lawful eq input build write finish classes respects s.store.hasher) {says = says} {hashes = hash_of input build write finish} refuse s caller (record { store = store'; callers = callers'; mode = s.mode; initial = s.initial })
             (event_of (kind_of_ask before.machine) (ask_of before.machine) a) (reply_in (ask_of (after before.machine a)))
             (record { before = before; was = was; answer = a; later = later; performs = performs; machine = machine; event_is = refl; reply_is = refl; callers = callers; mode = refl; initial = refl; cause = λ refused e. lawful_caused eq input build write finish classes respects says refuse s lawful caller before was a store' later performs refused e }) refl
-            es tales lawful.core core kept counted,
+            es call_traces lawful.core core kept counted,
       )
 
   -- in the content of a core no key stands twice
   pub lawful_apart : (s : CoreState K V S A) → Lawful eq input build write finish classes respects s → AreApart eq (λ p. p.key) (content eq s.store)
   lawful_apart s lawful =
       let law = keys_lawful eq input build write finish classes respects s.store.hasher in
-      let (es, (tales, kept)) = lawful.law in
-      content_apart eq (hash_of input build write finish s.store.hasher) s.mode s.store (hashed_setting eq (hash_of input build write finish s.store.hasher) law s lawful.core) s.callers es tales kept
+      let (es, (call_traces, kept)) = lawful.law in
+      content_apart eq (hash_of input build write finish s.store.hasher) s.mode s.store (hashed_setting eq (hash_of input build write finish s.store.hasher) law s lawful.core) s.callers es call_traces kept

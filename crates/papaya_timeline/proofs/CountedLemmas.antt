@@ -11,16 +11,16 @@ use Rattle.papaya_ask.specs.declared.call.Call.{Call}
 use Rattle.papaya_ask.specs.declared.call.Call.TheVariants.{Get, Insert, TryInsert, RemoveIf, Compute, Reserve, CopyAll, Clear, Retain, Walk}
 use Rattle.papaya_words.specs.declared.probe.ResizeMode.{ResizeMode}
 use Rattle.papaya_words.specs.declared.probe.ResizeMode.TheVariants.{Incremental, Blocking}
-use Rattle.papaya_chain.specs.Visitor.{begun_in}
+use Rattle.papaya_chain.specs.Scanner.{begun_in}
 use Rattle.papaya_ask.specs.declared.call.Reply.{Reply}
 use Rattle.papaya_law.specs.Allows.{AllAllowed}
 use Rattle.papaya_law.specs.Content.{AreApart, lookup}
 use Rattle.papaya_law.specs.Exchange.{Setting, Exchange, run, start}
 use Rattle.papaya_law.specs.Meaning.{map_left, map_of as law_map}
 use Rattle.papaya_chain.specs.Machine.{ask_of, follows_of, kind_of_ask, after}
-use Rattle.papaya_chain_rests.specs.Goes.{grown_by, owed_in as owed_by}
-use Rattle.papaya_chain_rests.proofs.Order.{in_order}
-use Rattle.papaya_chain_rests.proofs.Replies.{chain_owes}
+use Rattle.papaya_chain_law.specs.Goes.{grown_by, owed_in as owed_by}
+use Rattle.papaya_chain_law.proofs.Order.{in_order}
+use Rattle.papaya_chain_law.proofs.Replies.{chain_owes}
 use Rattle.papaya_law.specs.ChainContent.{joined}
 use Rattle.papaya_law.proofs.FiniteMaps.{length_after, one_length}
 use Rattle.papaya_law.proofs.Moments.{allowed_first, allowed_rest, map_of-append}
@@ -32,8 +32,8 @@ use Rattle.papaya_timeline.specs.Advances.{Advances, goes_on}
 use Rattle.papaya_timeline.specs.Begins.{Begins, begun_work}
 use Rattle.papaya_timeline.specs.Content.{content, pairs_from, pairs_of_kind, pairs_of_slots}
 use Rattle.papaya_timeline.specs.Core.{CoreState, IsCore, work_of}
-use Rattle.papaya_timeline.specs.Counted.{IsCounted, owed_in, owed_of, owed_visit, owed_work}
-use Rattle.papaya_timeline.specs.Kept.{IsKept, Tale, setting_of, coding_of, low, told_tales}
+use Rattle.papaya_timeline.specs.Counted.{IsCounted, owed_in, owed_of, owed_scan, owed_work}
+use Rattle.papaya_timeline.specs.Kept.{IsKept, CallTrace, setting_of, coding_of, low, told_call_traces}
 use Rattle.papaya_store.specs.Store.{StoreState, Stored}
 use Rattle.papaya_store.specs.Tables.{table_of}
 use Rattle.papaya_timeline.proofs.CountedContent.{content_apart, content_few}
@@ -53,7 +53,7 @@ module _ {K V S : Type 0} (store : StoreState K V S) (none : store.pairs ≡ [])
   no_kind kinds.Marked n = ap (λ l. pairs_of_kind (record store { pairs = l }) kinds.Marked n) none
   no_kind kinds.Empty n = refl
   no_kind kinds.Copied n = refl
-  no_kind kinds.Buried n = refl
+  no_kind kinds.Tombstone n = refl
   no_kind kinds.Closed n = refl
 
   no_slots : (words : List ℕ) → pairs_of_slots store words ≡ []
@@ -81,10 +81,10 @@ module _ {K V S : Type 0} (store : StoreState K V S) (none : store.pairs ≡ [])
         ∙ length_fits 0 (omega arith)
         ∙ sym (ap (λ (l : List (Stored K V)). pos (length l)) new_content)
 
--- a call that visits a table owes nothing as it begins
-visit_owes : (mode : ResizeMode) → owed_visit (begun_in mode) ≡ pos 0
-visit_owes (Incremental chunk) = refl
-visit_owes Blocking = refl
+-- a call that scans a table owes nothing as it begins
+scan_owes : (mode : ResizeMode) → owed_scan (begun_in mode) ≡ pos 0
+scan_owes (Incremental chunk) = refl
+scan_owes Blocking = refl
 
 -- nor does any other
 begun_owes : {K V A : Type 0} (hash : K → ℕ) (mode : Mode) (initial number : ℕ) (call : Call K V A) → owed_work (Some (begun_work hash mode initial number call)) ≡ pos 0
@@ -95,9 +95,9 @@ begun_owes hash mode initial number (RemoveIf k a) = refl
 begun_owes hash mode initial number (Compute k a) = refl
 begun_owes hash mode initial number (Reserve more) = refl
 begun_owes hash mode initial number CopyAll = refl
-begun_owes hash mode initial number Clear = visit_owes mode.resize
-begun_owes hash mode initial number (Retain a) = visit_owes mode.resize
-begun_owes hash mode initial number Walk = visit_owes mode.resize
+begun_owes hash mode initial number Clear = scan_owes mode.resize
+begun_owes hash mode initial number (Retain a) = scan_owes mode.resize
+begun_owes hash mode initial number Walk = scan_owes mode.resize
 
 -- a begin leaves the sum and the pairs, and its call owes nothing
 pub counted_begin : {K V S A : Type 0} (eq : K → K → Bool) (hash : K → ℕ) (s : CoreState K V S A) (caller : ℕ) (call : Call K V A) (s' : CoreState K V S A) → Begins hash s caller call s' → work_of s caller ≡ None → IsCounted eq s.store s.callers → IsCounted eq s'.store s'.callers
@@ -108,14 +108,14 @@ counted_begin {K} {V} {S} {A} eq hash s caller call s' begins free counted =
     ∙ counted)
 
 module _ {K V S A : Type 0} (eq : K → K → Bool) (hash : K → ℕ) (law : IsLawfulKeys eq hash) {says : Says K V A} {hashes : S → K → ℕ} (refuse : Bool) (s : CoreState K V S A) (caller : ℕ) (s' : CoreState K V S A) (event : Event) (reply : Option Reply)
-    (a : Advances eq says hashes refuse s caller s' event reply) (hasher : hashes s.store.hasher ≡ hash) (es : List (Exchange (Stored K V))) (tales : ℕ → Tale K V)
-    (core : IsCore s.store s.callers s.mode) (core' : IsCore s'.store s'.callers s'.mode) (kept : IsKept eq hash s.mode s.store s.callers es tales) where
+    (a : Advances eq says hashes refuse s caller s' event reply) (hasher : hashes s.store.hasher ≡ hash) (es : List (Exchange (Stored K V))) (call_traces : ℕ → CallTrace K V)
+    (core : IsCore s.store s.callers s.mode) (core' : IsCore s'.store s'.callers s'.mode) (kept : IsKept eq hash s.mode s.store s.callers es call_traces) where
   -- the setting after the step
   abbrev g' : Setting K (Stored K V)
   g' = setting_of eq (low hash) s'.mode s'.store.words.tables
 
-  abbrev step : IsStep eq hash law refuse s caller s' event reply a es tales
-  step = kept_step eq hash law refuse s caller s' event reply a hasher es tales core kept
+  abbrev step : IsStep eq hash law refuse s caller s' event reply a es call_traces
+  step = kept_step eq hash law refuse s caller s' event reply a hasher es call_traces core kept
 
   -- the pairs before and after it
   abbrev old : List (Stored K V)
@@ -125,22 +125,22 @@ module _ {K V S A : Type 0} (eq : K → K → Bool) (hash : K → ℕ) (law : Is
   new = content eq s'.store
 
   old_apart : AreApart eq (λ p. p.key) old
-  old_apart = content_apart eq hash s.mode s.store (hashed_setting eq hash law s core) s.callers es tales kept
+  old_apart = content_apart eq hash s.mode s.store (hashed_setting eq hash law s core) s.callers es call_traces kept
 
   new_apart : AreApart eq (λ p. p.key) new
-  new_apart = content_apart eq hash s'.mode s'.store (hashed_setting eq hash law s' core') s'.callers (es ++ step.made) (told_tales tales caller step.made step.hands) step.kept
+  new_apart = content_apart eq hash s'.mode s'.store (hashed_setting eq hash law s' core') s'.callers (es ++ step.made) (told_call_traces call_traces caller step.made step.loaded) step.kept
 
   old_few : length old ≤ 2 ^ 48
-  old_few = content_few eq hash s.mode s.store (hashed_setting eq hash law s core) s.callers es tales kept
+  old_few = content_few eq hash s.mode s.store (hashed_setting eq hash law s core) s.callers es call_traces kept
 
   new_few : length new ≤ 2 ^ 48
-  new_few = content_few eq hash s'.mode s'.store (hashed_setting eq hash law s' core') s'.callers (es ++ step.made) (told_tales tales caller step.made step.hands) step.kept
+  new_few = content_few eq hash s'.mode s'.store (hashed_setting eq hash law s' core') s'.callers (es ++ step.made) (told_call_traces call_traces caller step.made step.loaded) step.kept
 
   old_map : (k : K) → lookup eq (λ p. p.key) old k ≡ map_left g' es k
-  old_map k = map_kept eq hash law s es tales core kept k ∙ sym (step.map_same k)
+  old_map k = map_kept eq hash law s es call_traces core kept k ∙ sym (step.map_same k)
 
   new_map : (k : K) → lookup eq (λ p. p.key) new k ≡ law_map g' (map_left g' es) step.made k
-  new_map k = map_kept eq hash law s' (es ++ step.made) (told_tales tales caller step.made step.hands) core' step.kept k ∙ ap (λ f. f k) (map_of-append g' es step.made (λ j. None))
+  new_map k = map_kept eq hash law s' (es ++ step.made) (told_call_traces call_traces caller step.made step.loaded) core' step.kept k ∙ ap (λ f. f k) (map_of-append g' es step.made (λ j. None))
 
   -- by how many pairs the map grows
   grown : (by : ℤ) → IsGrowth by step.made → pos (length new) ≡ pos (length old) +ℤ by
@@ -163,9 +163,9 @@ module _ {K V S A : Type 0} (eq : K → K → Bool) (hash : K → ℕ) (law : Is
       let r' : Running K V A = record a.later { machine = m' } in
       let goes : Option (Running K V A) = goes_on reply r' in
       let told = step.told in
-      let order = in_order (setting_of eq (low hash) s.mode s.store.words.tables) (coding_of (low hash)) (tales caller).begun (tales caller).since step.call.key a.before.machine (tales caller).hands (run es start) a.answer step.made step.hands step.call.rests told in
+      let order = in_order (setting_of eq (low hash) s.mode s.store.words.tables) (coding_of (low hash)) (call_traces caller).begun (call_traces caller).since step.call.key a.before.machine (call_traces caller).loaded (run es start) a.answer step.made step.loaded step.call.relies told in
       let learnt : owed_by (ask_of m') ≡ grown_by (kind_of_ask a.before.machine) (ask_of a.before.machine) a.answer =
-      chain_owes (setting_of eq (low hash) s.mode s.store.words.tables) (coding_of (low hash)) step.call.key (run es start) a.before.machine (tales caller).hands a.answer step.made step.hands order told in
+      chain_owes (setting_of eq (low hash) s.mode s.store.words.tables) (coding_of (low hash)) step.call.key (run es start) a.before.machine (call_traces caller).loaded a.answer step.made step.loaded order told in
       let rest : owed_of goes ≡ owed_by (ask_of m') = ap (λ o. owed_of (goes_on o r')) a.reply_is ∙ owed-goes_on (ask_of m') r' refl in
       ap (λ (l : List (Seat K V A)). owed_in l +ℤ owed_by (ask_of a.before.machine)) a.callers
       ∙ owed-with_call s.callers caller a.before a.was goes
@@ -176,7 +176,7 @@ module _ {K V S A : Type 0} (eq : K → K → Bool) (hash : K → ℕ) (law : Is
   counted_step counted =
       let o : ℤ = owed_by (ask_of a.before.machine) in
       let by : ℤ = grown_by (kind_of_ask a.before.machine) (ask_of a.before.machine) a.answer in
-      let is_grown : pos (length new) ≡ pos (length old) +ℤ by = grown by (told_grows (setting_of eq (low hash) s.mode s.store.words.tables) (coding_of (low hash)) step.call.key (run es start) (kind_of_ask a.before.machine) (follows_of a.before.machine) (tales caller).hands (ask_of a.before.machine) a.answer step.made step.hands step.told) in
+      let is_grown : pos (length new) ≡ pos (length old) +ℤ by = grown by (told_grows (setting_of eq (low hash) s.mode s.store.words.tables) (coding_of (low hash)) step.call.key (run es start) (kind_of_ask a.before.machine) (follows_of a.before.machine) (call_traces caller).loaded (ask_of a.before.machine) a.answer step.made step.loaded step.told) in
       let to : (s.store.count.sum +ℤ o) +ℤ owed_in s'.callers ≡ (s.store.count.sum +ℤ owed_in s.callers) +ℤ by = let e = owed in omega (arith, ints, e) in
       int_wrap-add_same w64 s'.store.count.sum (s.store.count.sum +ℤ o) (owed_in s'.callers) (sum_performed eq says hashes refuse (ask_of a.before.machine) s.store a.before a.answer s'.store a.later a.performs)
       ∙ ap (int_wrap w64) to

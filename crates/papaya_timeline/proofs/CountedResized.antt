@@ -17,7 +17,7 @@ use Rattle.papaya_timeline.specs.Callers.{working}
 use Rattle.papaya_timeline.specs.Content.{content}
 use Rattle.papaya_timeline.specs.Core.{CoreState, IsCore}
 use Rattle.papaya_timeline.specs.Counted.{IsCounted, owed_in, owed_work}
-use Rattle.papaya_timeline.specs.Kept.{IsKept, Tale, low, setting_of}
+use Rattle.papaya_timeline.specs.Kept.{CallTrace, IsKept, low, setting_of}
 use Rattle.papaya_timeline.specs.Resizes.{Resizes}
 use Rattle.papaya_timeline.proofs.CallersLemmas.{resizer-under_way}
 use Rattle.papaya_timeline.proofs.CountedContent.{content_apart}
@@ -33,7 +33,7 @@ owes_nothing None z w is = ap (λ (v : Work _ _ _). owed_work (Some v)) is
 owes_nothing (Some reply) z w is = refl
 
 module _ {K V S A : Type 0} (eq : K → K → Bool) (hash : K → ℕ) (law : IsLawfulKeys eq hash) {hashes : S → K → ℕ} (refuse : Bool) (s : CoreState K V S A) (caller : ℕ) (s' : CoreState K V S A) (event : Event) (reply : Option Reply) (x : Resizes eq hashes refuse s caller s' event reply) (hasher : hashes s.store.hasher ≡ hash)
-    (es : List (Exchange (Stored K V))) (tales : ℕ → Tale K V) (core : IsCore s.store s.callers s.mode) (core' : IsCore s'.store s'.callers s'.mode) (kept : IsKept eq hash s.mode s.store s.callers es tales) where
+    (es : List (Exchange (Stored K V))) (call_traces : ℕ → CallTrace K V) (core : IsCore s.store s.callers s.mode) (core' : IsCore s'.store s'.callers s'.mode) (kept : IsKept eq hash s.mode s.store s.callers es call_traces) where
   -- the work that goes on
   abbrev resumed : Resizer → Answer → Work K V A
   resumed z a = Resize (after z a)
@@ -48,16 +48,16 @@ module _ {K V S A : Type 0} (eq : K → K → Bool) (hash : K → ℕ) (law : Is
   -- there are as many pairs
   as_many : length (content eq s'.store) ≡ length (content eq s.store)
   as_many =
-      let left = resized.left eq hash law refuse s caller s' event reply x hasher es tales core kept in
+      let left = resized.left eq hash law refuse s caller s' event reply x hasher es call_traces core kept in
       let hashed = hashed_setting eq hash law s' core' in
       one_length (setting_of eq (low hash) s'.mode s'.store.words.tables) hashed.lawful (content eq s'.store) (content eq s.store)
-      (content_apart eq hash s'.mode s'.store hashed s'.callers (es ++ left.made) (resized.tales' eq hash law refuse s caller s' event reply x hasher es tales core kept) (resized.resize_kept eq hash law refuse s caller s' event reply x hasher es tales core kept))
-      (content_apart eq hash s.mode s.store (hashed_setting eq hash law s core) s.callers es tales kept)
-      (resize_same eq hash law refuse s s' caller event reply x hasher core core' es tales kept)
+      (content_apart eq hash s'.mode s'.store hashed s'.callers (es ++ left.made) (resized.call_traces' eq hash law refuse s caller s' event reply x hasher es call_traces core kept) (resized.resize_kept eq hash law refuse s caller s' event reply x hasher es call_traces core kept))
+      (content_apart eq hash s.mode s.store (hashed_setting eq hash law s core) s.callers es call_traces kept)
+      (resize_same eq hash law refuse s s' caller event reply x hasher core core' es call_traces kept)
 
   pub counted_resize : IsCounted eq s.store s.callers → IsCounted eq s'.store s'.callers
   counted_resize counted =
-      ap (λ z. int_wrap w64 (z +ℤ owed_in s'.callers)) (resized.left eq hash law refuse s caller s' event reply x hasher es tales core kept).sum_is
+      ap (λ z. int_wrap w64 (z +ℤ owed_in s'.callers)) (resized.left eq hash law refuse s caller s' event reply x hasher es call_traces core kept).sum_is
       ∙ ap (λ z. int_wrap w64 (s.store.count.sum +ℤ z)) owed
       ∙ counted
       ∙ ap (λ n. pos n) (sym as_many)

@@ -5,7 +5,7 @@ use Rattle.papaya_ask.specs.declared.ask.Ask.TheVariants.{Load, Exchange, SameKe
 use Rattle.papaya_chain.specs.declared.ask.Ask.{Ask}
 use Rattle.papaya_chain.specs.declared.ask.Ask.TheVariants.{Call, Copy}
 use Rattle.papaya_chain.specs.Machine.{ask_of}
-use Rattle.papaya_chain_rests.specs.Goes.{owed_in as owed_by}
+use Rattle.papaya_chain_law.specs.Goes.{owed_in as owed_by}
 use Rattle.papaya_store.specs.declared.pairs.Running.{Running}
 use Rattle.papaya_timeline.specs.declared.seat.Seat.{Seat}
 use Rattle.papaya_timeline.specs.Advances.{goes_on, reply_in}

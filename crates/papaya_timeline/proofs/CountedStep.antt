@@ -16,14 +16,14 @@ use Rattle.papaya_ask.specs.declared.copy_ask.CopyAsk.TheVariants as copies
 use Rattle.papaya_chain.specs.declared.ask.Ask.{Ask}
 use Rattle.papaya_chain.specs.declared.ask.Ask.TheVariants as asks
 use Rattle.papaya_chain.specs.declared.ask.Answer.{Answer}
-use Rattle.papaya_chain_rests.specs.Goes.{grown_by, owed_in}
-use Rattle.papaya_chain_rests.specs.Told as chain_told
+use Rattle.papaya_chain_law.specs.Goes.{grown_by, owed_in}
+use Rattle.papaya_chain_law.specs.Told as chain_told
 use Rattle.papaya_law.specs.Code.{Coding}
 use Rattle.papaya_law.specs.Content.{IsCountAfter}
 use Rattle.papaya_law.specs.Exchange.{Setting, State, Exchange}
-use Rattle.papaya_rests.specs.Owed.{owed_by, grows_of, grows_by}
-use Rattle.papaya_rests.specs.Copier.{IsCopyAsked}
-use Rattle.papaya_rests.specs.Told.{Hands, IsAsked, IsTold, word_of}
+use Rattle.papaya_call_law.specs.Owed.{owed_by, grows_of, grows_by}
+use Rattle.papaya_call_law.specs.Copier.{IsCopyAsked}
+use Rattle.papaya_call_law.specs.Told.{IsAsked, IsTold, LoadedPairs, word_of}
 use Rattle.papaya_store.specs.declared.pairs.Running.{Running}
 use Rattle.papaya_store.specs.Asks.{PerformsAsk}
 use Rattle.papaya_store.specs.Copies.{PerformsCopy}
@@ -104,14 +104,14 @@ module _ {K V S A : Type 0} (eq : K → K → Bool) (says : Says K V A) where
 abbrev pub Grows : {P : Type 0} → ℤ → Exchange P → Type 0
 Grows by e = (before now : ℕ) → IsCountAfter e before now → pos now ≡ pos before +ℤ by
 
-module _ {K P : Type 0} (g : Setting K P) (c : Coding K P) (k : K) (s : State P) (hands : Hands P) (new : ℕ) where
+module _ {K P : Type 0} (g : Setting K P) (c : Coding K P) (k : K) (s : State P) (loaded : LoadedPairs P) (new : ℕ) where
   -- by the kind of the exchange
-  asked_grows : (kind : Option StepKind) (at : At) (e : Exchange P) → IsAsked g c k kind at new s hands e → Grows (grows_of kind) e
+  asked_grows : (kind : Option StepKind) (at : At) (e : Exchange P) → IsAsked g c k kind at new s loaded e → Grows (grows_of kind) e
   asked_grows (Some kinds.Open) Root e is = subst (Grows (pos 0)) (sym is) (λ before now count. omega (arith, ints, count))
   asked_grows (Some kinds.Claim) (Slot t x) e (q, own, key, is) = subst (Grows (pos 1)) (sym is) (λ before now count. omega (arith, ints, count))
   asked_grows (Some kinds.Replace) (Slot t x) e (p, q, live, own, key, is) = subst (Grows (pos 0)) (sym is) (λ before now count. omega (arith, ints, count))
   asked_grows (Some kinds.Take) Made e is = subst (Grows (pos 0)) (sym is) (λ before now count. omega (arith, ints, count))
-  asked_grows (Some kinds.Bury) (Slot t x) e (q, live, is) = subst (Grows (negsuc 0)) (sym is) (λ before now count. omega (arith, ints, count))
+  asked_grows (Some kinds.Delete) (Slot t x) e (q, live, is) = subst (Grows (negsuc 0)) (sym is) (λ before now count. omega (arith, ints, count))
   asked_grows _ _ e h = absurd h
 
 -- by the kind of a copy's exchange: the map stays as large
@@ -132,44 +132,44 @@ IsGrowth {P = P} by es = ((es ≡ []) × (by ≡ pos 0)) ⊎ ((e : Exchange P) �
 
 module _ {K P : Type 0} (g : Setting K P) (c : Coding K P) (k : K) (s : State P) (kind : Option StepKind) where
   -- what is told of an ask of the call itself
-  call_grows : (hands : Hands P) (ask : Call_ask) (a : Call_answer) (es : List (Exchange P)) (hands' : Hands P) → IsTold g c k s kind hands ask a es hands' → IsGrowth (grows_by kind ask a) es
-  call_grows hands (Ask_exchange at old new) a es hands' h =
+  call_grows : (loaded : LoadedPairs P) (ask : Call_ask) (a : Call_answer) (es : List (Exchange P)) (loaded' : LoadedPairs P) → IsTold g c k s kind loaded ask a es loaded' → IsGrowth (grows_by kind ask a) es
+  call_grows loaded (Ask_exchange at old new) a es loaded' h =
       matched (IsGrowth (grows_by kind (Ask_exchange at old new) a) es) (word_of g c s at == old) _ _ h
-      (λ _ done. inr (let asked = done.1 in (asked.0, asked.2, subst (λ y. Grows (grows_by kind (Ask_exchange at old new) y) asked.0) (sym done.0) (asked_grows g c k s hands new kind at asked.0 asked.1))))
+      (λ _ done. inr (let asked = done.1 in (asked.0, asked.2, subst (λ y. Grows (grows_by kind (Ask_exchange at old new) y) asked.0) (sym done.0) (asked_grows g c k s loaded new kind at asked.0 asked.1))))
       (λ _ lost. inl (lost.1, ap (grows_by kind (Ask_exchange at old new)) lost.0))
-  call_grows hands (Load at) a es hands' h = inl (h.1, refl)
-  call_grows hands (SameKey n) a es hands' h = inl (h.1.0, refl)
-  call_grows hands ShowNone a es hands' h = inl (h.1.0, refl)
-  call_grows hands (ShowPair n) a es hands' h = inl (h.1.0, refl)
-  call_grows hands (LoadHint t x) a es hands' h = inl (h.1.0, refl)
-  call_grows hands (WriteHint t x hint) a es hands' h = inl (h.1.0, refl)
-  call_grows hands (SizeOf t) a es hands' h = inl (h.1.0, refl)
-  call_grows hands MakeKey a es hands' h = inl (h.1.0, refl)
-  call_grows hands MakeValue a es hands' h = inl (h.1.0, refl)
-  call_grows hands MakePair a es hands' (inl h) = inl (h.1.0, refl)
-  call_grows hands MakePair a es hands' (inr (q, key, (is, none, made))) = inl (none, refl)
-  call_grows hands (MakePairOf n) a es hands' (inl h) = inl (h.1.0, refl)
-  call_grows hands (MakePairOf n) a es hands' (inr (q, key, (is, none, made))) = inl (none, refl)
-  call_grows hands (MakeTable slots limit chunks) a es hands' h = inl (h.1.0, refl)
-  call_grows hands (AddToShard by) a es hands' h = inl (h.1.0, refl)
-  call_grows hands (Ask_done reply) a es hands' h = inl (h.1.0, refl)
+  call_grows loaded (Load at) a es loaded' h = inl (h.1, refl)
+  call_grows loaded (SameKey n) a es loaded' h = inl (h.1.0, refl)
+  call_grows loaded ShowNone a es loaded' h = inl (h.1.0, refl)
+  call_grows loaded (ShowPair n) a es loaded' h = inl (h.1.0, refl)
+  call_grows loaded (LoadHint t x) a es loaded' h = inl (h.1.0, refl)
+  call_grows loaded (WriteHint t x hint) a es loaded' h = inl (h.1.0, refl)
+  call_grows loaded (SizeOf t) a es loaded' h = inl (h.1.0, refl)
+  call_grows loaded MakeKey a es loaded' h = inl (h.1.0, refl)
+  call_grows loaded MakeValue a es loaded' h = inl (h.1.0, refl)
+  call_grows loaded MakePair a es loaded' (inl h) = inl (h.1.0, refl)
+  call_grows loaded MakePair a es loaded' (inr (q, key, (is, none, made))) = inl (none, refl)
+  call_grows loaded (MakePairOf n) a es loaded' (inl h) = inl (h.1.0, refl)
+  call_grows loaded (MakePairOf n) a es loaded' (inr (q, key, (is, none, made))) = inl (none, refl)
+  call_grows loaded (MakeTable slots limit chunks) a es loaded' h = inl (h.1.0, refl)
+  call_grows loaded (AddToShard by) a es loaded' h = inl (h.1.0, refl)
+  call_grows loaded (Ask_done reply) a es loaded' h = inl (h.1.0, refl)
 
   -- and of one of a copy
-  copied_grows : (follows : ℕ) (hands : chain_told.Hands P) (ask : CopyAsk) (a : Answer) (es : List (Exchange P)) (hands' : chain_told.Hands P) → chain_told.IsCopyTold g c s kind follows hands ask a es hands' → IsGrowth (pos 0) es
-  copied_grows follows hands (copies.Exchange at old new) a es hands' h =
+  copied_grows : (follows : ℕ) (loaded : chain_told.LoadedPairs P) (ask : CopyAsk) (a : Answer) (es : List (Exchange P)) (loaded' : chain_told.LoadedPairs P) → chain_told.IsCopyTold g c s kind follows loaded ask a es loaded' → IsGrowth (pos 0) es
+  copied_grows follows loaded (copies.Exchange at old new) a es loaded' h =
       matched (IsGrowth (pos 0) es) (word_of g c s at == old) _ _ h
-      (λ _ done. inr (let asked = done.1 in (asked.0, asked.2, copy_grows c kind at new s hands.kept asked.0 asked.1)))
+      (λ _ done. inr (let asked = done.1 in (asked.0, asked.2, copy_grows c kind at new s loaded.kept asked.0 asked.1)))
       (λ _ lost. inl (lost.1, refl))
-  copied_grows follows hands (copies.Load at) a es hands' h = inl (h.1, refl)
-  copied_grows follows hands (copies.LoadHint t x) a es hands' h = inl (h.1.0, refl)
-  copied_grows follows hands (copies.WriteHint t x hint) a es hands' h = inl (h.1.0, refl)
-  copied_grows follows hands (copies.SizeOf t) a es hands' h = inl (h.1.0, refl)
-  copied_grows follows hands (copies.HashOf n) a es hands' h = inl (h.1, refl)
-  copied_grows follows hands (copies.SamePair m n) a es hands' h = inl (h.1.0, refl)
-  copied_grows follows hands copies.Count a es hands' h = inl (h.1.0, refl)
-  copied_grows follows hands (copies.MakeTable slots limit chunks) a es hands' h = inl (h.1.0, refl)
+  copied_grows follows loaded (copies.Load at) a es loaded' h = inl (h.1, refl)
+  copied_grows follows loaded (copies.LoadHint t x) a es loaded' h = inl (h.1.0, refl)
+  copied_grows follows loaded (copies.WriteHint t x hint) a es loaded' h = inl (h.1.0, refl)
+  copied_grows follows loaded (copies.SizeOf t) a es loaded' h = inl (h.1.0, refl)
+  copied_grows follows loaded (copies.HashOf n) a es loaded' h = inl (h.1, refl)
+  copied_grows follows loaded (copies.SamePair m n) a es loaded' h = inl (h.1.0, refl)
+  copied_grows follows loaded copies.Count a es loaded' h = inl (h.1.0, refl)
+  copied_grows follows loaded (copies.MakeTable slots limit chunks) a es loaded' h = inl (h.1.0, refl)
 
   -- an answer told of an exchange by which the map grew so, or of none
-  pub told_grows : (follows : ℕ) (hands : chain_told.Hands P) (ask : Ask) (a : Answer) (es : List (Exchange P)) (hands' : chain_told.Hands P) → chain_told.IsTold g c k s kind follows hands ask a es hands' → IsGrowth (grown_by kind ask a) es
-  told_grows follows hands (asks.Call ask) a es hands' h = subst (λ y. IsGrowth (grown_by kind (asks.Call ask) y) es) (sym h.is) (call_grows hands.call ask h.told es h.call h.tells)
-  told_grows follows hands (asks.Copy ask) a es hands' h = copied_grows follows hands ask a es hands' h
+  pub told_grows : (follows : ℕ) (loaded : chain_told.LoadedPairs P) (ask : Ask) (a : Answer) (es : List (Exchange P)) (loaded' : chain_told.LoadedPairs P) → chain_told.IsTold g c k s kind follows loaded ask a es loaded' → IsGrowth (grown_by kind ask a) es
+  told_grows follows loaded (asks.Call ask) a es loaded' h = subst (λ y. IsGrowth (grown_by kind (asks.Call ask) y) es) (sym h.is) (call_grows loaded.call ask h.told es h.call h.tells)
+  told_grows follows loaded (asks.Copy ask) a es loaded' h = copied_grows follows loaded ask a es loaded' h

@@ -23,9 +23,9 @@ use Rattle.papaya_chain.specs.declared.ask.Answer.{Answer}
 use Rattle.papaya_chain.specs.declared.ask.Answer.TheVariants as answers
 use Rattle.papaya_chain.specs.declared.machine.Machine.{Machine}
 use Rattle.papaya_chain.specs.Machine.{ask_of, kind_of_ask, after}
-use Rattle.papaya_chain_rests.specs.Goes.{Goes, IsCause, IsToMake, WasNotMade, WouldBeTooLong}
-use Rattle.papaya_rests.specs.Rests.{IsAtLimit}
-use Rattle.papaya_rests.specs.Says.{show}
+use Rattle.papaya_chain_law.specs.Goes.{Goes, IsCause, IsToMake, WasNotMade, WouldBeTooLong}
+use Rattle.papaya_call_law.specs.Relies.{IsAtLimit}
+use Rattle.papaya_call_law.specs.Says.{show}
 use Rattle.papaya_store.specs.declared.pairs.Running.{Running}
 use Rattle.papaya_timeline.specs.declared.trace.Event.{Event}
 use Rattle.papaya_timeline.specs.Advances.{event_of}

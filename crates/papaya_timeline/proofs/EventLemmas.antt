@@ -12,9 +12,9 @@ use Rattle.papaya_ask.specs.declared.ask.StepKind.{StepKind}
 use Rattle.papaya_ask.specs.declared.ask.StepKind.TheVariants as kinds
 use Rattle.papaya_law.specs.Exchange.{Setting, State, Exchange}
 use Rattle.papaya_law.specs.Code.{Coding}
-use Rattle.papaya_rests.specs.Rests.{Change, change_after, change_of_kind}
-use Rattle.papaya_rests.specs.Says.{show}
-use Rattle.papaya_rests.specs.Told.{IsTold, IsAsked, Hands, word_of}
+use Rattle.papaya_call_law.specs.Relies.{Change, change_after, change_of_kind}
+use Rattle.papaya_call_law.specs.Says.{show}
+use Rattle.papaya_call_law.specs.Told.{IsTold, IsAsked, LoadedPairs, word_of}
 use Rattle.papaya_timeline.specs.declared.trace.Event.{Event}
 use Rattle.papaya_timeline.specs.declared.trace.Event.TheVariants.{Changed, Moved, Asked, Shown, Other}
 use Rattle.papaya_timeline.specs.Advances.{call_event, answered_event, kind_event, shown_event}
@@ -24,7 +24,7 @@ use Rattle.papaya_timeline.proofs.StoreLemmas.{matched}
 use Rattle.papaya_timeline.proofs.TimelineLemmas.{entry, answered-own, answered-now, asked-own, asked-now}
 
 -- an exchange of this ask was made
-pub record IsExchanged {K P : Type 0} (g : Setting K P) (c : Coding K P) (k : K) (s : State P) (kind : Option StepKind) (hands : Hands P) (ask : Ask) (answer : Answer) (es : List (Exchange P)) : Type 0 where
+pub record IsExchanged {K P : Type 0} (g : Setting K P) (c : Coding K P) (k : K) (s : State P) (kind : Option StepKind) (loaded : LoadedPairs P) (ask : Ask) (answer : Answer) (es : List (Exchange P)) : Type 0 where
   pub at : At
   pub old : ℕ
   pub new : ℕ
@@ -32,7 +32,7 @@ pub record IsExchanged {K P : Type 0} (g : Setting K P) (c : Coding K P) (k : K)
   pub ask_is : ask ≡ Ask_exchange at old new
   pub answer_is : answer ≡ Exchanged
   pub stood : word_of g c s at ≡ old
-  pub asked : IsAsked g c k kind at new s hands by
+  pub asked : IsAsked g c k kind at new s loaded by
   pub made : es ≡ by ∷ []
 
 -- or nothing was exchanged
@@ -47,19 +47,19 @@ IsShowing kind ask answer es = (n : ℕ) × (agrees : Bool) × (ask ≡ ShowPair
 abbrev pub IsShown : {P : Type 0} → Option StepKind → Ask → Answer → List (Exchange P) → Type 0
 IsShown kind ask answer es = (shown : Option ℕ) × (op : OpKind) × (ask ≡ show shown) × (answer ≡ Op op) × (es ≡ []) × (call_event kind ask answer ≡ Shown shown op)
 
-module _ {K P : Type 0} (g : Setting K P) (c : Coding K P) (k : K) (s : State P) (kind : Option StepKind) (hands : Hands P) where
+module _ {K P : Type 0} (g : Setting K P) (c : Coding K P) (k : K) (s : State P) (kind : Option StepKind) (loaded : LoadedPairs P) where
   abbrev Cases : Ask → Answer → List (Exchange P) → Type 0
-  Cases ask answer es = IsQuiet kind ask answer es ⊎ IsExchanged g c k s kind hands ask answer es ⊎ IsShowing kind ask answer es ⊎ IsShown kind ask answer es
+  Cases ask answer es = IsQuiet kind ask answer es ⊎ IsExchanged g c k s kind loaded ask answer es ⊎ IsShowing kind ask answer es ⊎ IsShown kind ask answer es
 
   -- what is told is one of them
-  pub told_cases : (ask : Ask) (answer : Answer) (es : List (Exchange P)) (hands' : Hands P) → IsTold g c k s kind hands ask answer es hands' → Cases ask answer es
-  told_cases (Load at) answer es hands' h = inl (h.1, refl)
-  told_cases (Ask_exchange at old new) answer es hands' h =
+  pub told_cases : (ask : Ask) (answer : Answer) (es : List (Exchange P)) (loaded' : LoadedPairs P) → IsTold g c k s kind loaded ask answer es loaded' → Cases ask answer es
+  told_cases (Load at) answer es loaded' h = inl (h.1, refl)
+  told_cases (Ask_exchange at old new) answer es loaded' h =
       matched (Cases (Ask_exchange at old new) answer es) (word_of g c s at == old) _ _ h
       (λ same h'. let e = h'.1 in inr (inl (record { at = at; old = old; new = new; by = e.0; ask_is = refl; answer_is = h'.0; stood = eqb-true (word_of g c s at) old same; asked = e.1; made = e.2 })))
       (λ differ h'. inl (h'.1, ap (answered_event kind old new) h'.0))
-  told_cases (SameKey n) answer es hands' h = inl (h.1.0, refl)
-  told_cases ShowNone answer es hands' h =
+  told_cases (SameKey n) answer es loaded' h = inl (h.1.0, refl)
+  told_cases ShowNone answer es loaded' h =
       ⊎_elim
       (λ (yes : (agrees : Bool) × (answer ≡ Yes agrees)). inl (h.1.0, ap (shown_event None) yes.1))
       (λ other. ⊎_elim
@@ -67,7 +67,7 @@ module _ {K P : Type 0} (g : Setting K P) (c : Coding K P) (k : K) (s : State P)
       (λ (none : answer ≡ Ok_done). inl (h.1.0, ap (shown_event None) none))
       other)
       h.0
-  told_cases (ShowPair n) answer es hands' h =
+  told_cases (ShowPair n) answer es loaded' h =
       ⊎_elim
       (λ (yes : (agrees : Bool) × (answer ≡ Yes agrees)). inr (inr (inl (n, yes.0, refl, yes.1, h.1.0, ap (shown_event (Some n)) yes.1))))
       (λ other. ⊎_elim
@@ -75,22 +75,22 @@ module _ {K P : Type 0} (g : Setting K P) (c : Coding K P) (k : K) (s : State P)
       (λ (none : answer ≡ Ok_done). inl (h.1.0, ap (shown_event (Some n)) none))
       other)
       h.0
-  told_cases (LoadHint t x) answer es hands' h = inl (h.1.0, refl)
-  told_cases (WriteHint t x hint) answer es hands' h = inl (h.1.0, refl)
-  told_cases (SizeOf t) answer es hands' h = inl (h.1.0, refl)
-  told_cases MakeKey answer es hands' h = inl (h.1.0, refl)
-  told_cases MakeValue answer es hands' h = inl (h.1.0, refl)
-  told_cases MakePair answer es hands' h = ⊎_elim (λ quiet. inl (quiet.1.0, refl)) (λ made. inl (made.2.1, refl)) h
-  told_cases (MakePairOf pair) answer es hands' h = ⊎_elim (λ quiet. inl (quiet.1.0, refl)) (λ made. inl (made.2.1, refl)) h
-  told_cases (MakeTable slots limit chunks) answer es hands' h = inl (h.1.0, refl)
-  told_cases (AddToShard by) answer es hands' h = inl (h.1.0, refl)
-  told_cases (Ask_done reply) answer es hands' h = inl (h.1.0, refl)
+  told_cases (LoadHint t x) answer es loaded' h = inl (h.1.0, refl)
+  told_cases (WriteHint t x hint) answer es loaded' h = inl (h.1.0, refl)
+  told_cases (SizeOf t) answer es loaded' h = inl (h.1.0, refl)
+  told_cases MakeKey answer es loaded' h = inl (h.1.0, refl)
+  told_cases MakeValue answer es loaded' h = inl (h.1.0, refl)
+  told_cases MakePair answer es loaded' h = ⊎_elim (λ quiet. inl (quiet.1.0, refl)) (λ made. inl (made.2.1, refl)) h
+  told_cases (MakePairOf pair) answer es loaded' h = ⊎_elim (λ quiet. inl (quiet.1.0, refl)) (λ made. inl (made.2.1, refl)) h
+  told_cases (MakeTable slots limit chunks) answer es loaded' h = inl (h.1.0, refl)
+  told_cases (AddToShard by) answer es loaded' h = inl (h.1.0, refl)
+  told_cases (Ask_done reply) answer es loaded' h = inl (h.1.0, refl)
 
   -- so at most one exchange
-  pub one_exchange : (ask : Ask) (answer : Answer) (es : List (Exchange P)) (hands' : Hands P) → IsTold g c k s kind hands ask answer es hands' → (es ≡ []) ⊎ ((e : Exchange P) × (es ≡ e ∷ []))
-  one_exchange ask answer es hands' h =
+  pub one_exchange : (ask : Ask) (answer : Answer) (es : List (Exchange P)) (loaded' : LoadedPairs P) → IsTold g c k s kind loaded ask answer es loaded' → (es ≡ []) ⊎ ((e : Exchange P) × (es ≡ e ∷ []))
+  one_exchange ask answer es loaded' h =
       let none : (es ≡ []) → (es ≡ []) ⊎ ((e : Exchange P) × (es ≡ e ∷ [])) = λ e. inl e in
-      ⊎_elim (λ quiet. none quiet.0) (λ x. ⊎_elim (λ y. inr (y.by, y.made)) (λ z. ⊎_elim (λ y. none y.4) (λ y. none y.4) z) x) (told_cases ask answer es hands' h)
+      ⊎_elim (λ quiet. none quiet.0) (λ x. ⊎_elim (λ y. inr (y.by, y.made)) (λ z. ⊎_elim (λ y. none y.4) (λ y. none y.4) z) x) (told_cases ask answer es loaded' h)
 
 -- what holds of events of exchanges and of no event holds where an exchange was asked for
 pub exchanged_cases : (P : Event → Type 0) → P Other → ((kind : StepKind) (old new : Option ℕ) → P (Changed kind old new)) → ((kind : StepKind) → P (Moved kind)) → (kind : Option StepKind) (old new : ℕ) (answer : Answer) → P (answered_event kind old new answer)
@@ -101,7 +101,7 @@ exchanged_cases P other changed moved kind old new answer = by_answer answer
     by_kind (Some kinds.Open) = moved kinds.Open
     by_kind (Some kinds.Claim) = changed kinds.Claim _ _
     by_kind (Some kinds.Replace) = changed kinds.Replace _ _
-    by_kind (Some kinds.Bury) = changed kinds.Bury _ _
+    by_kind (Some kinds.Delete) = changed kinds.Delete _ _
     by_kind (Some kinds.Link) = moved kinds.Link
     by_kind (Some kinds.Mark) = moved kinds.Mark
     by_kind (Some kinds.Close) = moved kinds.Close
@@ -219,7 +219,7 @@ event_change before kind (Ask_exchange at old new) answer once = by_answer answe
     by_kind (Some kinds.Open) = none
     by_kind (Some kinds.Claim) = refl
     by_kind (Some kinds.Replace) = refl
-    by_kind (Some kinds.Bury) = refl
+    by_kind (Some kinds.Delete) = refl
     by_kind (Some kinds.Link) = none
     by_kind (Some kinds.Mark) = none
     by_kind (Some kinds.Close) = none

@@ -17,18 +17,18 @@ use Rattle.papaya_call.specs.Machine.{HasClosure}
 use Rattle.papaya_chain.specs.declared.ask.Ask.TheVariants as asks
 use Rattle.papaya_chain.specs.declared.ask.Answer.TheVariants as told_to
 use Rattle.papaya_chain.specs.Machine.{ask_of, follows_of, kind_of_ask, after}
-use Rattle.papaya_chain_rests.specs.Goes.{Goes, IsInOrder, change_by as changed_by}
-use Rattle.papaya_chain_rests.specs.Told.{Hands, no_hands}
-use Rattle.papaya_chain.specs.declared.visitor.Visit.{Visit}
-use Rattle.papaya_chain.specs.declared.visitor.Visit.TheVariants as visit_kinds
-use Rattle.papaya_chain_rests.specs.VisitTold as visits
-use Rattle.papaya_store.specs.declared.visits.Visiting.{Visiting}
-use Rattle.papaya_chain_rests.proofs.Goes.{machine_goes}
-use Rattle.papaya_chain_rests.proofs.Once.{chain_offered, chain_once as shows_once}
-use Rattle.papaya_chain_rests.proofs.Replies.{chain_said, chain_shows, chain_task}
-use Rattle.papaya_rests.specs.Rests.{change_in, change_of_reply}
-use Rattle.papaya_rests.specs.Says.{HasShownNone, IsSaidChange, show}
-use Rattle.papaya_rests.specs.Told.{IsOneOf}
+use Rattle.papaya_chain_law.specs.Goes.{Goes, IsInOrder, change_by as changed_by}
+use Rattle.papaya_chain_law.specs.Told.{LoadedPairs, nothing_loaded}
+use Rattle.papaya_chain.specs.declared.scanner.Scan.{Scan}
+use Rattle.papaya_chain.specs.declared.scanner.Scan.TheVariants as scan_kinds
+use Rattle.papaya_chain_law.specs.ScanTold as scans
+use Rattle.papaya_store.specs.declared.scans.Scanning.{Scanning}
+use Rattle.papaya_chain_law.proofs.Goes.{machine_goes}
+use Rattle.papaya_chain_law.proofs.Once.{chain_offered, chain_once as shows_once}
+use Rattle.papaya_chain_law.proofs.Replies.{chain_said, chain_shows, chain_task}
+use Rattle.papaya_call_law.specs.Relies.{change_in, change_of_reply}
+use Rattle.papaya_call_law.specs.Says.{HasShownNone, IsSaidChange, show}
+use Rattle.papaya_call_law.specs.Told.{IsOneOf}
 use Rattle.papaya_law.specs.Code.{IsHashed}
 use Rattle.papaya_store.specs.declared.pairs.Running.{Running}
 use Rattle.papaya_timeline.specs.declared.seat.Seat.{Seat}
@@ -37,30 +37,30 @@ use Rattle.papaya_timeline.specs.declared.trace.Turn.TheVariants.{Begin}
 use Rattle.papaya_timeline.specs.declared.trace.Event.{Event}
 use Rattle.papaya_timeline.specs.declared.trace.Event.TheVariants.{Begun, Changed, Moved, Asked, Shown, Gave, Other, Replied}
 use Rattle.papaya_timeline.specs.Advances.{Advances, goes_on}
-use Rattle.papaya_timeline.specs.Begins.{Begins, answers_of_call, begun, begun_work, handed, value_of_call, visitor_begun}
+use Rattle.papaya_timeline.specs.Begins.{Begins, answers_of_call, begun, begun_work, handed, scanner_begun, value_of_call}
 use Rattle.papaya_store.specs.Pairs.{value_at}
 use Rattle.papaya_timeline.proofs.Begun.{IsBegun, begun_stands, call_begun, task_is_own, the_task}
 use Rattle.papaya_timeline.specs.declared.seat.Work.{Work}
 use Rattle.papaya_timeline.specs.declared.seat.Work.TheVariants as works
-use Rattle.papaya_timeline.specs.Callers.{as_work, resizer_in, resizing, running, visiting, visitor_in, with_call, with_seat, with_work}
+use Rattle.papaya_timeline.specs.Callers.{as_work, resizer_in, resizing, running, scanner_in, scanning, with_call, with_seat, with_work}
 use Rattle.papaya_chain.specs.declared.resizer.Resizer.{Resizer}
 use Rattle.papaya_timeline.specs.Content.{map_of}
 use Rattle.papaya_timeline.specs.Core.{CoreState, IsCore}
 use Rattle.papaya_timeline.specs.Given.{AreGiven, GivesIn, HasLeft, begun_answers}
 use Rattle.papaya_timeline.specs.Headline.{AreLogged, AreNew, ComesNew, HasTimeline}
-use Rattle.papaya_timeline.specs.Kept.{IsKept, Tale, setting_of, coding_of, low, told_tales, begun_tales, visit_tale}
+use Rattle.papaya_timeline.specs.Kept.{IsKept, CallTrace, setting_of, coding_of, low, told_call_traces, begun_call_traces, scan_trace}
 use Rattle.papaya_timeline.specs.Maps.{Map, Does, at_key, key_of}
 use Rattle.papaya_timeline.specs.Runs.{History, with_step}
 use Rattle.papaya_store.specs.Store.{KeepsPairs, StoreState, Stored, pair_of}
 use Rattle.papaya_timeline.specs.Timeline.{Answered, Timeline, IsLegal, MayChange, FitsOpen, FitsShown, IsAgreed, IsUnused, change_of, change_by, none_by, number_in, open_call, open_after, begun_by, begins, is_begin, was_shown_none, AtSomeMoment}
-use Rattle.papaya_timeline.proofs.CallersLemmas.{no-resizer, no-visitor, resizing-elsewhere, resizing-here, resizing-with_seat, visiting-elsewhere, visiting-here, visiting-with_seat, running-same, running-other, running-elsewhere, running-here, running-with_seat, same_item, differs}
+use Rattle.papaya_timeline.proofs.CallersLemmas.{no-resizer, no-scanner, resizing-elsewhere, resizing-here, resizing-with_seat, scanning-elsewhere, scanning-here, scanning-with_seat, running-same, running-other, running-elsewhere, running-here, running-with_seat, same_item, differs}
 use Rattle.papaya_timeline.proofs.ChainLemmas.{chain_changed, chain_once, own_asks}
 use Rattle.papaya_timeline.proofs.CoreLemmas.{cases_same, reply_asked}
 use Rattle.papaya_timeline.proofs.EndingLemmas.{removes_nothing, step_ending, unrefused}
 use Rattle.papaya_timeline.proofs.GivenLemmas.{given_more, left_more}
 use Rattle.papaya_timeline.proofs.EntersOnce.{timeline_steady}
-use Rattle.papaya_timeline.proofs.Good.{IsGood, IsKeyed, IsResize, IsTied, IsValueOf, IsVisitOf, IsVisitTied, replay, replayed}
-use Rattle.papaya_timeline.proofs.GoodVisits.{replay_keyed, visit_begins, visit_entry, visit_other}
+use Rattle.papaya_timeline.proofs.Good.{IsGood, IsKeyed, IsResize, IsScanOf, IsScanTied, IsTied, IsValueOf, replay, replayed}
+use Rattle.papaya_timeline.proofs.GoodScans.{replay_keyed, scan_begins, scan_entry, scan_other}
 use Rattle.papaya_timeline.proofs.KeptLemmas.{IsLawfulKeys, IsStep, kept_step, kept_begin, map_kept, hashed_setting}
 use Rattle.papaya_store.proofs.Logs.{pair_below}
 use Rattle.papaya_timeline.proofs.AdvanceLemmas.{advance_legal, changed as advance_changed, moved as advance_moved, order as advance_order}
@@ -116,36 +116,36 @@ module _ {K V A : Type 0} (hash : K → ℕ) (mode : Mode) (initial number : ℕ
   resize_begun (Retain a) z e = let f : None ≡ Some z = ap (λ (w : Work K V A). resizer_in (Some w)) e in absurd cc
   resize_begun Walk z e = let f : None ≡ Some z = ap (λ (w : Work K V A). resizer_in (Some w)) e in absurd cc
 
-  -- and a visitor for one that visits a table, with the answers of its closure
-  visit_is : (call : Call K V A) (visit : Visit) (answers : Option A) (v : Visiting A) → IsVisitOf call visit → works.Visit (visitor_begun mode.resize initial number visit answers) ≡ begun_work hash mode initial number call → answers ≡ answers_of_call call → begun_work hash mode initial number call ≡ works.Visit v → IsVisitOf call v.visitor.visit × (v.answers ≡ answers_of_call call)
-  visit_is call visit answers v of begins are e =
-      let same : visitor_begun mode.resize initial number visit answers ≡ v = same_item (visitor_begun mode.resize initial number visit answers) v (ap (λ (w : Work K V A). visitor_in (Some w)) (begins ∙ e)) in
-      (subst (λ (u : Visiting A). IsVisitOf call u.visitor.visit) same of, ap (λ (u : Visiting A). u.answers) (sym same) ∙ are)
+  -- and a scanner for one that scans a table, with the answers of its closure
+  scan_is : (call : Call K V A) (scan : Scan) (answers : Option A) (v : Scanning A) → IsScanOf call scan → works.Scan (scanner_begun mode.resize initial number scan answers) ≡ begun_work hash mode initial number call → answers ≡ answers_of_call call → begun_work hash mode initial number call ≡ works.Scan v → IsScanOf call v.scanner.scan × (v.answers ≡ answers_of_call call)
+  scan_is call scan answers v of begins are e =
+      let same : scanner_begun mode.resize initial number scan answers ≡ v = same_item (scanner_begun mode.resize initial number scan answers) v (ap (λ (w : Work K V A). scanner_in (Some w)) (begins ∙ e)) in
+      (subst (λ (u : Scanning A). IsScanOf call u.scanner.scan) same of, ap (λ (u : Scanning A). u.answers) (sym same) ∙ are)
 
-  visit_begun : (call : Call K V A) (v : Visiting A) → begun_work hash mode initial number call ≡ works.Visit v → IsVisitOf call v.visitor.visit × (v.answers ≡ answers_of_call call)
-  visit_begun Clear v e = visit_is Clear visit_kinds.Clear None v tt refl refl e
-  visit_begun (Retain a) v e = visit_is (Retain a) visit_kinds.Retain (Some a) v tt refl refl e
-  visit_begun Walk v e = visit_is Walk visit_kinds.Walk None v tt refl refl e
-  visit_begun (Get k) v e = let f : None ≡ Some v = ap (λ (w : Work K V A). visitor_in (Some w)) e in absurd cc
-  visit_begun (Insert k w) v e = let f : None ≡ Some v = ap (λ (w : Work K V A). visitor_in (Some w)) e in absurd cc
-  visit_begun (TryInsert k w) v e = let f : None ≡ Some v = ap (λ (w : Work K V A). visitor_in (Some w)) e in absurd cc
-  visit_begun (RemoveIf k a) v e = let f : None ≡ Some v = ap (λ (w : Work K V A). visitor_in (Some w)) e in absurd cc
-  visit_begun (Compute k a) v e = let f : None ≡ Some v = ap (λ (w : Work K V A). visitor_in (Some w)) e in absurd cc
-  visit_begun (Reserve more) v e = let f : None ≡ Some v = ap (λ (w : Work K V A). visitor_in (Some w)) e in absurd cc
-  visit_begun CopyAll v e = let f : None ≡ Some v = ap (λ (w : Work K V A). visitor_in (Some w)) e in absurd cc
+  scan_begun : (call : Call K V A) (v : Scanning A) → begun_work hash mode initial number call ≡ works.Scan v → IsScanOf call v.scanner.scan × (v.answers ≡ answers_of_call call)
+  scan_begun Clear v e = scan_is Clear scan_kinds.Clear None v tt refl refl e
+  scan_begun (Retain a) v e = scan_is (Retain a) scan_kinds.Retain (Some a) v tt refl refl e
+  scan_begun Walk v e = scan_is Walk scan_kinds.Walk None v tt refl refl e
+  scan_begun (Get k) v e = let f : None ≡ Some v = ap (λ (w : Work K V A). scanner_in (Some w)) e in absurd cc
+  scan_begun (Insert k w) v e = let f : None ≡ Some v = ap (λ (w : Work K V A). scanner_in (Some w)) e in absurd cc
+  scan_begun (TryInsert k w) v e = let f : None ≡ Some v = ap (λ (w : Work K V A). scanner_in (Some w)) e in absurd cc
+  scan_begun (RemoveIf k a) v e = let f : None ≡ Some v = ap (λ (w : Work K V A). scanner_in (Some w)) e in absurd cc
+  scan_begun (Compute k a) v e = let f : None ≡ Some v = ap (λ (w : Work K V A). scanner_in (Some w)) e in absurd cc
+  scan_begun (Reserve more) v e = let f : None ≡ Some v = ap (λ (w : Work K V A). scanner_in (Some w)) e in absurd cc
+  scan_begun CopyAll v e = let f : None ≡ Some v = ap (λ (w : Work K V A). scanner_in (Some w)) e in absurd cc
 
 module _ {K V S A : Type 0} (eq : K → K → Bool) (hash : K → ℕ) (law : IsLawfulKeys eq hash) where
   -- One step of a call, in a run whose history is good.
   module _ {says : Says K V A} {hashes : S → K → ℕ} (refuse : Bool) (schedule : List (Turn K V A)) (first : StoreState K V S) (start : Map K V) (s s' : CoreState K V S A) (h : History) (turn c : ℕ) (event : Event) (reply : Option Reply) (x : Advances eq says hashes refuse s c s' event reply) (as_hashed : hashes s.store.hasher ≡ hash) (core' : IsCore s'.store s'.callers s'.mode) (good : IsGood eq says hash schedule first start s h) where
-    step : IsStep eq hash law refuse s c s' event reply x good.es good.tales
-    step = kept_step eq hash law refuse s c s' event reply x as_hashed good.es good.tales good.core good.kept
+    step : IsStep eq hash law refuse s c s' event reply x good.es good.call_traces
+    step = kept_step eq hash law refuse s c s' event reply x as_hashed good.es good.call_traces good.core good.kept
 
-    -- the exchanges and the tales after it
+    -- the exchanges and the traces after it
     abbrev es : List (Exchange (Stored K V))
     es = good.es ++ step.made
 
-    abbrev tales : ℕ → Tale K V
-    tales = told_tales good.tales c step.made step.hands
+    abbrev call_traces : ℕ → CallTrace K V
+    call_traces = told_call_traces good.call_traces c step.made step.loaded
 
     -- the call after it
     abbrev r' : Running K V A
@@ -169,24 +169,24 @@ module _ {K V S A : Type 0} (eq : K → K → Bool) (hash : K → ℕ) (law : Is
 
     -- only a compute shows its closure that there is none
     offers : ask_of x.before.machine ≡ asks.Call ShowNone → x.before.machine.call.task ≡ tasks.Compute
-    offers asking = machine_offers (setting_of eq (low hash) s.mode s.store.words.tables) (coding_of (low hash)) (good.tales c).begun (good.tales c).since step.call.key x.before.machine.call (good.tales c).hands.call step.call.rests.call (own_asks x.before.machine ShowNone asking).1
+    offers asking = machine_offers (setting_of eq (low hash) s.mode s.store.words.tables) (coding_of (low hash)) (good.call_traces c).begun (good.call_traces c).since step.call.key x.before.machine.call (good.call_traces c).loaded.call step.call.relies.call (own_asks x.before.machine ShowNone asking).1
 
     grows : HasMoreLogs s.store x.before s'.store x.later
     grows = grown eq says hashes refuse (ask_of x.before.machine) s.store x.before x.answer s'.store x.later x.performs offers
 
     one : (step.made ≡ []) ⊎ ((e : Exchange (Stored K V)) × (step.made ≡ e ∷ []))
-    one = one_exchange (setting_of eq (low hash) s.mode s.store.words.tables) (coding_of (low hash)) step.call.key (run good.es first_state) (kind_of_ask x.before.machine) (follows_of x.before.machine) (good.tales c).hands (ask_of x.before.machine) x.answer step.made step.hands step.told
+    one = one_exchange (setting_of eq (low hash) s.mode s.store.words.tables) (coding_of (low hash)) step.call.key (run good.es first_state) (kind_of_ask x.before.machine) (follows_of x.before.machine) (good.call_traces c).loaded (ask_of x.before.machine) x.answer step.made step.loaded step.told
 
     -- the answer was for the call itself, or the call was set aside
     order : IsInOrder x.before.machine x.answer x.before.machine.phase
-    order = advance_order eq hash law refuse s s' c event reply x good.core core' good.es good.tales good.kept step
+    order = advance_order eq hash law refuse s s' c event reply x good.core core' good.es good.call_traces good.kept step
 
     goes_by : Goes x.before.machine x.answer
     goes_by = machine_goes x.before.machine x.answer order
 
     -- what the machine made of the answer, it changed
     changed : change_in (after x.before.machine x.answer).call.state ≡ changed_by (kind_of_ask x.before.machine) (ask_of x.before.machine) x.answer (change_in x.before.machine.call.state)
-    changed = advance_changed eq hash law refuse s s' c event reply x good.core core' good.es good.tales good.kept step
+    changed = advance_changed eq hash law refuse s s' c event reply x good.core core' good.es good.call_traces good.kept step
 
     -- the key of an open call
     own_is : (call : Call K V A) → open_call schedule c h ≡ Some call → Some step.call.key ≡ key_of call
@@ -201,7 +201,7 @@ module _ {K V S A : Type 0} (eq : K → K → Bool) (hash : K → ℕ) (law : Is
     unchanged kind old new is = let (at, from, to, asking) = told (Changed kind old new) is in chain_once x.before.machine at from to asking
 
     -- an open call does with its key's class what its machine does
-    does : (call : Call K V A) → open_call schedule c h ≡ Some call → (went came : Option (Stored K V)) → MayPut step.call.key x.before.machine.call.task (good.tales c).hands.call.made went came → (reply : Reply) × Does call went reply came × (change_of_reply reply ≡ Some (number_in went, number_in came))
+    does : (call : Call K V A) → open_call schedule c h ≡ Some call → (went came : Option (Stored K V)) → MayPut step.call.key x.before.machine.call.task (good.call_traces c).loaded.call.made went came → (reply : Reply) × Does call went reply came × (change_of_reply reply ≡ Some (number_in went, number_in came))
     does call e went (Some q) (made, own, replaces) =
         let tied = good.tied c x.before call x.was e in
         insertion_does call step.call.key went q (sym (own_is call e)) own (tied.made q made) (subst (MayReplace went) tied.task replaces)
@@ -209,7 +209,7 @@ module _ {K V S A : Type 0} (eq : K → K → Bool) (hash : K → ℕ) (law : Is
     does call e None None may = absurd may
 
     -- and its closure has agreed
-    agreed : (call : Call K V A) → open_call schedule c h ≡ Some call → (kind : StepKind) (old new : Option ℕ) → event ≡ Changed kind old new → (went came : Option (Stored K V)) → number_in came ≡ new → MayPut step.call.key x.before.machine.call.task (good.tales c).hands.call.made went came → IsAgreed (Some call) c old came h good.answers
+    agreed : (call : Call K V A) → open_call schedule c h ≡ Some call → (kind : StepKind) (old new : Option ℕ) → event ≡ Changed kind old new → (went came : Option (Stored K V)) → number_in came ≡ new → MayPut step.call.key x.before.machine.call.task (good.call_traces c).loaded.call.made went came → IsAgreed (Some call) c old came h good.answers
     agreed call e kind old new is went came came_is may =
         let m = x.before.machine in
         let tied = good.tied c x.before call x.was e in
@@ -219,12 +219,12 @@ module _ {K V S A : Type 0} (eq : K → K → Bool) (hash : K → ℕ) (law : Is
         subst (λ n. IsSaidChange (the_task call) m.call old n) (sym came_is) (subst (λ t. IsSaidChange t m.call old new) tied.task (chain_changed m x.answer goes_by (good.core.standing c x.before x.was) at from to asking old new change)) in
         change_agreed call s.store x.before c h good.answers tied.said old came (logged went came may) said
       where
-        logged : (went came : Option (Stored K V)) → MayPut step.call.key x.before.machine.call.task (good.tales c).hands.call.made went came → (q : Stored K V) → came ≡ Some q → pair_of s.store q.number ≡ Some q
+        logged : (went came : Option (Stored K V)) → MayPut step.call.key x.before.machine.call.task (good.call_traces c).loaded.call.made went came → (q : Stored K V) → came ≡ Some q → pair_of s.store q.number ≡ Some q
         logged went None may q is = let f : None ≡ Some q = is in absurd cc
         logged went (Some p) (made, own, replaces) q is = let same : p ≡ q = cc in subst (λ (y : Stored K V). pair_of s.store y.number ≡ Some y) same (step.call.made p made)
 
     -- so it may make the change
-    may_move : (o : Option (Call K V A)) → open_call schedule c h ≡ o → (kind : StepKind) (old new : Option ℕ) → event ≡ Changed kind old new → (went came : Option (Stored K V)) → number_in went ≡ old → number_in came ≡ new → MayPut step.call.key x.before.machine.call.task (good.tales c).hands.call.made went came
+    may_move : (o : Option (Call K V A)) → open_call schedule c h ≡ o → (kind : StepKind) (old new : Option ℕ) → event ≡ Changed kind old new → (went came : Option (Stored K V)) → number_in went ≡ old → number_in came ≡ new → MayPut step.call.key x.before.machine.call.task (good.call_traces c).loaded.call.made went came
         → MayChange eq o (change_of c h) step.call.key went came × IsAgreed o c old came h good.answers
     may_move None e kind old new is went came went_is came_is may = (tt, tt)
     may_move (Some call) e kind old new is went came went_is came_is may =
@@ -243,14 +243,14 @@ module _ {K V S A : Type 0} (eq : K → K → Bool) (hash : K → ℕ) (law : Is
     may_show None e shown asking = tt
     may_show (Some call) e (Some n) asking =
         let (p, last, number, same, was) =
-        machine_shows (setting_of eq (low hash) s.mode s.store.words.tables) (coding_of (low hash)) (good.tales c).begun (good.tales c).since step.call.key hashed x.before.machine.call (good.tales c).hands.call step.call.rests.call n (own_asks x.before.machine (show (Some n)) asking).1 in
-        at_showing eq call c (good.tales c) h (replay eq good.es ∷ good.maps) (low hash) s.mode s.store.words.tables step.call.key (own_is call e) (good.tied c x.before call x.was e).moments p n number was
+        machine_shows (setting_of eq (low hash) s.mode s.store.words.tables) (coding_of (low hash)) (good.call_traces c).begun (good.call_traces c).since step.call.key hashed x.before.machine.call (good.call_traces c).loaded.call step.call.relies.call n (own_asks x.before.machine (show (Some n)) asking).1 in
+        at_showing eq call c (good.call_traces c) h (replay eq good.es ∷ good.maps) (low hash) s.mode s.store.words.tables step.call.key (own_is call e) (good.tied c x.before call x.was e).moments p n number was
     may_show (Some call) e None asking =
-        at_showing_none eq call c (good.tales c) h (replay eq good.es ∷ good.maps) (low hash) s.mode s.store.words.tables step.call.key (own_is call e) (good.tied c x.before call x.was e).moments (not_shown call e asking)
-        (machine_shows_none (setting_of eq (low hash) s.mode s.store.words.tables) (coding_of (low hash)) (good.tales c).begun (good.tales c).since step.call.key x.before.machine.call (good.tales c).hands.call step.call.rests.call (own_asks x.before.machine (show None) asking).1)
+        at_showing_none eq call c (good.call_traces c) h (replay eq good.es ∷ good.maps) (low hash) s.mode s.store.words.tables step.call.key (own_is call e) (good.tied c x.before call x.was e).moments (not_shown call e asking)
+        (machine_shows_none (setting_of eq (low hash) s.mode s.store.words.tables) (coding_of (low hash)) (good.call_traces c).begun (good.call_traces c).since step.call.key x.before.machine.call (good.call_traces c).loaded.call step.call.relies.call (own_asks x.before.machine (show None) asking).1)
 
     -- so its event may be told
-    may_tell : (e : Event) → event ≡ e → MayTell eq step.call.key x.before.machine.call.task (good.tales c).hands.call.made (replay eq good.es) schedule c h good.maps good.answers e
+    may_tell : (e : Event) → event ≡ e → MayTell eq step.call.key x.before.machine.call.task (good.call_traces c).loaded.call.made (replay eq good.es) schedule c h good.maps good.answers e
     may_tell Begun is = tt
     may_tell (Changed kind old new) is = (λ q made. good.unused c x.before x.was q made (unchanged kind old new is), may_move (open_call schedule c h) refl kind old new is)
     may_tell (Moved kind) is = tt
@@ -261,7 +261,7 @@ module _ {K V S A : Type 0} (eq : K → K → Bool) (hash : K → ℕ) (law : Is
     may_tell (Replied rep) is = told (Replied rep) is
 
     legal : IsLegal eq event schedule c h (replay eq good.es) good.maps (replay eq es) good.answers
-    legal = advance_legal eq hash law refuse s s' c event reply x good.core core' good.es good.tales good.kept step schedule h good.maps good.answers (may_tell event refl)
+    legal = advance_legal eq hash law refuse s s' c event reply x good.core core' good.es good.call_traces good.kept step schedule h good.maps good.answers (may_tell event refl)
 
     timeline : Timeline eq schedule start later_history later_maps later_answers
     timeline = (legal, answering.fits, good.timeline)
@@ -277,12 +277,12 @@ module _ {K V S A : Type 0} (eq : K → K → Bool) (hash : K → ℕ) (law : Is
     logged : AreLogged s'.store later_maps
     logged = (in_log, logged_more s.store s'.store (replay eq good.es ∷ good.maps) grows.pairs_stay good.logged)
 
-    -- the hands of the call
-    own_hands : (tales c).hands ≡ step.hands
-    own_hands = ap (λ b. cond b step.hands (good.tales c).hands) (eq-eqb c c refl)
+    -- the pairs that the call has loaded
+    own_loaded : (call_traces c).loaded ≡ step.loaded
+    own_loaded = ap (λ b. cond b step.loaded (good.call_traces c).loaded) (eq-eqb c c refl)
 
     -- a pair that it made and has not written was in no map before
-    own_unused : (q : Stored K V) → IsOneOf step.hands.call.made q → change_in (after x.before.machine x.answer).call.state ≡ None → IsUnused q.number (replay eq good.es ∷ good.maps)
+    own_unused : (q : Stored K V) → IsOneOf step.loaded.call.made q → change_in (after x.before.machine x.answer).call.state ≡ None → IsUnused q.number (replay eq good.es ∷ good.maps)
     own_unused q made none =
         let none_before = unchanged_before (change_in x.before.machine.call.state) (kind_of_ask x.before.machine) (ask_of x.before.machine) x.answer (chain_once x.before.machine) (sym changed ∙ none) in
         ⊎_elim
@@ -298,17 +298,17 @@ module _ {K V S A : Type 0} (eq : K → K → Bool) (hash : K → ℕ) (law : Is
     run_same d r same now =
         goes reply r' r (running-same s.callers c (goes_on reply r') r (sym (ap (λ (y : List (Seat K V A)). running y c) x.callers) ∙ ap (running s'.callers) (sym same) ∙ now))
 
-    hands_other : (d : ℕ) → d ≢ c → (tales d).hands ≡ (good.tales d).hands
-    hands_other d differ = ap (λ b. cond b step.hands (good.tales d).hands) (differs d c differ)
+    loaded_other : (d : ℕ) → d ≢ c → (call_traces d).loaded ≡ (good.call_traces d).loaded
+    loaded_other d differ = ap (λ b. cond b step.loaded (good.call_traces d).loaded) (differs d c differ)
 
-    unused : (d : ℕ) (r : Running K V A) → running s'.callers d ≡ Some r → (q : Stored K V) → IsOneOf (tales d).hands.call.made q → change_in r.machine.call.state ≡ None → IsUnused q.number later_maps
+    unused : (d : ℕ) (r : Running K V A) → running s'.callers d ≡ Some r → (q : Stored K V) → IsOneOf (call_traces d).loaded.call.made q → change_in r.machine.call.state ≡ None → IsUnused q.number later_maps
     unused d r now q made none = (
       λ j p e. let (t, i, there) = standing j p e in (step.kept.calls d r now).unwritten q made none t i p there,
       elim (cases_same d c) [
         | inl same ↦
             let is = run_same d r same now in
-            own_unused q (subst (λ (y : Hands (Stored K V)). IsOneOf y.call.made q) own_hands (subst (λ y. IsOneOf (tales y).hands.call.made q) same made)) (ap (λ (y : Running K V A). change_in y.machine.call.state) is.1 ∙ none)
-        | inr differ ↦ good.unused d r (run_other d r differ now) q (subst (λ (y : Hands (Stored K V)). IsOneOf y.call.made q) (hands_other d differ) made) none
+            own_unused q (subst (λ (y : LoadedPairs (Stored K V)). IsOneOf y.call.made q) own_loaded (subst (λ y. IsOneOf (call_traces y).loaded.call.made q) same made)) (ap (λ (y : Running K V A). change_in y.machine.call.state) is.1 ∙ none)
+        | inr differ ↦ good.unused d r (run_other d r differ now) q (subst (λ (y : LoadedPairs (Stored K V)). IsOneOf y.call.made q) (loaded_other d differ) made) none
       ],
     )
 
@@ -325,7 +325,7 @@ module _ {K V S A : Type 0} (eq : K → K → Bool) (hash : K → ℕ) (law : Is
     made_now n makes is = let m = step.made_now n makes is in (m.pair, m.there, m.before)
 
     -- the step's own call stands to the history, replied or not
-    tied_own : (call : Call K V A) → open_call schedule c h ≡ Some call → IsTied eq s'.store r' call c (tales c) later_history later_maps later_answers
+    tied_own : (call : Call K V A) → open_call schedule c h ≡ Some call → IsTied eq s'.store r' call c (call_traces c) later_history later_maps later_answers
     tied_own call e =
         let m = x.before.machine in
         let tied = good.tied c x.before call x.was e in
@@ -338,7 +338,7 @@ module _ {K V S A : Type 0} (eq : K → K → Bool) (hash : K → ℕ) (law : Is
           made = λ q made. ⊎_elim
               (λ was. tied.made q was)
               (λ (new : (q.number ≡ length s.store.pairs) × (own_value s.store x.before ≡ Some q.value) × (pair_of s'.store q.number ≡ Some q)). tied.value q.value new.1)
-              (step.new q (subst (λ (y : Hands (Stored K V)). IsOneOf y.call.made q) own_hands made));
+              (step.new q (subst (λ (y : LoadedPairs (Stored K V)). IsOneOf y.call.made q) own_loaded made));
           change = change_of-own c turn event h ∙ ap (change_by event) tied.change ∙ ap (λ y. change_by y (change_in m.call.state)) x.event_is
               ∙ event_change (change_in m.call.state) (kind_of_ask m) (ask_of m) x.answer (copy_kind m) (chain_once m) ∙ sym changed;
           said = said_after eq says hashes refuse s.store x.before x.answer s'.store x.later x.performs grows.pairs_stay made_now step.call.again tied.shows turn c event x.event_is h good.answers answering (chain_said m x.answer order (good.core.standing c x.before x.was).call tied.shows) tied.said;
@@ -347,16 +347,16 @@ module _ {K V S A : Type 0} (eq : K → K → Bool) (hash : K → ℕ) (law : Is
               (λ was. (shows_once m x.answer order (tied.once was)).1)
               (λ (now : (ask_of m ≡ asks.Call ShowNone) × ((op : OpKind) × (x.answer ≡ told_to.Call (Op op)))). subst (λ y. HasShownNone (after m y).call.remembered.fill (after m y).call.state) (sym now.1.1) (chain_offered m now.1.0 now.0))
               (event_none (was_shown_none c h) (kind_of_ask m) (ask_of m) x.answer (ap (λ y. none_by y (was_shown_none c h)) (sym x.event_is) ∙ sym (was_shown_none-own c turn event h) ∙ shown));
-          moments = subst (λ (l : List (Exchange (Stored K V))). (so_far rest : List (Exchange (Stored K V))) → so_far ++ rest ≡ (good.tales c).since ++ step.made → AtSomeMoment (λ m. at_key m (key_of call) ≡ at_key (replayed eq (replay eq (good.tales c).begun) so_far) (key_of call)) c later_history (replay eq (l ++ step.made) ∷ replay eq good.es ∷ good.maps)) step.call.split
-              (moments_more eq (key_of call) c (entry turn c event) h (replay eq good.es ∷ good.maps) (good.tales c).begun (good.tales c).since step.made one
+          moments = subst (λ (l : List (Exchange (Stored K V))). (so_far rest : List (Exchange (Stored K V))) → so_far ++ rest ≡ (good.call_traces c).since ++ step.made → AtSomeMoment (λ m. at_key m (key_of call) ≡ at_key (replayed eq (replay eq (good.call_traces c).begun) so_far) (key_of call)) c later_history (replay eq (l ++ step.made) ∷ replay eq good.es ∷ good.maps)) step.call.split
+              (moments_more eq (key_of call) c (entry turn c event) h (replay eq good.es ∷ good.maps) (good.call_traces c).begun (good.call_traces c).since step.made one
               no_begin tied.moments);
         }
 
     -- and so does each other call
-    tied_others : (d : ℕ) (r : Running K V A) (call : Call K V A) → d ≢ c → running s'.callers d ≡ Some r → open_call schedule d h ≡ Some call → IsTied eq s'.store r call d (tales d) later_history later_maps later_answers
+    tied_others : (d : ℕ) (r : Running K V A) (call : Call K V A) → d ≢ c → running s'.callers d ≡ Some r → open_call schedule d h ≡ Some call → IsTied eq s'.store r call d (call_traces d) later_history later_maps later_answers
     tied_others d r call differ now e =
         let before = run_other d r differ now in
-        tied_other eq s.store s'.store r call c d turn event good.tales step.made step.hands h good.es (replay eq good.es ∷ good.maps) answering.answered good.answers (record { keys = grows.keys_stay; values = grows.values_stay }) (good.kept.calls d r before).valued grows.pairs_stay one (λ z. differ (sym z)) (good.kept.calls d r before).split (good.tied d r call before e)
+        tied_other eq s.store s'.store r call c d turn event good.call_traces step.made step.loaded h good.es (replay eq good.es ∷ good.maps) answering.answered good.answers (record { keys = grows.keys_stay; values = grows.values_stay }) (good.kept.calls d r before).valued grows.pairs_stay one (λ z. differ (sym z)) (good.kept.calls d r before).split (good.tied d r call before e)
 
     -- a closure that ended the call did so in the step
     ending : (call : Call K V A) → open_call schedule c h ≡ Some call → (rep : Reply) → reply ≡ Some rep → ask_of (after x.before.machine x.answer) ≡ asks.Call (Ask_done rep) → IsEnding r'.machine.call.task call rep c later_history later_maps
@@ -370,18 +370,18 @@ module _ {K V S A : Type 0} (eq : K → K → Bool) (hash : K → ℕ) (law : Is
     fits (Some call) e rep some =
         let was = sym opened ∙ e in
         let done : ask_of (after x.before.machine x.answer) ≡ asks.Call (Ask_done rep) = reply_asked (ask_of (after x.before.machine x.answer)) rep (sym x.reply_is ∙ some) in
-        tied_fits eq s'.store r' call c (tales c) later_history later_maps later_answers (low hash) s'.mode s'.store.words.tables step.own.key (ap (λ k. Some k) step.own_key ∙ own_is call was) (tied_own call was) step.own.rests rep done (ending call was rep some done)
+        tied_fits eq s'.store r' call c (call_traces c) later_history later_maps later_answers (low hash) s'.mode s'.store.words.tables step.own.key (ap (λ k. Some k) step.own_key ∙ own_is call was) (tied_own call was) step.own.relies rep done (ending call was rep some done)
 
     -- a call of another that is open now was open before
     open_other : (d : ℕ) (call : Call K V A) → d ≢ c → open_call schedule d later_history ≡ Some call → open_call schedule d h ≡ Some call
     open_other d call differ e = sym (open_call-other schedule c d turn event h (λ z. differ (sym z))) ∙ e
 
-    tied : (d : ℕ) (r : Running K V A) (call : Call K V A) → running s'.callers d ≡ Some r → open_call schedule d later_history ≡ Some call → IsTied eq s'.store r call d (tales d) later_history later_maps later_answers
+    tied : (d : ℕ) (r : Running K V A) (call : Call K V A) → running s'.callers d ≡ Some r → open_call schedule d later_history ≡ Some call → IsTied eq s'.store r call d (call_traces d) later_history later_maps later_answers
     tied d r call now e = elim (cases_same d c) [
       | inl same ↦
           let is = (run_same d r same now).1 in
-          subst (λ y. IsTied eq s'.store r call y (tales y) later_history later_maps later_answers) (sym same)
-          (subst (λ y. IsTied eq s'.store y call c (tales c) later_history later_maps later_answers) is
+          subst (λ y. IsTied eq s'.store r call y (call_traces y) later_history later_maps later_answers) (sym same)
+          (subst (λ y. IsTied eq s'.store y call c (call_traces c) later_history later_maps later_answers) is
           (tied_own call (sym opened ∙ ap (λ y. open_call schedule y later_history) (sym same) ∙ e)))
       | inr differ ↦ tied_others d r call differ now (open_other d call differ e)
     ]
@@ -423,10 +423,10 @@ module _ {K V S A : Type 0} (eq : K → K → Bool) (hash : K → ℕ) (law : Is
     comes_new : (call : Call K V A) → open_call schedule c h ≡ Some call → (e : Event) → event ≡ e → ComesNew first e
     comes_new call began (Changed kind old (Some n)) is = by_came moved.came moved.came_is moved.may
       where
-        moved : IsMoved eq step.call.key x.before.machine.call.task (good.tales c).hands.call.made (replay eq good.es) (replay eq es) old (Some n)
-        moved = subst (Moves eq step.call.key x.before.machine.call.task (good.tales c).hands.call.made (replay eq good.es) (replay eq es)) is (advance_moved eq hash law refuse s s' c event reply x good.core core' good.es good.tales good.kept step)
+        moved : IsMoved eq step.call.key x.before.machine.call.task (good.call_traces c).loaded.call.made (replay eq good.es) (replay eq es) old (Some n)
+        moved = subst (Moves eq step.call.key x.before.machine.call.task (good.call_traces c).loaded.call.made (replay eq good.es) (replay eq es)) is (advance_moved eq hash law refuse s s' c event reply x good.core core' good.es good.call_traces good.kept step)
 
-        by_came : (came : Option (Stored K V)) → number_in came ≡ Some n → MayPut step.call.key x.before.machine.call.task (good.tales c).hands.call.made moved.went came → pair_of first n ≡ None
+        by_came : (came : Option (Stored K V)) → number_in came ≡ Some n → MayPut step.call.key x.before.machine.call.task (good.call_traces c).loaded.call.made moved.went came → pair_of first n ≡ None
         by_came None none may = let f : None ≡ Some n = none in absurd cc
         by_came (Some q) number (made, own, replaces) = subst (λ i. pair_of first i ≡ None) (same_item q.number n number) (good.made_new c x.before call x.was began q made)
     comes_new call began (Changed kind old None) is = tt
@@ -442,17 +442,17 @@ module _ {K V S A : Type 0} (eq : K → K → Bool) (hash : K → ℕ) (law : Is
     fresh = (λ call began. comes_new call began event refl, good.fresh)
 
     -- and so are those that calls of the run made
-    made_others : (d : ℕ) (r : Running K V A) (call : Call K V A) → d ≢ c → running s'.callers d ≡ Some r → open_call schedule d h ≡ Some call → (q : Stored K V) → IsOneOf (tales d).hands.call.made q → pair_of first q.number ≡ None
-    made_others d r call differ now e q made = good.made_new d r call (run_other d r differ now) e q (subst (λ (y : Hands (Stored K V)). IsOneOf y.call.made q) (hands_other d differ) made)
+    made_others : (d : ℕ) (r : Running K V A) (call : Call K V A) → d ≢ c → running s'.callers d ≡ Some r → open_call schedule d h ≡ Some call → (q : Stored K V) → IsOneOf (call_traces d).loaded.call.made q → pair_of first q.number ≡ None
+    made_others d r call differ now e q made = good.made_new d r call (run_other d r differ now) e q (subst (λ (y : LoadedPairs (Stored K V)). IsOneOf y.call.made q) (loaded_other d differ) made)
 
-    made_new : (d : ℕ) (r : Running K V A) (call : Call K V A) → running s'.callers d ≡ Some r → open_call schedule d later_history ≡ Some call → (q : Stored K V) → IsOneOf (tales d).hands.call.made q → pair_of first q.number ≡ None
+    made_new : (d : ℕ) (r : Running K V A) (call : Call K V A) → running s'.callers d ≡ Some r → open_call schedule d later_history ≡ Some call → (q : Stored K V) → IsOneOf (call_traces d).loaded.call.made q → pair_of first q.number ≡ None
     made_new d r call now e q made = elim (cases_same d c) [
       | inl same ↦
           let opened_before = sym opened ∙ ap (λ y. open_call schedule y later_history) (sym same) ∙ e in
           ⊎_elim
           (λ was. good.made_new c x.before call x.was opened_before q was)
           (λ (new : (q.number ≡ length s.store.pairs) × (own_value s.store x.before ≡ Some q.value) × (pair_of s'.store q.number ≡ Some q)). subst (λ n. pair_of first n ≡ None) (sym new.0) past_new)
-          (step.new q (subst (λ (y : Hands (Stored K V)). IsOneOf y.call.made q) own_hands (subst (λ y. IsOneOf (tales y).hands.call.made q) same made)))
+          (step.new q (subst (λ (y : LoadedPairs (Stored K V)). IsOneOf y.call.made q) own_loaded (subst (λ y. IsOneOf (call_traces y).loaded.call.made q) same made)))
       | inr differ ↦ made_others d r call differ now (open_other d call differ e) q made
     ]
 
@@ -471,13 +471,13 @@ module _ {K V S A : Type 0} (eq : K → K → Bool) (hash : K → ℕ) (law : Is
         let was = good.resized d z call before (open_other d call differ e) in
         (was.0, change_of-other c d turn event h (λ y. differ (sym y)) ∙ was.1)
 
-    -- and so does a visitor
-    visits_other : (d : ℕ) (v : Visiting A) → visiting s'.callers d ≡ Some v → (d ≢ c) × (visiting s.callers d ≡ Some v)
-    visits_other d v now =
-        let before : visiting (with_call s.callers c (goes_on reply r')) d ≡ Some v = sym (ap (λ (y : List (Seat K V A)). visiting y d) x.callers) ∙ now in
+    -- and so does a scanner
+    scans_other : (d : ℕ) (v : Scanning A) → scanning s'.callers d ≡ Some v → (d ≢ c) × (scanning s.callers d ≡ Some v)
+    scans_other d v now =
+        let before : scanning (with_call s.callers c (goes_on reply r')) d ≡ Some v = sym (ap (λ (y : List (Seat K V A)). scanning y d) x.callers) ∙ now in
         elim (cases_same d c) [
-          | inl same ↦ absurd (no-visitor (goes_on reply r') v (visiting-here s.callers c (as_work (goes_on reply r')) v (ap (visiting (with_call s.callers c (goes_on reply r'))) (sym same) ∙ before)))
-          | inr differ ↦ (differ, sym (visiting-elsewhere s.callers c d (as_work (goes_on reply r')) differ) ∙ before)
+          | inl same ↦ absurd (no-scanner (goes_on reply r') v (scanning-here s.callers c (as_work (goes_on reply r')) v (ap (scanning (with_call s.callers c (goes_on reply r'))) (sym same) ∙ before)))
+          | inr differ ↦ (differ, sym (scanning-elsewhere s.callers c d (as_work (goes_on reply r')) differ) ∙ before)
         ]
 
     keyed : IsKeyed eq (replay eq es)
@@ -486,27 +486,27 @@ module _ {K V S A : Type 0} (eq : K → K → Bool) (hash : K → ℕ) (law : Is
     -- a pair that takes the place of another was in no map before
     put_new : (t y : ℕ) (p q : Stored K V) → step.made ≡ Replace t y p q ∷ [] → IsUnused q.number (replay eq good.es ∷ good.maps)
     put_new t y p q is =
-        let (at, old, new, asking, own) = replaces_own eq (setting_of eq (low hash) s.mode s.store.words.tables) (coding_of (low hash)) step.call.key (run good.es first_state) (kind_of_ask x.before.machine) (follows_of x.before.machine) (good.tales c).hands (ask_of x.before.machine) x.answer step.made step.hands t y p q (law.classes.refl p.key) is step.told in
+        let (at, old, new, asking, own) = replaces_own eq (setting_of eq (low hash) s.mode s.store.words.tables) (coding_of (low hash)) step.call.key (run good.es first_state) (kind_of_ask x.before.machine) (follows_of x.before.machine) (good.call_traces c).loaded (ask_of x.before.machine) x.answer step.made step.loaded t y p q (law.classes.refl p.key) is step.told in
         good.unused c x.before x.was q own (chain_once x.before.machine at old new asking)
 
-    visited : (d : ℕ) (v : Visiting A) (call : Call K V A) → visiting s'.callers d ≡ Some v → open_call schedule d later_history ≡ Some call → IsVisitTied eq says s'.store schedule v call d (visit_tale (tales d)) later_history later_maps later_answers
-    visited d v call now e =
-        let (differ, before) = visits_other d v now in
-        let split = (good.kept.visitors d v before).split in
-        visit_other eq says schedule s.store s'.store v call c d turn event (visit_tale (good.tales d)) ((good.tales d).since ++ step.made) step.made h (replay eq good.es) (replay eq es) good.maps answering.answered good.answers (λ z. differ (sym z)) grows.pairs_stay one refl
-        (ap (λ l. replay eq l) (sym split)) (ap (λ l. replay eq l) (ap (λ l. l ++ step.made) (sym split) ∙ append_assoc (good.tales d).begun (good.tales d).since step.made)) keyed
+    scanned : (d : ℕ) (v : Scanning A) (call : Call K V A) → scanning s'.callers d ≡ Some v → open_call schedule d later_history ≡ Some call → IsScanTied eq says s'.store schedule v call d (scan_trace (call_traces d)) later_history later_maps later_answers
+    scanned d v call now e =
+        let (differ, before) = scans_other d v now in
+        let split = (good.kept.scanners d v before).split in
+        scan_other eq says schedule s.store s'.store v call c d turn event (scan_trace (good.call_traces d)) ((good.call_traces d).since ++ step.made) step.made h (replay eq good.es) (replay eq es) good.maps answering.answered good.answers (λ z. differ (sym z)) grows.pairs_stay one refl
+        (ap (λ l. replay eq l) (sym split)) (ap (λ l. replay eq l) (ap (λ l. l ++ step.made) (sym split) ∙ append_assoc (good.call_traces d).begun (good.call_traces d).since step.made)) keyed
         (timeline_steady eq schedule start later_history later_maps later_answers timeline).0 put_new
-        (good.visited d v call before (open_other d call differ e))
+        (good.scanned d v call before (open_other d call differ e))
 
     -- the call goes on
     goes_on_good : IsGood eq says hash schedule first start s' later_history
-    goes_on_good = record { es = es; tales = tales; maps = replay eq good.es ∷ good.maps; answers = later_answers; core = core'; kept = step.kept; timeline = timeline; logged = logged; given = given; left = left; resized = resized; visited = visited; kept_pairs = λ n p there. grows.pairs_stay n p (good.kept_pairs n p there); fresh = fresh; made_new = made_new; unused = unused; tied = tied }
+    goes_on_good = record { es = es; call_traces = call_traces; maps = replay eq good.es ∷ good.maps; answers = later_answers; core = core'; kept = step.kept; timeline = timeline; logged = logged; given = given; left = left; resized = resized; scanned = scanned; kept_pairs = λ n p there. grows.pairs_stay n p (good.kept_pairs n p there); fresh = fresh; made_new = made_new; unused = unused; tied = tied }
 
     -- or it replies
     replies_good : (rep : Reply) → reply ≡ Some rep → IsGood eq says hash schedule first start s' (entry turn c (Replied rep) ∷ later_history)
     replies_good rep some = record {
       es = es;
-      tales = tales;
+      call_traces = call_traces;
       maps = later_maps;
       answers = None ∷ later_answers;
       core = core';
@@ -524,11 +524,11 @@ module _ {K V S A : Type 0} (eq : K → K → Bool) (hash : K → ℕ) (law : Is
           let ne : c ≢ d = λ y. (resizes_other d z now).0 (sym y) in
           let was = resized d z call now (sym (open_call-other schedule c d turn (Replied rep) later_history ne) ∙ e) in
           (was.0, change_of-other c d turn (Replied rep) later_history ne ∙ was.1);
-      visited = λ d v call now e.
-          let ne : c ≢ d = λ y. (visits_other d v now).0 (sym y) in
-          visit_entry eq says schedule s'.store s'.store v call c d turn (Replied rep) (visit_tale (tales d)) later_history (replay eq es) (replay eq good.es ∷ good.maps) None later_answers ne (λ n p there. there)
-          (ap (λ l. replay eq l) (sym (step.kept.visitors d v now).split)) keyed
-          (visited d v call now (sym (open_call-other schedule c d turn (Replied rep) later_history ne) ∙ e));
+      scanned = λ d v call now e.
+          let ne : c ≢ d = λ y. (scans_other d v now).0 (sym y) in
+          scan_entry eq says schedule s'.store s'.store v call c d turn (Replied rep) (scan_trace (call_traces d)) later_history (replay eq es) (replay eq good.es ∷ good.maps) None later_answers ne (λ n p there. there)
+          (ap (λ l. replay eq l) (sym (step.kept.scanners d v now).split)) keyed
+          (scanned d v call now (sym (open_call-other schedule c d turn (Replied rep) later_history ne) ∙ e));
       kept_pairs = λ n p there. grows.pairs_stay n p (good.kept_pairs n p there);
       fresh = (λ call began. tt, fresh);
       made_new = λ d r call now e q made. elim (cases_same d c) [
@@ -540,7 +540,7 @@ module _ {K V S A : Type 0} (eq : K → K → Bool) (hash : K → ℕ) (law : Is
         | inl same ↦ let f : Some rep ≡ None = sym some ∙ (run_same d r same now).0 in cc
         | inr differ ↦
             let ne : c ≢ d = λ z. differ (sym z) in
-            tied_entry eq s'.store s'.store r call c d turn (Replied rep) (tales d) later_history (replay eq es) later_maps None later_answers refl ne
+            tied_entry eq s'.store s'.store r call c d turn (Replied rep) (call_traces d) later_history (replay eq es) later_maps None later_answers refl ne
             (tied_others d r call differ now (open_other d call differ (sym (open_call-other schedule c d turn (Replied rep) later_history ne) ∙ e)))
       ];
     }
@@ -550,15 +550,15 @@ module _ {K V S A : Type 0} (eq : K → K → Bool) (hash : K → ℕ) (law : Is
   good_step refuse schedule first start s s' h turn c event None x as_hashed core' good = goes_on_good refuse schedule first start s s' h turn c event None x as_hashed core' good
   good_step refuse schedule first start s s' h turn c event (Some rep) x as_hashed core' good = replies_good refuse schedule first start s s' h turn c event (Some rep) x as_hashed core' good rep refl
 
-  -- a begin adds a call that rests on the exchanges as they are
+  -- a begin adds a call that relies on the exchanges as they are
   pub good_begin : (says : Says K V A) (schedule : List (Turn K V A)) (first : StoreState K V S) (start : Map K V) (s s' : CoreState K V S A) (h : History) (turn c : ℕ) (call : Call K V A) → slice_get schedule turn ≡ Some (Begin c call) → Begins hash s c call s' → IsCore s'.store s'.callers s'.mode → IsGood eq says hash schedule first start s h → IsGood eq says hash schedule first start s' (entry turn c Begun ∷ h)
   good_begin says schedule first start s s' h turn c call at x core' good = record {
     es = good.es;
-    tales = tales;
+    call_traces = call_traces;
     maps = replay eq good.es ∷ good.maps;
     answers = None ∷ good.answers;
     core = core';
-    kept = kept_begin eq hash law s c call s' x good.es good.tales good.kept;
+    kept = kept_begin eq hash law s c call s' x good.es good.call_traces good.kept;
     timeline = (λ j. refl, refl, good.timeline);
     logged = (logged.0, logged);
     given = (
@@ -590,21 +590,21 @@ module _ {K V S A : Type 0} (eq : K → K → Bool) (hash : K → ℕ) (law : Is
               let was = good.resized d z other (sym (resizing-with_seat s.callers c d) ∙ sym (resizing-elsewhere (with_seat s.callers c) c d (Some (begun_work hash s.mode s.initial x.number call)) differ) ∙ before) (sym (open_call-other schedule c d turn Begun h ne) ∙ e) in
               (was.0, change_of-other c d turn Begun h ne ∙ was.1)
         ];
-    visited = visited;
+    scanned = scanned;
     kept_pairs = subst (λ (y : StoreState K V S). KeepsPairs first y) (sym x.store) good.kept_pairs;
     fresh = (λ call began. tt, good.fresh);
     made_new = λ d r other now e q made. elim (cases_same d c) [
-      | inl same ↦ absurd (subst (λ (y : Tale K V). IsOneOf y.hands.call.made q) (ap tales same ∙ tale_same) made)
+      | inl same ↦ absurd (subst (λ (y : CallTrace K V). IsOneOf y.loaded.call.made q) (ap call_traces same ∙ call_trace_same) made)
       | inr differ ↦
           good.made_new d r other (run_other d r differ now) (sym (open_call-other schedule c d turn Begun h (λ z. differ (sym z))) ∙ e) q
-          (subst (λ (y : Tale K V). IsOneOf y.hands.call.made q) (tale_other d differ) made)
+          (subst (λ (y : CallTrace K V). IsOneOf y.loaded.call.made q) (call_trace_other d differ) made)
     ];
     unused = unused;
     tied = tied;
   }
     where
-      tales : ℕ → Tale K V
-      tales = begun_tales good.tales c good.es
+      call_traces : ℕ → CallTrace K V
+      call_traces = begun_call_traces good.call_traces c good.es
 
       logged : AreLogged s'.store (replay eq good.es ∷ good.maps)
       logged = subst (λ (y : StoreState K V S). AreLogged y (replay eq good.es ∷ good.maps)) (sym x.store) good.logged
@@ -617,66 +617,66 @@ module _ {K V S A : Type 0} (eq : K → K → Bool) (hash : K → ℕ) (law : Is
       run_same d r same now =
           call_begun hash s.mode s.initial x.number call r (same_item (begun_work hash s.mode s.initial x.number call) (works.Call r) (running-here (with_seat s.callers c) c (Some (begun_work hash s.mode s.initial x.number call)) r (sym (ap (λ (y : List (Seat K V A)). running y c) x.callers) ∙ ap (running s'.callers) (sym same) ∙ now)))
 
-      tale_other : (d : ℕ) → d ≢ c → tales d ≡ good.tales d
-      tale_other d differ = ap (λ b. cond b (record { begun = good.es; since = []; hands = no_hands; visit = visits.no_hands }) (good.tales d)) (differs d c differ)
+      call_trace_other : (d : ℕ) → d ≢ c → call_traces d ≡ good.call_traces d
+      call_trace_other d differ = ap (λ b. cond b (record { begun = good.es; since = []; loaded = nothing_loaded; scan = scans.nothing_loaded }) (good.call_traces d)) (differs d c differ)
 
-      tale_same : tales c ≡ record { begun = good.es; since = []; hands = no_hands; visit = visits.no_hands }
-      tale_same = ap (λ b. cond b (record { begun = good.es; since = []; hands = no_hands; visit = visits.no_hands }) (good.tales c)) (eq-eqb c c refl)
+      call_trace_same : call_traces c ≡ record { begun = good.es; since = []; loaded = nothing_loaded; scan = scans.nothing_loaded }
+      call_trace_same = ap (λ b. cond b (record { begun = good.es; since = []; loaded = nothing_loaded; scan = scans.nothing_loaded }) (good.call_traces c)) (eq-eqb c c refl)
 
-      -- a visitor that is another's stands as it stood, and one that begins stands at its begin
+      -- a scanner that is another's stands as it stood, and one that begins stands at its begin
       keyed : IsKeyed eq (replay eq good.es)
       keyed = replay_keyed eq (low hash) s.mode s.store.words.tables (hashed_setting eq hash law s good.core).lawful good.es good.kept.allowed
 
       stays : KeepsPairs s.store s'.store
       stays n p there = ap (λ (y : StoreState K V S). pair_of y n) x.store ∙ there
 
-      visits_other : (d : ℕ) (v : Visiting A) → d ≢ c → visiting s'.callers d ≡ Some v → visiting s.callers d ≡ Some v
-      visits_other d v differ now =
-          sym (visiting-with_seat s.callers c d) ∙ sym (visiting-elsewhere (with_seat s.callers c) c d (Some (begun_work hash s.mode s.initial x.number call)) differ) ∙ sym (ap (λ (y : List (Seat K V A)). visiting y d) x.callers) ∙ now
+      scans_other : (d : ℕ) (v : Scanning A) → d ≢ c → scanning s'.callers d ≡ Some v → scanning s.callers d ≡ Some v
+      scans_other d v differ now =
+          sym (scanning-with_seat s.callers c d) ∙ sym (scanning-elsewhere (with_seat s.callers c) c d (Some (begun_work hash s.mode s.initial x.number call)) differ) ∙ sym (ap (λ (y : List (Seat K V A)). scanning y d) x.callers) ∙ now
 
-      visits_same : (d : ℕ) (v : Visiting A) → d ≡ c → visiting s'.callers d ≡ Some v → begun_work hash s.mode s.initial x.number call ≡ works.Visit v
-      visits_same d v same now =
-          same_item (begun_work hash s.mode s.initial x.number call) (works.Visit v) (visiting-here (with_seat s.callers c) c (Some (begun_work hash s.mode s.initial x.number call)) v (sym (ap (λ (y : List (Seat K V A)). visiting y c) x.callers) ∙ ap (visiting s'.callers) (sym same) ∙ now))
+      scans_same : (d : ℕ) (v : Scanning A) → d ≡ c → scanning s'.callers d ≡ Some v → begun_work hash s.mode s.initial x.number call ≡ works.Scan v
+      scans_same d v same now =
+          same_item (begun_work hash s.mode s.initial x.number call) (works.Scan v) (scanning-here (with_seat s.callers c) c (Some (begun_work hash s.mode s.initial x.number call)) v (sym (ap (λ (y : List (Seat K V A)). scanning y c) x.callers) ∙ ap (scanning s'.callers) (sym same) ∙ now))
 
-      visited : (d : ℕ) (v : Visiting A) (other : Call K V A) → visiting s'.callers d ≡ Some v → open_call schedule d (entry turn c Begun ∷ h) ≡ Some other → IsVisitTied eq says s'.store schedule v other d (visit_tale (tales d)) (entry turn c Begun ∷ h) (replay eq good.es ∷ replay eq good.es ∷ good.maps) (None ∷ good.answers)
-      visited d v other now e = elim (cases_same d c) [
+      scanned : (d : ℕ) (v : Scanning A) (other : Call K V A) → scanning s'.callers d ≡ Some v → open_call schedule d (entry turn c Begun ∷ h) ≡ Some other → IsScanTied eq says s'.store schedule v other d (scan_trace (call_traces d)) (entry turn c Begun ∷ h) (replay eq good.es ∷ replay eq good.es ∷ good.maps) (None ∷ good.answers)
+      scanned d v other now e = elim (cases_same d c) [
         | inl same ↦
-            let begins = visit_begun hash s.mode s.initial x.number call v (visits_same d v same now) in
+            let begins = scan_begun hash s.mode s.initial x.number call v (scans_same d v same now) in
             let is_call : call ≡ other = same_item call other (sym (open_call-own schedule c turn Begun h ∙ ap begun_by at) ∙ sym (ap (λ y. open_call schedule y (entry turn c Begun ∷ h)) same) ∙ e) in
-            subst (λ y. IsVisitTied eq says s'.store schedule v other y (visit_tale (tales y)) (entry turn c Begun ∷ h) (replay eq good.es ∷ replay eq good.es ∷ good.maps) (None ∷ good.answers)) (sym same)
-            (subst (λ y. IsVisitTied eq says s'.store schedule v y c (visit_tale (tales c)) (entry turn c Begun ∷ h) (replay eq good.es ∷ replay eq good.es ∷ good.maps) (None ∷ good.answers)) is_call
-            (subst (λ (y : Tale K V). IsVisitTied eq says s'.store schedule v call c (visit_tale y) (entry turn c Begun ∷ h) (replay eq good.es ∷ replay eq good.es ∷ good.maps) (None ∷ good.answers)) (sym tale_same)
-            (visit_begins eq says schedule s'.store v call c turn good.es h (replay eq good.es ∷ good.maps) None good.answers begins.0 keyed (λ a had. ap (λ o. begun_answers (begun_by o)) at ∙ sym begins.1 ∙ had))))
+            subst (λ y. IsScanTied eq says s'.store schedule v other y (scan_trace (call_traces y)) (entry turn c Begun ∷ h) (replay eq good.es ∷ replay eq good.es ∷ good.maps) (None ∷ good.answers)) (sym same)
+            (subst (λ y. IsScanTied eq says s'.store schedule v y c (scan_trace (call_traces c)) (entry turn c Begun ∷ h) (replay eq good.es ∷ replay eq good.es ∷ good.maps) (None ∷ good.answers)) is_call
+            (subst (λ (y : CallTrace K V). IsScanTied eq says s'.store schedule v call c (scan_trace y) (entry turn c Begun ∷ h) (replay eq good.es ∷ replay eq good.es ∷ good.maps) (None ∷ good.answers)) (sym call_trace_same)
+            (scan_begins eq says schedule s'.store v call c turn good.es h (replay eq good.es ∷ good.maps) None good.answers begins.0 keyed (λ a had. ap (λ o. begun_answers (begun_by o)) at ∙ sym begins.1 ∙ had))))
         | inr differ ↦
             let ne : c ≢ d = λ z. differ (sym z) in
-            let before = visits_other d v differ now in
-            subst (λ (y : Tale K V). IsVisitTied eq says s'.store schedule v other d (visit_tale y) (entry turn c Begun ∷ h) (replay eq good.es ∷ replay eq good.es ∷ good.maps) (None ∷ good.answers)) (sym (tale_other d differ))
-            (visit_entry eq says schedule s.store s'.store v other c d turn Begun (visit_tale (good.tales d)) h (replay eq good.es) good.maps None good.answers ne stays
-            (ap (λ l. replay eq l) (sym (good.kept.visitors d v before).split)) keyed
-            (good.visited d v other before (sym (open_call-other schedule c d turn Begun h ne) ∙ e)))
+            let before = scans_other d v differ now in
+            subst (λ (y : CallTrace K V). IsScanTied eq says s'.store schedule v other d (scan_trace y) (entry turn c Begun ∷ h) (replay eq good.es ∷ replay eq good.es ∷ good.maps) (None ∷ good.answers)) (sym (call_trace_other d differ))
+            (scan_entry eq says schedule s.store s'.store v other c d turn Begun (scan_trace (good.call_traces d)) h (replay eq good.es) good.maps None good.answers ne stays
+            (ap (λ l. replay eq l) (sym (good.kept.scanners d v before).split)) keyed
+            (good.scanned d v other before (sym (open_call-other schedule c d turn Begun h ne) ∙ e)))
       ]
 
-      unused : (d : ℕ) (r : Running K V A) → running s'.callers d ≡ Some r → (q : Stored K V) → IsOneOf (tales d).hands.call.made q → change_in r.machine.call.state ≡ None → IsUnused q.number (replay eq good.es ∷ replay eq good.es ∷ good.maps)
+      unused : (d : ℕ) (r : Running K V A) → running s'.callers d ≡ Some r → (q : Stored K V) → IsOneOf (call_traces d).loaded.call.made q → change_in r.machine.call.state ≡ None → IsUnused q.number (replay eq good.es ∷ replay eq good.es ∷ good.maps)
       unused d r now q made none = elim (cases_same d c) [
-        | inl same ↦ absurd (subst (λ (y : Tale K V). IsOneOf y.hands.call.made q) (ap tales same ∙ tale_same) made)
+        | inl same ↦ absurd (subst (λ (y : CallTrace K V). IsOneOf y.loaded.call.made q) (ap call_traces same ∙ call_trace_same) made)
         | inr differ ↦
-            let u = good.unused d r (run_other d r differ now) q (subst (λ (y : Tale K V). IsOneOf y.hands.call.made q) (tale_other d differ) made) none in
+            let u = good.unused d r (run_other d r differ now) q (subst (λ (y : CallTrace K V). IsOneOf y.loaded.call.made q) (call_trace_other d differ) made) none in
             (u.0, u)
       ]
 
-      tied : (d : ℕ) (r : Running K V A) (other : Call K V A) → running s'.callers d ≡ Some r → open_call schedule d (entry turn c Begun ∷ h) ≡ Some other → IsTied eq s'.store r other d (tales d) (entry turn c Begun ∷ h) (replay eq good.es ∷ replay eq good.es ∷ good.maps) (None ∷ good.answers)
+      tied : (d : ℕ) (r : Running K V A) (other : Call K V A) → running s'.callers d ≡ Some r → open_call schedule d (entry turn c Begun ∷ h) ≡ Some other → IsTied eq s'.store r other d (call_traces d) (entry turn c Begun ∷ h) (replay eq good.es ∷ replay eq good.es ∷ good.maps) (None ∷ good.answers)
       tied d r other now e = elim (cases_same d c) [
         | inl same ↦
             let is = run_same d r same now in
             let is_call : call ≡ other = same_item call other (sym (open_call-own schedule c turn Begun h ∙ ap begun_by at) ∙ sym (ap (λ y. open_call schedule y (entry turn c Begun ∷ h)) same) ∙ e) in
-            subst (λ y. IsTied eq s'.store r other y (tales y) (entry turn c Begun ∷ h) (replay eq good.es ∷ replay eq good.es ∷ good.maps) (None ∷ good.answers)) (sym same)
-            (subst (λ y. IsTied eq s'.store r y c (tales c) (entry turn c Begun ∷ h) (replay eq good.es ∷ replay eq good.es ∷ good.maps) (None ∷ good.answers)) is_call
-            (subst (λ y. IsTied eq s'.store y call c (tales c) (entry turn c Begun ∷ h) (replay eq good.es ∷ replay eq good.es ∷ good.maps) (None ∷ good.answers)) (sym is.is)
-            (subst (λ y. IsTied eq s'.store (begun hash s.mode s.initial x.number is.task is.key (value_of_call call) (answers_of_call call)) call c y (entry turn c Begun ∷ h) (replay eq good.es ∷ replay eq good.es ∷ good.maps) (None ∷ good.answers)) (sym tale_same) (tied_begun r is))))
+            subst (λ y. IsTied eq s'.store r other y (call_traces y) (entry turn c Begun ∷ h) (replay eq good.es ∷ replay eq good.es ∷ good.maps) (None ∷ good.answers)) (sym same)
+            (subst (λ y. IsTied eq s'.store r y c (call_traces c) (entry turn c Begun ∷ h) (replay eq good.es ∷ replay eq good.es ∷ good.maps) (None ∷ good.answers)) is_call
+            (subst (λ y. IsTied eq s'.store y call c (call_traces c) (entry turn c Begun ∷ h) (replay eq good.es ∷ replay eq good.es ∷ good.maps) (None ∷ good.answers)) (sym is.is)
+            (subst (λ y. IsTied eq s'.store (begun hash s.mode s.initial x.number is.task is.key (value_of_call call) (answers_of_call call)) call c y (entry turn c Begun ∷ h) (replay eq good.es ∷ replay eq good.es ∷ good.maps) (None ∷ good.answers)) (sym call_trace_same) (tied_begun r is))))
         | inr differ ↦
             let ne : c ≢ d = λ z. differ (sym z) in
-            subst (λ y. IsTied eq s'.store r other d y (entry turn c Begun ∷ h) (replay eq good.es ∷ replay eq good.es ∷ good.maps) (None ∷ good.answers)) (sym (tale_other d differ))
-            (tied_entry eq s.store s'.store r other c d turn Begun (good.tales d) h (replay eq good.es) (replay eq good.es ∷ good.maps) None good.answers x.store ne
+            subst (λ y. IsTied eq s'.store r other d y (entry turn c Begun ∷ h) (replay eq good.es ∷ replay eq good.es ∷ good.maps) (None ∷ good.answers)) (sym (call_trace_other d differ))
+            (tied_entry eq s.store s'.store r other c d turn Begun (good.call_traces d) h (replay eq good.es) (replay eq good.es ∷ good.maps) None good.answers x.store ne
             (good.tied d r other (run_other d r differ now) (sym (open_call-other schedule c d turn Begun h ne) ∙ e)))
       ]
         where
@@ -684,7 +684,7 @@ module _ {K V S A : Type 0} (eq : K → K → Bool) (hash : K → ℕ) (law : Is
           nothing_before [] rest none = refl
           nothing_before (y ∷ so_far) rest none = cc
 
-          tied_begun : (r : Running K V A) (is : IsBegun hash s.mode s.initial x.number call r) → IsTied eq s'.store (begun hash s.mode s.initial x.number is.task is.key (value_of_call call) (answers_of_call call)) call c (record { begun = good.es; since = []; hands = no_hands; visit = visits.no_hands }) (entry turn c Begun ∷ h) (replay eq good.es ∷ replay eq good.es ∷ good.maps) (None ∷ good.answers)
+          tied_begun : (r : Running K V A) (is : IsBegun hash s.mode s.initial x.number call r) → IsTied eq s'.store (begun hash s.mode s.initial x.number is.task is.key (value_of_call call) (answers_of_call call)) call c (record { begun = good.es; since = []; loaded = nothing_loaded; scan = scans.nothing_loaded }) (entry turn c Begun ∷ h) (replay eq good.es ∷ replay eq good.es ∷ good.maps) (None ∷ good.answers)
           tied_begun r is = record {
             own = is.key;
             key = refl;
@@ -720,10 +720,10 @@ module _ {K V S A : Type 0} (eq : K → K → Bool) (hash : K → ℕ) (law : Is
               begun_value call v had = value_is call v (handed_value (value_of_call call) v had)
 
   -- a run begins with no entry and the core's map
-  pub good_start : (says : Says K V A) (schedule : List (Turn K V A)) (s : CoreState K V S A) (es : List (Exchange (Stored K V))) (tales : ℕ → Tale K V) → IsCore s.store s.callers s.mode → IsKept eq hash s.mode s.store s.callers es tales → IsGood eq says hash schedule s.store (map_of eq s) s []
-  good_start says schedule s es tales core kept = record {
+  pub good_start : (says : Says K V A) (schedule : List (Turn K V A)) (s : CoreState K V S A) (es : List (Exchange (Stored K V))) (call_traces : ℕ → CallTrace K V) → IsCore s.store s.callers s.mode → IsKept eq hash s.mode s.store s.callers es call_traces → IsGood eq says hash schedule s.store (map_of eq s) s []
+  good_start says schedule s es call_traces core kept = record {
     es = es;
-    tales = tales;
+    call_traces = call_traces;
     maps = [];
     answers = [];
     core = core;
@@ -733,7 +733,7 @@ module _ {K V S A : Type 0} (eq : K → K → Bool) (hash : K → ℕ) (law : Is
     given = tt;
     left = λ d r call now e a had. let f : None ≡ Some call = e in absurd cc;
     resized = λ d z call now e. let f : None ≡ Some call = e in absurd cc;
-    visited = λ d v call now e. let f : None ≡ Some call = e in absurd cc;
+    scanned = λ d v call now e. let f : None ≡ Some call = e in absurd cc;
     kept_pairs = λ n p there. there;
     fresh = tt;
     made_new = λ d r call now e q made. let f : None ≡ Some call = e in absurd cc;
@@ -742,7 +742,7 @@ module _ {K V S A : Type 0} (eq : K → K → Bool) (hash : K → ℕ) (law : Is
   }
     where
       is_map : (j : K) → map_of eq s j ≡ replay eq es j
-      is_map j = map_kept eq hash law s es tales core kept j ∙ ap (λ m. m j) (map_replayed eq (low hash) s.mode s.store.words.tables es (λ k. None))
+      is_map j = map_kept eq hash law s es call_traces core kept j ∙ ap (λ m. m j) (map_replayed eq (low hash) s.mode s.store.words.tables es (λ k. None))
 
       standing : (j : K) (p : Stored K V) → replay eq es j ≡ Some p → (t : ℕ) × (i : ℕ) × (named ((run es first_state).slot t i) ≡ Some p)
       standing = held_in_slot eq (low hash) s.mode s.store.words.tables (hashed_setting eq hash law s core).lawful es kept.allowed
@@ -758,5 +758,5 @@ module _ {K V S A : Type 0} (eq : K → K → Bool) (hash : K → ℕ) (law : Is
     given = good.given;
     fresh = good.fresh;
     keeps = good.kept_pairs;
-    is_last = λ j. sym (map_kept eq hash law s' good.es good.tales good.core good.kept j ∙ ap (λ m. m j) (map_replayed eq (low hash) s'.mode s'.store.words.tables good.es (λ k. None)));
+    is_last = λ j. sym (map_kept eq hash law s' good.es good.call_traces good.core good.kept j ∙ ap (λ m. m j) (map_replayed eq (low hash) s'.mode s'.store.words.tables good.es (λ k. None)));
   }

@@ -16,13 +16,13 @@ use Rattle.papaya_chain.specs.declared.resizer.Resizer.{Resizer}
 use Rattle.papaya_chain.specs.declared.resizer.State.{State as Stage}
 use Rattle.papaya_chain.specs.declared.resizer.State.TheVariants as stages
 use Rattle.papaya_chain.specs.Resizer.{after, follows_in, kind_in, reply_in}
-use Rattle.papaya_chain_rests.specs.Resizers.{IsResizeCause, IsStageTold}
-use Rattle.papaya_chain_rests.specs.Told.{Hands, IsCopyTold}
+use Rattle.papaya_chain_law.specs.Resizers.{IsResizeCause, IsStageTold}
+use Rattle.papaya_chain_law.specs.Told.{IsCopyTold, LoadedPairs}
 use Rattle.papaya_law.specs.Code.{Coding}
 use Rattle.papaya_law.specs.Exchange.{Exchange, Open, Replace, Setting, State, run, start as first_state}
 use Rattle.papaya_law.specs.Invariant.{named}
-use Rattle.papaya_rests.specs.Rests.{Change, change_in}
-use Rattle.papaya_rests.specs.Told.{IsOneOf}
+use Rattle.papaya_call_law.specs.Relies.{Change, change_in}
+use Rattle.papaya_call_law.specs.Told.{IsOneOf}
 use Rattle.papaya_store.specs.declared.pairs.Running.{Running}
 use Rattle.papaya_store.specs.Store.{KeepsPairs, StoreState, Stored, pair_of}
 use Rattle.papaya_timeline.specs.declared.seat.Seat.{Seat}
@@ -32,25 +32,25 @@ use Rattle.papaya_timeline.specs.declared.trace.Turn.{Turn}
 use Rattle.papaya_timeline.specs.declared.trace.Event.{Event}
 use Rattle.papaya_timeline.specs.declared.trace.Event.TheVariants.{Begun, Changed, Moved, Asked, Shown, Gave, Other, Replied}
 use Rattle.papaya_timeline.specs.Advances.{goes_on}
-use Rattle.papaya_timeline.specs.Callers.{resizer_in, resizing, running, visiting, with_work}
+use Rattle.papaya_timeline.specs.Callers.{resizer_in, resizing, running, scanning, with_work}
 use Rattle.papaya_timeline.specs.Core.{CoreState, IsCore}
 use Rattle.papaya_timeline.specs.Given.{asks_closure}
 use Rattle.papaya_timeline.specs.Headline.{AreLogged, ComesNew}
-use Rattle.papaya_timeline.specs.Kept.{IsKept, Tale, setting_of, coding_of, low, visit_tale}
+use Rattle.papaya_timeline.specs.Kept.{IsKept, CallTrace, setting_of, coding_of, low, scan_trace}
 use Rattle.papaya_timeline.specs.Maps.{Map, Same}
 use Rattle.papaya_timeline.specs.Content.{map_of}
 use Rattle.papaya_timeline.specs.Moves.{MovesMap}
 use Rattle.papaya_timeline.specs.Resizes.{Resizes}
 use Rattle.papaya_timeline.specs.Runs.{History, with_step}
 use Rattle.papaya_timeline.specs.Timeline.{Fits, FitsDone, FitsOpen, IsAnsweredIn, IsUnchanged, IsLegal, IsUnused, Timeline, begun_by, change_by, change_of, open_after, open_call}
-use Rattle.papaya_timeline.proofs.CallersLemmas.{differs, resizing-elsewhere, resizing-here, running-elsewhere, running-here, visiting-elsewhere, visiting-here}
+use Rattle.papaya_timeline.proofs.CallersLemmas.{differs, resizing-elsewhere, resizing-here, running-elsewhere, running-here, scanning-elsewhere, scanning-here}
 use Rattle.papaya_timeline.proofs.CopyAnswers.{left_logged}
 use Rattle.papaya_timeline.proofs.CoreLemmas.{cases_same}
 use Rattle.papaya_timeline.proofs.EndingLemmas.{copy_unrefused}
 use Rattle.papaya_timeline.proofs.GivenLemmas.{given_more, left_more}
 use Rattle.papaya_timeline.proofs.EntersOnce.{timeline_steady}
-use Rattle.papaya_timeline.proofs.Good.{IsGood, IsKeyed, IsResize, IsTied, IsVisitTied, replay}
-use Rattle.papaya_timeline.proofs.GoodVisits.{replay_keyed, visit_entry, visit_other}
+use Rattle.papaya_timeline.proofs.Good.{IsGood, IsKeyed, IsResize, IsScanTied, IsTied, replay}
+use Rattle.papaya_timeline.proofs.GoodScans.{replay_keyed, scan_entry, scan_other}
 use Rattle.papaya_timeline.proofs.KeptLemmas.{IsLawfulKeys, hashed_setting, map_kept}
 use Rattle.papaya_timeline.proofs.KeptResized as resized
 use Rattle.papaya_timeline.proofs.LegalLemmas.{copy_same}
@@ -58,7 +58,7 @@ use Rattle.papaya_timeline.proofs.ReplayLemmas.{held_in_slot, map_replayed, repl
 use Rattle.papaya_timeline.proofs.StepEvents.{IsCopied, copy_told, stage_moves}
 use Rattle.papaya_timeline.proofs.StoreLemmas.{matched}
 use Rattle.papaya_timeline.proofs.TiedLemmas.{KeepsParts, same_parts, tied_entry, tied_other}
-use Rattle.papaya_store.specs.declared.visits.Visiting.{Visiting}
+use Rattle.papaya_store.specs.declared.scans.Scanning.{Scanning}
 use Rattle.papaya_timeline.proofs.TimelineLemmas.{change_of-other, change_of-own, entry, logged_more, open_call-other, open_call-own}
 
 -- an event that changes no pair of the map and shows nothing
@@ -110,15 +110,15 @@ left_all eq Clear made none = tt
 left_all eq (Retain a) made none = tt
 left_all eq Walk made none = none
 
-module _ {K V : Type 0} (eq : K → K → Bool) (g : Setting K (Stored K V)) (c : Coding K (Stored K V)) (s : State (Stored K V)) (hands : Hands (Stored K V)) (a : Answer) (made : List (Exchange (Stored K V))) (hands' : Hands (Stored K V)) where
+module _ {K V : Type 0} (eq : K → K → Bool) (g : Setting K (Stored K V)) (c : Coding K (Stored K V)) (s : State (Stored K V)) (loaded : LoadedPairs (Stored K V)) (a : Answer) (made : List (Exchange (Stored K V))) (loaded' : LoadedPairs (Stored K V)) where
   -- one exchange at most was made, and the map is as it was
   abbrev pub IsOne : Type 0
   IsOne = ((made ≡ []) ⊎ ((e : Exchange (Stored K V)) × (made ≡ e ∷ []))) × ((es : List (Exchange (Stored K V))) → Same (replay eq es) (replay eq (es ++ made)))
 
-  pub copied_one : (kind : _) (follows : ℕ) (ask : CopyAsk) → IsCopyTold g c s kind follows hands ask a made hands' → IsOne
+  pub copied_one : (kind : _) (follows : ℕ) (ask : CopyAsk) → IsCopyTold g c s kind follows loaded ask a made loaded' → IsOne
   copied_one kind follows ask told = (
-    ⊎_elim (λ none. inl none) (λ (x : IsCopied g c s kind hands.kept ask made). inr (x.by, x.made)) (copy_told g c s kind follows hands ask a made hands' told),
-    copy_same eq g c s kind follows hands ask a made hands' told,
+    ⊎_elim (λ none. inl none) (λ (x : IsCopied g c s kind loaded.kept ask made). inr (x.by, x.made)) (copy_told g c s kind follows loaded ask a made loaded' told),
+    copy_same eq g c s kind follows loaded ask a made loaded' told,
   )
 
   pub none_one : made ≡ [] → IsOne
@@ -127,28 +127,28 @@ module _ {K V : Type 0} (eq : K → K → Bool) (g : Setting K (Stored K V)) (c 
   open_one : (table : ℕ) → made ≡ Open table ∷ [] → IsOne
   open_one table is = (inr (Open table, is), λ es j. ap (λ fs. replay eq (es ++ fs) j) is ∙ ap (λ m. m j) (replay-append eq es (Open table ∷ [])))
 
-  pub stage_one : (stage : Stage) → IsStageTold g c s stage hands a made hands' → IsOne
-  stage_one (stages.Opening table) told = matched IsOne (s.root == 0) ((a ≡ answers.Call Exchanged) × (made ≡ Open table ∷ []) × (hands' ≡ hands)) ((a ≡ answers.Call (Found_instead s.root)) × ((made ≡ []) × (hands' ≡ hands))) told (λ _ opened. open_one table opened.1) (λ _ lost. none_one lost.1.0)
+  pub stage_one : (stage : Stage) → IsStageTold g c s stage loaded a made loaded' → IsOne
+  stage_one (stages.Opening table) told = matched IsOne (s.root == 0) ((a ≡ answers.Call Exchanged) × (made ≡ Open table ∷ []) × (loaded' ≡ loaded)) ((a ≡ answers.Call (Found_instead s.root)) × ((made ≡ []) × (loaded' ≡ loaded))) told (λ _ opened. open_one table opened.1) (λ _ lost. none_one lost.1.0)
   stage_one stage (ask, asked, told) = copied_one (kind_in stage) (follows_in stage) ask told
 
 module _ {K V S A : Type 0} (eq : K → K → Bool) (hash : K → ℕ) (law : IsLawfulKeys eq hash) where
   module _ {says : Says K V A} {hashes : S → K → ℕ} (refuse : Bool) (schedule : List (Turn K V A)) (first : StoreState K V S) (start : Map K V) (s s' : CoreState K V S A) (h : History) (turn c : ℕ) (event : Event) (reply : Option Reply) (x : Resizes eq hashes refuse s c s' event reply) (as_hashed : hashes s.store.hasher ≡ hash) (core' : IsCore s'.store s'.callers s'.mode) (good : IsGood eq says hash schedule first start s h) where
     -- what the step exchanged, and of what the resizer was told
     abbrev made : List (Exchange (Stored K V))
-    made = (resized.left eq hash law refuse s c s' event reply x as_hashed good.es good.tales good.core good.kept).made
+    made = (resized.left eq hash law refuse s c s' event reply x as_hashed good.es good.call_traces good.core good.kept).made
 
-    abbrev hands : Hands (Stored K V)
-    hands = (resized.left eq hash law refuse s c s' event reply x as_hashed good.es good.tales good.core good.kept).hands'
+    abbrev loaded : LoadedPairs (Stored K V)
+    loaded = (resized.left eq hash law refuse s c s' event reply x as_hashed good.es good.call_traces good.core good.kept).loaded'
 
-    -- the exchanges and the tales after it
+    -- the exchanges and the traces after it
     abbrev es : List (Exchange (Stored K V))
     es = good.es ++ made
 
-    abbrev tales : ℕ → Tale K V
-    tales = resized.tales' eq hash law refuse s c s' event reply x as_hashed good.es good.tales good.core good.kept
+    abbrev call_traces : ℕ → CallTrace K V
+    call_traces = resized.call_traces' eq hash law refuse s c s' event reply x as_hashed good.es good.call_traces good.core good.kept
 
-    kept : IsKept eq hash s'.mode s'.store s'.callers es tales
-    kept = resized.resize_kept eq hash law refuse s c s' event reply x as_hashed good.es good.tales good.core good.kept
+    kept : IsKept eq hash s'.mode s'.store s'.callers es call_traces
+    kept = resized.resize_kept eq hash law refuse s c s' event reply x as_hashed good.es good.call_traces good.core good.kept
 
     abbrev later_history : History
     later_history = entry turn c event ∷ h
@@ -156,9 +156,9 @@ module _ {K V S A : Type 0} (eq : K → K → Bool) (hash : K → ℕ) (law : Is
     abbrev later_maps : List (Map K V)
     later_maps = replay eq es ∷ replay eq good.es ∷ good.maps
 
-    one : IsOne eq (setting_of eq (low hash) s.mode s.store.words.tables) (coding_of (low hash)) (run good.es first_state) (good.tales c).hands x.answer made hands
-    one = stage_one eq (setting_of eq (low hash) s.mode s.store.words.tables) (coding_of (low hash)) (run good.es first_state) (good.tales c).hands x.answer made hands x.before.state
-        (resized.left eq hash law refuse s c s' event reply x as_hashed good.es good.tales good.core good.kept).told
+    one : IsOne eq (setting_of eq (low hash) s.mode s.store.words.tables) (coding_of (low hash)) (run good.es first_state) (good.call_traces c).loaded x.answer made loaded
+    one = stage_one eq (setting_of eq (low hash) s.mode s.store.words.tables) (coding_of (low hash)) (run good.es first_state) (good.call_traces c).loaded x.answer made loaded x.before.state
+        (resized.left eq hash law refuse s c s' event reply x as_hashed good.es good.call_traces good.core good.kept).told
 
     -- its event tells no change, and shows nothing
     quiet : IsQuiet event
@@ -166,10 +166,10 @@ module _ {K V S A : Type 0} (eq : K → K → Bool) (hash : K → ℕ) (law : Is
 
     -- logs grow
     pairs_stay : KeepsPairs s.store s'.store
-    pairs_stay n p there = left_logged (setting_of eq (low hash) s.mode s.store.words.tables) (coding_of (low hash)) s.store good.es (good.tales c).hands (resized.left eq hash law refuse s c s' event reply x as_hashed good.es good.tales good.core good.kept) n p there
+    pairs_stay n p there = left_logged (setting_of eq (low hash) s.mode s.store.words.tables) (coding_of (low hash)) s.store good.es (good.call_traces c).loaded (resized.left eq hash law refuse s c s' event reply x as_hashed good.es good.call_traces good.core good.kept) n p there
 
     parts_stay : KeepsParts s.store s'.store
-    parts_stay = same_parts s.store s'.store (resized.left eq hash law refuse s c s' event reply x as_hashed good.es good.tales good.core good.kept).pairs_are
+    parts_stay = same_parts s.store s'.store (resized.left eq hash law refuse s c s' event reply x as_hashed good.es good.call_traces good.core good.kept).pairs_are
 
     -- a call on one key is another caller's
     runs_other : (d : ℕ) (r : Running K V A) → running s'.callers d ≡ Some r → (d ≢ c) × (running s.callers d ≡ Some r)
@@ -199,8 +199,8 @@ module _ {K V S A : Type 0} (eq : K → K → Bool) (hash : K → ℕ) (law : Is
         going None e = refl
         going (Some rep) e = let f : None ≡ Some z = ap resizer_in e in absurd cc
 
-    hands_other : (d : ℕ) → d ≢ c → (tales d).hands ≡ (good.tales d).hands
-    hands_other d differ = ap (λ b. cond b hands (good.tales d).hands) (differs d c differ)
+    loaded_other : (d : ℕ) → d ≢ c → (call_traces d).loaded ≡ (good.call_traces d).loaded
+    loaded_other d differ = ap (λ b. cond b loaded (good.call_traces d).loaded) (differs d c differ)
 
     -- a call that is open was open before, and has changed what it had
     opened : open_call schedule c later_history ≡ open_call schedule c h
@@ -225,17 +225,17 @@ module _ {K V S A : Type 0} (eq : K → K → Bool) (hash : K → ℕ) (law : Is
     legal : IsLegal eq event schedule c h (replay eq good.es) good.maps (replay eq es) good.answers
     legal = quiet_cases (λ e. IsLegal eq e schedule c h (replay eq good.es) good.maps (replay eq es) good.answers) (one.1 good.es) (λ kind. one.1 good.es) event quiet
 
-    unused : (d : ℕ) (r : Running K V A) → running s'.callers d ≡ Some r → (q : Stored K V) → IsOneOf (tales d).hands.call.made q → change_in r.machine.call.state ≡ None → IsUnused q.number later_maps
+    unused : (d : ℕ) (r : Running K V A) → running s'.callers d ≡ Some r → (q : Stored K V) → IsOneOf (call_traces d).loaded.call.made q → change_in r.machine.call.state ≡ None → IsUnused q.number later_maps
     unused d r now q of_it none =
         let (differ, before) = runs_other d r now in (
           λ j p e. let (t, i, there) = standing j p e in (kept.calls d r now).unwritten q of_it none t i p there,
-          good.unused d r before q (subst (λ (y : Hands (Stored K V)). IsOneOf y.call.made q) (hands_other d differ) of_it) none,
+          good.unused d r before q (subst (λ (y : LoadedPairs (Stored K V)). IsOneOf y.call.made q) (loaded_other d differ) of_it) none,
         )
 
-    tied : (d : ℕ) (r : Running K V A) (call : Call K V A) → running s'.callers d ≡ Some r → open_call schedule d later_history ≡ Some call → IsTied eq s'.store r call d (tales d) later_history later_maps (None ∷ good.answers)
+    tied : (d : ℕ) (r : Running K V A) (call : Call K V A) → running s'.callers d ≡ Some r → open_call schedule d later_history ≡ Some call → IsTied eq s'.store r call d (call_traces d) later_history later_maps (None ∷ good.answers)
     tied d r call now e =
         let (differ, before) = runs_other d r now in
-        tied_other eq s.store s'.store r call c d turn event good.tales made hands h good.es (replay eq good.es ∷ good.maps) None good.answers parts_stay (good.kept.calls d r before).valued pairs_stay one.0 (λ z. differ (sym z)) (good.kept.calls d r before).split (good.tied d r call before (open_other d call differ e))
+        tied_other eq s.store s'.store r call c d turn event good.call_traces made loaded h good.es (replay eq good.es ∷ good.maps) None good.answers parts_stay (good.kept.calls d r before).valued pairs_stay one.0 (λ z. differ (sym z)) (good.kept.calls d r before).split (good.tied d r call before (open_other d call differ e))
 
     -- the resizer's call has no key, and changed nothing
     own_resized : (call : Call K V A) → open_call schedule c h ≡ Some call → IsResize call × (change_of c later_history ≡ None)
@@ -247,14 +247,14 @@ module _ {K V S A : Type 0} (eq : K → K → Bool) (hash : K → ℕ) (law : Is
       | inr (differ, before) ↦ (let was = good.resized d z call before (open_other d call differ e) in (was.0, change_of-other c d turn event h (λ y. differ (sym y)) ∙ was.1))
     ]
 
-    -- a visitor is another caller's
-    visits_other : (d : ℕ) (v : Visiting A) → visiting s'.callers d ≡ Some v → (d ≢ c) × (visiting s.callers d ≡ Some v)
-    visits_other d v now =
+    -- a scanner is another caller's
+    scans_other : (d : ℕ) (v : Scanning A) → scanning s'.callers d ≡ Some v → (d ≢ c) × (scanning s.callers d ≡ Some v)
+    scans_other d v now =
         let work : Option (Work K V A) = goes_on reply (works.Resize (after x.before x.answer)) in
-        let before : visiting (with_work s.callers c work) d ≡ Some v = sym (ap (λ (y : List (Seat K V A)). visiting y d) x.callers) ∙ now in
+        let before : scanning (with_work s.callers c work) d ≡ Some v = sym (ap (λ (y : List (Seat K V A)). scanning y d) x.callers) ∙ now in
         elim (cases_same d c) [
-          | inl same ↦ absurd (resized.goes_on-visitor reply (after x.before x.answer) v _ refl (visiting-here s.callers c work v (ap (visiting (with_work s.callers c work)) (sym same) ∙ before)))
-          | inr differ ↦ (differ, sym (visiting-elsewhere s.callers c d work differ) ∙ before)
+          | inl same ↦ absurd (resized.goes_on-scanner reply (after x.before x.answer) v _ refl (scanning-here s.callers c work v (ap (scanning (with_work s.callers c work)) (sym same) ∙ before)))
+          | inr differ ↦ (differ, sym (scanning-elsewhere s.callers c d work differ) ∙ before)
         ]
 
     keyed : IsKeyed eq (replay eq es)
@@ -269,20 +269,20 @@ module _ {K V S A : Type 0} (eq : K → K → Bool) (hash : K → ℕ) (law : Is
     timeline : Timeline eq schedule start later_history later_maps (None ∷ good.answers)
     timeline = (legal, quiet_cases (λ e. IsAnsweredIn {V = V} e None) refl (λ kind. refl) event quiet, good.timeline)
 
-    visited : (d : ℕ) (v : Visiting A) (call : Call K V A) → visiting s'.callers d ≡ Some v → open_call schedule d later_history ≡ Some call → IsVisitTied eq says s'.store schedule v call d (visit_tale (tales d)) later_history later_maps (None ∷ good.answers)
-    visited d v call now e =
-        let (differ, before) = visits_other d v now in
-        let split = (good.kept.visitors d v before).split in
-        visit_other eq says schedule s.store s'.store v call c d turn event (visit_tale (good.tales d)) ((good.tales d).since ++ made) made h (replay eq good.es) (replay eq es) good.maps None good.answers (λ z. differ (sym z)) pairs_stay one.0 refl
-        (ap (λ l. replay eq l) (sym split)) (ap (λ l. replay eq l) (ap (λ l. l ++ made) (sym split) ∙ append_assoc (good.tales d).begun (good.tales d).since made)) keyed
+    scanned : (d : ℕ) (v : Scanning A) (call : Call K V A) → scanning s'.callers d ≡ Some v → open_call schedule d later_history ≡ Some call → IsScanTied eq says s'.store schedule v call d (scan_trace (call_traces d)) later_history later_maps (None ∷ good.answers)
+    scanned d v call now e =
+        let (differ, before) = scans_other d v now in
+        let split = (good.kept.scanners d v before).split in
+        scan_other eq says schedule s.store s'.store v call c d turn event (scan_trace (good.call_traces d)) ((good.call_traces d).since ++ made) made h (replay eq good.es) (replay eq es) good.maps None good.answers (λ z. differ (sym z)) pairs_stay one.0 refl
+        (ap (λ l. replay eq l) (sym split)) (ap (λ l. replay eq l) (ap (λ l. l ++ made) (sym split) ∙ append_assoc (good.call_traces d).begun (good.call_traces d).since made)) keyed
         (timeline_steady eq schedule start later_history later_maps (None ∷ good.answers) timeline).0 (λ t y p q is. absurd (no_replace t y p q is))
-        (good.visited d v call before (open_other d call differ e))
+        (good.scanned d v call before (open_other d call differ e))
 
     -- the resizer goes on
     abbrev goes_on_good : IsGood eq says hash schedule first start s' later_history
     goes_on_good = record {
       es = es;
-      tales = tales;
+      call_traces = call_traces;
       maps = replay eq good.es ∷ good.maps;
       answers = None ∷ good.answers;
       core = core';
@@ -297,12 +297,12 @@ module _ {K V S A : Type 0} (eq : K → K → Bool) (hash : K → ℕ) (law : Is
           let (differ, before) = runs_other d r now in
           inr (inr (λ z. differ (sym z), left_more says s.store s'.store pairs_stay schedule a d h good.answers (good.left d r call before (open_other d call differ e) a had)));
       resized = still_resized;
-      visited = visited;
+      scanned = scanned;
       kept_pairs = λ n p there. pairs_stay n p (good.kept_pairs n p there);
       fresh = (λ call began. quiet_cases (ComesNew first) tt (λ kind. tt) event quiet, good.fresh);
       made_new = λ d r call now e q of_it.
           let (differ, before) = runs_other d r now in
-          good.made_new d r call before (open_other d call differ e) q (subst (λ (y : Hands (Stored K V)). IsOneOf y.call.made q) (hands_other d differ) of_it);
+          good.made_new d r call before (open_other d call differ e) q (subst (λ (y : LoadedPairs (Stored K V)). IsOneOf y.call.made q) (loaded_other d differ) of_it);
       unused = unused;
       tied = tied;
     }
@@ -332,7 +332,7 @@ module _ {K V S A : Type 0} (eq : K → K → Bool) (hash : K → ℕ) (law : Is
         let ne : (d : ℕ) (r : Running K V A) → running s'.callers d ≡ Some r → c ≢ d = λ d r now z. (runs_other d r now).0 (sym z) in
         record {
           es = es;
-          tales = tales;
+          call_traces = call_traces;
           maps = later_maps;
           answers = None ∷ None ∷ good.answers;
           core = core';
@@ -348,17 +348,17 @@ module _ {K V S A : Type 0} (eq : K → K → Bool) (hash : K → ℕ) (law : Is
                 let was = still_resized d z call now (sym (open_call-other schedule c d turn (Replied rep) later_history apart) ∙ e) in
                 (was.0, change_of-other c d turn (Replied rep) later_history apart ∙ was.1))
           ];
-          visited = λ d v call now e.
-              let apart : c ≢ d = λ y. (visits_other d v now).0 (sym y) in
-              visit_entry eq says schedule s'.store s'.store v call c d turn (Replied rep) (visit_tale (tales d)) later_history (replay eq es) (replay eq good.es ∷ good.maps) None (None ∷ good.answers) apart (λ n p there. there)
-              (ap (λ l. replay eq l) (sym (kept.visitors d v now).split)) keyed
-              (visited d v call now (sym (open_call-other schedule c d turn (Replied rep) later_history apart) ∙ e));
+          scanned = λ d v call now e.
+              let apart : c ≢ d = λ y. (scans_other d v now).0 (sym y) in
+              scan_entry eq says schedule s'.store s'.store v call c d turn (Replied rep) (scan_trace (call_traces d)) later_history (replay eq es) (replay eq good.es ∷ good.maps) None (None ∷ good.answers) apart (λ n p there. there)
+              (ap (λ l. replay eq l) (sym (kept.scanners d v now).split)) keyed
+              (scanned d v call now (sym (open_call-other schedule c d turn (Replied rep) later_history apart) ∙ e));
           kept_pairs = on.kept_pairs;
           fresh = (λ call began. tt, on.fresh);
           made_new = λ d r call now e q of_it. on.made_new d r call now (sym (open_call-other schedule c d turn (Replied rep) later_history (ne d r now)) ∙ e) q of_it;
           unused = λ d r now q of_it none. let u = unused d r now q of_it none in (u.0, u);
           tied = λ d r call now e.
-              tied_entry eq s'.store s'.store r call c d turn (Replied rep) (tales d) later_history (replay eq es) later_maps None (None ∷ good.answers) refl (ne d r now)
+              tied_entry eq s'.store s'.store r call c d turn (Replied rep) (call_traces d) later_history (replay eq es) later_maps None (None ∷ good.answers) refl (ne d r now)
               (tied d r call now (sym (open_call-other schedule c d turn (Replied rep) later_history (ne d r now)) ∙ e));
         }
 
@@ -368,17 +368,17 @@ module _ {K V S A : Type 0} (eq : K → K → Bool) (hash : K → ℕ) (law : Is
   good_resize refuse schedule first start s s' h turn c event (Some rep) x as_hashed core' good = replies_good refuse schedule first start s s' h turn c event (Some rep) x as_hashed core' good rep refl
 
   -- and leaves the map
-  pub resize_same : {hashes : S → K → ℕ} (refuse : Bool) (s s' : CoreState K V S A) (c : ℕ) (event : Event) (reply : Option Reply) (x : Resizes eq hashes refuse s c s' event reply) → hashes s.store.hasher ≡ hash → IsCore s.store s.callers s.mode → IsCore s'.store s'.callers s'.mode → (es : List (Exchange (Stored K V))) (tales : ℕ → Tale K V) → IsKept eq hash s.mode s.store s.callers es tales → Same (map_of eq s) (map_of eq s')
-  resize_same refuse s s' c event reply x as_hashed core core' es tales kept j =
-      let left = resized.left eq hash law refuse s c s' event reply x as_hashed es tales core kept in
-      let one = stage_one eq (setting_of eq (low hash) s.mode s.store.words.tables) (coding_of (low hash)) (run es first_state) (tales c).hands x.answer left.made left.hands' x.before.state left.told in
-      map_kept eq hash law s' (es ++ left.made) (resized.tales' eq hash law refuse s c s' event reply x as_hashed es tales core kept) core' (resized.resize_kept eq hash law refuse s c s' event reply x as_hashed es tales core kept) j
+  pub resize_same : {hashes : S → K → ℕ} (refuse : Bool) (s s' : CoreState K V S A) (c : ℕ) (event : Event) (reply : Option Reply) (x : Resizes eq hashes refuse s c s' event reply) → hashes s.store.hasher ≡ hash → IsCore s.store s.callers s.mode → IsCore s'.store s'.callers s'.mode → (es : List (Exchange (Stored K V))) (call_traces : ℕ → CallTrace K V) → IsKept eq hash s.mode s.store s.callers es call_traces → Same (map_of eq s) (map_of eq s')
+  resize_same refuse s s' c event reply x as_hashed core core' es call_traces kept j =
+      let left = resized.left eq hash law refuse s c s' event reply x as_hashed es call_traces core kept in
+      let one = stage_one eq (setting_of eq (low hash) s.mode s.store.words.tables) (coding_of (low hash)) (run es first_state) (call_traces c).loaded x.answer left.made left.loaded' x.before.state left.told in
+      map_kept eq hash law s' (es ++ left.made) (resized.call_traces' eq hash law refuse s c s' event reply x as_hashed es call_traces core kept) core' (resized.resize_kept eq hash law refuse s c s' event reply x as_hashed es call_traces core kept) j
       ∙ ap (λ m. m j) (map_replayed eq (low hash) s'.mode s'.store.words.tables (es ++ left.made) (λ k. None))
       ∙ one.1 es j
       ∙ sym (ap (λ m. m j) (map_replayed eq (low hash) s.mode s.store.words.tables es (λ k. None)))
-      ∙ sym (map_kept eq hash law s es tales core kept j)
+      ∙ sym (map_kept eq hash law s es call_traces core kept j)
 
-  pub resize_moves : {hashes : S → K → ℕ} (refuse : Bool) (s s' : CoreState K V S A) (c : ℕ) (event : Event) (reply : Option Reply) (x : Resizes eq hashes refuse s c s' event reply) → hashes s.store.hasher ≡ hash → IsCore s.store s.callers s.mode → IsCore s'.store s'.callers s'.mode → (es : List (Exchange (Stored K V))) (tales : ℕ → Tale K V) → IsKept eq hash s.mode s.store s.callers es tales → MovesMap eq s c s' event
-  resize_moves refuse s s' c event reply x as_hashed core core' es tales kept =
-      let same = resize_same refuse s s' c event reply x as_hashed core core' es tales kept in
+  pub resize_moves : {hashes : S → K → ℕ} (refuse : Bool) (s s' : CoreState K V S A) (c : ℕ) (event : Event) (reply : Option Reply) (x : Resizes eq hashes refuse s c s' event reply) → hashes s.store.hasher ≡ hash → IsCore s.store s.callers s.mode → IsCore s'.store s'.callers s'.mode → (es : List (Exchange (Stored K V))) (call_traces : ℕ → CallTrace K V) → IsKept eq hash s.mode s.store s.callers es call_traces → MovesMap eq s c s' event
+  resize_moves refuse s s' c event reply x as_hashed core core' es call_traces kept =
+      let same = resize_same refuse s s' c event reply x as_hashed core core' es call_traces kept in
       quiet_cases (MovesMap eq s c s') same (λ kind. same) event (subst IsQuiet (sym x.event_is) (stage_moves IsQuiet tt (λ kind. tt) x.before.state x.ask x.answer))

@@ -9,7 +9,7 @@ use Rattle.papaya_call.specs.Answers.{Says}
 use Rattle.papaya_law.specs.Exchange.{Exchange}
 use Rattle.papaya_chain.specs.declared.ask.Ask.TheVariants as asks
 use Rattle.papaya_chain.specs.Machine.{IsStanding, ask_of, after}
-use Rattle.papaya_chain_rests.proofs.Standing.{chain_ask_fits, chain_stands}
+use Rattle.papaya_chain_law.proofs.Standing.{chain_ask_fits, chain_stands}
 use Rattle.papaya_store.specs.declared.pairs.Running.{Running}
 use Rattle.papaya_timeline.specs.declared.seat.Seat.{Seat}
 use Rattle.papaya_timeline.specs.declared.trace.Turn.{Turn}
@@ -21,7 +21,7 @@ use Rattle.papaya_timeline.specs.Callers.{as_work, resizer_in, with_seat, with_w
 use Rattle.papaya_timeline.specs.Content.{map_of}
 use Rattle.papaya_timeline.specs.Core.{IsGoing, CoreState, IsCore}
 use Rattle.papaya_timeline.specs.Headline.{HasTimeline}
-use Rattle.papaya_timeline.specs.Kept.{IsKept, IsLawfulCore, Tale, setting_of, coding_of, low}
+use Rattle.papaya_timeline.specs.Kept.{IsKept, IsLawfulCore, CallTrace, setting_of, coding_of, low}
 use Rattle.papaya_timeline.specs.Maps.{Map}
 use Rattle.papaya_timeline.specs.Moves.{MovesMap}
 use Rattle.papaya_timeline.specs.Resizes.{Resizes}
@@ -32,16 +32,16 @@ use Rattle.papaya_chain.specs.declared.resizer.Resizer.{Resizer}
 use Rattle.papaya_chain.specs.Resizer.{IsStandingResizer, after as after_resize, reply_of}
 use Rattle.papaya_timeline.proofs.CopyAnswers.{left_logged}
 use Rattle.papaya_timeline.proofs.GoodResized.{good_resize, resize_moves}
-use Rattle.papaya_timeline.proofs.GoodVisited.{good_visit}
-use Rattle.papaya_timeline.proofs.KeptVisited.{visited-core, step_after as visit_after}
-use Rattle.papaya_timeline.proofs.KeptResized.{goes_on-call, goes_on-resizer, goes_on-visitor, left as resize_left}
+use Rattle.papaya_timeline.proofs.GoodScanned.{good_scan}
+use Rattle.papaya_timeline.proofs.KeptScanned.{scanned-core, step_after as scan_after}
+use Rattle.papaya_timeline.proofs.KeptResized.{goes_on-call, goes_on-resizer, goes_on-scanner, left as resize_left}
 use Rattle.papaya_timeline.proofs.ResizerStands.{resizer_fits, resizer_stands}
 use Rattle.papaya_timeline.specs.Runs.{History, StepRuns, BeginRuns, StepsRun, TurnRuns, TurnsRun, IsCutShort, StopsEarly}
 use Rattle.papaya_store.specs.Store.{KeepsPairs, StoreState, Stored}
 use Rattle.papaya_keys.specs.Hashes.{hash_of}
-use Rattle.papaya_timeline.proofs.CallersLemmas.{call-put, no-resizer, no-visitor, same_item}
+use Rattle.papaya_timeline.proofs.CallersLemmas.{call-put, no-resizer, no-scanner, same_item}
 use Rattle.papaya_timeline.proofs.ChainLemmas.{own_asks}
-use Rattle.papaya_timeline.proofs.CoreLemmas.{begun-core, begun-visitor, copied-core, performed-core, still_going, with_seat-core, with_work-core}
+use Rattle.papaya_timeline.proofs.CoreLemmas.{begun-core, begun-scanner, copied-core, performed-core, still_going, with_seat-core, with_work-core}
 use Rattle.papaya_timeline.proofs.Good.{IsGood}
 use Rattle.papaya_timeline.proofs.GoodLemmas.{good_start, good_begin, good_step, good_end}
 use Rattle.papaya_timeline.proofs.AdvanceLemmas.{advance_moves}
@@ -63,7 +63,7 @@ module _ {K V S A : Type 0} where
       let r : Running K V A = record x.later { machine = after m x.answer } in
       subst (λ y. IsCore s'.store s'.callers y) (sym x.mode)
       (subst (λ (y : List (Seat K V A)). IsCore s'.store y s.mode) (sym x.callers)
-      (with_work-core s'.store s.callers s.mode caller (as_work (goes_on reply r)) kept (λ q e. still reply r stands (λ none. still_going (after m x.answer) (sym x.reply_is ∙ none)) q (call-put (goes_on reply r) q e)) (λ z e. absurd (no-resizer (goes_on reply r) z e)) (λ v e. absurd (no-visitor (goes_on reply r) v e))))
+      (with_work-core s'.store s.callers s.mode caller (as_work (goes_on reply r)) kept (λ q e. still reply r stands (λ none. still_going (after m x.answer) (sym x.reply_is ∙ none)) q (call-put (goes_on reply r) q e)) (λ z e. absurd (no-resizer (goes_on reply r) z e)) (λ v e. absurd (no-scanner (goes_on reply r) v e))))
     where
       still : (reply : Option Reply) (r : Running K V A) → IsStanding r.machine → (reply ≡ None → IsGoing r.machine) → (q : Running K V A) → goes_on reply r ≡ Some q → IsStanding q.machine × IsGoing q.machine
       still None r stands goes q e = subst (λ (y : Running K V A). IsStanding y.machine × IsGoing y.machine) (same_item r q e) (stands, goes refl)
@@ -81,7 +81,7 @@ module _ {K V S A : Type 0} where
       (with_work-core s'.store s.callers s.mode caller (goes_on reply (works.Resize (after_resize x.before x.answer))) kept
       (λ r e. absurd (goes_on-call reply (after_resize x.before x.answer) r _ refl e))
       (λ z e. subst (λ y. IsStandingResizer y × (reply_of y ≡ None)) (goes_on-resizer reply (after_resize x.before x.answer) z _ refl e) (stands, sym x.reply_is ∙ going reply z (resumed x.before x.answer) e))
-      (λ v e. absurd (goes_on-visitor reply (after_resize x.before x.answer) v _ refl e))))
+      (λ v e. absurd (goes_on-scanner reply (after_resize x.before x.answer) v _ refl e))))
     where
       resumed : Resizer → Answer → Work K V A
       resumed z a = works.Resize (after_resize z a)
@@ -99,7 +99,7 @@ module _ {K V S A : Type 0} where
       (subst (λ (y : List (Seat K V A)). IsCore s'.store y s.mode) (sym x.callers)
       (subst (λ (y : StoreState K V S). IsCore y (with_work (with_seat s.callers caller) caller (Some w)) s.mode) (sym x.store)
       (with_work-core s.store (with_seat s.callers caller) s.mode caller (Some w) (with_seat-core s.store s.callers s.mode caller core) (λ r e. begins.0 r (same_item w (works.Call r) e)) (λ z e. begins.1 z (same_item w (works.Resize z) e))
-      (λ v e. begun-visitor hash s.mode s.initial x.number call core.chunked x.power v (same_item w (works.Visit v) e)))))
+      (λ v e. begun-scanner hash s.mode s.initial x.number call core.chunked x.power v (same_item w (works.Scan v) e)))))
 
 module _ {K V S A : Type 0} (eq : K → K → Bool) (says : Says K V A) (hash : S → K → ℕ) (hasher : S) (law : IsLawfulKeys eq (hash hasher)) (schedule : List (Turn K V A)) (first : StoreState K V S) (start : Map K V) where
   -- a good history of a core with this hasher
@@ -121,17 +121,17 @@ module _ {K V S A : Type 0} (eq : K → K → Bool) (says : Says K V A) (hash : 
       offers : ask_of x.before.machine ≡ asks.Call ShowNone → x.before.machine.call.task ≡ Compute
       offers asking =
           let call = good.kept.calls caller x.before x.was in
-          let tale = good.tales caller in
-          machine_offers (setting_of eq (low (hash hasher)) s.mode s.store.words.tables) (coding_of (low (hash hasher))) tale.begun tale.since call.key x.before.machine.call tale.hands.call call.rests.call (own_asks x.before.machine ShowNone asking).1
+          let call_trace = good.call_traces caller in
+          machine_offers (setting_of eq (low (hash hasher)) s.mode s.store.words.tables) (coding_of (low (hash hasher))) call_trace.begun call_trace.since call.key x.before.machine.call call_trace.loaded.call call.relies.call (own_asks x.before.machine ShowNone asking).1
   step_runs turn caller refuse s s' before after (inl (event, reply, inr (inl x), is)) (same, good) = (
-    (resize_left eq (hash hasher) law refuse s caller s' event reply x (ap hash same) good.es good.tales good.core good.kept).hasher_is ∙ same,
+    (resize_left eq (hash hasher) law refuse s caller s' event reply x (ap hash same) good.es good.call_traces good.core good.kept).hasher_is ∙ same,
     subst (λ y. IsGood eq says (hash hasher) schedule first start s' y) (sym is)
         (good_resize eq (hash hasher) law refuse schedule first start s s' before turn caller event reply x (ap hash same) (resize-core eq hash refuse s caller s' event reply x good.core) good),
   )
   step_runs turn caller refuse s s' before after (inl (event, reply, inr (inr x), is)) (same, good) = (
-    (visit_after eq (hash hasher) law says hash refuse s caller s' event reply x (ap hash same) good.es good.tales good.core good.kept).hasher_is ∙ same,
+    (scan_after eq (hash hasher) law says hash refuse s caller s' event reply x (ap hash same) good.es good.call_traces good.core good.kept).hasher_is ∙ same,
     subst (λ y. IsGood eq says (hash hasher) schedule first start s' y) (sym is)
-        (good_visit eq (hash hasher) law refuse schedule first start s s' before turn caller event reply x (ap hash same) (visited-core eq (hash hasher) law says hash refuse s caller s' event reply x good.core) good),
+        (good_scan eq (hash hasher) law refuse schedule first start s s' before turn caller event reply x (ap hash same) (scanned-core eq (hash hasher) law says hash refuse s caller s' event reply x good.core) good),
   )
   step_runs turn caller refuse s s' before after (inr (idle, passed)) good = passes s s' before after passed.0 passed.1 good
 
@@ -166,10 +166,10 @@ module _ {K V S A : Type 0} (eq : K → K → Bool) (says : Says K V A) (hash : 
   cut_short turn (Finish caller steps) s s' before (made, few, after, runs) good = (steps_run turn caller made s s' before after runs good).1.kept_pairs
 
 -- The maps of a run are a legal timeline with its history.
-pub run_timeline : {K V S A : Type 0} (eq : K → K → Bool) (says : Says K V A) (hash : S → K → ℕ) (schedule : List (Turn K V A)) (turns : ℕ) (s s' : CoreState K V S A) (h : History) → IsLawfulKeys eq (hash s.store.hasher) → IsCore s.store s.callers s.mode → (es : List (Exchange (Stored K V))) (tales : ℕ → Tale K V) → IsKept eq (hash s.store.hasher) s.mode s.store s.callers es tales → TurnsRun eq says hash schedule turns s s' h → HasTimeline eq says schedule s h s'
-run_timeline eq says hash schedule turns s s' h law core es tales kept runs =
+pub run_timeline : {K V S A : Type 0} (eq : K → K → Bool) (says : Says K V A) (hash : S → K → ℕ) (schedule : List (Turn K V A)) (turns : ℕ) (s s' : CoreState K V S A) (h : History) → IsLawfulKeys eq (hash s.store.hasher) → IsCore s.store s.callers s.mode → (es : List (Exchange (Stored K V))) (call_traces : ℕ → CallTrace K V) → IsKept eq (hash s.store.hasher) s.mode s.store s.callers es call_traces → TurnsRun eq says hash schedule turns s s' h → HasTimeline eq says schedule s h s'
+run_timeline eq says hash schedule turns s s' h law core es call_traces kept runs =
     good_end eq (hash s.store.hasher) law says schedule s s' h
-    (turns_run eq says hash s.store.hasher law schedule s.store (map_of eq s) turns s s' h runs (refl, good_start eq (hash s.store.hasher) law says schedule s es tales core kept)).1
+    (turns_run eq says hash s.store.hasher law schedule s.store (map_of eq s) turns s s' h runs (refl, good_start eq (hash s.store.hasher) law says schedule s es call_traces core kept)).1
 
 -- The same of a core whose invariant holds, with keys that are hashed as its hasher does.
 module _ {K V S A H : Type 0} (eq : K → K → Bool) (input : K → List (List ℕ)) (build : S → H) (write : H → List ℕ → H) (finish : H → ℕ) (classes : IsEquivalence eq) (respects : (x y : K) → eq x y ≡ true → input x ≡ input y) where
@@ -180,30 +180,30 @@ module _ {K V S A H : Type 0} (eq : K → K → Bool) (input : K → List (List 
   -- a run has a timeline
   pub lawful_timeline : (says : Says K V A) (schedule : List (Turn K V A)) (turns : ℕ) (s s' : CoreState K V S A) (h : History) → Always s → TurnsRun eq says (hash_of input build write finish) schedule turns s s' h → HasTimeline eq says schedule s h s'
   lawful_timeline says schedule turns s s' h always runs =
-      let (es, (tales, kept)) = always.law in
-      run_timeline eq says (hash_of input build write finish) schedule turns s s' h (keys_lawful eq input build write finish classes respects s.store.hasher) always.core es tales kept runs
+      let (es, (call_traces, kept)) = always.law in
+      run_timeline eq says (hash_of input build write finish) schedule turns s s' h (keys_lawful eq input build write finish classes respects s.store.hasher) always.core es call_traces kept runs
 
   -- no pair is gone from the log after a run, nor after a run that stopped
   pub lawful_logs : (says : Says K V A) (schedule : List (Turn K V A)) (turns : ℕ) (s s' : CoreState K V S A) (h : History) → Always s → TurnsRun eq says (hash_of input build write finish) schedule turns s s' h → KeepsPairs s.store s'.store
   lawful_logs says schedule turns s s' h always runs =
-      let (es, (tales, kept)) = always.law in
+      let (es, (call_traces, kept)) = always.law in
       let law = keys_lawful eq input build write finish classes respects s.store.hasher in
-      (turns_run eq says (hash_of input build write finish) s.store.hasher law schedule s.store (map_of eq s) turns s s' h runs (refl, good_start eq (hash_of input build write finish s.store.hasher) law says schedule s es tales always.core kept)).1.kept_pairs
+      (turns_run eq says (hash_of input build write finish) s.store.hasher law schedule s.store (map_of eq s) turns s s' h runs (refl, good_start eq (hash_of input build write finish s.store.hasher) law says schedule s es call_traces always.core kept)).1.kept_pairs
 
   pub lawful_stops : (says : Says K V A) (schedule : List (Turn K V A)) (s s' : CoreState K V S A) → Always s → StopsEarly eq says (hash_of input build write finish) schedule s s' → KeepsPairs s.store s'.store
   lawful_stops says schedule s s' always (turn, what, middle, so_far, there, runs, cut) =
-      let (es, (tales, kept)) = always.law in
+      let (es, (call_traces, kept)) = always.law in
       let law = keys_lawful eq input build write finish classes respects s.store.hasher in
       cut_short eq says (hash_of input build write finish) s.store.hasher law schedule s.store (map_of eq s) turn what middle s' so_far cut
-      (turns_run eq says (hash_of input build write finish) s.store.hasher law schedule s.store (map_of eq s) turn s middle so_far runs (refl, good_start eq (hash_of input build write finish s.store.hasher) law says schedule s es tales always.core kept))
+      (turns_run eq says (hash_of input build write finish) s.store.hasher law schedule s.store (map_of eq s) turn s middle so_far runs (refl, good_start eq (hash_of input build write finish s.store.hasher) law says schedule s es call_traces always.core kept))
 
   -- a step moves the map in the class of its call's key alone
   pub lawful_moves : (says : Says K V A) (refuse : Bool) (s s' : CoreState K V S A) (caller : ℕ) (event : Event) (reply : Option Reply) → Always s → Advances eq says (hash_of input build write finish) refuse s caller s' event reply → MovesMap eq s caller s' event
   lawful_moves says refuse s s' caller event reply always x =
-      let (es, (tales, kept)) = always.law in
+      let (es, (call_traces, kept)) = always.law in
       let hash : K → ℕ = hash_of input build write finish s.store.hasher in
       let law : IsLawfulKeys eq hash = keys_lawful eq input build write finish classes respects s.store.hasher in
-      advance_moves eq hash law refuse s s' caller event reply x always.core (advance-core eq says (hash_of input build write finish) refuse s caller s' event reply x always.core) es tales kept (kept_step eq hash law refuse s caller s' event reply x refl es tales always.core kept)
+      advance_moves eq hash law refuse s s' caller event reply x always.core (advance-core eq says (hash_of input build write finish) refuse s caller s' event reply x always.core) es call_traces kept (kept_step eq hash law refuse s caller s' event reply x refl es call_traces always.core kept)
 
   -- and no pair is gone from the log
   pub lawful_keeps : (says : Says K V A) (refuse : Bool) (s s' : CoreState K V S A) (caller : ℕ) (event : Event) (reply : Option Reply) → Always s → Advances eq says (hash_of input build write finish) refuse s caller s' event reply → KeepsPairs s.store s'.store
@@ -211,18 +211,18 @@ module _ {K V S A H : Type 0} (eq : K → K → Bool) (input : K → List (List 
     where
       offers : ask_of x.before.machine ≡ asks.Call ShowNone → x.before.machine.call.task ≡ Compute
       offers asking =
-          let (es, (tales, kept)) = always.law in
+          let (es, (call_traces, kept)) = always.law in
           let call = kept.calls caller x.before x.was in
           let hash : K → ℕ = hash_of input build write finish s.store.hasher in
-          machine_offers (setting_of eq (low hash) s.mode s.store.words.tables) (coding_of (low hash)) (tales caller).begun (tales caller).since call.key x.before.machine.call (tales caller).hands.call call.rests.call (own_asks x.before.machine ShowNone asking).1
+          machine_offers (setting_of eq (low hash) s.mode s.store.words.tables) (coding_of (low hash)) (call_traces caller).begun (call_traces caller).since call.key x.before.machine.call (call_traces caller).loaded.call call.relies.call (own_asks x.before.machine ShowNone asking).1
 
-  -- a step of a resizer leaves the map, and the log of pairs
+  -- a step of a resizer leaves the map, and the arena of pairs
   pub lawful_resizes : (refuse : Bool) (s s' : CoreState K V S A) (caller : ℕ) (event : Event) (reply : Option Reply) → Always s → Resizes eq (hash_of input build write finish) refuse s caller s' event reply → MovesMap eq s caller s' event × KeepsPairs s.store s'.store
   lawful_resizes refuse s s' caller event reply always x =
-      let (es, (tales, kept)) = always.law in
+      let (es, (call_traces, kept)) = always.law in
       let hash : K → ℕ = hash_of input build write finish s.store.hasher in
       let law : IsLawfulKeys eq hash = keys_lawful eq input build write finish classes respects s.store.hasher in
       let core' = resize-core eq (hash_of input build write finish) refuse s caller s' event reply x always.core in (
-        resize_moves eq hash law refuse s s' caller event reply x refl always.core core' es tales kept,
-        λ n p there. left_logged (setting_of eq (low hash) s.mode s.store.words.tables) (coding_of (low hash)) s.store es (tales caller).hands (resize_left eq hash law refuse s caller s' event reply x refl es tales always.core kept) n p there,
+        resize_moves eq hash law refuse s s' caller event reply x refl always.core core' es call_traces kept,
+        λ n p there. left_logged (setting_of eq (low hash) s.mode s.store.words.tables) (coding_of (low hash)) s.store es (call_traces caller).loaded (resize_left eq hash law refuse s caller s' event reply x refl es call_traces always.core kept) n p there,
       )

@@ -12,16 +12,16 @@ use Rattle.papaya_chain.specs.declared.ask.Ask.TheVariants as asks
 use Rattle.papaya_chain.specs.declared.ask.Answer.TheVariants as told_to
 use Rattle.papaya_chain.specs.Machine.{after, ask_of, kind_of_ask}
 use Rattle.papaya_chain.specs.Resizer as resizer
-use Rattle.papaya_chain.specs.Visitor as visitor
+use Rattle.papaya_chain.specs.Scanner as scanner
 use Rattle.papaya_chain.specs.declared.machine.Machine.{Machine}
-use Rattle.papaya_chain_rests.specs.Goes.{IsInOrder}
-use Rattle.papaya_chain_rests.proofs.Goes.{machine_goes}
-use Rattle.papaya_chain_rests.proofs.Replies.{chain_said, chain_task}
+use Rattle.papaya_chain_law.specs.Goes.{IsInOrder}
+use Rattle.papaya_chain_law.proofs.Goes.{machine_goes}
+use Rattle.papaya_chain_law.proofs.Replies.{chain_said, chain_task}
 use Rattle.papaya_law.specs.Exchange.{Exchange}
-use Rattle.papaya_rests.specs.Rests.{RestsFill, RestsOf}
-use Rattle.papaya_rests.specs.Told.{IsOneOf}
+use Rattle.papaya_call_law.specs.Relies.{ReliesFill, ReliesOf}
+use Rattle.papaya_call_law.specs.Told.{IsOneOf}
 use Rattle.papaya_store.specs.declared.pairs.Running.{Running}
-use Rattle.papaya_store.specs.declared.visits.Visiting.{Visiting}
+use Rattle.papaya_store.specs.declared.scans.Scanning.{Scanning}
 use Rattle.papaya_store.specs.Store.{KeepsPairs, StoreState, Stored, pair_of}
 use Rattle.papaya_timeline.specs.declared.seat.Seat.{Seat}
 use Rattle.papaya_timeline.specs.declared.seat.Work.{Work}
@@ -31,19 +31,19 @@ use Rattle.papaya_timeline.specs.Advances.{Advances, goes_on}
 use Rattle.papaya_timeline.specs.Callers.{as_work, call_in, running, with_work, working}
 use Rattle.papaya_timeline.specs.Core.{CoreState, IsCore}
 use Rattle.papaya_timeline.specs.Intends.{AnswersNow, Intends, KeepsIntents}
-use Rattle.papaya_timeline.specs.Kept.{IsKept, IsLawfulCore, Tale, coding_of, low, setting_of}
+use Rattle.papaya_timeline.specs.Kept.{CallTrace, IsKept, IsLawfulCore, coding_of, low, setting_of}
 use Rattle.papaya_timeline.specs.Resizes.{Resizes}
-use Rattle.papaya_timeline.specs.VisitGoes.{Visits}
+use Rattle.papaya_timeline.specs.ScanGoes.{Scans}
 use Rattle.papaya_timeline.proofs.AdvanceLemmas as advance
-use Rattle.papaya_timeline.proofs.CallersLemmas.{call-under_way, resizer-under_way, same_item, visitor-under_way, working-other, working-same}
+use Rattle.papaya_timeline.proofs.CallersLemmas.{call-under_way, resizer-under_way, same_item, scanner-under_way, working-other, working-same}
 use Rattle.papaya_timeline.proofs.ChainLemmas.{own_asks}
 use Rattle.papaya_timeline.proofs.CoreLemmas.{cases_same}
 use Rattle.papaya_timeline.proofs.Intents.{HasLogged, call_intends, stands_own, still_intends}
-use Rattle.papaya_timeline.proofs.IntentVisits.{visit_intends}
+use Rattle.papaya_timeline.proofs.IntentScans.{scan_intends}
 use Rattle.papaya_timeline.proofs.HeadlineLemmas.{advance-core, lawful_resizes}
 use Rattle.papaya_timeline.proofs.KeptCore.{keys_lawful}
 use Rattle.papaya_timeline.proofs.KeptLemmas.{IsLawfulKeys, IsStep, kept_step}
-use Rattle.papaya_timeline.proofs.LawfulVisits.{visit_keeps}
+use Rattle.papaya_timeline.proofs.LawfulScans.{scan_keeps}
 use Rattle.papaya_keys.specs.Hashes.{hash_of}
 use Rattle.papaya_timeline.proofs.MachineLemmas.{machine_offers}
 use Rattle.papaya_timeline.proofs.StepTells.{answering as answered_by}
@@ -51,39 +51,39 @@ use Rattle.papaya_timeline.proofs.TellLemmas.{IsAnswering}
 use Rattle.papaya_timeline.proofs.TiedLemmas.{HasMoreLogs, KeepsParts, grown, same_parts}
 use Rattle.papaya_store.specs.Performs.{own_value}
 use Rattle.papaya_timeline.proofs.MadePairs.{MakesOver}
-use Rattle.papaya_timeline.proofs.GoodVisitFits.{visit_pairs}
+use Rattle.papaya_timeline.proofs.GoodScanFits.{scan_pairs}
 use Rattle.papaya_timeline.proofs.StoreLemmas.{copy_pairs}
 
-module _ {K V S A : Type 0} (eq : K → K → Bool) (hash : K → ℕ) (s : CoreState K V S A) (es : List (Exchange (Stored K V))) (tales : ℕ → Tale K V) (kept : IsKept eq hash s.mode s.store s.callers es tales) where
+module _ {K V S A : Type 0} (eq : K → K → Bool) (hash : K → ℕ) (s : CoreState K V S A) (es : List (Exchange (Stored K V))) (call_traces : ℕ → CallTrace K V) (kept : IsKept eq hash s.mode s.store s.callers es call_traces) where
   -- the pairs of a call are logged
   call_logged : (d : ℕ) (r : Running K V A) → running s.callers d ≡ Some r → HasLogged s.store r
   call_logged d r runs =
       let call = kept.calls d r runs in
-      let hands = (tales d).hands.call in
+      let loaded = (call_traces d).loaded.call in
       let g = setting_of eq (low hash) s.mode s.store.words.tables in
       let c = coding_of (low hash) in
-      let logged : (n : ℕ) → ((q : Stored K V) × IsOneOf hands.made q × (q.number ≡ n)) → (q : Stored K V) × (pair_of s.store n ≡ Some q) =
+      let logged : (n : ℕ) → ((q : Stored K V) × IsOneOf loaded.made q × (q.number ≡ n)) → (q : Stored K V) × (pair_of s.store n ≡ Some q) =
       λ n own. (own.0, subst (λ i. pair_of s.store i ≡ Some own.0) own.2 (call.made own.0 own.1)) in
       record {
         made = λ n is. elim is [
-          | inl own ↦ (let (q, one, number, key) = subst (RestsFill g c (tales d).begun (tales d).since call.key hands) own call.rests.call.made.own_is in logged n (q, one, number))
-          | inr (of, is_of, same) ↦ (let (q, one, number, key) = subst (RestsOf g c (tales d).begun (tales d).since call.key hands) is_of call.rests.call.made.of_is in logged n (q, one, number ∙ same))
+          | inl own ↦ (let (q, one, number, key) = subst (ReliesFill g c (call_traces d).begun (call_traces d).since call.key loaded) own call.relies.call.made.own_is in logged n (q, one, number))
+          | inr (of, is_of, same) ↦ (let (q, one, number, key) = subst (ReliesOf g c (call_traces d).begun (call_traces d).since call.key loaded) is_of call.relies.call.made.of_is in logged n (q, one, number ∙ same))
         ];
         valued = call.valued;
-        stood = λ shown n stands. logged n (stands_own g c (tales d).begun (tales d).since call.key r.machine.call hands call.rests.call shown n stands);
+        stood = λ shown n stands. logged n (stands_own g c (call_traces d).begun (call_traces d).since call.key r.machine.call loaded call.relies.call shown n stands);
       }
 
   -- a longer log gives what is under way no intent
   work_still : (store' : StoreState K V S) → KeepsPairs s.store store' → KeepsParts s.store store' → (d : ℕ) (work : Work K V A) → working s.callers d ≡ Some work → (shown : Option ℕ) (op : Operation V ℕ) → Intends store' work shown op → Intends s.store work shown op
   work_still store' stay parts d (works.Call r) was shown op h = still_intends s.store store' stay parts.values r (call_logged d r (ap call_in was)) shown op h
   work_still store' stay parts d (works.Resize z) was shown op h = absurd h
-  work_still store' stay parts d (works.Visit v) was (Some n) op h = by_operation op h
+  work_still store' stay parts d (works.Scan v) was (Some n) op h = by_operation op h
     where
-      by_operation : (op : Operation V ℕ) → Intends store' (works.Visit v) (Some n) op → Intends s.store (works.Visit v) (Some n) op
+      by_operation : (op : Operation V ℕ) → Intends store' (works.Scan v) (Some n) op → Intends s.store (works.Scan v) (Some n) op
       by_operation ops.Remove h = h
       by_operation (ops.Insert w) h = absurd h
       by_operation (ops.Abort t) h = absurd h
-  work_still store' stay parts d (works.Visit v) was None op h = absurd h
+  work_still store' stay parts d (works.Scan v) was None op h = absurd h
 
   -- so it is enough to look at the caller that makes the step
   keeps : {says : Says K V A} (caller : ℕ) (s' : CoreState K V S A) (event : Event) (work : Work K V A) (rest : Option (Work K V A)) → working s.callers caller ≡ Some work → s'.callers ≡ with_work s.callers caller rest → KeepsPairs s.store s'.store → KeepsParts s.store s'.store
@@ -100,10 +100,10 @@ module _ {K V S A : Type 0} (eq : K → K → Bool) (hash : K → ℕ) (s : Core
 module _ {K V S A : Type 0} (eq : K → K → Bool) (hash : K → ℕ) (law : IsLawfulKeys eq hash) where
   -- of a call on one key
   pub advance_intents : {says : Says K V A} {hashes : S → K → ℕ} (refuse : Bool) (s s' : CoreState K V S A) (c : ℕ) (event : Event) (reply : Option Reply) (x : Advances eq says hashes refuse s c s' event reply) (core : IsCore s.store s.callers s.mode) (core' : IsCore s'.store s'.callers s'.mode)
-      (es : List (Exchange (Stored K V))) (tales : ℕ → Tale K V) (kept : IsKept eq hash s.mode s.store s.callers es tales) (step : IsStep eq hash law refuse s c s' event reply x es tales) → KeepsIntents says s c s' event
-  advance_intents {says = says} {hashes = hashes} refuse s s' c event reply x core core' es tales kept step =
-      keeps eq hash s es tales kept c s' event (works.Call x.before) (as_work (goes_on reply r')) (call-under_way (working s.callers c) x.before x.was) x.callers grows.pairs_stay (record { keys = grows.keys_stay; values = grows.values_stay })
-      (λ later put shown op h. call_intends eq says hashes refuse s.store x.before x.answer s'.store x.later x.performs grows.pairs_stay step.call.valued (grows.value_stays step.call.valued) made_now step.call.again step.call.shows (call_logged eq hash s es tales kept c x.before x.was) (machine_goes m x.answer order) (chain_task m x.answer order).0
+      (es : List (Exchange (Stored K V))) (call_traces : ℕ → CallTrace K V) (kept : IsKept eq hash s.mode s.store s.callers es call_traces) (step : IsStep eq hash law refuse s c s' event reply x es call_traces) → KeepsIntents says s c s' event
+  advance_intents {says = says} {hashes = hashes} refuse s s' c event reply x core core' es call_traces kept step =
+      keeps eq hash s es call_traces kept c s' event (works.Call x.before) (as_work (goes_on reply r')) (call-under_way (working s.callers c) x.before x.was) x.callers grows.pairs_stay (record { keys = grows.keys_stay; values = grows.values_stay })
+      (λ later put shown op h. call_intends eq says hashes refuse s.store x.before x.answer s'.store x.later x.performs grows.pairs_stay step.call.valued (grows.value_stays step.call.valued) made_now step.call.again step.call.shows (call_logged eq hash s es call_traces kept c x.before x.was) (machine_goes m x.answer order) (chain_task m x.answer order).0
       (chain_said m x.answer order (core.standing c x.before x.was).call step.call.shows) event x.event_is answering shown op
       (subst (λ w. Intends s'.store w shown op) (goes reply later put) h))
     where
@@ -118,11 +118,11 @@ module _ {K V S A : Type 0} (eq : K → K → Bool) (hash : K → ℕ) (law : Is
       goes (Some rep) later put = let f : None ≡ Some later = put in absurd cc
 
       order : IsInOrder m x.answer m.phase
-      order = advance.order eq hash law refuse s s' c event reply x core core' es tales kept step
+      order = advance.order eq hash law refuse s s' c event reply x core core' es call_traces kept step
 
       -- only a compute shows its closure that there is none
       offers : ask_of x.before.machine ≡ asks.Call ShowNone → x.before.machine.call.task ≡ Compute
-      offers asking = machine_offers (setting_of eq (low hash) s.mode s.store.words.tables) (coding_of (low hash)) (tales c).begun (tales c).since step.call.key x.before.machine.call (tales c).hands.call step.call.rests.call (own_asks x.before.machine ShowNone asking).1
+      offers asking = machine_offers (setting_of eq (low hash) s.mode s.store.words.tables) (coding_of (low hash)) (call_traces c).begun (call_traces c).since step.call.key x.before.machine.call (call_traces c).loaded.call step.call.relies.call (own_asks x.before.machine ShowNone asking).1
 
       grows : HasMoreLogs s.store x.before s'.store x.later
       grows = grown eq says hashes refuse (ask_of x.before.machine) s.store x.before x.answer s'.store x.later x.performs offers
@@ -143,15 +143,15 @@ module _ {K V S A H : Type 0} (eq : K → K → Bool) (input : K → List (List 
   -- of a call on one key
   pub call_kept : Advances eq says hashes refuse s caller s' event reply → KeepsIntents says s caller s' event
   call_kept x =
-      let (es, (tales, kept)) = lawful.law in
+      let (es, (call_traces, kept)) = lawful.law in
       let law : IsLawfulKeys eq (hashes s.store.hasher) = keys_lawful eq input build write finish classes respects s.store.hasher in
-      advance_intents eq (hashes s.store.hasher) law refuse s s' caller event reply x lawful.core (advance-core eq says hashes refuse s caller s' event reply x lawful.core) es tales kept (kept_step eq (hashes s.store.hasher) law refuse s caller s' event reply x refl es tales lawful.core kept)
+      advance_intents eq (hashes s.store.hasher) law refuse s s' caller event reply x lawful.core (advance-core eq says hashes refuse s caller s' event reply x lawful.core) es call_traces kept (kept_step eq (hashes s.store.hasher) law refuse s caller s' event reply x refl es call_traces lawful.core kept)
 
   -- a call that resizes the map intends nothing
   pub resizer_kept : Resizes eq hashes refuse s caller s' event reply → KeepsIntents says s caller s' event
   resizer_kept x =
-      let (es, (tales, kept)) = lawful.law in
-      keeps eq (hashes s.store.hasher) s es tales kept caller s' event (works.Resize x.before) (goes_on reply (works.Resize (resizer.after x.before x.answer))) (resizer-under_way (working s.callers caller) x.before x.was) x.callers
+      let (es, (call_traces, kept)) = lawful.law in
+      keeps eq (hashes s.store.hasher) s es call_traces kept caller s' event (works.Resize x.before) (goes_on reply (works.Resize (resizer.after x.before x.answer))) (resizer-under_way (working s.callers caller) x.before x.was) x.callers
       (lawful_resizes eq input build write finish classes respects refuse s s' caller event reply lawful x).1
       (same_parts s.store s'.store (copy_pairs eq hashes refuse x.ask s.store x.answer s'.store x.performs))
       (λ later put shown op h. absurd (subst (λ w. Intends s'.store w shown op) (goes reply later put) h))
@@ -160,18 +160,18 @@ module _ {K V S A H : Type 0} (eq : K → K → Bool) (input : K → List (List 
       goes None later put = sym (same_item (works.Resize (resizer.after x.before x.answer)) later put)
       goes (Some rep) later put = let f : None ≡ Some later = put in absurd cc
 
-  -- of a call that visits a table
-  pub visitor_kept : Visits eq says hashes refuse s caller s' event reply → KeepsIntents says s caller s' event
-  visitor_kept x =
-      let (es, (tales, kept)) = lawful.law in
-      keeps eq (hashes s.store.hasher) s es tales kept caller s' event (works.Visit x.before) (goes_on reply (works.Visit own)) (visitor-under_way (working s.callers caller) x.before x.was) x.callers
-      (visit_keeps eq input build write finish classes respects says refuse s lawful caller s' event reply x)
-      (same_parts s.store s'.store (visit_pairs eq hashes refuse says x.ask s.store x.before x.answer s'.store x.later x.performs))
-      (λ later put shown op h. visit_intends eq says hashes refuse s.store x.before x.ask x.asked x.answer s'.store x.later x.performs event x.event_is shown op (subst (λ w. Intends s'.store w shown op) (goes reply later put) h))
+  -- of a call that scans a table
+  pub scanner_kept : Scans eq says hashes refuse s caller s' event reply → KeepsIntents says s caller s' event
+  scanner_kept x =
+      let (es, (call_traces, kept)) = lawful.law in
+      keeps eq (hashes s.store.hasher) s es call_traces kept caller s' event (works.Scan x.before) (goes_on reply (works.Scan own)) (scanner-under_way (working s.callers caller) x.before x.was) x.callers
+      (scan_keeps eq input build write finish classes respects says refuse s lawful caller s' event reply x)
+      (same_parts s.store s'.store (scan_pairs eq hashes refuse says x.ask s.store x.before x.answer s'.store x.later x.performs))
+      (λ later put shown op h. scan_intends eq says hashes refuse s.store x.before x.ask x.asked x.answer s'.store x.later x.performs event x.event_is shown op (subst (λ w. Intends s'.store w shown op) (goes reply later put) h))
     where
-      own : Visiting A
-      own = record x.later { visitor = visitor.after x.before.visitor x.answer }
+      own : Scanning A
+      own = record x.later { scanner = scanner.after x.before.scanner x.answer }
 
-      goes : (reply : Option Reply) (later : Work K V A) → goes_on reply (works.Visit own) ≡ Some later → later ≡ works.Visit own
-      goes None later put = sym (same_item (works.Visit own) later put)
+      goes : (reply : Option Reply) (later : Work K V A) → goes_on reply (works.Scan own) ≡ Some later → later ≡ works.Scan own
+      goes None later put = sym (same_item (works.Scan own) later put)
       goes (Some rep) later put = let f : None ≡ Some later = put in absurd cc

@@ -27,12 +27,12 @@ use Rattle.papaya_chain.specs.declared.ask.Answer.{Answer}
 use Rattle.papaya_chain.specs.declared.ask.Answer.TheVariants as given
 use Rattle.papaya_chain.specs.declared.machine.Machine.{Machine}
 use Rattle.papaya_chain.specs.Machine.{IsStanding, after, ask_of, kind_of_ask}
-use Rattle.papaya_chain_rests.specs.Goes.{Goes, IsOwnStep}
+use Rattle.papaya_chain_law.specs.Goes.{Goes, IsOwnStep}
 use Rattle.papaya_law.specs.Code.{Coding}
 use Rattle.papaya_law.specs.Exchange.{Exchange, Setting}
-use Rattle.papaya_rests.specs.Rests.{IsMadePair, Rests, change_in}
-use Rattle.papaya_rests.specs.Says.{Agrees, Inserts, IsAnswered, IsSaidBy, IsSaidChange, Makes, MakesPair, Removes, Said, ShowsPairs, StandsOn, show}
-use Rattle.papaya_rests.specs.Told.{Hands}
+use Rattle.papaya_call_law.specs.Relies.{IsMadePair, Relies, change_in}
+use Rattle.papaya_call_law.specs.Says.{Agrees, Inserts, IsAnswered, IsSaidBy, IsSaidChange, Makes, MakesPair, Removes, Said, ShowsPairs, StandsOn, show}
+use Rattle.papaya_call_law.specs.Told.{LoadedPairs}
 use Rattle.papaya_store.specs.declared.pairs.Running.{Running}
 use Rattle.papaya_store.specs.Asks.{PerformsAsk}
 use Rattle.papaya_store.specs.Pairs.{value_at, value_in}
@@ -43,7 +43,7 @@ use Rattle.papaya_timeline.specs.declared.trace.Event.{Event}
 use Rattle.papaya_timeline.specs.declared.trace.Event.TheVariants.{Asked, Changed, Shown}
 use Rattle.papaya_timeline.specs.Advances.{answered_event, event_of}
 use Rattle.papaya_timeline.specs.Begins.{begun_work}
-use Rattle.papaya_chain.specs.Visitor.{begun_in}
+use Rattle.papaya_chain.specs.Scanner.{begun_in}
 use Rattle.papaya_timeline.specs.Given.{GivesIn, asks_closure}
 use Rattle.papaya_timeline.specs.Intends.{AnswersNow, HasMade, HasValue, Intends, IntendsAs, IntendsHanded, TakesOut, WouldStore}
 use Rattle.papaya_timeline.specs.Timeline.{IsAnsweredIn, number_in, operation_for}
@@ -62,8 +62,8 @@ use Rattle.papaya_timeline.proofs.TiedLemmas.{value_back}
 
 -- a pair that a machine stands on is one that its call made
 module _ {K P : Type 0} (g : Setting K P) (c : Coding K P) (begun since : List (Exchange P)) (k : K) where
-  pub stands_own : (m : Call_machine) (hands : Hands P) → Rests g c begun since k m hands → (shown : Option ℕ) (n : ℕ) → StandsOn m (Makes shown n) → IsMadePair g c begun since k hands n
-  stands_own m hands rests shown n stands = search rules
+  pub stands_own : (m : Call_machine) (loaded : LoadedPairs P) → Relies g c begun since k m loaded → (shown : Option ℕ) (n : ℕ) → StandsOn m (Makes shown n) → IsMadePair g c begun since k loaded n
+  stands_own m loaded relies shown n stands = search rules
 
 -- an insertion writes the pair that it made
 writes_made : (made : Made) (hash : ℕ) (stage : Stage) (replace : Bool) → IsStandingState (tasks.Insert replace) stage → (at : At) (from to : ℕ) → calls.asks made hash stage ≡ Ask_exchange at from to → (old : Option ℕ) (n : ℕ) → change_in (calls.at_exchanged made stage) ≡ Some (old, Some n) → HasMade made n

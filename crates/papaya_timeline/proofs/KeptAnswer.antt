@@ -16,23 +16,23 @@ use Rattle.papaya_law.specs.Exchange.{Setting, State, Exchange, after as state_a
 use Rattle.papaya_law.specs.Grows.{Comes}
 use Rattle.papaya_law.specs.Invariant.{named}
 use Rattle.papaya_law.proofs.Moments.{run-append}
-use Rattle.papaya_rests.specs.Rests.{change_in}
-use Rattle.papaya_rests.specs.Copier.{told_last as copy_told_last}
-use Rattle.papaya_rests.specs.Told.{Hands as Call_hands, IsOneOf, IsTold as IsCallTold, IsWritten, told_of, or_last, word_of}
+use Rattle.papaya_call_law.specs.Relies.{change_in}
+use Rattle.papaya_call_law.specs.Copier.{told_last as copy_told_last}
+use Rattle.papaya_call_law.specs.Told.{LoadedPairs as Call_loaded, IsOneOf, IsTold as IsCallTold, IsWritten, told_of, or_last, word_of}
 use Rattle.papaya_chain.specs.declared.ask.Ask.{Ask}
 use Rattle.papaya_chain.specs.declared.ask.Ask.TheVariants as asks
 use Rattle.papaya_chain.specs.declared.ask.Answer.{Answer}
 use Rattle.papaya_chain.specs.declared.ask.Answer.TheVariants as answers
 use Rattle.papaya_chain.specs.Machine.{ask_of, kind_of_ask, follows_of, after}
-use Rattle.papaya_chain_rests.specs.Goes.{change_by}
-use Rattle.papaya_chain_rests.specs.Rests.{Rests}
-use Rattle.papaya_chain_rests.specs.Told.{Hands, IsTold}
-use Rattle.papaya_chain_rests.proofs.Order.{in_order}
-use Rattle.papaya_chain_rests.proofs.Replies.{chain_changes}
+use Rattle.papaya_chain_law.specs.Goes.{change_by}
+use Rattle.papaya_chain_law.specs.Relies.{Relies}
+use Rattle.papaya_chain_law.specs.Told.{IsTold, LoadedPairs}
+use Rattle.papaya_chain_law.proofs.Order.{in_order}
+use Rattle.papaya_chain_law.proofs.Replies.{chain_changes}
 use Rattle.papaya_store.specs.declared.pairs.Part.{Part}
 use Rattle.papaya_store.specs.declared.pairs.Part.TheVariants.{Own}
 use Rattle.papaya_store.specs.declared.pairs.Running.{Running}
-use Rattle.papaya_timeline.specs.Kept.{IsMade, Tale}
+use Rattle.papaya_timeline.specs.Kept.{CallTrace, IsMade}
 use Rattle.papaya_store.specs.Pairs.{key_in, value_at, value_in}
 use Rattle.papaya_store.specs.Performs.{own_key, own_value}
 use Rattle.papaya_store.specs.Store.{StoreState, Stored, pair_of}
@@ -45,14 +45,14 @@ abbrev pub Stands : {P : Type 0} → State P → P → Type 0
 Stands s p = (t : ℕ) × (x : ℕ) × (named (s.slot t x) ≡ Some p)
 
 -- The words of a store keep to the law in this setting, with this coding. Keys of the law are keys of the map, or, for a call by a query, keys of the map and the query. `own` is the call's own key in the log's terms, where it has one.
-module _ {Q K V S A : Type 0} (g : Setting Q (Stored K V)) (c : Coding Q (Stored K V)) (store : StoreState K V S) (r : Running K V A) (es : List (Exchange (Stored K V))) (tale : Tale K V) (own : Option K) where
+module _ {Q K V S A : Type 0} (g : Setting Q (Stored K V)) (c : Coding Q (Stored K V)) (store : StoreState K V S) (r : Running K V A) (es : List (Exchange (Stored K V))) (call_trace : CallTrace K V) (own : Option K) where
   -- the words as the law has them
   abbrev pub words_now : State (Stored K V)
   words_now = run es start
 
   -- what a call is told of an ask of its own, and a copy of its
-  abbrev pub Tells : Q → Ask → Answer → List (Exchange (Stored K V)) → Hands (Stored K V) → Type 0
-  Tells key ask a made hands = IsTold g c key words_now (kind_of_ask r.machine) (follows_of r.machine) tale.hands ask a made hands
+  abbrev pub Tells : Q → Ask → Answer → List (Exchange (Stored K V)) → LoadedPairs (Stored K V) → Type 0
+  Tells key ask a made loaded = IsTold g c key words_now (kind_of_ask r.machine) (follows_of r.machine) call_trace.loaded ask a made loaded
 
   -- The value that a call has is the one that it had.
   pub record KeepsValue (store' : StoreState K V S) (later : Running K V A) : Type 0 where
@@ -80,8 +80,8 @@ module _ {Q K V S A : Type 0} (g : Setting Q (Stored K V)) (c : Coding Q (Stored
   -- What an answered ask leaves.
   pub record IsAnswered (key : Q) (ask : Ask) (a : Answer) (store' : StoreState K V S) (later : Running K V A) : Type 0 where
     pub made : List (Exchange (Stored K V))
-    pub hands : Hands (Stored K V)
-    pub told : Tells key ask a made hands
+    pub loaded : LoadedPairs (Stored K V)
+    pub told : Tells key ask a made loaded
     -- the log and the tables grow
     pub keys : (at : Part K) (k : K) → key_in store.pairs at ≡ Some k → key_in store'.pairs at ≡ Some k
     pub values : (at : Part V) (v : V) → value_in store.pairs at ≡ Some v → value_in store'.pairs at ≡ Some v
@@ -96,12 +96,12 @@ module _ {Q K V S A : Type 0} (g : Setting Q (Stored K V)) (c : Coding Q (Stored
     pub hints : KeepsHints g c words_now store.words store'.words
     pub there : (t : ℕ) → 0 < t → Comes (run (es ++ made) start) t → IsMade store t
     -- a pair that a slot names stood in one before, or is one that the call made
-    pub slots : (t x : ℕ) (p : Stored K V) → named ((run (es ++ made) start).slot t x) ≡ Some p → Stands words_now p ⊎ IsOneOf tale.hands.call.made p
+    pub slots : (t x : ℕ) (p : Stored K V) → named ((run (es ++ made) start).slot t x) ≡ Some p → Stands words_now p ⊎ IsOneOf call_trace.loaded.call.made p
     pub unchanged : change_in (after r.machine a).call.state ≡ None → (change_in r.machine.call.state ≡ None) × ((t x : ℕ) (p : Stored K V) → named ((run (es ++ made) start).slot t x) ≡ Some p → Stands words_now p)
     -- the pairs that the machine was told of
-    pub last : (p : Stored K V) → hands.call.last ≡ Some p → (tale.hands.call.last ≡ Some p) ⊎ Stands words_now p
-    pub carried : (p : Stored K V) → hands.kept ≡ Some p → (tale.hands.kept ≡ Some p) ⊎ (tale.hands.call.last ≡ Some p)
-    pub new : (q : Stored K V) → IsOneOf hands.call.made q → IsOneOf tale.hands.call.made q ⊎ ((q.number ≡ length store.pairs) × (own_value store r ≡ Some q.value) × (pair_of store' q.number ≡ Some q))
+    pub last : (p : Stored K V) → loaded.call.last ≡ Some p → (call_trace.loaded.call.last ≡ Some p) ⊎ Stands words_now p
+    pub carried : (p : Stored K V) → loaded.kept ≡ Some p → (call_trace.loaded.kept ≡ Some p) ⊎ (call_trace.loaded.call.last ≡ Some p)
+    pub new : (q : Stored K V) → IsOneOf loaded.call.made q → IsOneOf call_trace.loaded.call.made q ⊎ ((q.number ≡ length store.pairs) × (own_value store r ≡ Some q.value) × (pair_of store' q.number ≡ Some q))
     -- the value of the call
     pub value : HasValue ask a store' later
     -- a table that was made is there
@@ -121,24 +121,24 @@ module _ {Q K V S A : Type 0} (g : Setting Q (Stored K V)) (c : Coding Q (Stored
     pub hints : KeepsHints g c words_now store.words store'.words
 
   -- What it tells of pairs.
-  pub record HasHands (store' : StoreState K V S) (hands : Hands (Stored K V)) : Type 0 where
-    pub last : (p : Stored K V) → hands.call.last ≡ Some p → (tale.hands.call.last ≡ Some p) ⊎ Stands words_now p
-    pub carried : (p : Stored K V) → hands.kept ≡ Some p → (tale.hands.kept ≡ Some p) ⊎ (tale.hands.call.last ≡ Some p)
-    pub new : (q : Stored K V) → IsOneOf hands.call.made q → IsOneOf tale.hands.call.made q ⊎ ((q.number ≡ length store.pairs) × (own_value store r ≡ Some q.value) × (pair_of store' q.number ≡ Some q))
+  pub record HasLoaded (store' : StoreState K V S) (loaded : LoadedPairs (Stored K V)) : Type 0 where
+    pub last : (p : Stored K V) → loaded.call.last ≡ Some p → (call_trace.loaded.call.last ≡ Some p) ⊎ Stands words_now p
+    pub carried : (p : Stored K V) → loaded.kept ≡ Some p → (call_trace.loaded.kept ≡ Some p) ⊎ (call_trace.loaded.call.last ≡ Some p)
+    pub new : (q : Stored K V) → IsOneOf loaded.call.made q → IsOneOf call_trace.loaded.call.made q ⊎ ((q.number ≡ length store.pairs) × (own_value store r ≡ Some q.value) × (pair_of store' q.number ≡ Some q))
 
   -- the pairs of before
-  pub same_hands : (store' : StoreState K V S) → HasHands store' tale.hands
-  same_hands store' = record { last = λ p h. inl h; carried = λ p h. inl h; new = λ q h. inl h }
+  pub same_loaded : (store' : StoreState K V S) → HasLoaded store' call_trace.loaded
+  same_loaded store' = record { last = λ p h. inl h; carried = λ p h. inl h; new = λ q h. inl h }
 
-  module _ (hashed : IsHashed g c) (key : Q) (rests : Rests g c tale.begun tale.since key r.machine tale.hands)
+  module _ (hashed : IsHashed g c) (key : Q) (relies : Relies g c call_trace.begun call_trace.since key r.machine call_trace.loaded)
       (coded : (at : At) → word_of g c words_now at ≡ word_at store.words at)
       (there : (t : ℕ) → 0 < t → Comes words_now t → IsMade store t) where
     -- what a call has changed after its ask was answered
-    pub changed : (ask : Ask) → ask_of r.machine ≡ ask → (a : Answer) (made : List (Exchange (Stored K V))) (hands : Hands (Stored K V)) → Tells key ask a made hands → change_in (after r.machine a).call.state ≡ change_by (kind_of_ask r.machine) ask a (change_in r.machine.call.state)
-    changed ask e a made hands told =
-        let asked : Tells key (ask_of r.machine) a made hands = subst (λ y. Tells key y a made hands) (sym e) told in
-        chain_changes g c key words_now r.machine tale.hands a made hands
-        (in_order g c tale.begun tale.since key r.machine tale.hands words_now a made hands rests asked) asked hashed rests.call.hash
+    pub changed : (ask : Ask) → ask_of r.machine ≡ ask → (a : Answer) (made : List (Exchange (Stored K V))) (loaded : LoadedPairs (Stored K V)) → Tells key ask a made loaded → change_in (after r.machine a).call.state ≡ change_by (kind_of_ask r.machine) ask a (change_in r.machine.call.state)
+    changed ask e a made loaded told =
+        let asked : Tells key (ask_of r.machine) a made loaded = subst (λ y. Tells key y a made loaded) (sym e) told in
+        chain_changes g c key words_now r.machine call_trace.loaded a made loaded
+        (in_order g c call_trace.begun call_trace.since key r.machine call_trace.loaded words_now a made loaded relies asked) asked hashed relies.call.hash
         ∙ ap (λ y. change_by (kind_of_ask r.machine) y a (change_in r.machine.call.state)) e
 
     -- the words after no exchange
@@ -146,15 +146,15 @@ module _ {Q K V S A : Type 0} (g : Setting Q (Stored K V)) (c : Coding Q (Stored
     none_made = ap (λ l. run l start) (append-nil es)
 
     -- an answer without an exchange
-    pub unexchanged : (ask : Ask) → ask_of r.machine ≡ ask → (a : Answer) (store' : StoreState K V S) (later : Running K V A) (hands : Hands (Stored K V))
-        → Tells key ask a [] hands
+    pub unexchanged : (ask : Ask) → ask_of r.machine ≡ ask → (a : Answer) (store' : StoreState K V S) (later : Running K V A) (loaded : LoadedPairs (Stored K V))
+        → Tells key ask a [] loaded
         → change_by (kind_of_ask r.machine) ask a (change_in r.machine.call.state) ≡ change_in r.machine.call.state
-        → HasLogs key store' later → HasHands store' hands → HasValue ask a store' later
+        → HasLogs key store' later → HasLoaded store' loaded → HasValue ask a store' later
         → ((t : ℕ) → a ≡ answers.Call (Made_number t) → ((slots : ℕ) × (limit : ℕ) × (chunks : ℕ) × (ask ≡ asks.Call (MakeTable slots limit chunks))) ⊎ ((slots : ℕ) × (limit : ℕ) × (chunks : ℕ) × (ask ≡ asks.Copy (Make_next slots limit chunks))) → IsMade store' t)
         → IsAnswered key ask a store' later
-    unexchanged ask e a store' later hands told still logs pairs value opens = record {
+    unexchanged ask e a store' later loaded told still logs pairs value opens = record {
       made = [];
-      hands = hands;
+      loaded = loaded;
       told = told;
       keys = logs.keys;
       values = logs.values;
@@ -168,7 +168,7 @@ module _ {Q K V S A : Type 0} (g : Setting Q (Stored K V)) (c : Coding Q (Stored
       hints = logs.hints;
       there = λ t some comes. there t some (subst (λ z. Comes z t) none_made comes);
       slots = λ t x p h. inl (t, x, ap (λ z. named (z.slot t x)) (sym none_made) ∙ h);
-      unchanged = λ none. (sym still ∙ sym (changed ask e a [] hands told) ∙ none, λ t x p h. (t, x, ap (λ z. named (z.slot t x)) (sym none_made) ∙ h));
+      unchanged = λ none. (sym still ∙ sym (changed ask e a [] loaded told) ∙ none, λ t x p h. (t, x, ap (λ z. named (z.slot t x)) (sym none_made) ∙ h));
       last = pairs.last;
       carried = pairs.carried;
       new = pairs.new;
@@ -181,37 +181,37 @@ module _ {Q K V S A : Type 0} (g : Setting Q (Stored K V)) (c : Coding Q (Stored
     same_logs owns count = record { keys = λ at k h. h; values = λ at v h. h; own_is = owns; logged = λ n p h. h; longer = omega arith; few = λ h. h; tables_few = λ h. h; grown = grown-same store.words.tables; words = λ at. refl; hints = λ n i. inl refl }
 
     -- an answer that leaves words, logs and call, but for the count
-    pub quiet : own_key store r ≡ own → (ask : Ask) → ask_of r.machine ≡ ask → (a : Answer) (store' : StoreState K V S) (later : Running K V A) (hands : Hands (Stored K V)) (count : Count) → store' ≡ record store { count = count } → later ≡ r
-        → Tells key ask a [] hands
+    pub quiet : own_key store r ≡ own → (ask : Ask) → ask_of r.machine ≡ ask → (a : Answer) (store' : StoreState K V S) (later : Running K V A) (loaded : LoadedPairs (Stored K V)) (count : Count) → store' ≡ record store { count = count } → later ≡ r
+        → Tells key ask a [] loaded
         → change_by (kind_of_ask r.machine) ask a (change_in r.machine.call.state) ≡ change_in r.machine.call.state
-        → ((p : Stored K V) → hands.call.last ≡ Some p → (tale.hands.call.last ≡ Some p) ⊎ Stands words_now p)
-        → ((p : Stored K V) → hands.kept ≡ Some p → (tale.hands.kept ≡ Some p) ⊎ (tale.hands.call.last ≡ Some p))
-        → hands.call.made ≡ tale.hands.call.made
+        → ((p : Stored K V) → loaded.call.last ≡ Some p → (call_trace.loaded.call.last ≡ Some p) ⊎ Stands words_now p)
+        → ((p : Stored K V) → loaded.kept ≡ Some p → (call_trace.loaded.kept ≡ Some p) ⊎ (call_trace.loaded.call.last ≡ Some p))
+        → loaded.call.made ≡ call_trace.loaded.call.made
         → ((t : ℕ) → a ≡ answers.Call (Made_number t) → ((slots : ℕ) × (limit : ℕ) × (chunks : ℕ) × (ask ≡ asks.Call (MakeTable slots limit chunks))) ⊎ ((slots : ℕ) × (limit : ℕ) × (chunks : ℕ) × (ask ≡ asks.Copy (Make_next slots limit chunks))) → ⊥)
         → IsAnswered key ask a store' later
-    quiet owns ask e a store' later hands count same_store same_call told still last carried made never =
+    quiet owns ask e a store' later loaded count same_store same_call told still last carried made never =
         subst (λ y. IsAnswered key ask a y later) (sym same_store) (subst (IsAnswered key ask a (record store { count = count })) (sym same_call)
-        (unexchanged ask e a (record store { count = count }) r hands told still (same_logs owns count)
+        (unexchanged ask e a (record store { count = count }) r loaded told still (same_logs owns count)
         (record { last = last; carried = carried; new = λ q h. inl (subst (λ l. IsOneOf l q) made h) })
         (inl (same_value (record store { count = count }) (λ at v h. h)))
         (λ t is which. absurd (never t is which))))
 
     -- an exchange that was made
-    pub exchanged : own_key store r ≡ own → (ask : Ask) → ask_of r.machine ≡ ask → (at : At) (new : ℕ) (by : Exchange (Stored K V)) (hands : Hands (Stored K V))
-        → Tells key ask (answers.Call Exchanged) (by ∷ []) hands
+    pub exchanged : own_key store r ≡ own → (ask : Ask) → ask_of r.machine ≡ ask → (at : At) (new : ℕ) (by : Exchange (Stored K V)) (loaded : LoadedPairs (Stored K V))
+        → Tells key ask (answers.Call Exchanged) (by ∷ []) loaded
         → IsPlaced store.words.tables at
         → IsWritten g c words_now at new (state_after words_now by)
         → ((t : ℕ) → 0 < t → Comes (state_after words_now by) t → IsMade store t)
-        → ((t x : ℕ) (p : Stored K V) → named ((state_after words_now by).slot t x) ≡ Some p → Stands words_now p ⊎ IsOneOf tale.hands.call.made p)
+        → ((t x : ℕ) (p : Stored K V) → named ((state_after words_now by).slot t x) ≡ Some p → Stands words_now p ⊎ IsOneOf call_trace.loaded.call.made p)
         → (change_in (after r.machine (answers.Call Exchanged)).call.state ≡ None → (change_in r.machine.call.state ≡ None) × ((t x : ℕ) (p : Stored K V) → named ((state_after words_now by).slot t x) ≡ Some p → Stands words_now p))
-        → ((p : Stored K V) → hands.call.last ≡ Some p → (tale.hands.call.last ≡ Some p) ⊎ Stands words_now p)
-        → hands.kept ≡ tale.hands.kept → hands.call.made ≡ tale.hands.call.made
+        → ((p : Stored K V) → loaded.call.last ≡ Some p → (call_trace.loaded.call.last ≡ Some p) ⊎ Stands words_now p)
+        → loaded.kept ≡ call_trace.loaded.kept → loaded.call.made ≡ call_trace.loaded.call.made
         → IsAnswered key ask (answers.Call Exchanged) (record store { words = put store.words at new }) r
-    exchanged owns ask e at new by hands told placed written comes slots unchanged last kept made =
+    exchanged owns ask e at new by loaded told placed written comes slots unchanged last kept made =
         let to : run (es ++ by ∷ []) start ≡ state_after words_now by = run-append es (by ∷ []) start in
         record {
           made = by ∷ [];
-          hands = hands;
+          loaded = loaded;
           told = told;
           keys = λ k j h. h;
           values = λ at v h. h;
@@ -240,8 +240,8 @@ module _ {Q K V S A : Type 0} (g : Setting Q (Stored K V)) (c : Coding Q (Stored
         ]
 
     -- what a call is told for itself, of which its copy hears nothing
-    pub own_told : (ask : Call_ask) (a : Call_answer) (made : List (Exchange (Stored K V))) (hands : Call_hands (Stored K V)) → IsCallTold g c key words_now (kind_of_ask r.machine) tale.hands.call ask a made hands → Tells key (asks.Call ask) (answers.Call a) made (record tale.hands { call = hands })
-    own_told ask a made hands told = record { told = a; is = refl; call = hands; tells = told; handed = refl }
+    pub own_told : (ask : Call_ask) (a : Call_answer) (made : List (Exchange (Stored K V))) (loaded : Call_loaded (Stored K V)) → IsCallTold g c key words_now (kind_of_ask r.machine) call_trace.loaded.call ask a made loaded → Tells key (asks.Call ask) (answers.Call a) made (record call_trace.loaded { call = loaded })
+    own_told ask a made loaded told = record { told = a; is = refl; call = loaded; tells = told; handed = refl }
 
   -- the pair that the word at a place names
   named_last : (last : Option (Stored K V)) (t x : ℕ) (p : Stored K V) (o : Option (Stored K V)) → named (words_now.slot t x) ≡ o → or_last o last ≡ Some p → (last ≡ Some p) ⊎ Stands words_now p
@@ -249,25 +249,25 @@ module _ {Q K V S A : Type 0} (g : Setting Q (Stored K V)) (c : Coding Q (Stored
   named_last last t x p (Some q) e h = inr (t, x, e ∙ h)
 
   -- the pair that a machine was told of stood in the slot that was loaded, or it was told of before
-  pub told_last : (at : At) (p : Stored K V) → (told_of words_now at tale.hands.call).last ≡ Some p → (tale.hands.call.last ≡ Some p) ⊎ Stands words_now p
+  pub told_last : (at : At) (p : Stored K V) → (told_of words_now at call_trace.loaded.call).last ≡ Some p → (call_trace.loaded.call.last ≡ Some p) ⊎ Stands words_now p
   told_last Root p h = inl h
   told_last (Next t) p h = inl h
   told_last Made p h = inl h
   told_last (Aborted t) p h = inl h
   told_last (Done t chunk) p h = inl h
-  told_last (Slot t x) p h = named_last tale.hands.call.last t x p (named (words_now.slot t x)) refl h
+  told_last (Slot t x) p h = named_last call_trace.loaded.call.last t x p (named (words_now.slot t x)) refl h
 
   -- and so it is for a copier
-  pub copy_last : (at : At) (p : Stored K V) → copy_told_last words_now at tale.hands.call.last ≡ Some p → (tale.hands.call.last ≡ Some p) ⊎ Stands words_now p
+  pub copy_last : (at : At) (p : Stored K V) → copy_told_last words_now at call_trace.loaded.call.last ≡ Some p → (call_trace.loaded.call.last ≡ Some p) ⊎ Stands words_now p
   copy_last Root p h = inl h
   copy_last (Next t) p h = inl h
   copy_last Made p h = inl h
   copy_last (Aborted t) p h = inl h
   copy_last (Done t chunk) p h = inl h
-  copy_last (Slot t x) p h = named_last tale.hands.call.last t x p (named (words_now.slot t x)) refl h
+  copy_last (Slot t x) p h = named_last call_trace.loaded.call.last t x p (named (words_now.slot t x)) refl h
 
   -- what stands at a place says nothing of the pair that the call made
-  pub told_made : (at : At) → (told_of words_now at tale.hands.call).made ≡ tale.hands.call.made
+  pub told_made : (at : At) → (told_of words_now at call_trace.loaded.call).made ≡ call_trace.loaded.call.made
   told_made Root = refl
   told_made (Next t) = refl
   told_made Made = refl

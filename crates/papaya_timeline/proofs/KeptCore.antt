@@ -12,9 +12,9 @@ use Rattle.papaya_chain.specs.declared.ask.Ask.{Ask}
 use Rattle.papaya_chain.specs.declared.ask.Ask.TheVariants as asks
 use Rattle.papaya_chain.specs.declared.ask.Answer.{Answer}
 use Rattle.papaya_chain.specs.Machine.{after, ask_of, kind_of_ask}
-use Rattle.papaya_chain_rests.specs.Goes.{IsCause}
-use Rattle.papaya_chain_rests.specs.Told.{no_hands}
-use Rattle.papaya_chain_rests.specs.VisitTold as visits
+use Rattle.papaya_chain_law.specs.Goes.{IsCause}
+use Rattle.papaya_chain_law.specs.Told.{nothing_loaded}
+use Rattle.papaya_chain_law.specs.ScanTold as scans
 use Rattle.papaya_timeline.specs.declared.seat.Seat.{Seat}
 use Rattle.papaya_store.specs.declared.pairs.Running.{Running}
 use Rattle.papaya_timeline.specs.declared.trace.Event.{Event}
@@ -24,7 +24,7 @@ use Rattle.papaya_timeline.specs.Advances.{Advances, event_of, goes_on, reply_in
 use Rattle.papaya_timeline.specs.Begins.{Begins}
 use Rattle.papaya_timeline.specs.Callers.{running, with_call}
 use Rattle.papaya_timeline.specs.Core.{CoreState, IsCore}
-use Rattle.papaya_timeline.specs.Kept.{IsKept, IsLawfulCore, Tale, coding_of, low, setting_of}
+use Rattle.papaya_timeline.specs.Kept.{CallTrace, IsKept, IsLawfulCore, coding_of, low, setting_of}
 use Rattle.papaya_store.specs.Asks.{PerformsAsk}
 use Rattle.papaya_store.specs.New.{HasCapacity}
 use Rattle.papaya_store.specs.Performs.{Performs, Stays}
@@ -32,8 +32,8 @@ use Rattle.papaya_store.specs.Store.{StoreState}
 use Rattle.papaya_keys.specs.Hashes.{hash_of}
 use Rattle.papaya_store.specs.Tables.{put, word_at}
 use Rattle.papaya_law.specs.Exchange.{run, start}
-use Rattle.papaya_chain_rests.proofs.Order.{in_order}
-use Rattle.papaya_chain_rests.proofs.Refusals.{chain_refused}
+use Rattle.papaya_chain_law.proofs.Order.{in_order}
+use Rattle.papaya_chain_law.proofs.Refusals.{chain_refused}
 use Rattle.papaya_timeline.proofs.CoreLemmas.{reply_asked}
 use Rattle.papaya_timeline.proofs.KeptLemmas.{IsLawfulKeys, kept_begin, kept_new, kept_step}
 use Rattle.papaya_timeline.proofs.KeptStep as kept_steps
@@ -90,37 +90,37 @@ module _ {K V S A H : Type 0} (eq : K → K → Bool) (input : K → List (List 
   -- a new one
   pub new_lawful : (mode : Mode) (capacity initial : ℕ) (store : StoreState K V S) (callers : List (Seat K V A)) → IsCore store callers mode → HasCapacity capacity initial store.words → store.pairs ≡ [] → callers ≡ [] → IsLawfulCore eq (hash_of input build write finish store.hasher) store callers mode
   new_lawful mode capacity initial store callers core words pairs none =
-      let tales : ℕ → Tale K V = λ d. record { begun = []; since = []; hands = no_hands; visit = visits.no_hands } in
-      let kept = kept_new eq (hash_of input build write finish store.hasher) (keys_lawful eq input build write finish classes respects store.hasher) mode capacity initial store callers words pairs none tales in
-      record { core = core; law = (kept.0, (tales, kept.1)) }
+      let call_traces : ℕ → CallTrace K V = λ d. record { begun = []; since = []; loaded = nothing_loaded; scan = scans.nothing_loaded } in
+      let kept = kept_new eq (hash_of input build write finish store.hasher) (keys_lawful eq input build write finish classes respects store.hasher) mode capacity initial store callers words pairs none call_traces in
+      record { core = core; law = (kept.0, (call_traces, kept.1)) }
 
   -- after a begin
   pub begin_lawful : (s : CoreState K V S A) (caller : ℕ) (call : Call K V A) (s' : CoreState K V S A) → Begins (hash_of input build write finish s.store.hasher) s caller call s' → IsCore s'.store s'.callers s'.mode → Lawful s → Lawful s'
   begin_lawful s caller call s' begins core lawful =
-      let (es, (tales, kept)) = lawful.law in
-      let kept' = kept_begin eq (hash_of input build write finish s.store.hasher) (keys_lawful eq input build write finish classes respects s.store.hasher) s caller call s' begins es tales kept in
+      let (es, (call_traces, kept)) = lawful.law in
+      let kept' = kept_begin eq (hash_of input build write finish s.store.hasher) (keys_lawful eq input build write finish classes respects s.store.hasher) s caller call s' begins es call_traces kept in
       let same : s.store.hasher ≡ s'.store.hasher = ap (λ (y : StoreState K V S). y.hasher) (sym begins.store) in
-      record { core = core; law = subst (λ h. (es : _) × ((tales : _) × IsKept eq (hash_of input build write finish h) s'.mode s'.store s'.callers es tales)) same (es, (_, kept')) }
+      record { core = core; law = subst (λ h. (es : _) × ((call_traces : _) × IsKept eq (hash_of input build write finish h) s'.mode s'.store s'.callers es call_traces)) same (es, (_, kept')) }
 
   -- after a step
   pub step_lawful : {says : Says K V A} (refuse : Bool) (s : CoreState K V S A) (caller : ℕ) (s' : CoreState K V S A) (event : Event) (reply : Option Reply) → Advances eq says (hash_of input build write finish) refuse s caller s' event reply → IsCore s'.store s'.callers s'.mode → Lawful s → Lawful s'
   step_lawful {says = says} refuse s caller s' event reply a core lawful =
-      let (es, (tales, kept)) = lawful.law in
-      let step = kept_step eq (hash_of input build write finish s.store.hasher) (keys_lawful eq input build write finish classes respects s.store.hasher) refuse s caller s' event reply a refl es tales lawful.core kept in
+      let (es, (call_traces, kept)) = lawful.law in
+      let step = kept_step eq (hash_of input build write finish s.store.hasher) (keys_lawful eq input build write finish classes respects s.store.hasher) refuse s caller s' event reply a refl es call_traces lawful.core kept in
       let same : s.store.hasher ≡ s'.store.hasher = sym (performs-hasher eq says (hash_of input build write finish) refuse _ s.store a.before a.answer s'.store a.later a.performs) in
-      record { core = core; law = subst (λ h. (es : _) × ((tales : _) × IsKept eq (hash_of input build write finish h) s'.mode s'.store s'.callers es tales)) same (es ++ step.made, (_, step.kept)) }
+      record { core = core; law = subst (λ h. (es : _) × ((call_traces : _) × IsKept eq (hash_of input build write finish h) s'.mode s'.store s'.callers es call_traces)) same (es ++ step.made, (_, step.kept)) }
 
   -- a call that goes on is refused for a cause
   pub lawful_caused : (says : Says K V A) (refuse : Bool) (s : CoreState K V S A) → Lawful s → (caller : ℕ) (r : Running K V A) → running s.callers caller ≡ Some r → (answer : Answer) (store' : StoreState K V S) (later : Running K V A) → PerformsAsk eq says (hash_of input build write finish) refuse (ask_of r.machine) s.store r answer store' later → (refused : Refused) → reply_in (ask_of (after r.machine answer)) ≡ Some (Reply_refused refused) → IsCause r.machine answer refused
   lawful_caused says refuse s lawful caller r was answer store' later performs refused e =
-      let (es, (tales, kept)) = lawful.law in
+      let (es, (call_traces, kept)) = lawful.law in
       let hashed = hash_of input build write finish s.store.hasher in
-      let left = kept_steps.left eq hashed (keys_lawful eq input build write finish classes respects s.store.hasher) says (hash_of input build write finish) refuse s caller (record { store = store'; callers = s.callers; mode = s.mode; initial = s.initial }) r answer later was performs refl refl es tales lawful.core kept in
+      let left = kept_steps.left eq hashed (keys_lawful eq input build write finish classes respects s.store.hasher) says (hash_of input build write finish) refuse s caller (record { store = store'; callers = s.callers; mode = s.mode; initial = s.initial }) r answer later was performs refl refl es call_traces lawful.core kept in
       let call = kept.calls caller r was in
       let g = setting_of eq (low hashed) s.mode s.store.words.tables in
       let c = coding_of (low hashed) in
-      chain_refused g c call.key (run es start) r.machine answer refused (tales caller).hands left.made left.hands left.told
-      (in_order g c (tales caller).begun (tales caller).since call.key r.machine (tales caller).hands (run es start) answer left.made left.hands call.rests left.told)
+      chain_refused g c call.key (run es start) r.machine answer refused (call_traces caller).loaded left.made left.loaded left.told
+      (in_order g c (call_traces caller).begun (call_traces caller).since call.key r.machine (call_traces caller).loaded (run es start) answer left.made left.loaded call.relies left.told)
       (lawful.core.going caller r was) (reply_asked (ask_of (after r.machine answer)) (Reply_refused refused) e)
 
   -- the same of what the code has: the store and the callers after it

@@ -7,12 +7,12 @@ use Rattle.papaya_ask.specs.declared.ask.StepKind.TheVariants as kinds
 use Rattle.papaya_law.specs.Allows.{Allows}
 use Rattle.papaya_law.specs.Code.{Coding}
 use Rattle.papaya_law.specs.Copying.{IsCopied}
-use Rattle.papaya_law.specs.Exchange.{Setting, Word, Closed, Live, Marked, Copied, Buried, State, Exchange, Open, Link, Close, Place, Finish, Advance, Promote, Abort, Take, after}
+use Rattle.papaya_law.specs.Exchange.{Setting, Word, Closed, Live, Marked, Copied, Tombstone, State, Exchange, Open, Link, Close, Place, Finish, Advance, Promote, Abort, Take, after}
 use Rattle.papaya_law.specs.Grows.{Comes}
 use Rattle.papaya_law.specs.Invariant.{named}
-use Rattle.papaya_rests.specs.Copier.{IsCopyAsked, last_after}
-use Rattle.papaya_rests.specs.Rests.{change_of_kind}
-use Rattle.papaya_rests.specs.Told.{Hands, IsAsked, IsOneOf}
+use Rattle.papaya_call_law.specs.Copier.{IsCopyAsked, last_after}
+use Rattle.papaya_call_law.specs.Relies.{change_of_kind}
+use Rattle.papaya_call_law.specs.Told.{IsAsked, IsOneOf, LoadedPairs}
 use Rattle.papaya_timeline.proofs.KeptAnswer.{Stands}
 
 -- two tests are both met
@@ -21,9 +21,9 @@ both true b h = (refl, h)
 both false b h = absurd cc
 
 -- the root is exchanged where there is none yet
-pub root_empty : {K P : Type 0} (g : Setting K P) (c : Coding K P) (k : K) (s : State P) (hands : Hands P) (new : ℕ) (kind : Option StepKind) (e : Exchange P) → IsAsked g c k kind Root new s hands e → Allows g s e → s.root ≡ 0
-root_empty g c k s hands new (Some kinds.Open) e is allows = (subst (Allows g s) is allows).0
-root_empty g c k s hands new _ e h allows = absurd h
+pub root_empty : {K P : Type 0} (g : Setting K P) (c : Coding K P) (k : K) (s : State P) (loaded : LoadedPairs P) (new : ℕ) (kind : Option StepKind) (e : Exchange P) → IsAsked g c k kind Root new s loaded e → Allows g s e → s.root ≡ 0
+root_empty g c k s loaded new (Some kinds.Open) e is allows = (subst (Allows g s) is allows).0
+root_empty g c k s loaded new _ e h allows = absurd h
 
 module _ {P : Type 0} (s : State P) where
   -- a slot after a word was put into one that names nothing, or a pair that stood somewhere
@@ -31,17 +31,17 @@ module _ {P : Type 0} (s : State P) where
   put_stood t x w stood u y p true e = stood p e
   put_stood t x w stood u y p false e = (u, y, e)
 
-module _ {P : Type 0} (s : State P) (hands : Hands P) (new : ℕ) where
+module _ {P : Type 0} (s : State P) (loaded : LoadedPairs P) (new : ℕ) where
   -- The tables that have come are those of before, and the one that was opened; a pair that a slot names stood in one before, or is one that the call made. Where it changes no pair of the map, each slot names what one named.
   pub record IsChanged (kind : Option StepKind) (at : At) (e : Exchange P) : Type 0 where
     pub place : (at ≡ Root) ⊎ (at ≡ Made) ⊎ ((t : ℕ) × (x : ℕ) × (at ≡ Slot t x))
     pub comes : (t : ℕ) → Comes (after s e) t → Comes s t ⊎ ((at ≡ Root) × (new ≡ t))
-    pub slots : (t x : ℕ) (p : P) → named ((after s e).slot t x) ≡ Some p → Stands s p ⊎ IsOneOf hands.made p
+    pub slots : (t x : ℕ) (p : P) → named ((after s e).slot t x) ≡ Some p → Stands s p ⊎ IsOneOf loaded.made p
     pub unchanged : (old word : ℕ) → change_of_kind kind old word ≡ None → (t x : ℕ) (p : P) → named ((after s e).slot t x) ≡ Some p → Stands s p
 
   -- a slot after the call's pair was put into one
-  put_made : (q : P) → IsOneOf hands.made q → (u y : ℕ) (p : P) (b : Bool) → named (cond b (Live q) (s.slot u y)) ≡ Some p → Stands s p ⊎ IsOneOf hands.made p
-  put_made q made u y p true e = let f : Some q ≡ Some p = e in let is : q ≡ p = cc in inr (subst (IsOneOf hands.made) is made)
+  put_made : (q : P) → IsOneOf loaded.made q → (u y : ℕ) (p : P) (b : Bool) → named (cond b (Live q) (s.slot u y)) ≡ Some p → Stands s p ⊎ IsOneOf loaded.made p
+  put_made q made u y p true e = let f : Some q ≡ Some p = e in let is : q ≡ p = cc in inr (subst (IsOneOf loaded.made) is made)
   put_made q made u y p false e = inl (u, y, e)
 
   -- an opened table
@@ -58,7 +58,7 @@ module _ {P : Type 0} (s : State P) (hands : Hands P) (new : ℕ) where
   numbered = record { place = inr (inl refl); comes = λ t h. inl h; slots = λ t x p e. inl (t, x, e); unchanged = λ old word none t x p e. (t, x, e) }
 
   -- what an asked exchange changes
-  pub changes : {K : Type 0} (g : Setting K P) (c : Coding K P) (k : K) (kind : Option StepKind) (at : At) (e : Exchange P) → IsAsked g c k kind at new s hands e → IsChanged kind at e
+  pub changes : {K : Type 0} (g : Setting K P) (c : Coding K P) (k : K) (kind : Option StepKind) (at : At) (e : Exchange P) → IsAsked g c k kind at new s loaded e → IsChanged kind at e
   changes g c k (Some kinds.Take) Made e is = subst (IsChanged (Some kinds.Take) Made) (sym is) numbered
   changes g c k (Some kinds.Open) Root e is = subst (IsChanged (Some kinds.Open) Root) (sym is) opened
   changes g c k (Some kinds.Claim) (Slot t x) e (q, own, key, is) = subst (IsChanged (Some kinds.Claim) (Slot t x)) (sym is) (record {
@@ -73,10 +73,10 @@ module _ {P : Type 0} (s : State P) (hands : Hands P) (new : ℕ) where
     slots = λ u y p' h. put_made q own.made u y p' ((u == t) && (y == x)) h;
     unchanged = λ old word none. absurd cc;
   })
-  changes g c k (Some kinds.Bury) (Slot t x) e (q, live, is) = subst (IsChanged (Some kinds.Bury) (Slot t x)) (sym is) (record {
+  changes g c k (Some kinds.Delete) (Slot t x) e (q, live, is) = subst (IsChanged (Some kinds.Delete) (Slot t x)) (sym is) (record {
     place = inr (inr (t, x, refl));
     comes = λ u h. inl h;
-    slots = λ u y p h. inl (put_stood s t x (Buried q) (λ p h. (t, x, ap named live ∙ h)) u y p ((u == t) && (y == x)) h);
+    slots = λ u y p h. inl (put_stood s t x (Tombstone q) (λ p h. (t, x, ap named live ∙ h)) u y p ((u == t) && (y == x)) h);
     unchanged = λ old word none. absurd cc;
   })
   changes g c k _ _ e h = absurd h

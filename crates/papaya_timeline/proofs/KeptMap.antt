@@ -8,7 +8,7 @@ use Rattle.papaya_law.specs.Code.{Coding, code, kind}
 use Rattle.papaya_law.specs.ChainContent.{chain_content, joined}
 use Rattle.papaya_law.specs.Class.{IsOn}
 use Rattle.papaya_law.specs.Content.{lookup, pairs_in, pairs_of_word}
-use Rattle.papaya_law.specs.Exchange.{Word, Empty, Closed, Live, Marked, Copied, Buried, Setting, State, Exchange, run, start, walk}
+use Rattle.papaya_law.specs.Exchange.{Word, Empty, Closed, Live, Marked, Copied, Tombstone, Setting, State, Exchange, run, start, walk}
 use Rattle.papaya_law.specs.Grows.{Comes}
 use Rattle.papaya_law.specs.Invariant.{IsKeeping, named}
 use Rattle.papaya_law.specs.Meaning.{map_left}
@@ -20,7 +20,7 @@ use Rattle.papaya_law.proofs.Logs.{on_comes}
 use Rattle.papaya_law.proofs.OneMap.{keeping, sound}
 use Rattle.papaya_timeline.specs.declared.seat.Seat.{Seat}
 use Rattle.papaya_timeline.specs.Content.{content, listed, pairs_from, pairs_of_kind, pairs_of_slots}
-use Rattle.papaya_timeline.specs.Kept.{IsKept, IsLogged, Tale, setting_of, coding_of, low, slots_in}
+use Rattle.papaya_timeline.specs.Kept.{IsKept, IsLogged, CallTrace, setting_of, coding_of, low, slots_in}
 use Rattle.papaya_store.specs.Store.{StoreState, Stored, pair_of}
 use Rattle.papaya_store.specs.Tables.{table_of, word_in}
 use Rattle.papaya_timeline.proofs.KeptTables.{table_low}
@@ -51,7 +51,7 @@ module _ {K V S : Type 0} (eq : K → K → Bool) (hash : K → ℕ) (mode : Mod
   kind_pairs (Live p) logged = pair_listed (Live p) p refl (logged p refl)
   kind_pairs (Marked p) logged = pair_listed (Marked p) p refl (logged p refl)
   kind_pairs (Copied p) logged = refl
-  kind_pairs (Buried p) logged = refl
+  kind_pairs (Tombstone p) logged = refl
 
   -- the pair of a number that stands for a word
   word_pairs : (w : Word (Stored K V)) (word : ℕ) → code g c w ≡ word → ((p : Stored K V) → named w ≡ Some p → IsLogged store p) → pairs_of_kind store (kind_of word) (number_of word) ≡ pairs_of_word w
@@ -68,7 +68,7 @@ module _ {K V S : Type 0} (eq : K → K → Bool) (hash : K → ℕ) (mode : Mod
       ∙ ap (λ l. pairs_of_word (slot 0) ++ l) (slots_pairs words (λ x. slot (suc x)) (λ x. coded (suc x)) (λ x. logged (suc x)))
       ∙ sym (pairs_in-first slot (length words))
 
-  module _ {A : Type 0} (callers : List (Seat K V A)) (es : List (Exchange (Stored K V))) (tales : ℕ → Tale K V) (kept : IsKept eq hash mode store callers es tales) where
+  module _ {A : Type 0} (callers : List (Seat K V A)) (es : List (Exchange (Stored K V))) (call_traces : ℕ → CallTrace K V) (kept : IsKept eq hash mode store callers es call_traces) where
     -- the words of the law
     abbrev now : State (Stored K V)
     now = run es start

@@ -14,8 +14,8 @@ use Rattle.papaya_chain.specs.declared.resizer.Resizer.{Resizer}
 use Rattle.papaya_chain.specs.declared.resizer.State.{State as Stage}
 use Rattle.papaya_chain.specs.declared.resizer.State.TheVariants as stages
 use Rattle.papaya_chain.specs.Resizer.{after, asks_in, follows_in, kind_in}
-use Rattle.papaya_chain_rests.specs.Resizers.{HasLink, link_of, IsStageAsked, IsStageTold, RestsResizer, RestsStage}
-use Rattle.papaya_chain_rests.specs.Told.{Hands, IsCopyTold}
+use Rattle.papaya_chain_law.specs.Resizers.{HasLink, link_of, IsStageAsked, IsStageTold, ReliesResizer, ReliesStage}
+use Rattle.papaya_chain_law.specs.Told.{IsCopyTold, LoadedPairs}
 use Rattle.papaya_law.specs.Allows.{AllAllowed, Allows}
 use Rattle.papaya_law.specs.Class.{IsOn}
 use Rattle.papaya_law.specs.Code.{Coding, IsHashed}
@@ -26,7 +26,7 @@ use Rattle.papaya_law.specs.Meaning.{map_left}
 use Rattle.papaya_law.proofs.Logs.{on_comes}
 use Rattle.papaya_law.proofs.Moments.{allowed_append, run-append}
 use Rattle.papaya_law.proofs.OneMap.{keeping}
-use Rattle.papaya_rests.specs.Told.{IsWritten, word_of}
+use Rattle.papaya_call_law.specs.Told.{IsWritten, word_of}
 use Rattle.papaya_store.specs.Copies.{PerformsCopy}
 use Rattle.papaya_store.specs.Pairs.{key_in, value_in}
 use Rattle.papaya_store.specs.Performs.{Exchanges}
@@ -39,11 +39,11 @@ use Rattle.papaya_timeline.specs.declared.seat.Work.{Work}
 use Rattle.papaya_timeline.specs.declared.seat.Work.TheVariants as works
 use Rattle.papaya_timeline.specs.declared.trace.Event.{Event}
 use Rattle.papaya_timeline.specs.Advances.{goes_on}
-use Rattle.papaya_timeline.specs.Callers.{call_in, resizer_in, visitor_in}
+use Rattle.papaya_timeline.specs.Callers.{call_in, resizer_in, scanner_in}
 use Rattle.papaya_timeline.specs.Core.{CoreState, IsCore}
-use Rattle.papaya_timeline.specs.Kept.{IsKept, IsMade, IsMadeFor, IsResizing, Tale, setting_of, coding_of, low, told_tales}
+use Rattle.papaya_timeline.specs.Kept.{IsKept, IsMade, IsMadeFor, IsResizing, CallTrace, setting_of, coding_of, low, told_call_traces}
 use Rattle.papaya_timeline.specs.Resizes.{Resizes}
-use Rattle.papaya_store.specs.declared.visits.Visiting.{Visiting}
+use Rattle.papaya_store.specs.declared.scans.Scanning.{Scanning}
 use Rattle.papaya_timeline.proofs.CallersLemmas.{same_item}
 use Rattle.papaya_timeline.proofs.CopyAnswers.{IsAsker, IsLeft, Suits, copied_left, exchanged_left, left_logged, quiet_left}
 use Rattle.papaya_timeline.proofs.FollowedTables.{copying_follows}
@@ -53,19 +53,19 @@ use Rattle.papaya_timeline.proofs.KeptSettings.{IsLawfulKeys, tables_hashed}
 use Rattle.papaya_timeline.proofs.KeptTables.{table_low}
 use Rattle.papaya_timeline.proofs.LinkWords.{stage_words}
 use Rattle.papaya_timeline.proofs.MadeTables.{copier_made}
-use Rattle.papaya_rests.specs.Copier.{HasWords}
-use Rattle.papaya_chain_rests.proofs.LinkMade.{copying_asks, link_asks}
+use Rattle.papaya_call_law.specs.Copier.{HasWords}
+use Rattle.papaya_chain_law.proofs.LinkMade.{copying_asks, link_asks}
 use Rattle.papaya_timeline.proofs.ResizerLaws.{resizer_learns, resizer_may, resizer_may_hint, resizer_names}
 use Rattle.papaya_timeline.proofs.ResizerTables.{stage_is, stage_links, stage_made, stage_opens}
 use Rattle.papaya_timeline.proofs.StoreLemmas.{matched}
 use Rattle.papaya_law.specs.Hints.{IsHint}
 
 -- what is told more is told less
-left_weaker : {Q K V S : Type 0} (g : Setting Q (Stored K V)) (c : Coding Q (Stored K V)) (store : StoreState K V S) (es : List (Exchange (Stored K V))) (hands : Hands (Stored K V)) (T T' : List (Exchange (Stored K V)) → Hands (Stored K V) → Type 0) (a : Answer) (store' : StoreState K V S) → ((made : List (Exchange (Stored K V))) (hands' : Hands (Stored K V)) → T made hands' → T' made hands') → IsLeft g c store es hands T a store' → IsLeft g c store es hands T' a store'
-left_weaker g c store es hands T T' a store' f left = record {
+left_weaker : {Q K V S : Type 0} (g : Setting Q (Stored K V)) (c : Coding Q (Stored K V)) (store : StoreState K V S) (es : List (Exchange (Stored K V))) (loaded : LoadedPairs (Stored K V)) (T T' : List (Exchange (Stored K V)) → LoadedPairs (Stored K V) → Type 0) (a : Answer) (store' : StoreState K V S) → ((made : List (Exchange (Stored K V))) (loaded' : LoadedPairs (Stored K V)) → T made loaded' → T' made loaded') → IsLeft g c store es loaded T a store' → IsLeft g c store es loaded T' a store'
+left_weaker g c store es loaded T T' a store' f left = record {
   made = left.made;
-  hands' = left.hands';
-  told = f left.made left.hands' left.told;
+  loaded' = left.loaded';
+  told = f left.made left.loaded' left.told;
   hasher_is = left.hasher_is;
   pairs_are = left.pairs_are;
   sum_is = left.sum_is;
@@ -86,20 +86,20 @@ pub goes_on-resizer : {K V A : Type 0} (reply : Option Reply) (y z : Resizer) (w
 goes_on-resizer None y z w is e = same_item y z (ap (λ (v : Work _ _ _). resizer_in (Some v)) (sym is) ∙ ap resizer_in e)
 goes_on-resizer (Some reply) y z w is e = let f : None ≡ Some z = ap resizer_in e in cc
 
-pub goes_on-visitor : {K V A : Type 0} (reply : Option Reply) (y : Resizer) (v : Visiting A) (w : Work K V A) → w ≡ works.Resize y → goes_on reply w ≡ Some (works.Visit v) → ⊥
-goes_on-visitor None y v w is e = let f : None ≡ Some v = ap (λ (u : Work _ _ _). visitor_in (Some u)) (sym is) ∙ ap visitor_in e in absurd cc
-goes_on-visitor (Some reply) y v w is e = let f : None ≡ Some v = ap visitor_in e in absurd cc
+pub goes_on-scanner : {K V A : Type 0} (reply : Option Reply) (y : Resizer) (v : Scanning A) (w : Work K V A) → w ≡ works.Resize y → goes_on reply w ≡ Some (works.Scan v) → ⊥
+goes_on-scanner None y v w is e = let f : None ≡ Some v = ap (λ (u : Work _ _ _). scanner_in (Some u)) (sym is) ∙ ap scanner_in e in absurd cc
+goes_on-scanner (Some reply) y v w is e = let f : None ≡ Some v = ap scanner_in e in absurd cc
 
 pub goes_on-call : {K V A : Type 0} (reply : Option Reply) (y : Resizer) (r : Running K V A) (w : Work K V A) → w ≡ works.Resize y → goes_on reply w ≡ Some (works.Call r) → ⊥
 goes_on-call None y r w is e = let f : None ≡ Some r = ap (λ (v : Work _ _ _). call_in (Some v)) (sym is) ∙ ap call_in e in absurd cc
 goes_on-call (Some reply) y r w is e = let f : None ≡ Some r = ap call_in e in absurd cc
 
-module _ {K V S A : Type 0} (eq : K → K → Bool) (hash : K → ℕ) (law : IsLawfulKeys eq hash) (hashes : S → K → ℕ) (refuse : Bool) (s : CoreState K V S A) (es : List (Exchange (Stored K V))) (tale : Tale K V) (core : IsCore s.store s.callers s.mode) (z : Resizer) (hasher : hashes s.store.hasher ≡ hash)
+module _ {K V S A : Type 0} (eq : K → K → Bool) (hash : K → ℕ) (law : IsLawfulKeys eq hash) (hashes : S → K → ℕ) (refuse : Bool) (s : CoreState K V S A) (es : List (Exchange (Stored K V))) (call_trace : CallTrace K V) (core : IsCore s.store s.callers s.mode) (z : Resizer) (hasher : hashes s.store.hasher ≡ hash)
     (may : AllAllowed (setting_of {V = V} eq (low hash) s.mode s.store.words.tables) start es)
     (coded : (at : At) → word_of (setting_of eq (low hash) s.mode s.store.words.tables) (coding_of (low hash)) (run es start) at ≡ word_at s.store.words at)
     (there : (t : ℕ) → 0 < t → Comes (run es start) t → IsMade s.store t)
     (hints : (t x : ℕ) → IsHint (setting_of {V = V} eq (low hash) s.mode s.store.words.tables) (coding_of (low hash)) (run es start) t x (hint_at s.store.words t x))
-    (resizing : IsResizing eq hash s.mode s.store z es tale) where
+    (resizing : IsResizing eq hash s.mode s.store z es call_trace) where
   -- the setting, the coding and the words
   abbrev g : Setting K (Stored K V)
   g = setting_of eq (low hash) s.mode s.store.words.tables
@@ -129,7 +129,7 @@ module _ {K V S A : Type 0} (eq : K → K → Bool) (hash : K → ℕ) (law : Is
 
   -- what an answer leaves
   abbrev pub IsStageLeft : Stage → Answer → StoreState K V S → Type 0
-  IsStageLeft stage a store' = IsLeft g c s.store es tale.hands (λ made hands'. IsStageTold g c now stage tale.hands a made hands') a store'
+  IsStageLeft stage a store' = IsLeft g c s.store es call_trace.loaded (λ made loaded'. IsStageTold g c now stage call_trace.loaded a made loaded') a store'
 
   -- a first table is opened
   opened : (table : ℕ) → z.state ≡ stages.Opening table → (a : Call_answer) (store' : StoreState K V S) → Exchanges (word_at s.store.words Root) 0 (put s.store.words Root table) a s.store store' → IsStageLeft (stages.Opening table) (answers.Call a) store'
@@ -137,17 +137,17 @@ module _ {K V S A : Type 0} (eq : K → K → Bool) (hash : K → ℕ) (law : Is
       matched (IsStageLeft (stages.Opening table) (answers.Call a) store') (word_at s.store.words Root == 0) _ _ h
       (λ hit done.
       let stands : now.root ≡ 0 = coded Root ∙ eqb-true (word_at s.store.words Root) 0 hit in
-      let x = resizer_may g c hashed now (map_left g es) keeps z tale.hands resizing.rests words Root 0 table (ap asks_in is) stands in
-      let same : x.0 ≡ Open table = subst (λ stage. IsStageAsked g c now stage Root table tale.hands x.0) is x.1 in
+      let x = resizer_may g c hashed now (map_left g es) keeps z call_trace.loaded resizing.relies words Root 0 table (ap asks_in is) stands in
+      let same : x.0 ≡ Open table = subst (λ stage. IsStageAsked g c now stage Root table call_trace.loaded x.0) is x.1 in
       let one : List (Exchange (Stored K V)) = Open table ∷ [] in
       let nothing : List (Exchange (Stored K V)) = [] in
       let written = subst (λ e. IsWritten g c now Root table (state_after now e)) same x.3 in
       subst (λ y. IsStageLeft (stages.Opening table) (answers.Call y) store') (sym done.0)
       (subst (IsStageLeft (stages.Opening table) (answers.Call Exchanged)) (sym done.1)
-      (exchanged_left g c s.store es tale.hands coded there (λ made hands'. IsStageTold g c now (stages.Opening table) tale.hands (answers.Call Exchanged) made hands') Root table (Open table) tale.hands
+      (exchanged_left g c s.store es call_trace.loaded coded there (λ made loaded'. IsStageTold g c now (stages.Opening table) call_trace.loaded (answers.Call Exchanged) made loaded') Root table (Open table) call_trace.loaded
       (subst (λ b. MatchBool b
-      ((answers.Call Exchanged ≡ answers.Call Exchanged) × (one ≡ one) × (tale.hands ≡ tale.hands))
-      ((answers.Call Exchanged ≡ answers.Call (Found_instead now.root)) × ((one ≡ nothing) × (tale.hands ≡ tale.hands))))
+      ((answers.Call Exchanged ≡ answers.Call Exchanged) × (one ≡ one) × (call_trace.loaded ≡ call_trace.loaded))
+      ((answers.Call Exchanged ≡ answers.Call (Found_instead now.root)) × ((one ≡ nothing) × (call_trace.loaded ≡ call_trace.loaded))))
       (sym (ap (λ y. y == 0) (coded Root) ∙ hit)) (refl, refl, refl))
       tt written
       (λ t some comes. opened_made t some comes)
@@ -155,10 +155,10 @@ module _ {K V S A : Type 0} (eq : K → K → Bool) (hash : K → ℕ) (law : Is
       (λ miss lost.
       let one : List (Exchange (Stored K V)) = Open table ∷ [] in
       let nothing : List (Exchange (Stored K V)) = [] in
-      quiet_left g c s.store es tale.hands coded there (λ made hands'. IsStageTold g c now (stages.Opening table) tale.hands (answers.Call a) made hands') (answers.Call a) store' tale.hands lost.1
+      quiet_left g c s.store es call_trace.loaded coded there (λ made loaded'. IsStageTold g c now (stages.Opening table) call_trace.loaded (answers.Call a) made loaded') (answers.Call a) store' call_trace.loaded lost.1
       (subst (λ b. MatchBool b
-      ((answers.Call a ≡ answers.Call Exchanged) × (nothing ≡ one) × (tale.hands ≡ tale.hands))
-      ((answers.Call a ≡ answers.Call (Found_instead now.root)) × ((nothing ≡ nothing) × (tale.hands ≡ tale.hands))))
+      ((answers.Call a ≡ answers.Call Exchanged) × (nothing ≡ one) × (call_trace.loaded ≡ call_trace.loaded))
+      ((answers.Call a ≡ answers.Call (Found_instead now.root)) × ((nothing ≡ nothing) × (call_trace.loaded ≡ call_trace.loaded))))
       (sym (ap (λ y. y == 0) (coded Root) ∙ miss)) (ap answers.Call (lost.0 ∙ ap Found_instead (sym (coded Root))), (refl, refl)))
       (λ p e. inl e) (λ p e. inl e) refl (λ t made. let f = sym (ap answers.Call lost.0) ∙ made in absurd cc))
     where
@@ -168,8 +168,8 @@ module _ {K V S A : Type 0} (eq : K → K → Bool) (hash : K → ℕ) (law : Is
 
   -- it asks as a copy may
   follows_low : (stage : Stage) → z.state ≡ stage → (slots limit chunks : ℕ) → asks_in stage ≡ Some (MakeTable slots limit chunks) → follows_in stage ≤ length s.store.words.tables
-  follows_low (stages.Linking link) is slots limit chunks e = on_low _ (subst (λ y. RestsStage g c now tale.hands y) is resizing.rests.stage).on
-  follows_low (stages.Copying from copying) is slots limit chunks e = on_low _ (copying_follows g c now tale.hands.call.last tale.hands.kept slots limit chunks copying (subst (λ y. RestsStage g c now tale.hands y) is resizing.rests.stage).1 (same_item _ _ e))
+  follows_low (stages.Linking link) is slots limit chunks e = on_low _ (subst (λ y. ReliesStage g c now call_trace.loaded y) is resizing.relies.stage).on
+  follows_low (stages.Copying from copying) is slots limit chunks e = on_low _ (copying_follows g c now call_trace.loaded.call.last call_trace.loaded.kept slots limit chunks copying (subst (λ y. ReliesStage g c now call_trace.loaded y) is resizing.relies.stage).1 (same_item _ _ e))
   follows_low stages.AtRoot is slots limit chunks e = omega arith
   follows_low (stages.Making room) is slots limit chunks e = omega arith
   follows_low (stages.Opening table) is slots limit chunks e = omega arith
@@ -199,15 +199,15 @@ module _ {K V S A : Type 0} (eq : K → K → Bool) (hash : K → ℕ) (law : Is
 
   -- a copy's exchange
   abbrev Asks : Stage → Type 0
-  Asks stage = (at : At) (old new : ℕ) → asks_in stage ≡ Some (Copy_exchange at old new) → word_of g c now at ≡ old → (e : Exchange (Stored K V)) × IsStageAsked g c now stage at new tale.hands e × Allows g now e × IsWritten g c now at new (state_after now e)
+  Asks stage = (at : At) (old new : ℕ) → asks_in stage ≡ Some (Copy_exchange at old new) → word_of g c now at ≡ old → (e : Exchange (Stored K V)) × IsStageAsked g c now stage at new call_trace.loaded e × Allows g now e × IsWritten g c now at new (state_after now e)
 
   stage_asks : (stage : Stage) → z.state ≡ stage → Asks stage
-  stage_asks stage is = subst Asks is (λ at old new e stands. resizer_may g c hashed now (map_left g es) keeps z tale.hands resizing.rests words at old new e stands)
+  stage_asks stage is = subst Asks is (λ at old new e stands. resizer_may g c hashed now (map_left g es) keeps z call_trace.loaded resizing.relies words at old new e stands)
 
-  copied : (stage : Stage) → z.state ≡ stage → ((e : CopyAsk) → asks_in stage ≡ Some e → IsAsker g c s.store es tale.hands coded there (kind_in stage) (follows_in stage) e) → (ask : CopyAsk) → asks_in stage ≡ Some ask → (a : Answer) (store' : StoreState K V S) → PerformsCopy eq hashes refuse ask s.store a store' → IsLeft g c s.store es tale.hands (λ made hands'. (ask : CopyAsk) × (asks_in stage ≡ Some ask) × IsCopyTold g c now (kind_in stage) (follows_in stage) tale.hands ask a made hands') a store'
+  copied : (stage : Stage) → z.state ≡ stage → ((e : CopyAsk) → asks_in stage ≡ Some e → IsAsker g c s.store es call_trace.loaded coded there (kind_in stage) (follows_in stage) e) → (ask : CopyAsk) → asks_in stage ≡ Some ask → (a : Answer) (store' : StoreState K V S) → PerformsCopy eq hashes refuse ask s.store a store' → IsLeft g c s.store es call_trace.loaded (λ made loaded'. (ask : CopyAsk) × (asks_in stage ≡ Some ask) × IsCopyTold g c now (kind_in stage) (follows_in stage) call_trace.loaded ask a made loaded') a store'
   copied stage is asker ask e a store' performs =
-      left_weaker g c s.store es tale.hands _ _ a store' (λ made hands' told. (ask, e, told))
-      (copied_left g c s.store es tale.hands coded there eq hashes resizing.last resizing.carried suits (kind_in stage) (follows_in stage) refuse ask (asker ask e) a store' performs)
+      left_weaker g c s.store es call_trace.loaded _ _ a store' (λ made loaded' told. (ask, e, told))
+      (copied_left g c s.store es call_trace.loaded coded there eq hashes resizing.last resizing.carried suits (kind_in stage) (follows_in stage) refuse ask (asker ask e) a store' performs)
 
   pub stage_left : (stage : Stage) → z.state ≡ stage → (ask : CopyAsk) → asks_in stage ≡ Some ask → (a : Answer) (store' : StoreState K V S) → PerformsCopy eq hashes refuse ask s.store a store' → IsStageLeft stage a store'
   stage_left (stages.Opening table) is ask e a store' performs =
@@ -215,24 +215,24 @@ module _ {K V S A : Type 0} (eq : K → K → Bool) (hash : K → ℕ) (law : Is
       subst (λ y. IsStageLeft (stages.Opening table) y store') (sym a_is) (opened table is told store' h)
   stage_left stage is ask e a store' performs = copied stage is
       (λ ask e. record {
-        names = resizer_names g c hashed now (map_left g es) keeps z tale.hands resizing.rests ask (ap asks_in is ∙ e);
+        names = resizer_names g c hashed now (map_left g es) keeps z call_trace.loaded resizing.relies ask (ap asks_in is ∙ e);
         may = λ at old new same stands. stage_asks stage is at old new (e ∙ ap (λ y. Some y) same) stands;
         low = λ slots limit chunks same. follows_low stage is slots limit chunks (e ∙ ap (λ y. Some y) same);
         links = λ behind old t same. linked_made stage is behind old t (e ∙ ap (λ y. Some y) same);
         reads = λ t x same. hints t x;
-        writes = λ t x n same. resizer_may_hint g c hashed now (map_left g es) keeps z tale.hands resizing.rests t x n (ap asks_in is ∙ e ∙ ap (λ y. Some y) same);
+        writes = λ t x n same. resizer_may_hint g c hashed now (map_left g es) keeps z call_trace.loaded resizing.relies t x n (ap asks_in is ∙ e ∙ ap (λ y. Some y) same);
       })
       ask e a store' performs
 
 module _ {K V S A : Type 0} (eq : K → K → Bool) (hash : K → ℕ) (law : IsLawfulKeys eq hash) {hashes : S → K → ℕ} (refuse : Bool) (s : CoreState K V S A) (caller : ℕ) (s' : CoreState K V S A) (event : Event) (reply : Option Reply) (x : Resizes eq hashes refuse s caller s' event reply) (hasher : hashes s.store.hasher ≡ hash)
-    (es : List (Exchange (Stored K V))) (tales : ℕ → Tale K V) (core : IsCore s.store s.callers s.mode) (kept : IsKept eq hash s.mode s.store s.callers es tales) where
+    (es : List (Exchange (Stored K V))) (call_traces : ℕ → CallTrace K V) (core : IsCore s.store s.callers s.mode) (kept : IsKept eq hash s.mode s.store s.callers es call_traces) where
   -- the resizer's own facts
-  abbrev pub resizing : IsResizing eq hash s.mode s.store x.before es (tales caller)
+  abbrev pub resizing : IsResizing eq hash s.mode s.store x.before es (call_traces caller)
   resizing = kept.resizers caller x.before x.was
 
   -- what its answer leaves
-  pub left : IsStageLeft eq hash law hashes refuse s es (tales caller) core x.before hasher kept.allowed kept.coded kept.made kept.hints resizing x.before.state x.answer s'.store
-  left = stage_left eq hash law hashes refuse s es (tales caller) core x.before hasher kept.allowed kept.coded kept.made kept.hints resizing x.before.state refl x.ask x.asked x.answer s'.store x.performs
+  pub left : IsStageLeft eq hash law hashes refuse s es (call_traces caller) core x.before hasher kept.allowed kept.coded kept.made kept.hints resizing x.before.state x.answer s'.store
+  left = stage_left eq hash law hashes refuse s es (call_traces caller) core x.before hasher kept.allowed kept.coded kept.made kept.hints resizing x.before.state refl x.ask x.asked x.answer s'.store x.performs
 
   -- the setting and the coding
   abbrev g_now : Setting K (Stored K V)
@@ -245,23 +245,23 @@ module _ {K V S A : Type 0} (eq : K → K → Bool) (hash : K → ℕ) (law : Is
   hashed_now = tables_hashed eq hash law s.mode s.store.words.tables core.sizes
 
   -- it learns, and what was exchanged was allowed
-  learnt : AllAllowed g_now (run es start) left.made × RestsResizer g_now c_now (run left.made (run es start)) (after x.before x.answer) left.hands'
-  learnt = resizer_learns g_now c_now hashed_now (run es start) (map_left g_now es) (keeping g_now hashed_now.lawful es kept.allowed) x.before (tales caller).hands resizing.rests (stage_words g_now s.store (λ t. refl) x.before.state resizing.links) x.answer left.made left.hands' left.told
+  learnt : AllAllowed g_now (run es start) left.made × ReliesResizer g_now c_now (run left.made (run es start)) (after x.before x.answer) left.loaded'
+  learnt = resizer_learns g_now c_now hashed_now (run es start) (map_left g_now es) (keeping g_now hashed_now.lawful es kept.allowed) x.before (call_traces caller).loaded resizing.relies (stage_words g_now s.store (λ t. refl) x.before.state resizing.links) x.answer left.made left.loaded' left.told
 
   -- the exchanges after it
   abbrev pub es' : List (Exchange (Stored K V))
   es' = es ++ left.made
 
-  abbrev pub tales' : ℕ → Tale K V
-  tales' = told_tales tales caller left.made left.hands'
+  abbrev pub call_traces' : ℕ → CallTrace K V
+  call_traces' = told_call_traces call_traces caller left.made left.loaded'
 
   -- what the step leaves of the core: it makes no pair
-  pub leaving : others.IsLeaving eq hash law s caller s' x.mode es tales core kept left.made left.hands' (λ p. ⊥)
+  pub leaving : others.IsLeaving eq hash law s caller s' x.mode es call_traces core kept left.made left.loaded' (λ p. ⊥)
   leaving = record {
     allowed = allowed_append g_now es left.made start kept.allowed learnt.0;
     keys = λ at k h. ap (λ l. key_in l at) left.pairs_are ∙ h;
     values = λ at v h. ap (λ l. value_in l at) left.pairs_are ∙ h;
-    logged = λ n p h. left_logged g_now c_now s.store es (tales caller).hands left n p h;
+    logged = λ n p h. left_logged g_now c_now s.store es (call_traces caller).loaded left n p h;
     few = λ h. subst (λ (l : List (Pair K V)). length l ≤ MAX_LOG_LEN) (sym left.pairs_are) h;
     tables_few = left.tables_few;
     grown = left.grown;
@@ -273,54 +273,54 @@ module _ {K V S A : Type 0} (eq : K → K → Bool) (hash : K → ℕ) (law : Is
     mine_apart = λ d r runs differ p p' f. absurd f;
   }
 
-  own_hands : left.hands' ≡ (tales' caller).hands
-  own_hands = others.own_hands eq hash law s caller s' x.mode es tales core kept left.made left.hands' leaving caller refl
+  own_loaded : left.loaded' ≡ (call_traces' caller).loaded
+  own_loaded = others.own_loaded eq hash law s caller s' x.mode es call_traces core kept left.made left.loaded' leaving caller refl
 
   -- a pair that it was told of is logged
-  own_last : (p : Stored K V) → (((tales caller).hands.call.last ≡ Some p) ⊎ Stands (run es start) p) → pair_of s'.store p.number ≡ Some p
+  own_last : (p : Stored K V) → (((call_traces caller).loaded.call.last ≡ Some p) ⊎ Stands (run es start) p) → pair_of s'.store p.number ≡ Some p
   own_last p (inl old) = leaving.logged p.number p (resizing.last p old)
-  own_last p (inr stood) = others.stood_logged eq hash law s caller s' x.mode es tales core kept left.made left.hands' leaving p stood
+  own_last p (inr stood) = others.stood_logged eq hash law s caller s' x.mode es call_traces core kept left.made left.loaded' leaving p stood
 
-  own_carried : (p : Stored K V) → (((tales caller).hands.kept ≡ Some p) ⊎ ((tales caller).hands.call.last ≡ Some p)) → pair_of s'.store p.number ≡ Some p
+  own_carried : (p : Stored K V) → (((call_traces caller).loaded.kept ≡ Some p) ⊎ ((call_traces caller).loaded.call.last ≡ Some p)) → pair_of s'.store p.number ≡ Some p
   own_carried p (inl old) = leaving.logged p.number p (resizing.carried p old)
   own_carried p (inr told) = leaving.logged p.number p (resizing.last p told)
 
   -- a table that was made is still there
   still_there : (t : ℕ) → IsMade s.store t → IsMade s'.store t
-  still_there = others.still_there eq hash law s caller s' x.mode es tales core kept left.made left.hands' leaving
+  still_there = others.still_there eq hash law s caller s' x.mode es call_traces core kept left.made left.loaded' leaving
 
   -- and has as many words for chunks
   still_made : (t chunks : ℕ) → IsMadeFor s.store t chunks → IsMadeFor s'.store t chunks
-  still_made = others.still_made eq hash law s caller s' x.mode es tales core kept left.made left.hands' leaving
+  still_made = others.still_made eq hash law s caller s' x.mode es call_traces core kept left.made left.loaded' leaving
 
   -- a table that it was told of was made as it asked
   newly_made : (n slots limit chunks : ℕ) → x.answer ≡ answers.Call (Made_number n) → asks_in x.before.state ≡ Some (MakeTable slots limit chunks) → IsMadeFor s'.store n chunks
   newly_made n slots limit chunks is making =
       copier_made eq hashes refuse s.store x.answer s'.store slots limit chunks (subst (λ y. PerformsCopy eq hashes refuse y s.store x.answer s'.store) (same_item _ _ (sym x.asked ∙ making)) x.performs) n is
 
-  -- so it rests on what is told of it after the step
-  pub own_resizing : IsResizing eq hash s'.mode s'.store (after x.before x.answer) es' (tales' caller)
+  -- so it relies on what is told of it after the step
+  pub own_resizing : IsResizing eq hash s'.mode s'.store (after x.before x.answer) es' (call_traces' caller)
   own_resizing =
       let stage = stage_made (IsMadeFor s'.store) x.before.resize x.before.mode x.before.initial x.before.number x.answer x.before.state newly_made
       (stage_is (IsMadeFor s'.store) x.before.state (λ t e. let there = still_there t (resizing.opens t e) in (there.0, there.1, omega arith)) (λ behind t chunks e. still_made t chunks (resizing.links behind t chunks e))) in
       record {
-        rests = others.grown_resizer eq hash law s caller s' x.mode es tales core kept left.made left.hands' leaving (after x.before x.answer) (tales' caller).hands
-            (subst (RestsResizer g_now c_now (run es' start) (after x.before x.answer)) own_hands
-            (subst (λ w. RestsResizer g_now c_now w (after x.before x.answer) left.hands') (sym (run-append es left.made start)) learnt.1));
-        last = λ p l. own_last p (left.last p (ap (λ (y : Hands (Stored K V)). y.call.last) own_hands ∙ l));
-        carried = λ p l. own_carried p (left.carried p (ap (λ (y : Hands (Stored K V)). y.kept) own_hands ∙ l));
+        relies = others.grown_resizer eq hash law s caller s' x.mode es call_traces core kept left.made left.loaded' leaving (after x.before x.answer) (call_traces' caller).loaded
+            (subst (ReliesResizer g_now c_now (run es' start) (after x.before x.answer)) own_loaded
+            (subst (λ w. ReliesResizer g_now c_now w (after x.before x.answer) left.loaded') (sym (run-append es left.made start)) learnt.1));
+        last = λ p l. own_last p (left.last p (ap (λ (y : LoadedPairs (Stored K V)). y.call.last) own_loaded ∙ l));
+        carried = λ p l. own_carried p (left.carried p (ap (λ (y : LoadedPairs (Stored K V)). y.kept) own_loaded ∙ l));
         opens = λ t e. let there = stage_opens (IsMadeFor s'.store) (after x.before x.answer).state stage t e in (there.0, there.1);
         links = stage_links (IsMadeFor s'.store) (after x.before x.answer).state stage;
       }
 
   -- the core after the step
-  pub resize_kept : IsKept eq hash s'.mode s'.store s'.callers es' tales'
-  resize_kept = others.leaves_kept eq hash law s caller s' x.mode es tales core kept left.made left.hands' leaving (goes_on reply (works.Resize (after x.before x.answer))) x.callers
+  pub resize_kept : IsKept eq hash s'.mode s'.store s'.callers es' call_traces'
+  resize_kept = others.leaves_kept eq hash law s caller s' x.mode es call_traces core kept left.made left.loaded' leaving (goes_on reply (works.Resize (after x.before x.answer))) x.callers
       (λ r e. absurd (goes_on-call reply (after x.before x.answer) r _ refl e))
-      (λ z e. subst (λ y. IsResizing eq hash s'.mode s'.store y es' (tales' caller)) (goes_on-resizer reply (after x.before x.answer) z _ refl e) own_resizing)
-      (λ v e. absurd (goes_on-visitor reply (after x.before x.answer) v _ refl e))
+      (λ z e. subst (λ y. IsResizing eq hash s'.mode s'.store y es' (call_traces' caller)) (goes_on-resizer reply (after x.before x.answer) z _ refl e) own_resizing)
+      (λ v e. absurd (goes_on-scanner reply (after x.before x.answer) v _ refl e))
       (λ r e. absurd (goes_on-call reply (after x.before x.answer) r _ refl e))
 
   -- the map is the same in the grown setting
   pub same_map : (k : K) → map_left (setting_of eq (low hash) s'.mode s'.store.words.tables) es k ≡ map_left g_now es k
-  same_map = others.same_map eq hash law s caller s' x.mode es tales core kept left.made left.hands' leaving
+  same_map = others.same_map eq hash law s caller s' x.mode es call_traces core kept left.made left.loaded' leaving

@@ -14,7 +14,7 @@ use Rattle.papaya_law.specs.Hashing.{hashed}
 use Rattle.papaya_law.specs.Code.{IsHashed}
 use Rattle.papaya_law.proofs.Hashing.{hashed_lawful}
 use Rattle.papaya_law.proofs.Logs.{planned_lawful}
-use Rattle.papaya_rests.specs.Rests.{IsCutAs}
+use Rattle.papaya_call_law.specs.Relies.{IsCutAs}
 use Rattle.papaya_timeline.specs.Kept.{chunks_in, is_blocking, setting_of, coding_of, low, slots_in, places_in}
 use Rattle.papaya_store.specs.Store.{Stored}
 use Rattle.papaya_store.specs.Tables.{table_of}

@@ -12,33 +12,33 @@ use Rattle.papaya_law.specs.Exchange.{Setting, State, Exchange, after as state_a
 use Rattle.papaya_law.specs.Grows.{Comes}
 use Rattle.papaya_law.proofs.Logs.{on_comes}
 use Rattle.papaya_call.specs.Machine as call_machine
-use Rattle.papaya_rests.specs.Copier.{IsCopyAsked, IsThere}
-use Rattle.papaya_rests.specs.Rests.{change_of_kind}
-use Rattle.papaya_rests.specs.Told.{IsTold as IsCallTold, IsAsked, IsWritten, told_of, word_of}
-use Rattle.papaya_rests.proofs.RestsExchange.{machine_may}
-use Rattle.papaya_rests.proofs.RestsNames.{ask_named, slot_named}
+use Rattle.papaya_call_law.specs.Copier.{IsCopyAsked, IsThere}
+use Rattle.papaya_call_law.specs.Relies.{change_of_kind}
+use Rattle.papaya_call_law.specs.Told.{IsTold as IsCallTold, IsAsked, IsWritten, told_of, word_of}
+use Rattle.papaya_call_law.proofs.ReliesExchange.{machine_may}
+use Rattle.papaya_call_law.proofs.ReliesNames.{ask_named, slot_named}
 use Rattle.papaya_chain.specs.declared.ask.Ask.TheVariants as asks
 use Rattle.papaya_chain.specs.declared.ask.Answer.TheVariants as answers
 use Rattle.papaya_chain.specs.Machine.{ask_of, kind_in, kind_of_ask}
-use Rattle.papaya_chain_rests.specs.Goes.{link_in}
-use Rattle.papaya_chain_rests.specs.Rests.{Rests}
-use Rattle.papaya_chain_rests.proofs.Names.{call_asks, copies_may, copies_there}
+use Rattle.papaya_chain_law.specs.Goes.{link_in}
+use Rattle.papaya_chain_law.specs.Relies.{Relies}
+use Rattle.papaya_chain_law.proofs.Names.{call_asks, copies_may, copies_there}
 use Rattle.papaya_copy.specs.declared.link.Link.TheVariants.{Linking}
 use Rattle.papaya_store.specs.declared.pairs.Running.{Running}
 use Rattle.papaya_store.specs.Performs.{own_key}
 use Rattle.papaya_store.specs.Store.{StoreState, Stored}
 use Rattle.papaya_store.specs.Tables.{word_at, put, table_of}
-use Rattle.papaya_timeline.specs.Kept.{IsMade, IsMadeFor, Tale, chunks_in, slots_in}
+use Rattle.papaya_timeline.specs.Kept.{CallTrace, IsMade, IsMadeFor, chunks_in, slots_in}
 use Rattle.papaya_timeline.proofs.KeptAnswer.{IsAnswered, Tells, changed, exchanged, own_told}
 use Rattle.papaya_timeline.proofs.KeptExchange.{IsChanged, changes, root_empty}
 use Rattle.papaya_timeline.proofs.KeptTables.{IsPlaced}
 use Rattle.papaya_timeline.proofs.LinkWords.{link_words}
 use Rattle.papaya_timeline.proofs.MachineLemmas.{machine_once}
 
-module _ {Q K V S A : Type 0} (g : Setting Q (Stored K V)) (c : Coding Q (Stored K V)) (store : StoreState K V S) (r : Running K V A) (es : List (Exchange (Stored K V))) (tale : Tale K V) (own : Option K)
+module _ {Q K V S A : Type 0} (g : Setting Q (Stored K V)) (c : Coding Q (Stored K V)) (store : StoreState K V S) (r : Running K V A) (es : List (Exchange (Stored K V))) (call_trace : CallTrace K V) (own : Option K)
     (hashed : IsHashed g c) (key : Q)
-    (split : tale.begun ++ tale.since ≡ es) (may : AllAllowed g start (tale.begun ++ tale.since))
-    (rests : Rests g c tale.begun tale.since key r.machine tale.hands)
+    (split : call_trace.begun ++ call_trace.since ≡ es) (may : AllAllowed g start (call_trace.begun ++ call_trace.since))
+    (relies : Relies g c call_trace.begun call_trace.since key r.machine call_trace.loaded)
     (coded : (at : At) → word_of g c (run es start) at ≡ word_at store.words at)
     (there : (t : ℕ) → 0 < t → Comes (run es start) t → IsMade store t)
     (opens : (t : ℕ) → ask_of r.machine ≡ asks.Call (Ask_exchange Root 0 t) → IsMade store t)
@@ -49,9 +49,9 @@ module _ {Q K V S A : Type 0} (g : Setting Q (Stored K V)) (c : Coding Q (Stored
   abbrev now : State (Stored K V)
   now = run es start
 
-  -- and in the tale of the call
+  -- and in the trace of the call
   abbrev told_now : State (Stored K V)
-  told_now = run (tale.begun ++ tale.since) start
+  told_now = run (call_trace.begun ++ call_trace.since) start
 
   same_now : told_now ≡ now
   same_now = ap (λ l. run l start) split
@@ -78,35 +78,35 @@ module _ {Q K V S A : Type 0} (g : Setting Q (Stored K V)) (c : Coding Q (Stored
     placed_call (inr (inl made)) = subst (IsPlaced store.words.tables) (sym made) tt
     placed_call (inr (inr (t, x, is))) =
         let m = r.machine.call in
-        let named_slot = slot_named g c hashed tale.begun tale.since may key (call_machine.ask_of m) (ask_named g c hashed tale.begun tale.since may key tale.hands.call m.task m.hash m.made m.state rests.call.stage) t x (inr (old, new, calls ∙ ap (λ y. Ask_exchange y old new) is)) in
+        let named_slot = slot_named g c hashed call_trace.begun call_trace.since may key (call_machine.ask_of m) (ask_named g c hashed call_trace.begun call_trace.since may key call_trace.loaded.call m.task m.hash m.made m.state relies.call.stage) t x (inr (old, new, calls ∙ ap (λ y. Ask_exchange y old new) is)) in
         subst (IsPlaced store.words.tables) (sym is) (slot_there t x named_slot.0 named_slot.1)
 
     -- the exchange of the law that was made
-    pub asked_call : word_of g c now at ≡ old → (e : Exchange (Stored K V)) × IsAsked g c key (kind_of_ask r.machine) at new now tale.hands.call e × Allows g now e × IsWritten g c now at new (state_after now e)
-    asked_call = subst (λ kind. word_of g c now at ≡ old → (e : Exchange (Stored K V)) × IsAsked g c key kind at new now tale.hands.call e × Allows g now e × IsWritten g c now at new (state_after now e)) (sym kinds_are)
-        (subst (λ s. word_of g c s at ≡ old → (e : Exchange (Stored K V)) × IsAsked g c key (call_machine.kind_of_ask r.machine.call) at new s tale.hands.call e × Allows g s e × IsWritten g c s at new (state_after s e)) same_now
-        (machine_may g c hashed tale.begun tale.since may key r.machine.call tale.hands.call rests.call at old new calls))
+    pub asked_call : word_of g c now at ≡ old → (e : Exchange (Stored K V)) × IsAsked g c key (kind_of_ask r.machine) at new now call_trace.loaded.call e × Allows g now e × IsWritten g c now at new (state_after now e)
+    asked_call = subst (λ kind. word_of g c now at ≡ old → (e : Exchange (Stored K V)) × IsAsked g c key kind at new now call_trace.loaded.call e × Allows g now e × IsWritten g c now at new (state_after now e)) (sym kinds_are)
+        (subst (λ s. word_of g c s at ≡ old → (e : Exchange (Stored K V)) × IsAsked g c key (call_machine.kind_of_ask r.machine.call) at new s call_trace.loaded.call e × Allows g s e × IsWritten g c s at new (state_after s e)) same_now
+        (machine_may g c hashed call_trace.begun call_trace.since may key r.machine.call call_trace.loaded.call relies.call at old new calls))
 
     -- an exchange of the root finds none and opens a table
-    opening : (e : Exchange (Stored K V)) → IsAsked g c key (kind_of_ask r.machine) at new now tale.hands.call e → Allows g now e → word_of g c now at ≡ old → at ≡ Root → asks.Call (Ask_exchange at old new) ≡ asks.Call (Ask_exchange Root 0 new)
+    opening : (e : Exchange (Stored K V)) → IsAsked g c key (kind_of_ask r.machine) at new now call_trace.loaded.call e → Allows g now e → word_of g c now at ≡ old → at ≡ Root → asks.Call (Ask_exchange at old new) ≡ asks.Call (Ask_exchange Root 0 new)
     opening e is allows stands root =
-        let none : now.root ≡ 0 = root_empty g c key now tale.hands.call new (kind_of_ask r.machine) e (subst (λ y. IsAsked g c key (kind_of_ask r.machine) y new now tale.hands.call e) root is) allows in
+        let none : now.root ≡ 0 = root_empty g c key now call_trace.loaded.call new (kind_of_ask r.machine) e (subst (λ y. IsAsked g c key (kind_of_ask r.machine) y new now call_trace.loaded.call e) root is) allows in
         let zero : old ≡ 0 = sym stands ∙ ap (word_of g c now) root ∙ none in
         ap (λ y. asks.Call (Ask_exchange y old new)) root ∙ ap (λ y. asks.Call (Ask_exchange Root y new)) zero
 
     -- it was made
-    pub call_exchanged : (word_at store.words at == old) ≡ true → IsAnswered g c store r es tale own key (asks.Call (Ask_exchange at old new)) (answers.Call Exchanged) (record store { words = put store.words at new }) r
+    pub call_exchanged : (word_at store.words at == old) ≡ true → IsAnswered g c store r es call_trace own key (asks.Call (Ask_exchange at old new)) (answers.Call Exchanged) (record store { words = put store.words at new }) r
     call_exchanged hit =
         let stands : word_of g c now at ≡ old = coded at ∙ eqb-true (word_at store.words at) old hit in
         let x = asked_call stands in
-        let changed_by : IsChanged now tale.hands.call new (kind_of_ask r.machine) at x.0 = changes now tale.hands.call new g c key (kind_of_ask r.machine) at x.0 x.1 in
-        let told : IsCallTold g c key now (kind_of_ask r.machine) tale.hands.call (Ask_exchange at old new) Exchanged (x.0 ∷ []) tale.hands.call =
+        let changed_by : IsChanged now call_trace.loaded.call new (kind_of_ask r.machine) at x.0 = changes now call_trace.loaded.call new g c key (kind_of_ask r.machine) at x.0 x.1 in
+        let told : IsCallTold g c key now (kind_of_ask r.machine) call_trace.loaded.call (Ask_exchange at old new) Exchanged (x.0 ∷ []) call_trace.loaded.call =
         subst (λ b. MatchBool b
-        ((Exchanged ≡ Exchanged) × ((y : Exchange (Stored K V)) × IsAsked g c key (kind_of_ask r.machine) at new now tale.hands.call y × (x.0 ∷ [] ≡ y ∷ [])) × (tale.hands.call ≡ tale.hands.call))
-        ((Exchanged ≡ Found_instead (word_of g c now at)) × (x.0 ∷ [] ≡ []) × (tale.hands.call ≡ told_of now at tale.hands.call)))
+        ((Exchanged ≡ Exchanged) × ((y : Exchange (Stored K V)) × IsAsked g c key (kind_of_ask r.machine) at new now call_trace.loaded.call y × (x.0 ∷ [] ≡ y ∷ [])) × (call_trace.loaded.call ≡ call_trace.loaded.call))
+        ((Exchanged ≡ Found_instead (word_of g c now at)) × (x.0 ∷ [] ≡ []) × (call_trace.loaded.call ≡ told_of now at call_trace.loaded.call)))
         (sym (ap (λ y. y == old) (coded at) ∙ hit)) (refl, (x.0, x.1, refl), refl) in
-        let heard : Tells g c store r es tale own key (asks.Call (Ask_exchange at old new)) (answers.Call Exchanged) (x.0 ∷ []) tale.hands = own_told g c store r es tale own hashed key rests coded there (Ask_exchange at old new) Exchanged (x.0 ∷ []) tale.hands.call told in
-        exchanged g c store r es tale own hashed key rests coded there owns (asks.Call (Ask_exchange at old new)) a at new x.0 tale.hands heard (placed_call changed_by.place) x.3
+        let heard : Tells g c store r es call_trace own key (asks.Call (Ask_exchange at old new)) (answers.Call Exchanged) (x.0 ∷ []) call_trace.loaded = own_told g c store r es call_trace own hashed key relies coded there (Ask_exchange at old new) Exchanged (x.0 ∷ []) call_trace.loaded.call told in
+        exchanged g c store r es call_trace own hashed key relies coded there owns (asks.Call (Ask_exchange at old new)) a at new x.0 call_trace.loaded heard (placed_call changed_by.place) x.3
         (λ t some comes. elim (changed_by.comes t comes) [
           | inl before ↦ there t some before
           | inr (root, same_table) ↦ opens t (a ∙ opening x.0 x.1 x.2 stands root ∙ ap (λ y. asks.Call (Ask_exchange Root 0 y)) same_table)
@@ -114,13 +114,13 @@ module _ {Q K V S A : Type 0} (g : Setting Q (Stored K V)) (c : Coding Q (Stored
         changed_by.slots
         (λ none.
         let same_change : change_of_kind (kind_of_ask r.machine) old new ≡ None =
-        sym (changed g c store r es tale own hashed key rests coded there (asks.Call (Ask_exchange at old new)) a (answers.Call Exchanged) (x.0 ∷ []) tale.hands heard) ∙ none in
+        sym (changed g c store r es call_trace own hashed key relies coded there (asks.Call (Ask_exchange at old new)) a (answers.Call Exchanged) (x.0 ∷ []) call_trace.loaded heard) ∙ none in
         (machine_once r.machine.call at old new calls, changed_by.unchanged old new same_change))
         (λ p h. inl h) refl refl
 
   module _ (at : At) (old new : ℕ) (a : ask_of r.machine ≡ asks.Copy (Copy_exchange at old new)) where
     -- a word that is exchanged is there
-    placed_at : (at : At) → IsThere g c told_now tale.hands.call.last tale.hands.kept at → IsPlaced store.words.tables at
+    placed_at : (at : At) → IsThere g c told_now call_trace.loaded.call.last call_trace.loaded.kept at → IsPlaced store.words.tables at
     placed_at Root h = tt
     placed_at (Next t) on = on_there t on
     placed_at (Aborted t) on = on_there t on
@@ -129,9 +129,9 @@ module _ {Q K V S A : Type 0} (g : Setting Q (Stored K V)) (c : Coding Q (Stored
     placed_at (Slot t x) h = slot_there t x h.0 h.1
 
     pub placed_copy : IsPlaced store.words.tables at
-    placed_copy = placed_at at (copies_there g c hashed tale.begun tale.since may key r.machine tale.hands rests (Copy_exchange at old new) a)
+    placed_copy = placed_at at (copies_there g c hashed call_trace.begun call_trace.since may key r.machine call_trace.loaded relies (Copy_exchange at old new) a)
 
     -- the exchange of the law that was made
-    pub asked_copy : word_of g c now at ≡ old → (e : Exchange (Stored K V)) × IsCopyAsked c (kind_of_ask r.machine) at new now tale.hands.kept e × Allows g now e × IsWritten g c now at new (state_after now e)
-    asked_copy = subst (λ s. word_of g c s at ≡ old → (e : Exchange (Stored K V)) × IsCopyAsked c (kind_of_ask r.machine) at new s tale.hands.kept e × Allows g s e × IsWritten g c s at new (state_after s e)) same_now
-        (λ stands. copies_may g c hashed tale.begun tale.since may key r.machine tale.hands rests (link_words g store chunks_are (link_in r.machine.phase) links) at old new a stands)
+    pub asked_copy : word_of g c now at ≡ old → (e : Exchange (Stored K V)) × IsCopyAsked c (kind_of_ask r.machine) at new now call_trace.loaded.kept e × Allows g now e × IsWritten g c now at new (state_after now e)
+    asked_copy = subst (λ s. word_of g c s at ≡ old → (e : Exchange (Stored K V)) × IsCopyAsked c (kind_of_ask r.machine) at new s call_trace.loaded.kept e × Allows g s e × IsWritten g c s at new (state_after s e)) same_now
+        (λ stands. copies_may g c hashed call_trace.begun call_trace.since may key r.machine call_trace.loaded relies (link_words g store chunks_are (link_in r.machine.phase) links) at old new a stands)

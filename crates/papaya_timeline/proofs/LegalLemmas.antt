@@ -18,7 +18,7 @@ use Rattle.papaya_ask.specs.declared.call.Task.TheVariants.{Insert as Insert_tas
 use Rattle.papaya_ask.specs.declared.copy_ask.CopyAsk.{CopyAsk}
 use Rattle.papaya_call.specs.declared.machine.Machine.{Machine as Call_machine}
 use Rattle.papaya_law.specs.Allows.{Allows, AllAllowed}
-use Rattle.papaya_law.specs.Exchange.{Live, Setting, State, Exchange, Open, Claim, Replace, Bury, run, start, Take}
+use Rattle.papaya_law.specs.Exchange.{Live, Setting, State, Exchange, Open, Claim, Replace, Delete, run, start, Take}
 use Rattle.papaya_law.specs.Code.{Coding, code}
 use Rattle.papaya_law.specs.Meaning.{IsLawful, IsLegal as IsLegal_exchange}
 use Rattle.papaya_call.specs.Machine.{HasClosure}
@@ -28,11 +28,11 @@ use Rattle.papaya_chain.specs.declared.ask.Ask.TheVariants as asks
 use Rattle.papaya_chain.specs.declared.ask.Answer.{Answer}
 use Rattle.papaya_chain.specs.declared.machine.Machine.{Machine as Chain_machine}
 use Rattle.papaya_chain.specs.Machine.{ask_of, follows_of, kind_of_ask}
-use Rattle.papaya_chain_rests.specs.Rests.{Rests as Chain_rests}
-use Rattle.papaya_chain_rests.specs.Told.{Hands as Chain_hands, IsCopyTold, IsTold as Chain_told}
-use Rattle.papaya_rests.specs.Copier.{IsCopyAsked}
-use Rattle.papaya_rests.specs.Rests.{Change, Rests, change_of_reply}
-use Rattle.papaya_rests.specs.Told.{Hands, IsAsked, IsOneOf, IsTold, word_of}
+use Rattle.papaya_chain_law.specs.Relies.{Relies as Chain_relies}
+use Rattle.papaya_chain_law.specs.Told.{IsCopyTold, IsTold as Chain_told, LoadedPairs as Chain_loaded}
+use Rattle.papaya_call_law.specs.Copier.{IsCopyAsked}
+use Rattle.papaya_call_law.specs.Relies.{Change, Relies, change_of_reply}
+use Rattle.papaya_call_law.specs.Told.{IsAsked, IsOneOf, IsTold, LoadedPairs, word_of}
 use Rattle.papaya_law.specs.Code.{IsHashed}
 use Rattle.papaya_law.proofs.Codes.{code_pair}
 use Rattle.papaya_law.proofs.Moments.{allowed_rest}
@@ -152,7 +152,7 @@ module _ {K V : Type 0} (eq : K → K → Bool) (hash : K → ℕ) (mode mode' :
   abbrev c : Coding K (Stored K V)
   c = coding_of (low hash)
 
-  module _ (hashed : IsHashed g c) (lawful' : IsLawful g') (begun since : List (Exchange (Stored K V))) (k : K) (m : Call_machine) (hands : Hands (Stored K V)) (rests : Rests g c begun since k m hands) where
+  module _ (hashed : IsHashed g c) (lawful' : IsLawful g') (begun since : List (Exchange (Stored K V))) (k : K) (m : Call_machine) (loaded : LoadedPairs (Stored K V)) (relies : Relies g c begun since k m loaded) where
     -- the exchanges so far
     abbrev es : List (Exchange (Stored K V))
     es = begun ++ since
@@ -160,12 +160,12 @@ module _ {K V : Type 0} (eq : K → K → Bool) (hash : K → ℕ) (mode mode' :
     abbrev now : State (Stored K V)
     now = run es start
 
-    -- what the machine buries is a pair of its key
-    abbrev pub BuriesOwn : Type 0
-    BuriesOwn = (t x old new : ℕ) (p : Stored K V) → calls.kind_of_ask m ≡ Some kinds.Bury → calls.ask_of m ≡ Ask_exchange (Slot t x) old new → now.slot t x ≡ Live p → pair_of old ≡ p.number → eq p.key k ≡ true
+    -- what the machine deletes is a pair of its key
+    abbrev pub DeletesOwn : Type 0
+    DeletesOwn = (t x old new : ℕ) (p : Stored K V) → calls.kind_of_ask m ≡ Some kinds.Delete → calls.ask_of m ≡ Ask_exchange (Slot t x) old new → now.slot t x ≡ Live p → pair_of old ≡ p.number → eq p.key k ≡ true
 
     abbrev Moves_by : Event → List (Exchange (Stored K V)) → Type 0
-    Moves_by event made = Moves eq k m.task hands.made (replay eq es) (replay eq (es ++ made)) event
+    Moves_by event made = Moves eq k m.task loaded.made (replay eq es) (replay eq (es ++ made)) event
 
     -- the word that stood there named the pair
     stood_number : (t x old : ℕ) (p : Stored K V) → word_of g c now (Slot t x) ≡ old → now.slot t x ≡ Live p → pair_of old ≡ p.number
@@ -177,7 +177,7 @@ module _ {K V : Type 0} (eq : K → K → Bool) (hash : K → ℕ) (mode mode' :
     classes_alike j l came alike = fun_ext (λ i. ap (λ b. cond b came (replay eq es i)) (same_right g' lawful' i j l alike))
 
     -- a pair was put into the class of the call's key
-    put_moves : (old new : Option ℕ) (e : Exchange (Stored K V)) (went : Option (Stored K V)) (q : Stored K V) → replay eq (es ++ e ∷ []) ≡ with_class eq (replay eq es) k (Some q) → IsOneOf hands.made q → IsKeyFor k went q → replay eq es k ≡ went → MayReplace went m.task → number_in went ≡ old → Some q.number ≡ new → IsMoved eq k m.task hands.made (replay eq es) (replay eq (es ++ e ∷ [])) old new
+    put_moves : (old new : Option ℕ) (e : Exchange (Stored K V)) (went : Option (Stored K V)) (q : Stored K V) → replay eq (es ++ e ∷ []) ≡ with_class eq (replay eq es) k (Some q) → IsOneOf loaded.made q → IsKeyFor k went q → replay eq es k ≡ went → MayReplace went m.task → number_in went ≡ old → Some q.number ≡ new → IsMoved eq k m.task loaded.made (replay eq es) (replay eq (es ++ e ∷ [])) old new
     put_moves old new e went q is made key before replaces went_is came_is = record {
       went = went;
       came = Some q;
@@ -189,7 +189,7 @@ module _ {K V : Type 0} (eq : K → K → Bool) (hash : K → ℕ) (mode mode' :
     }
 
     -- a pair was taken out of it
-    take_moves : (old new : ℕ) (e : Exchange (Stored K V)) (p : Stored K V) → replay eq (es ++ e ∷ []) ≡ with_class eq (replay eq es) p.key None → eq p.key k ≡ true → HasClosure m.task → replay eq es p.key ≡ Some p → pair_of old ≡ p.number → IsMoved eq k m.task hands.made (replay eq es) (replay eq (es ++ e ∷ [])) (Some (pair_of old)) None
+    take_moves : (old new : ℕ) (e : Exchange (Stored K V)) (p : Stored K V) → replay eq (es ++ e ∷ []) ≡ with_class eq (replay eq es) p.key None → eq p.key k ≡ true → HasClosure m.task → replay eq es p.key ≡ Some p → pair_of old ≡ p.number → IsMoved eq k m.task loaded.made (replay eq es) (replay eq (es ++ e ∷ [])) (Some (pair_of old)) None
     take_moves old new e p is alike closure here number = record {
       went = Some p;
       came = None;
@@ -200,9 +200,9 @@ module _ {K V : Type 0} (eq : K → K → Bool) (hash : K → ℕ) (mode mode' :
       may = closure;
     }
 
-    module _ (buries_own : BuriesOwn) where
+    module _ (deletes_own : DeletesOwn) where
       -- an exchange that was made moves the map by its kind
-      exchange_moves : (kind : Option StepKind) (at : At) (old new : ℕ) (e : Exchange (Stored K V)) → calls.kind_of_ask m ≡ kind → calls.ask_of m ≡ Ask_exchange at old new → IsAsked g c k kind at new now hands e → word_of g c now at ≡ old → IsLegal_exchange g' (replay eq es) e → Allows g' now e → Moves_by (kind_event kind old new) (e ∷ [])
+      exchange_moves : (kind : Option StepKind) (at : At) (old new : ℕ) (e : Exchange (Stored K V)) → calls.kind_of_ask m ≡ kind → calls.ask_of m ≡ Ask_exchange at old new → IsAsked g c k kind at new now loaded e → word_of g c now at ≡ old → IsLegal_exchange g' (replay eq es) e → Allows g' now e → Moves_by (kind_event kind old new) (e ∷ [])
       exchange_moves None at old new e kind_is ask_is asked stood legal allows = absurd asked
       exchange_moves (Some kinds.Open) Root old new e kind_is ask_is asked stood legal allows = λ j. ap (λ fs. replay eq (es ++ fs) j) (ap (λ y. y ∷ []) asked) ∙ ap (λ n. n j) (replay-append eq es (Open new ∷ []))
       exchange_moves (Some kinds.Take) Made old new e kind_is ask_is asked stood legal allows = λ j. ap (λ fs. replay eq (es ++ fs) j) (ap (λ y. y ∷ []) asked) ∙ ap (λ n. n j) (replay-append eq es (Take now.made ∷ []))
@@ -212,15 +212,15 @@ module _ {K V : Type 0} (eq : K → K → Bool) (hash : K → ℕ) (mode mode' :
           (ap (replay eq es) (sym key) ∙ none) (inl refl) refl (ap Some own.named)
       exchange_moves (Some kinds.Replace) (Slot t x) old new e kind_is ask_is (p, q, live, own, key, is) stood legal allows =
           let here : replay eq es p.key ≡ Some p = subst (λ y. IsLegal_exchange g' (replay eq es) y) is legal in
-          let alike : eq p.key k ≡ true = lawful'.back k p.key (sym (ap (eq k) key) ∙ rests.made.keys q own.made) in
+          let alike : eq p.key k ≡ true = lawful'.back k p.key (sym (ap (eq k) key) ∙ relies.made.keys q own.made) in
           let before : replay eq es k ≡ Some p = sym (replay-alike eq (low hash) mode' tables' lawful' es p.key k alike) ∙ here in
           put_moves (Some (pair_of old)) (Some (pair_of new)) e (Some p) q (ap (λ y. replay eq (es ++ y ∷ [])) is ∙ replay-append eq es (Replace t x p q ∷ []) ∙ classes_alike p.key k (Some q) alike) own.made key
-          before (inr (machine_replaces g c begun since k m hands rests kind_is)) (ap Some (sym (stood_number t x old p stood live))) (ap Some own.named)
-      exchange_moves (Some kinds.Bury) (Slot t x) old new e kind_is ask_is (p, live, is) stood legal allows =
+          before (inr (machine_replaces g c begun since k m loaded relies kind_is)) (ap Some (sym (stood_number t x old p stood live))) (ap Some own.named)
+      exchange_moves (Some kinds.Delete) (Slot t x) old new e kind_is ask_is (p, live, is) stood legal allows =
           let number : pair_of old ≡ p.number = stood_number t x old p stood live in
           let here : replay eq es p.key ≡ Some p = subst (λ y. IsLegal_exchange g' (replay eq es) y) is legal in
-          take_moves old new e p (ap (λ y. replay eq (es ++ y ∷ [])) is ∙ replay-append eq es (Bury t x p ∷ [])) (buries_own t x old new p kind_is ask_is live number)
-          (machine_takes g c begun since k hashed.coding m hands rests kind_is (Slot t x) old new ask_is).removes here number
+          take_moves old new e p (ap (λ y. replay eq (es ++ y ∷ [])) is ∙ replay-append eq es (Delete t x p ∷ [])) (deletes_own t x old new p kind_is ask_is live number)
+          (machine_takes g c begun since k hashed.coding m loaded relies kind_is (Slot t x) old new ask_is).removes here number
       exchange_moves (Some kinds.Open) (Next t) old new e kind_is ask_is asked stood legal allows = absurd asked
       exchange_moves (Some kinds.Open) Made old new e kind_is ask_is asked stood legal allows = absurd asked
       exchange_moves (Some kinds.Open) (Aborted t) old new e kind_is ask_is asked stood legal allows = absurd asked
@@ -236,11 +236,11 @@ module _ {K V : Type 0} (eq : K → K → Bool) (hash : K → ℕ) (mode mode' :
       exchange_moves (Some kinds.Replace) Made old new e kind_is ask_is asked stood legal allows = absurd asked
       exchange_moves (Some kinds.Replace) (Aborted t) old new e kind_is ask_is asked stood legal allows = absurd asked
       exchange_moves (Some kinds.Replace) (Done t chunk) old new e kind_is ask_is asked stood legal allows = absurd asked
-      exchange_moves (Some kinds.Bury) Root old new e kind_is ask_is asked stood legal allows = absurd asked
-      exchange_moves (Some kinds.Bury) (Next t) old new e kind_is ask_is asked stood legal allows = absurd asked
-      exchange_moves (Some kinds.Bury) Made old new e kind_is ask_is asked stood legal allows = absurd asked
-      exchange_moves (Some kinds.Bury) (Aborted t) old new e kind_is ask_is asked stood legal allows = absurd asked
-      exchange_moves (Some kinds.Bury) (Done t chunk) old new e kind_is ask_is asked stood legal allows = absurd asked
+      exchange_moves (Some kinds.Delete) Root old new e kind_is ask_is asked stood legal allows = absurd asked
+      exchange_moves (Some kinds.Delete) (Next t) old new e kind_is ask_is asked stood legal allows = absurd asked
+      exchange_moves (Some kinds.Delete) Made old new e kind_is ask_is asked stood legal allows = absurd asked
+      exchange_moves (Some kinds.Delete) (Aborted t) old new e kind_is ask_is asked stood legal allows = absurd asked
+      exchange_moves (Some kinds.Delete) (Done t chunk) old new e kind_is ask_is asked stood legal allows = absurd asked
       exchange_moves (Some kinds.Link) at old new e kind_is ask_is asked stood legal allows = absurd asked
       exchange_moves (Some kinds.Mark) at old new e kind_is ask_is asked stood legal allows = absurd asked
       exchange_moves (Some kinds.Close) at old new e kind_is ask_is asked stood legal allows = absurd asked
@@ -256,8 +256,8 @@ module _ {K V : Type 0} (eq : K → K → Bool) (hash : K → ℕ) (mode mode' :
       exchange_moves (Some kinds.Take) (Slot t x) old new e kind_is ask_is asked stood legal allows = absurd asked
 
       -- the event of what the call itself asks moves the map so
-      pub call_moves : (answer : Call_answer) (made : List (Exchange (Stored K V))) (hands' : Hands (Stored K V)) → IsTold g c k now (calls.kind_of_ask m) hands (calls.ask_of m) answer made hands' → AllAllowed g' start (es ++ made) → Moves_by (call_event (calls.kind_of_ask m) (calls.ask_of m) answer) made
-      call_moves answer made hands' told may' = ⊎_elim quiet (λ z. ⊎_elim exchanged (λ y. ⊎_elim asked shown y) z) (told_cases g c k now (calls.kind_of_ask m) hands (calls.ask_of m) answer made hands' told)
+      pub call_moves : (answer : Call_answer) (made : List (Exchange (Stored K V))) (loaded' : LoadedPairs (Stored K V)) → IsTold g c k now (calls.kind_of_ask m) loaded (calls.ask_of m) answer made loaded' → AllAllowed g' start (es ++ made) → Moves_by (call_event (calls.kind_of_ask m) (calls.ask_of m) answer) made
+      call_moves answer made loaded' told may' = ⊎_elim quiet (λ z. ⊎_elim exchanged (λ y. ⊎_elim asked shown y) z) (told_cases g c k now (calls.kind_of_ask m) loaded (calls.ask_of m) answer made loaded' told)
         where
           unchanged : made ≡ [] → Same (replay eq es) (replay eq (es ++ made))
           unchanged none j = ap (λ fs. replay eq (es ++ fs) j) none ∙ ap (λ fs. replay eq fs j) (append-nil es)
@@ -271,7 +271,7 @@ module _ {K V : Type 0} (eq : K → K → Bool) (hash : K → ℕ) (mode mode' :
           shown : IsShown (calls.kind_of_ask m) (calls.ask_of m) answer made → Moves_by (call_event (calls.kind_of_ask m) (calls.ask_of m) answer) made
           shown (n, op, ask_is, answer_is, none, is) = subst (λ y. Moves_by y made) (sym is) (unchanged none)
 
-          exchanged : IsExchanged g c k now (calls.kind_of_ask m) hands (calls.ask_of m) answer made → Moves_by (call_event (calls.kind_of_ask m) (calls.ask_of m) answer) made
+          exchanged : IsExchanged g c k now (calls.kind_of_ask m) loaded (calls.ask_of m) answer made → Moves_by (call_event (calls.kind_of_ask m) (calls.ask_of m) answer) made
           exchanged x =
               let is : call_event (calls.kind_of_ask m) (calls.ask_of m) answer ≡ kind_event (calls.kind_of_ask m) x.old x.new = ap (λ y. call_event (calls.kind_of_ask m) y answer) x.ask_is ∙ ap (answered_event (calls.kind_of_ask m) x.old x.new) x.answer_is in
               let allowed : AllAllowed g' start (es ++ x.by ∷ []) = subst (λ fs. AllAllowed g' start (es ++ fs)) x.made may' in
@@ -292,58 +292,58 @@ module _ {K V : Type 0} (eq : K → K → Bool) where
   copied_same c kind at new s kept e m is = absurd is
 
   -- what a copy is told leaves the map
-  pub copy_same : (g : Setting K (Stored K V)) (c : Coding K (Stored K V)) (s : State (Stored K V)) (kind : Option StepKind) (follows : ℕ) (hands : Chain_hands (Stored K V)) (ask : CopyAsk) (answer : Answer) (made : List (Exchange (Stored K V))) (hands' : Chain_hands (Stored K V)) → IsCopyTold g c s kind follows hands ask answer made hands' → (es : List (Exchange (Stored K V))) → Same (replay eq es) (replay eq (es ++ made))
-  copy_same g c s kind follows hands ask answer made hands' told es j =
+  pub copy_same : (g : Setting K (Stored K V)) (c : Coding K (Stored K V)) (s : State (Stored K V)) (kind : Option StepKind) (follows : ℕ) (loaded : Chain_loaded (Stored K V)) (ask : CopyAsk) (answer : Answer) (made : List (Exchange (Stored K V))) (loaded' : Chain_loaded (Stored K V)) → IsCopyTold g c s kind follows loaded ask answer made loaded' → (es : List (Exchange (Stored K V))) → Same (replay eq es) (replay eq (es ++ made))
+  copy_same g c s kind follows loaded ask answer made loaded' told es j =
       ⊎_elim
       (λ (none : made ≡ []). ap (λ fs. replay eq (es ++ fs) j) none ∙ ap (λ fs. replay eq fs j) (append-nil es))
-      (λ (x : IsCopied g c s kind hands.kept ask made). ap (λ fs. replay eq (es ++ fs) j) x.made ∙ ap (λ m. m j) (replay-append eq es (x.by ∷ []) ∙ copied_same c kind x.at x.new s hands.kept x.by (replay eq es) x.asked))
-      (copy_told g c s kind follows hands ask answer made hands' told)
+      (λ (x : IsCopied g c s kind loaded.kept ask made). ap (λ fs. replay eq (es ++ fs) j) x.made ∙ ap (λ m. m j) (replay-append eq es (x.by ∷ []) ∙ copied_same c kind x.at x.new s loaded.kept x.by (replay eq es) x.asked))
+      (copy_told g c s kind follows loaded ask answer made loaded' told)
 
 module _ {K V : Type 0} (eq : K → K → Bool) (hash : K → ℕ) (mode mode' : Mode) (tables tables' : List TableWords) where
-  module _ (hashed : IsHashed (setting_of {V = V} eq (low hash) mode tables) (coding_of (low hash))) (lawful' : IsLawful (setting_of {V = V} eq (low hash) mode' tables')) (begun since : List (Exchange (Stored K V))) (k : K) (m : Chain_machine) (hands : Chain_hands (Stored K V)) (rests : Chain_rests (setting_of eq (low hash) mode tables) (coding_of (low hash)) begun since k m hands) (buries_own : BuriesOwn eq hash mode mode' tables tables' hashed lawful' begun since k m.call hands.call rests.call) where
+  module _ (hashed : IsHashed (setting_of {V = V} eq (low hash) mode tables) (coding_of (low hash))) (lawful' : IsLawful (setting_of {V = V} eq (low hash) mode' tables')) (begun since : List (Exchange (Stored K V))) (k : K) (m : Chain_machine) (loaded : Chain_loaded (Stored K V)) (relies : Chain_relies (setting_of eq (low hash) mode tables) (coding_of (low hash)) begun since k m loaded) (deletes_own : DeletesOwn eq hash mode mode' tables tables' hashed lawful' begun since k m.call loaded.call relies.call) where
     -- the event of a step moves the map so, and that of a copy leaves it
-    pub step_moves : (answer : Answer) (made : List (Exchange (Stored K V))) (hands' : Chain_hands (Stored K V)) → Chain_told (setting_of eq (low hash) mode tables) (coding_of (low hash)) k (run (begun ++ since) start) (kind_of_ask m) (follows_of m) hands (ask_of m) answer made hands' → AllAllowed (setting_of eq (low hash) mode' tables') start ((begun ++ since) ++ made)
-        → Moves eq k m.call.task hands.call.made (replay eq (begun ++ since)) (replay eq ((begun ++ since) ++ made)) (event_of (kind_of_ask m) (ask_of m) answer)
-    step_moves answer made hands' told may' = by_ask (ask_of m) refl told
+    pub step_moves : (answer : Answer) (made : List (Exchange (Stored K V))) (loaded' : Chain_loaded (Stored K V)) → Chain_told (setting_of eq (low hash) mode tables) (coding_of (low hash)) k (run (begun ++ since) start) (kind_of_ask m) (follows_of m) loaded (ask_of m) answer made loaded' → AllAllowed (setting_of eq (low hash) mode' tables') start ((begun ++ since) ++ made)
+        → Moves eq k m.call.task loaded.call.made (replay eq (begun ++ since)) (replay eq ((begun ++ since) ++ made)) (event_of (kind_of_ask m) (ask_of m) answer)
+    step_moves answer made loaded' told may' = by_ask (ask_of m) refl told
       where
-        by_ask : (ask : Ask) → ask_of m ≡ ask → Chain_told (setting_of eq (low hash) mode tables) (coding_of (low hash)) k (run (begun ++ since) start) (kind_of_ask m) (follows_of m) hands ask answer made hands' → Moves eq k m.call.task hands.call.made (replay eq (begun ++ since)) (replay eq ((begun ++ since) ++ made)) (event_of (kind_of_ask m) ask answer)
+        by_ask : (ask : Ask) → ask_of m ≡ ask → Chain_told (setting_of eq (low hash) mode tables) (coding_of (low hash)) k (run (begun ++ since) start) (kind_of_ask m) (follows_of m) loaded ask answer made loaded' → Moves eq k m.call.task loaded.call.made (replay eq (begun ++ since)) (replay eq ((begun ++ since) ++ made)) (event_of (kind_of_ask m) ask answer)
         by_ask (asks.Call ask) e h =
             let own = own_asks m ask e in
-            let tells = subst (λ y. IsTold (setting_of eq (low hash) mode tables) (coding_of (low hash)) k (run (begun ++ since) start) y hands.call (calls.ask_of m.call) h.told made h.call) own.2 (subst (λ y. IsTold (setting_of eq (low hash) mode tables) (coding_of (low hash)) k (run (begun ++ since) start) (kind_of_ask m) hands.call y h.told made h.call) (sym own.1) h.tells) in
+            let tells = subst (λ y. IsTold (setting_of eq (low hash) mode tables) (coding_of (low hash)) k (run (begun ++ since) start) y loaded.call (calls.ask_of m.call) h.told made h.call) own.2 (subst (λ y. IsTold (setting_of eq (low hash) mode tables) (coding_of (low hash)) k (run (begun ++ since) start) (kind_of_ask m) loaded.call y h.told made h.call) (sym own.1) h.tells) in
             let is : event_of (kind_of_ask m) (asks.Call ask) answer ≡ call_event (calls.kind_of_ask m.call) (calls.ask_of m.call) h.told =
             ap (event_of (kind_of_ask m) (asks.Call ask)) h.is ∙ ap (λ y. call_event y ask h.told) own.2 ∙ ap (λ y. call_event (calls.kind_of_ask m.call) y h.told) (sym own.1) in
-            subst (Moves eq k m.call.task hands.call.made (replay eq (begun ++ since)) (replay eq ((begun ++ since) ++ made))) (sym is)
-            (call_moves eq hash mode mode' tables tables' hashed lawful' begun since k m.call hands.call rests.call buries_own h.told made h.call tells may')
+            subst (Moves eq k m.call.task loaded.call.made (replay eq (begun ++ since)) (replay eq ((begun ++ since) ++ made))) (sym is)
+            (call_moves eq hash mode mode' tables tables' hashed lawful' begun since k m.call loaded.call relies.call deletes_own h.told made h.call tells may')
         by_ask (asks.Copy ask) e h =
-            let same = copy_same eq (setting_of eq (low hash) mode tables) (coding_of (low hash)) (run (begun ++ since) start) (kind_of_ask m) (follows_of m) hands ask answer made hands' h (begun ++ since) in
-            copy_moves (λ e. Moves eq k m.call.task hands.call.made (replay eq (begun ++ since)) (replay eq ((begun ++ since) ++ made)) e) same (λ kind. same) (kind_of_ask m) (copy_kind m ask e) ask answer
+            let same = copy_same eq (setting_of eq (low hash) mode tables) (coding_of (low hash)) (run (begun ++ since) start) (kind_of_ask m) (follows_of m) loaded ask answer made loaded' h (begun ++ since) in
+            copy_moves (λ e. Moves eq k m.call.task loaded.call.made (replay eq (begun ++ since)) (replay eq ((begun ++ since) ++ made)) e) same (λ kind. same) (kind_of_ask m) (copy_kind m ask e) ask answer
 
 -- a pair that takes the place of another is one that the call made
-asked_own : {K P : Type 0} (g : Setting K P) (c : Coding K P) (k : K) (kind : Option StepKind) (at : At) (new : ℕ) (s : State P) (hands : Hands P) (e : Exchange P) → IsAsked g c k kind at new s hands e → (t x : ℕ) (p q : P) → e ≡ Replace t x p q → IsOneOf hands.made q
-asked_own g c k (Some kinds.Open) Root new s hands e asked t x p q is = absurd cc
-asked_own g c k (Some kinds.Claim) (Slot u y) new s hands e (r, own, key, asked) t x p q is = absurd cc
-asked_own g c k (Some kinds.Replace) (Slot u y) new s hands e (o, r, live, own, key, asked) t x p q is = let same : r ≡ q = cc in subst (IsOneOf hands.made) same own.made
-asked_own g c k (Some kinds.Bury) (Slot u y) new s hands e (r, live, asked) t x p q is = absurd cc
-asked_own g c k (Some kinds.Take) Made new s hands e asked t x p q is = absurd cc
-asked_own g c k kind at new s hands e asked t x p q is = absurd asked
+asked_own : {K P : Type 0} (g : Setting K P) (c : Coding K P) (k : K) (kind : Option StepKind) (at : At) (new : ℕ) (s : State P) (loaded : LoadedPairs P) (e : Exchange P) → IsAsked g c k kind at new s loaded e → (t x : ℕ) (p q : P) → e ≡ Replace t x p q → IsOneOf loaded.made q
+asked_own g c k (Some kinds.Open) Root new s loaded e asked t x p q is = absurd cc
+asked_own g c k (Some kinds.Claim) (Slot u y) new s loaded e (r, own, key, asked) t x p q is = absurd cc
+asked_own g c k (Some kinds.Replace) (Slot u y) new s loaded e (o, r, live, own, key, asked) t x p q is = let same : r ≡ q = cc in subst (IsOneOf loaded.made) same own.made
+asked_own g c k (Some kinds.Delete) (Slot u y) new s loaded e (r, live, asked) t x p q is = absurd cc
+asked_own g c k (Some kinds.Take) Made new s loaded e asked t x p q is = absurd cc
+asked_own g c k kind at new s loaded e asked t x p q is = absurd asked
 
 -- a step puts a pair in the place of another where its call asks for it
-pub replaces_own : {K V : Type 0} (eq : K → K → Bool) (g : Setting K (Stored K V)) (c : Coding K (Stored K V)) (k : K) (s : State (Stored K V)) (kind : Option StepKind) (follows : ℕ) (hands : Chain_hands (Stored K V)) (ask : Ask) (answer : Answer) (made : List (Exchange (Stored K V))) (hands' : Chain_hands (Stored K V)) (t x : ℕ) (p q : Stored K V) → eq p.key p.key ≡ true → made ≡ Replace t x p q ∷ []
-    → Chain_told g c k s kind follows hands ask answer made hands' → (at : At) × (old : ℕ) × (new : ℕ) × (ask ≡ asks.Call (Ask_exchange at old new)) × IsOneOf hands.call.made q
-replaces_own {K = K} {V = V} eq g c k s kind follows hands (asks.Call ask) answer made hands' t x p q itself is told =
+pub replaces_own : {K V : Type 0} (eq : K → K → Bool) (g : Setting K (Stored K V)) (c : Coding K (Stored K V)) (k : K) (s : State (Stored K V)) (kind : Option StepKind) (follows : ℕ) (loaded : Chain_loaded (Stored K V)) (ask : Ask) (answer : Answer) (made : List (Exchange (Stored K V))) (loaded' : Chain_loaded (Stored K V)) (t x : ℕ) (p q : Stored K V) → eq p.key p.key ≡ true → made ≡ Replace t x p q ∷ []
+    → Chain_told g c k s kind follows loaded ask answer made loaded' → (at : At) × (old : ℕ) × (new : ℕ) × (ask ≡ asks.Call (Ask_exchange at old new)) × IsOneOf loaded.call.made q
+replaces_own {K = K} {V = V} eq g c k s kind follows loaded (asks.Call ask) answer made loaded' t x p q itself is told =
     ⊎_elim
     (λ quiet. nothing quiet.0)
     (λ y. ⊎_elim
-    (λ (by : IsExchanged g c k s kind hands.call ask told.told made).
+    (λ (by : IsExchanged g c k s kind loaded.call ask told.told made).
     let same : by.by ≡ Replace t x p q = (let f : by.by ∷ [] ≡ Replace t x p q ∷ [] = sym by.made ∙ is in cc) in
-    (by.at, by.old, by.new, ap asks.Call by.ask_is, asked_own g c k kind by.at by.new s hands.call by.by by.asked t x p q same))
+    (by.at, by.old, by.new, ap asks.Call by.ask_is, asked_own g c k kind by.at by.new s loaded.call by.by by.asked t x p q same))
     (λ z. ⊎_elim (λ (shown : IsShowing kind ask told.told made). nothing shown.4) (λ (shown : IsShown kind ask told.told made). nothing shown.4) z) y)
-    (told_cases g c k s kind hands.call ask told.told made told.call told.tells)
+    (told_cases g c k s kind loaded.call ask told.told made told.call told.tells)
   where
-    nothing : made ≡ [] → (at : At) × (old : ℕ) × (new : ℕ) × (asks.Call ask ≡ asks.Call (Ask_exchange at old new)) × IsOneOf hands.call.made q
+    nothing : made ≡ [] → (at : At) × (old : ℕ) × (new : ℕ) × (asks.Call ask ≡ asks.Call (Ask_exchange at old new)) × IsOneOf loaded.call.made q
     nothing none = let f : [] ≡ Replace t x p q ∷ [] = sym none ∙ is in absurd cc
-replaces_own {K = K} {V = V} eq g c k s kind follows hands (asks.Copy ask) answer made hands' t x p q itself is told =
-    let f : None ≡ Some q = sym (copy_same eq g c s kind follows hands ask answer made hands' told [] p.key) ∙ ap (λ l. replay eq l p.key) is ∙ ap (λ b. cond b (Some q) None) itself in
+replaces_own {K = K} {V = V} eq g c k s kind follows loaded (asks.Copy ask) answer made loaded' t x p q itself is told =
+    let f : None ≡ Some q = sym (copy_same eq g c s kind follows loaded ask answer made loaded' told [] p.key) ∙ ap (λ l. replay eq l p.key) is ∙ ap (λ b. cond b (Some q) None) itself in
     absurd cc
 
 module _ {K V A : Type 0} (eq : K → K → Bool) where

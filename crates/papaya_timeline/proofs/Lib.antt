@@ -21,15 +21,15 @@ pub mod GivenLemmas
 pub mod Good
 pub mod GoodLemmas
 pub mod GoodResized
-pub mod GoodVisits
-pub mod GoodVisited
-pub mod GoodVisitEnds
-pub mod GoodVisitFits
-pub mod StepVisits
+pub mod GoodScans
+pub mod GoodScanned
+pub mod GoodScanEnds
+pub mod GoodScanFits
+pub mod StepScans
 pub mod HeadlineLemmas
 pub mod Intents
 pub mod IntentSteps
-pub mod IntentVisits
+pub mod IntentScans
 pub mod KeptAnswer
 pub mod KeptBegin
 pub mod KeptClosures
@@ -67,7 +67,7 @@ pub mod SoloLaw
 pub mod SoloResizes
 pub mod SoloRun
 pub mod SoloTimeline
-pub mod SoloVisitors
+pub mod SoloScanners
 pub mod StepEvents
 pub mod StepTells
 pub mod StoreLemmas
@@ -77,30 +77,30 @@ pub mod TimelineLemmas
 -- an example: a made-up value is refused by what closures gave
 pub mod InventedValue
 -- what an answer leaves of the words and the logs
-pub mod VisitAnswers
-pub mod VisitBegins
-pub mod KeptVisited
-pub mod CountedVisited
-pub mod SoloVisits
-pub mod LawfulVisits
+pub mod ScanAnswers
+pub mod ScanBegins
+pub mod KeptScanned
+pub mod CountedScanned
+pub mod SoloScans
+pub mod LawfulScans
 -- which tables are linked
-pub mod VisitLinks
+pub mod ScanLinks
 -- what a step leaves to all calls
-pub mod VisitKept
+pub mod ScanKept
 -- what others' steps leave to it
-pub mod VisitOthers
+pub mod ScanOthers
 -- the laws
-pub mod VisitLaw
+pub mod ScanLaw
 -- what a step does to the map
-pub mod VisitMoves
+pub mod ScanMoves
 -- where it stands
-pub mod VisitStands
+pub mod ScanStands
 -- how it ends where nobody else changes the words
-pub mod VisitAlone
+pub mod ScanAlone
 -- a pair enters the map once
 pub mod EntersOnce
 -- what is so at the end
-pub mod VisitOver
+pub mod ScanOver
 pub mod MadePairs
 pub mod Waits
 pub mod MadeBefore

@@ -4,15 +4,15 @@ use Rattle.papaya_copy.specs.declared.link.Link.{Link}
 use Rattle.papaya_copy.specs.declared.link.Link.TheVariants.{Linking}
 use Rattle.papaya_chain.specs.declared.resizer.State.{State as Stage}
 use Rattle.papaya_chain.specs.declared.resizer.State.TheVariants as stages
-use Rattle.papaya_chain.specs.declared.visitor.State.{State}
-use Rattle.papaya_chain.specs.declared.visitor.State.TheVariants.{Copying}
+use Rattle.papaya_chain.specs.declared.scanner.State.{State}
+use Rattle.papaya_chain.specs.declared.scanner.State.TheVariants.{Copying}
 use Rattle.papaya_law.specs.Exchange.{Setting}
-use Rattle.papaya_rests.specs.Copier.{HasWords, link_in_copying}
-use Rattle.papaya_chain_rests.specs.Resizers.{HasLink, link_of}
-use Rattle.papaya_chain_rests.specs.Visits.{link_in_visit}
+use Rattle.papaya_call_law.specs.Copier.{HasWords, link_in_copying}
+use Rattle.papaya_chain_law.specs.Resizers.{HasLink, link_of}
+use Rattle.papaya_chain_law.specs.Scans.{link_in_scan}
 use Rattle.papaya_store.specs.Store.{StoreState}
 use Rattle.papaya_store.specs.Tables.{table_of}
-use Rattle.papaya_timeline.specs.Kept.{IsMadeFor, IsVisitLink, chunks_in}
+use Rattle.papaya_timeline.specs.Kept.{IsMadeFor, IsScanLink, chunks_in}
 
 module _ {K P K' V S : Type 0} (g : Setting K P) (store : StoreState K' V S) (chunks_are : (t : ℕ) → g.chunks t ≡ chunks_in (table_of store.words.tables t)) where
   -- of a call, or of a copy
@@ -27,7 +27,7 @@ module _ {K P K' V S : Type 0} (g : Setting K P) (store : StoreState K' V S) (ch
   stage_words (stages.Copying from copying) made = link_words (link_in_copying copying) made
   stage_words other made = tt
 
-  -- and of one that visits a table
-  pub visit_words : (state : State) → ((behind t chunks : ℕ) → IsVisitLink state (Linking behind t chunks) → IsMadeFor store t chunks) → HasWords g (link_in_visit state)
-  visit_words (Copying stage) made = stage_words stage made
-  visit_words other made = tt
+  -- and of one that scans a table
+  pub scan_words : (state : State) → ((behind t chunks : ℕ) → IsScanLink state (Linking behind t chunks) → IsMadeFor store t chunks) → HasWords g (link_in_scan state)
+  scan_words (Copying stage) made = stage_words stage made
+  scan_words other made = tt

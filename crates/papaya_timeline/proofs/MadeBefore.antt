@@ -16,14 +16,14 @@ use Rattle.papaya_call.specs.declared.made.Of.{Of}
 use Rattle.papaya_call.specs.declared.write.Write.{Write}
 use Rattle.papaya_call.specs.declared.machine.Machine.{Machine as Call_machine}
 use Rattle.papaya_call.specs.declared.machine.State.{State as Stage}
-use Rattle.papaya_call.specs.declared.machine.State.TheVariants.{AtRoot, Making, Opening, Searching, Writing, Offering, Showing, Pairing, Putting, Burying, Counting, Noting, Uncounting, Leaving, Growing, Ended}
+use Rattle.papaya_call.specs.declared.machine.State.TheVariants.{AtRoot, Making, Opening, Searching, Writing, Offering, Showing, Pairing, Putting, Deleting, Counting, Noting, Uncounting, Leaving, Growing, Ended}
 use Rattle.papaya_call.specs.Compute.{in_place_of}
 use Rattle.papaya_call.specs.Made.{answered, grown, grown_as, of_grown, own_grown, pair_ask, taken, taken_as, told, told_as, told_limit}
 use Rattle.papaya_call.specs.Machine.{made_at_exchanged, made_at_op, made_at_word, made_decided, made_in, made_to_pair, number_told, write_made, write_taken}
 use Rattle.papaya_call.specs.Machine as calls
 use Rattle.papaya_call.specs.Write.{made_of, made_to_write, served_ask, serves, write_grown}
-use Rattle.papaya_rests.specs.Says.{MakesPair}
-use Rattle.papaya_rests.proofs.Makings.{makes_pair}
+use Rattle.papaya_call_law.specs.Says.{MakesPair}
+use Rattle.papaya_call_law.proofs.Makings.{makes_pair}
 use Rattle.papaya_timeline.specs.Intends.{HasMade}
 use Rattle.papaya_timeline.proofs.CallersLemmas.{same_item}
 
@@ -109,7 +109,7 @@ module _ (m : Call_machine) (n : ℕ) where
   word_before (Offering gap) count has = has
   word_before (Showing removal) count has = has
   word_before (Putting put) count has = has
-  word_before (Burying removal) count has = has
+  word_before (Deleting removal) count has = has
   word_before (Counting claimed) count has = has
   word_before (Noting claimed) count has = has
   word_before (Uncounting i) count has = has

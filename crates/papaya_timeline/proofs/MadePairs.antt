@@ -9,7 +9,7 @@ use Rattle.papaya_chain.specs.declared.ask.Ask.{Ask}
 use Rattle.papaya_chain.specs.declared.ask.Ask.TheVariants as asks
 use Rattle.papaya_chain.specs.declared.ask.Answer.{Answer}
 use Rattle.papaya_chain.specs.declared.ask.Answer.TheVariants as answers
-use Rattle.papaya_rests.specs.Says.{MakesPair}
+use Rattle.papaya_call_law.specs.Says.{MakesPair}
 use Rattle.papaya_store.specs.declared.pairs.Part.{Part}
 use Rattle.papaya_store.specs.declared.pairs.Part.TheVariants.{Logged}
 use Rattle.papaya_store.specs.declared.pairs.Running.{Running}
@@ -56,18 +56,18 @@ module _ {K V S A : Type 0} (eq : K → K → Bool) (says : Says K V A) (refuse 
         by_cases (inr (inr logs)) = logged_now r.key (Logged (brought_by (length s.pairs) r.key)) k own logs
 
     of_now : (m : ℕ) (p : Stored K V) → pair_of s m ≡ Some p → Performs eq says refuse (MakePairOf m) s r told s' r' → IsMadeNow s r s' r' n
-    of_now m p loaded h = matched (IsMadeNow s r s' r' n) refuse _ _ h (λ _ none. let f = sym is ∙ none.0 in absurd cc) (λ _ makes. by_cases makes)
+    of_now m p as_loaded h = matched (IsMadeNow s r s' r' n) refuse _ _ h (λ _ none. let f = sym is ∙ none.0 in absurd cc) (λ _ makes. by_cases makes)
       where
         by_cases : (Refuses MAX_LOG_LEN (length s.pairs) told × Stays s r s' r') ⊎ (HasNoPairOf m told s r × Stays s r s' r') ⊎ LogsOf m told s r s' r' → IsMadeNow s r s' r' n
         by_cases (inl (inl e, stays)) = let f = sym is ∙ e in absurd cc
         by_cases (inl (inr (e, full), stays)) = let f = sym is ∙ e in absurd cc
         by_cases (inr (inl (has, stays))) = let f = sym is ∙ has.0 in absurd cc
-        by_cases (inr (inr (first, from, logs))) = logged_now (Logged first) r.key p.key (key_from-same s m p loaded first from) logs
+        by_cases (inr (inr (first, from, logs))) = logged_now (Logged first) r.key p.key (key_from-same s m p as_loaded first from) logs
 
   -- of a step
   pub pair_made_now : (hash : S → K → ℕ) (ask : Ask) (a : Answer) → PerformsAsk eq says hash refuse ask s r a s' r' → MakesOver ask → (n : ℕ) → a ≡ answers.Call (Made_number n) → (k : K) → own_key s r ≡ Some k → ((part : Part V) → r.value ≡ Some part → (v : V) × (value_in s.pairs part ≡ Some v))
       → ((m : ℕ) → ask ≡ asks.Call (MakePairOf m) → (p : Stored K V) × (pair_of s m ≡ Some p)) → IsMadeNow s r s' r' n
-  pair_made_now hash (asks.Call MakePair) a (told, is, h) makes n e k own valued loaded = own_now valued told n (let f : answers.Call told ≡ answers.Call (Made_number n) = sym is ∙ e in cc) k own h
-  pair_made_now hash (asks.Call (MakePairOf m)) a (told, is, h) makes n e k own valued loaded = let (p, there) = loaded m refl in of_now valued told n (let f : answers.Call told ≡ answers.Call (Made_number n) = sym is ∙ e in cc) m p there h
-  pair_made_now hash (asks.Call ask) a h makes n e k own valued loaded = absurd makes
-  pair_made_now hash (asks.Copy ask) a h makes n e k own valued loaded = absurd makes
+  pair_made_now hash (asks.Call MakePair) a (told, is, h) makes n e k own valued as_loaded = own_now valued told n (let f : answers.Call told ≡ answers.Call (Made_number n) = sym is ∙ e in cc) k own h
+  pair_made_now hash (asks.Call (MakePairOf m)) a (told, is, h) makes n e k own valued as_loaded = let (p, there) = as_loaded m refl in of_now valued told n (let f : answers.Call told ≡ answers.Call (Made_number n) = sym is ∙ e in cc) m p there h
+  pair_made_now hash (asks.Call ask) a h makes n e k own valued as_loaded = absurd makes
+  pair_made_now hash (asks.Copy ask) a h makes n e k own valued as_loaded = absurd makes

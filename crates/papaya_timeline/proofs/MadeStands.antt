@@ -4,7 +4,7 @@ use Rattle.papaya_words.specs.Word.{pair_of}
 use Rattle.papaya_ask.specs.declared.ask.Answer.TheVariants.{Made as Made_number}
 use Rattle.papaya_ask.specs.declared.search.Search.TheVariants.{Sizing, Looking, Reading, Comparing}
 use Rattle.papaya_call.specs.declared.machine.State.{State as Stage}
-use Rattle.papaya_call.specs.declared.machine.State.TheVariants.{AtRoot, Making, Opening, Searching, Writing, Offering, Showing, Pairing, Putting, Burying, Counting, Noting, Uncounting, Leaving, Growing, Ended}
+use Rattle.papaya_call.specs.declared.machine.State.TheVariants.{AtRoot, Making, Opening, Searching, Writing, Offering, Showing, Pairing, Putting, Deleting, Counting, Noting, Uncounting, Leaving, Growing, Ended}
 use Rattle.papaya_call.specs.declared.compute.Choice.TheVariants.{Replace as To_replace}
 use Rattle.papaya_call.specs.declared.compute.Gap.{Gap}
 use Rattle.papaya_call.specs.declared.compute.Gap.TheVariants.{NoRoot, At, After}
@@ -19,9 +19,9 @@ use Rattle.papaya_call.specs.Machine.{paired, paired_held}
 use Rattle.papaya_call.specs.Write.{made_of}
 use Rattle.papaya_call.specs.declared.machine.Machine.{Machine as Call_machine}
 use Rattle.papaya_call.specs.Machine as calls
-use Rattle.papaya_rests.specs.Says.{Inserts, IsAnswered, IsToPair, Makes, MakesPair, ShowsPairs, StandsOn, said_in, said_to_choose, said_to_fill, shown_by}
-use Rattle.papaya_rests.proofs.Makings.{pair_made}
-use Rattle.papaya_rests.proofs.SaysSaid.{shown_pair}
+use Rattle.papaya_call_law.specs.Says.{Inserts, IsAnswered, IsToPair, Makes, MakesPair, ShowsPairs, StandsOn, said_in, said_to_choose, said_to_fill, shown_by}
+use Rattle.papaya_call_law.proofs.Makings.{pair_made}
+use Rattle.papaya_call_law.proofs.SaysSaid.{shown_pair}
 
 module _ (m : Call_machine) (shown : Option ℕ) (n : ℕ) where
   -- in this stage
@@ -74,7 +74,7 @@ module _ (m : Call_machine) (shown : Option ℕ) (n : ℕ) where
   stands_in (Offering gap) makes shows stands = absurd makes
   stands_in (Showing removal) makes shows stands = absurd makes
   stands_in (Putting put) makes shows stands = absurd makes
-  stands_in (Burying removal) makes shows stands = absurd makes
+  stands_in (Deleting removal) makes shows stands = absurd makes
   stands_in (Counting claimed) makes shows stands = absurd makes
   stands_in (Noting claimed) makes shows stands = absurd makes
   stands_in (Uncounting i) makes shows stands = absurd makes

@@ -37,10 +37,10 @@ use Rattle.papaya_chain.specs.declared.machine.Machine.{Machine}
 use Rattle.papaya_chain.specs.declared.machine.Phase.{Phase}
 use Rattle.papaya_chain.specs.declared.machine.Phase.TheVariants.{Calling, Linking, Copying as Copying_root}
 use Rattle.papaya_chain.specs.Machine as machine
-use Rattle.papaya_rests.specs.Copier.{link_in_carry, link_in_copying, link_in_settle, link_in_step}
-use Rattle.papaya_chain_rests.specs.Goes.{IsInOrder, IsOwnStep, link_in}
-use Rattle.papaya_chain_rests.proofs.Goes.{machine_goes}
-use Rattle.papaya_chain_rests.proofs.Replies.{anew, aside_asks}
+use Rattle.papaya_call_law.specs.Copier.{link_in_carry, link_in_copying, link_in_settle, link_in_step}
+use Rattle.papaya_chain_law.specs.Goes.{IsInOrder, IsOwnStep, link_in}
+use Rattle.papaya_chain_law.proofs.Goes.{machine_goes}
+use Rattle.papaya_chain_law.proofs.Replies.{anew, aside_asks}
 use Rattle.papaya_store.specs.declared.pairs.Running.{Running}
 use Rattle.papaya_store.specs.Asks.{PerformsAsk}
 use Rattle.papaya_store.specs.Copies.{PerformsCopy}

@@ -13,7 +13,7 @@ use Rattle.papaya_call.specs.declared.answers.Operation.TheVariants as operation
 use Rattle.papaya_call.specs.declared.machine.Machine.{Machine as Call_machine}
 use Rattle.papaya_call.specs.Machine.{HasClosure, IsStandingState, IsWriter}
 use Rattle.papaya_call.specs.Machine as calls
-use Rattle.papaya_rests.specs.Says.{MakesPair}
+use Rattle.papaya_call_law.specs.Says.{MakesPair}
 use Rattle.papaya_store.specs.declared.pairs.Part.{Part}
 use Rattle.papaya_store.specs.declared.pairs.Part.TheVariants.{Own}
 use Rattle.papaya_store.specs.declared.pairs.Running.{Running}

@@ -26,17 +26,17 @@ use Rattle.papaya_chain.specs.declared.ask.Answer.TheVariants as answers
 use Rattle.papaya_chain.specs.declared.machine.Phase.{Phase}
 use Rattle.papaya_chain.specs.declared.machine.Phase.TheVariants.{Calling, Linking, Copying as Copying_root}
 use Rattle.papaya_chain.specs.Machine.{after, ask_of, asks_in}
-use Rattle.papaya_chain_rests.specs.Goes.{IsInOrder}
-use Rattle.papaya_chain_rests.specs.Rests.{left_by}
-use Rattle.papaya_chain_rests.proofs.Goes.{machine_goes}
-use Rattle.papaya_chain_rests.proofs.Replies.{aside_asks, chain_task}
-use Rattle.papaya_rests.specs.Alone as alone
+use Rattle.papaya_chain_law.specs.Goes.{IsInOrder}
+use Rattle.papaya_chain_law.specs.Relies.{left_by}
+use Rattle.papaya_chain_law.proofs.Goes.{machine_goes}
+use Rattle.papaya_chain_law.proofs.Replies.{aside_asks, chain_task}
+use Rattle.papaya_call_law.specs.Alone as alone
 use Rattle.papaya_alone.specs.Prompt.{IsServed, IsServedAsk}
 use Rattle.papaya_store.specs.declared.pairs.Running.{Running}
 use Rattle.papaya_store.specs.Asks.{PerformsAsk}
 use Rattle.papaya_store.specs.Performs.{HasNoPair, HasNoPairOf, IsPutOff, LogsOf, LogsOwn, MakesOr, MakesTable, Performs, Refuses, ShowsPair, Stays}
 use Rattle.papaya_store.proofs.Logs.{pair_entry}
-use Rattle.papaya_rests.specs.Says.{MakesPair}
+use Rattle.papaya_call_law.specs.Says.{MakesPair}
 use Rattle.papaya_store.specs.Store.{StoreState, Stored, pair_of}
 use Rattle.papaya_timeline.specs.Ends.{HasValue, IsMaker, IsThere, IsToPair}
 use Rattle.papaya_timeline.proofs.KeptMade.{refusal}
@@ -106,7 +106,7 @@ module _ {K V S A : Type 0} (eq : K → K → Bool) (says : Says K V A) (hash : 
     ];
   }
 
-  module _ (has : HasClosure call.task → IsThere r.answers) (shows : (n : ℕ) → ask_of r.machine ≡ asks.Call (ShowPair n) → (p : Stored K V) × (pair_of s n ≡ Some p)) (loaded : (n : ℕ) → ask_of r.machine ≡ asks.Call (MakePairOf n) → (p : Stored K V) × (pair_of s n ≡ Some p)) (going : (reply : Reply) → ask_of r.machine ≡ asks.Call (Ask_done reply) → ⊥) where
+  module _ (has : HasClosure call.task → IsThere r.answers) (shows : (n : ℕ) → ask_of r.machine ≡ asks.Call (ShowPair n) → (p : Stored K V) × (pair_of s n ≡ Some p)) (as_loaded : (n : ℕ) → ask_of r.machine ≡ asks.Call (MakePairOf n) → (p : Stored K V) × (pair_of s n ≡ Some p)) (going : (reply : Reply) → ask_of r.machine ≡ asks.Call (Ask_done reply) → ⊥) where
     -- a key and a value are put off, or refused
     part_served : (told : Call_answer) → MakesOr refuse told s r s' r' (IsPutOff told s r s' r') → alone.IsMaking told
     part_served told h = matched (alone.IsMaking told) refuse _ _ h (λ _ none. inr (Memory, none.0)) (λ _ off. inl (0, off.0))
@@ -174,7 +174,7 @@ module _ {K V S A : Type 0} (eq : K → K → Bool) (says : Says K V A) (hash : 
     served MakeKey told own e h = part_served told h
     served MakeValue told own e h = part_served told h
     served MakePair told own e h = own_served told (has_value (subst MakesPair (sym own) tt)) h
-    served (MakePairOf n) told own e h = let (p, there) = loaded n (sym e) in of_served told n p there (has_value (subst MakesPair (sym own) tt)) h
+    served (MakePairOf n) told own e h = let (p, there) = as_loaded n (sym e) in of_served told n p there (has_value (subst MakesPair (sym own) tt)) h
     served (MakeTable slots limit chunks) told own e h = table_served told slots limit chunks h
     served (AddToShard by) told own e h = tt
     served (Ask_done reply) told own e h = absurd (going reply (sym e))

@@ -7,7 +7,7 @@ use Rattle.papaya_ask.specs.declared.ask.OpKind.{OpKind}
 use Rattle.papaya_ask.specs.declared.ask.OpKind.TheVariants as op_kinds
 use Rattle.papaya_ask.specs.declared.call.Task.{Task}
 use Rattle.papaya_ask.specs.declared.call.Task.TheVariants as tasks
-use Rattle.papaya_ask.specs.declared.search.Seen.{Seen}
+use Rattle.papaya_ask.specs.declared.search.Probed.{Probed}
 use Rattle.papaya_words.specs.declared.probe.ResizeMode.{ResizeMode}
 use Rattle.papaya_call.specs.declared.compute.Choice.{Choice}
 use Rattle.papaya_call.specs.declared.compute.Choice.TheVariants.{Replace as To_replace}
@@ -17,7 +17,7 @@ use Rattle.papaya_call.specs.declared.made.Of.{Of}
 use Rattle.papaya_call.specs.declared.remove.Removal.{Removal}
 use Rattle.papaya_call.specs.declared.machine.Machine.{Machine as Call_machine}
 use Rattle.papaya_call.specs.declared.machine.State.{State as Stage}
-use Rattle.papaya_call.specs.declared.machine.State.TheVariants.{AtRoot, Making, Opening, Searching, Writing, Offering, Showing, Pairing, Putting, Burying, Counting, Noting, Uncounting, Leaving, Growing, Ended}
+use Rattle.papaya_call.specs.declared.machine.State.TheVariants.{AtRoot, Making, Opening, Searching, Writing, Offering, Showing, Pairing, Putting, Deleting, Counting, Noting, Uncounting, Leaving, Growing, Ended}
 use Rattle.papaya_call.specs.Machine as calls
 use Rattle.papaya_call.specs.Machine.{at_root, beaten, decided_held, goes_as, left}
 use Rattle.papaya_timeline.specs.Ends.{IsToPair}
@@ -27,7 +27,7 @@ abbrev IsRecalled : Option Choice → Stage → Type 0
 IsRecalled choice stage = (purpose : Purpose) → stage ≡ Pairing purpose → (old : ℕ) × (new : Of) × (choice ≡ Some (To_replace old new))
 
 -- of what a search saw
-goes_pairs : (task : Task) (mode : ResizeMode) (held : Remembered) (s : Seen) → IsRecalled held.choice (goes_as task mode held s)
+goes_pairs : (task : Task) (mode : ResizeMode) (held : Remembered) (s : Probed) → IsRecalled held.choice (goes_as task mode held s)
 goes_pairs task mode held s purpose e = search rules
 
 -- so it is with the words of tables
@@ -37,7 +37,7 @@ root_pairs task choice fill word purpose e = search rules
 left_pairs : (task : Task) (choice : Option Choice) (fill : Option ℕ) (t word : ℕ) → IsRecalled choice (left task fill t word)
 left_pairs task choice fill t word purpose e = search rules
 
--- and with a lost burial
+-- and with a lost deletion
 beaten_pairs : (m : Call_machine) (removal : Removal) (word : ℕ) → IsRecalled m.remembered.choice (beaten m removal word)
 beaten_pairs m removal word purpose e = search rules
 
@@ -65,7 +65,7 @@ stage_pairs m (Writing write) told purpose e = search (rules, goes_pairs)
 stage_pairs m (Offering gap) told purpose e = search rules
 stage_pairs m (Showing removal) told purpose e = search rules
 stage_pairs m (Putting put) told purpose e = search (rules, goes_pairs)
-stage_pairs m (Burying removal) told purpose e = search (rules, beaten_pairs)
+stage_pairs m (Deleting removal) told purpose e = search (rules, beaten_pairs)
 stage_pairs m (Counting claimed) told purpose e = search rules
 stage_pairs m (Noting claimed) told purpose e = search rules
 stage_pairs m (Uncounting n) told purpose e = search rules

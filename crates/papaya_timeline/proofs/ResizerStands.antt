@@ -24,7 +24,7 @@ use Rattle.papaya_chain.specs.declared.resizer.State.TheVariants as stages
 use Rattle.papaya_chain.specs.Machine.{IsFit, copying_after, link_after}
 use Rattle.papaya_chain.specs.Resizer.{IsStandingIn, IsStandingResizer, after, after_in, ask_of, asks_in, at_count, at_last, at_next, at_root, called, copied, counted, copies, judges, linked, makes, over, told_root}
 use Rattle.papaya_chain.specs.Room.{IsStandingRoom, entries_of, room_of, room_of_len}
-use Rattle.papaya_chain_rests.proofs.CopyStanding.{copying_fits, copying_stands, link_fits, link_stands}
+use Rattle.papaya_chain_law.proofs.CopyStanding.{copying_fits, copying_stands, link_fits, link_stands}
 use Rattle.papaya_timeline.proofs.CallersLemmas.{same_item}
 
 -- a logarithm is at most what it is sought up to

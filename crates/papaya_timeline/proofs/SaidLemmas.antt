@@ -15,8 +15,8 @@ use Rattle.papaya_chain.specs.declared.ask.Answer.{Answer}
 use Rattle.papaya_chain.specs.declared.ask.Answer.TheVariants as given
 use Rattle.papaya_chain.specs.declared.machine.Machine.{Machine}
 use Rattle.papaya_chain.specs.Machine.{ask_of, kind_of_ask, after}
-use Rattle.papaya_rests.specs.Says.{Agrees, Inserts, IsAnswered, IsSaidBy, IsSaidChange, Makes, MakesPair, Removes, Said, ShowsPairs, StandsOn, show}
-use Rattle.papaya_chain_rests.specs.Goes.{IsOwnStep}
+use Rattle.papaya_call_law.specs.Says.{Agrees, Inserts, IsAnswered, IsSaidBy, IsSaidChange, Makes, MakesPair, Removes, Said, ShowsPairs, StandsOn, show}
+use Rattle.papaya_chain_law.specs.Goes.{IsOwnStep}
 use Rattle.papaya_store.specs.declared.pairs.Running.{Running}
 use Rattle.papaya_timeline.specs.declared.trace.Event.{Event}
 use Rattle.papaya_timeline.specs.Advances.{event_of}

@@ -13,10 +13,10 @@ use Rattle.papaya_law.specs.Code.{Coding, IsHashed}
 use Rattle.papaya_law.specs.Exchange.{Exchange, Setting, State, run, start}
 use Rattle.papaya_chain.specs.declared.ask.Ask.TheVariants as asks
 use Rattle.papaya_chain.specs.Machine.{after, ask_of, follows_of, kind_of_ask}
-use Rattle.papaya_chain_rests.specs.Told.{IsTold}
-use Rattle.papaya_chain_rests.proofs.Names.{call_asks}
-use Rattle.papaya_chain_rests.proofs.Order.{in_order}
-use Rattle.papaya_rests.specs.Told.{word_of}
+use Rattle.papaya_chain_law.specs.Told.{IsTold}
+use Rattle.papaya_chain_law.proofs.Names.{call_asks}
+use Rattle.papaya_chain_law.proofs.Order.{in_order}
+use Rattle.papaya_call_law.specs.Told.{word_of}
 use Rattle.papaya_alone.specs.Ahead.{IsCurrent}
 use Rattle.papaya_alone.specs.Budget.{Spends}
 use Rattle.papaya_alone.specs.Prompt.{IsBounded, IsServedAsk}
@@ -35,20 +35,20 @@ use Rattle.papaya_timeline.specs.declared.seat.Work.{Work}
 use Rattle.papaya_timeline.specs.declared.seat.Work.TheVariants as works
 use Rattle.papaya_timeline.specs.Resized.{IsLoneWork}
 use Rattle.papaya_alone.specs.Resizers.{IsResizerRead}
-use Rattle.papaya_chain_rests.specs.Goes.{link_in}
-use Rattle.papaya_rests.specs.Copier.{HasWords}
+use Rattle.papaya_chain_law.specs.Goes.{link_in}
+use Rattle.papaya_call_law.specs.Copier.{HasWords}
 use Rattle.papaya_timeline.proofs.LinkWords.{link_words}
 use Rattle.papaya_alone.proofs.ResizerLaw.{begun_read}
-use Rattle.papaya_timeline.proofs.Begun.{call_begun, resizer_begun_is, task_is_own, the_task, visitor_begun_is}
+use Rattle.papaya_timeline.proofs.Begun.{call_begun, resizer_begun_is, scanner_begun_is, task_is_own, the_task}
 use Rattle.papaya_words.specs.declared.probe.ResizeMode.{ResizeMode}
 use Rattle.papaya_words.specs.declared.probe.ResizeMode.TheVariants.{Incremental, Blocking}
-use Rattle.papaya_chain.specs.declared.visitor.Visit.{Visit}
-use Rattle.papaya_chain.specs.Visitor.{begun}
-use Rattle.papaya_alone.specs.Visitors.{IsVisitorRead}
-use Rattle.papaya_store.specs.declared.visits.Visiting.{Visiting}
+use Rattle.papaya_chain.specs.declared.scanner.Scan.{Scan}
+use Rattle.papaya_chain.specs.Scanner.{begun}
+use Rattle.papaya_alone.specs.Scanners.{IsScannerRead}
+use Rattle.papaya_store.specs.declared.scans.Scanning.{Scanning}
 use Rattle.papaya_timeline.specs.Core.{CoreState, IsCore}
 use Rattle.papaya_timeline.specs.Ends.{HasValue, IsLone, IsMaker, IsNearer, IsToPair, budget_of, lone_measure}
-use Rattle.papaya_timeline.specs.Kept.{IsCall, IsKept, IsLawfulCore, Tale, coding_of, low, setting_of, told_tales}
+use Rattle.papaya_timeline.specs.Kept.{CallTrace, IsCall, IsKept, IsLawfulCore, coding_of, low, setting_of, told_call_traces}
 use Rattle.papaya_timeline.proofs.BudgetSpends.{budget_bounded, kept_bounded, performs_spends}
 use Rattle.papaya_timeline.proofs.CallersLemmas.{same_item}
 use Rattle.papaya_timeline.proofs.HeadlineLemmas.{advance-core}
@@ -59,8 +59,8 @@ use Rattle.papaya_timeline.proofs.MakerSteps.{ask_served, next_maker}
 use Rattle.papaya_timeline.proofs.SoloRun.{Follows, follows_begin, one_seat}
 use Rattle.papaya_timeline.specs.Solo.{whatever}
 use Rattle.papaya_ask.specs.declared.ask.Ask.TheVariants.{MakePairOf}
-use Rattle.papaya_rests.proofs.RestsCopied.{machine_copied}
-use Rattle.papaya_rests.specs.Alone.{IsNumberRead}
+use Rattle.papaya_call_law.proofs.ReliesCopied.{machine_copied}
+use Rattle.papaya_call_law.specs.Alone.{IsNumberRead}
 use Rattle.papaya_call.specs.Made.{wanted}
 use Rattle.papaya_store.specs.declared.pairs.Part.TheVariants.{Own}
 use Rattle.papaya_chain.specs.Machine.{started}
@@ -105,11 +105,11 @@ module _ {K V S A : Type 0} (eq : K → K → Bool) (hash : S → K → ℕ) (s 
       alone work e = x.callers ∙ ap (λ (l : List (Seat K V A)). with_work (with_seat l 0) 0 (Some (begun_work (hash s.store.hasher) s.mode s.initial x.number call))) idle ∙ ap (λ w. one_seat (Some w)) e
 
       in_order' : IsLawfulCore eq (hash s'.store.hasher) s'.store s'.callers s'.mode
-      in_order' = record { core = f.core; law = subst (λ y. (es : _) × ((tales : _) × IsKept eq (hash y) s'.mode s'.store s'.callers es tales)) (sym f.hasher_is) (f.es, (f.tales, f.kept)) }
+      in_order' = record { core = f.core; law = subst (λ y. (es : _) × ((call_traces : _) × IsKept eq (hash y) s'.mode s'.store s'.callers es call_traces)) (sym f.hasher_is) (f.es, (f.call_traces, f.kept)) }
 
-      visit_read : (mode : ResizeMode) (visit : Visit) → IsVisitorRead (word_at s'.store.words) (begun visit mode s.initial x.number)
-      visit_read (Incremental chunk) visit = tt
-      visit_read Blocking visit = tt
+      scan_read : (mode : ResizeMode) (scan : Scan) → IsScannerRead (word_at s'.store.words) (begun scan mode s.initial x.number)
+      scan_read (Incremental chunk) scan = tt
+      scan_read Blocking scan = tt
 
       by_work : (work : Work K V A) → begun_work (hash s.store.hasher) s.mode s.initial x.number call ≡ work → IsLoneWork eq hash s' work
       by_work (works.Call r) e =
@@ -127,15 +127,15 @@ module _ {K V S A : Type 0} (eq : K → K → Bool) (hash : S → K → ℕ) (s 
             lawful = in_order';
             read = subst (IsResizerRead (word_at s'.store.words)) (sym is.is) (begun_read s.mode.resize (word_at s'.store.words) is.resize);
           }
-      by_work (works.Visit v) e =
-          let is = visitor_begun_is (hash s.store.hasher) s.mode s.initial x.number call v e in
+      by_work (works.Scan v) e =
+          let is = scanner_begun_is (hash s.store.hasher) s.mode s.initial x.number call v e in
           record {
-            callers = alone (works.Visit v) e;
+            callers = alone (works.Scan v) e;
             lawful = in_order';
-            read = subst (λ (y : Visiting A). IsVisitorRead (word_at s'.store.words) y.visitor) (sym is.is) (visit_read s.mode.resize is.visit);
+            read = subst (λ (y : Scanning A). IsScannerRead (word_at s'.store.words) y.scanner) (sym is.is) (scan_read s.mode.resize is.scan);
           }
 
-  module _ (says : Says K V A) (refuse : Bool) (s' : CoreState K V S A) (event : Event) (x : Advances eq says hash refuse s 0 s' event None) (core : IsCore s.store s.callers s.mode) (es : List (Exchange (Stored K V))) (tales : ℕ → Tale K V) (kept : IsKept eq (hash s.store.hasher) s.mode s.store s.callers es tales)
+  module _ (says : Says K V A) (refuse : Bool) (s' : CoreState K V S A) (event : Event) (x : Advances eq says hash refuse s 0 s' event None) (core : IsCore s.store s.callers s.mode) (es : List (Exchange (Stored K V))) (call_traces : ℕ → CallTrace K V) (kept : IsKept eq (hash s.store.hasher) s.mode s.store s.callers es call_traces)
       (alone : s.callers ≡ one_seat (Some (works.Call x.before))) (maker : IsMaker x.before) (current : IsCurrent (word_at s.store.words) x.before.machine) where
     -- the setting and the coding
     abbrev g : Setting K (Stored K V)
@@ -145,17 +145,17 @@ module _ {K V S A : Type 0} (eq : K → K → Bool) (hash : S → K → ℕ) (s 
     c = coding_of (low (hash s.store.hasher))
 
     -- what the step leaves
-    step : IsStep eq (hash s.store.hasher) law refuse s 0 s' event None x es tales
-    step = kept_step eq (hash s.store.hasher) law refuse s 0 s' event None x refl es tales core kept
+    step : IsStep eq (hash s.store.hasher) law refuse s 0 s' event None x es call_traces
+    step = kept_step eq (hash s.store.hasher) law refuse s 0 s' event None x refl es call_traces core kept
 
     core' : IsCore s'.store s'.callers s'.mode
     core' = advance-core eq says hash refuse s 0 s' event None x core
 
     -- what is told of the call
-    abbrev tale : Tale K V
-    tale = tales 0
+    abbrev call_trace : CallTrace K V
+    call_trace = call_traces 0
 
-    abbrev call : IsCall eq (hash s.store.hasher) s.mode s.store x.before es tale
+    abbrev call : IsCall eq (hash s.store.hasher) s.mode s.store x.before es call_trace
     call = step.call
 
     -- the call after the step
@@ -167,10 +167,10 @@ module _ {K V S A : Type 0} (eq : K → K → Bool) (hash : S → K → ℕ) (s 
 
     -- the words, as the law has them
     abbrev then : State (Stored K V)
-    then = run (tale.begun ++ tale.since) start
+    then = run (call_trace.begun ++ call_trace.since) start
 
     abbrev then' : State (Stored K V)
-    then' = run (tale.begun ++ (tale.since ++ step.made)) start
+    then' = run (call_trace.begun ++ (call_trace.since ++ step.made)) start
 
     words_are : word_of g c then ≡ word_at s.store.words
     words_are = fun_ext (λ at. ap (λ l. word_of g c (run l start) at) call.split ∙ kept.coded at)
@@ -179,33 +179,33 @@ module _ {K V S A : Type 0} (eq : K → K → Bool) (hash : S → K → ℕ) (s 
     words'_are = fun_ext (λ at. ap (λ l. word_of g c (run l start) at) step.own.split ∙ step.kept.coded at)
 
     -- the answer is told of them
-    told : IsTold g c call.key then (kind_of_ask x.before.machine) (follows_of x.before.machine) tale.hands (ask_of x.before.machine) x.answer step.made step.hands
-    told = subst (λ l. IsTold g c call.key (run l start) (kind_of_ask x.before.machine) (follows_of x.before.machine) tale.hands (ask_of x.before.machine) x.answer step.made step.hands) (sym call.split) step.told
+    told : IsTold g c call.key then (kind_of_ask x.before.machine) (follows_of x.before.machine) call_trace.loaded (ask_of x.before.machine) x.answer step.made step.loaded
+    told = subst (λ l. IsTold g c call.key (run l start) (kind_of_ask x.before.machine) (follows_of x.before.machine) call_trace.loaded (ask_of x.before.machine) x.answer step.made step.loaded) (sym call.split) step.told
 
     hashed : IsHashed g c
     hashed = hashed_setting eq (hash s.store.hasher) law s core
 
-    may : AllAllowed g start (tale.begun ++ tale.since)
+    may : AllAllowed g start (call_trace.begun ++ call_trace.since)
     may = subst (AllAllowed g start) (sym call.split) kept.allowed
 
     bounded : IsBounded g then
-    bounded = subst (λ l. IsBounded g (run l start)) (sym call.split) (kept_bounded eq (hash s.store.hasher) law s.mode s.store s.callers core es tales kept)
+    bounded = subst (λ l. IsBounded g (run l start)) (sym call.split) (kept_bounded eq (hash s.store.hasher) law s.mode s.store s.callers core es call_traces kept)
 
     -- a pair that a closure is shown is in the log
     shows : (n : ℕ) → ask_of x.before.machine ≡ asks.Call (ShowPair n) → (p : Stored K V) × (pair_of s.store n ≡ Some p)
     shows n e =
-        let (p, last, number, same, moment) = machine_shows g c tale.begun tale.since call.key hashed x.before.machine.call tale.hands.call call.rests.call n (call_asks x.before.machine (ShowPair n) e).1 in
+        let (p, last, number, same, moment) = machine_shows g c call_trace.begun call_trace.since call.key hashed x.before.machine.call call_trace.loaded.call call.relies.call n (call_asks x.before.machine (ShowPair n) e).1 in
         (p, subst (λ m. pair_of s.store m ≡ Some p) number (call.last p last))
 
     -- and so is one of whose key a pair is to be made
-    loaded : (n : ℕ) → ask_of x.before.machine ≡ asks.Call (MakePairOf n) → (p : Stored K V) × (pair_of s.store n ≡ Some p)
-    loaded n e =
-        let (p, last, number, same) = machine_copied g c hashed tale.begun tale.since call.key tale.hands.call x.before.machine.call call.rests.call n (call_asks x.before.machine (MakePairOf n) e).1 in
+    as_loaded : (n : ℕ) → ask_of x.before.machine ≡ asks.Call (MakePairOf n) → (p : Stored K V) × (pair_of s.store n ≡ Some p)
+    as_loaded n e =
+        let (p, last, number, same) = machine_copied g c hashed call_trace.begun call_trace.since call.key call_trace.loaded.call x.before.machine.call call.relies.call n (call_asks x.before.machine (MakePairOf n) e).1 in
         (p, subst (λ m. pair_of s.store m ≡ Some p) number (call.last p last))
 
     -- what is asked is served
     served : IsServedAsk x.before.machine.call.task (ask_of x.before.machine) x.answer
-    served = ask_served eq says hash refuse s.store x.before x.answer s'.store x.later x.performs (core.standing 0 x.before x.was).call.state maker call.answers shows loaded (core.going 0 x.before x.was)
+    served = ask_served eq says hash refuse s.store x.before x.answer s'.store x.later x.performs (core.standing 0 x.before x.was).call.state maker call.answers shows as_loaded (core.going 0 x.before x.was)
 
     -- the table that it is about to link has its words
     words : HasWords g (link_in x.before.machine.phase)
@@ -216,10 +216,10 @@ module _ {K V S A : Type 0} (eq : K → K → Bool) (hash : S → K → ℕ) (s 
     read = subst (λ words. IsCurrent words x.before.machine) (sym words_are) current
 
     spends : Spends (kind_of_ask x.before.machine) (ask_of x.before.machine) x.answer (budget_of s.store) (budget_of s'.store)
-    spends = performs_spends eq (hash s.store.hasher) law s.mode s.store s.callers core es tales kept 0 x.before x.was says refuse s'.store x.later hash (ask_of x.before.machine) refl x.answer x.performs
+    spends = performs_spends eq (hash s.store.hasher) law s.mode s.store s.callers core es call_traces kept 0 x.before x.was says refuse s'.store x.later hash (ask_of x.before.machine) refl x.answer x.performs
 
     few : (budget_of s'.store).exchanges < 2 ^ 128
-    few = budget_bounded eq (hash s.store.hasher) law s'.mode s'.store s'.callers core' (es ++ step.made) (told_tales tales 0 step.made step.hands) step.kept
+    few = budget_bounded eq (hash s.store.hasher) law s'.mode s'.store s'.callers core' (es ++ step.made) (told_call_traces call_traces 0 step.made step.loaded) step.kept
 
     runs : running s'.callers 0 ≡ Some later
     runs = ap (λ (l : List (Seat K V A)). running l 0) still_alone
@@ -229,7 +229,7 @@ module _ {K V S A : Type 0} (eq : K → K → Bool) (hash : S → K → ℕ) (s 
     falls =
         subst (λ n. measure (budget_of s'.store) n (after x.before.machine x.answer) < lone_measure s x.before) (ap (λ f. f Root) words'_are)
         (subst (λ n. measure (budget_of s'.store) then'.root (after x.before.machine x.answer) < measure (budget_of s.store) n x.before.machine) (ap (λ f. f Root) words_are)
-        (call_nears g c hashed tale.begun tale.since may bounded call.key x.before.machine tale.hands call.rests words read x.answer step.made step.hands told served (budget_of s.store) (budget_of s'.store) spends few (core'.standing 0 later runs)))
+        (call_nears g c hashed call_trace.begun call_trace.since may bounded call.key x.before.machine call_trace.loaded call.relies words read x.answer step.made step.loaded told served (budget_of s.store) (budget_of s'.store) spends few (core'.standing 0 later runs)))
 
     -- the call is alone still, and nearer its end
     pub nearer_from : IsNearer eq hash s x.before s'
@@ -239,11 +239,11 @@ module _ {K V S A : Type 0} (eq : K → K → Bool) (hash : S → K → ℕ) (s 
         callers = still_alone;
         lawful = record {
           core = core';
-          law = subst (λ y. (es : _) × ((tales : _) × IsKept eq (hash y) s'.mode s'.store s'.callers es tales)) (sym (performs-hasher eq says hash refuse (ask_of x.before.machine) s.store x.before x.answer s'.store x.later x.performs)) (es ++ step.made, (told_tales tales 0 step.made step.hands, step.kept));
+          law = subst (λ y. (es : _) × ((call_traces : _) × IsKept eq (hash y) s'.mode s'.store s'.callers es call_traces)) (sym (performs-hasher eq says hash refuse (ask_of x.before.machine) s.store x.before x.answer s'.store x.later x.performs)) (es ++ step.made, (told_call_traces call_traces 0 step.made step.loaded, step.kept));
         };
         maker = next_maker eq says hash refuse s.store x.before x.answer s'.store x.later x.performs (core.standing 0 x.before x.was).call.state maker
-            (in_order g c tale.begun tale.since call.key x.before.machine tale.hands then x.answer step.made step.hands call.rests told);
-        current = subst (λ words. IsCurrent words (after x.before.machine x.answer)) words'_are (call_current g c hashed tale.begun tale.since may bounded call.key x.before.machine tale.hands call.rests words read x.answer step.made step.hands told served);
+            (in_order g c call_trace.begun call_trace.since call.key x.before.machine call_trace.loaded then x.answer step.made step.loaded call.relies told);
+        current = subst (λ words. IsCurrent words (after x.before.machine x.answer)) words'_are (call_current g c hashed call_trace.begun call_trace.since may bounded call.key x.before.machine call_trace.loaded call.relies words read x.answer step.made step.loaded told served);
       };
       less = falls;
     }

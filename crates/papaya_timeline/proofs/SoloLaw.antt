@@ -18,7 +18,7 @@ use Rattle.papaya_timeline.proofs.HeadlineLemmas.{lawful_timeline}
 use Rattle.papaya_timeline.proofs.KeptCore.{keys_lawful}
 use Rattle.papaya_timeline.proofs.SoloRun.{IsOver, over_core, over_counted, runs_over}
 use Rattle.papaya_timeline.proofs.SoloTimeline.{lookup_alike}
-use Rattle.papaya_timeline.proofs.SoloVisits.{timeline_answered}
+use Rattle.papaya_timeline.proofs.SoloScans.{timeline_answered}
 
 module _ {K V S A H : Type 0} (eq : K → K → Bool) (input : K → List (List ℕ)) (build : S → H) (write : H → List ℕ → H) (finish : H → ℕ) (classes : IsEquivalence eq) (respects : (x y : K) → eq x y ≡ true → input x ≡ input y)
     (s s' : CoreState K V S A) (call : Call K V A) (reply : Reply)

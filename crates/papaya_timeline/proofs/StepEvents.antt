@@ -38,12 +38,12 @@ use Rattle.papaya_chain.specs.declared.machine.Phase.TheVariants.{Calling, Linki
 use Rattle.papaya_chain.specs.Machine.{ask_of, asks_in, kind_in, kind_of_ask}
 use Rattle.papaya_law.specs.Code.{Coding}
 use Rattle.papaya_law.specs.Exchange.{Setting, State, Exchange}
-use Rattle.papaya_rests.specs.Copier.{IsCopyAsked}
-use Rattle.papaya_rests.specs.Rests.{Change}
-use Rattle.papaya_rests.specs.Says.{show}
-use Rattle.papaya_rests.specs.Told.{word_of}
-use Rattle.papaya_chain_rests.specs.Goes.{change_by as changed_by}
-use Rattle.papaya_chain_rests.specs.Told.{Hands, IsCopyTold, IsTold}
+use Rattle.papaya_call_law.specs.Copier.{IsCopyAsked}
+use Rattle.papaya_call_law.specs.Relies.{Change}
+use Rattle.papaya_call_law.specs.Says.{show}
+use Rattle.papaya_call_law.specs.Told.{word_of}
+use Rattle.papaya_chain_law.specs.Goes.{change_by as changed_by}
+use Rattle.papaya_chain_law.specs.Told.{IsCopyTold, IsTold, LoadedPairs}
 use Rattle.papaya_timeline.specs.declared.trace.Event.{Event}
 use Rattle.papaya_timeline.specs.declared.trace.Event.TheVariants.{Changed, Moved, Shown, Other}
 use Rattle.papaya_timeline.specs.Advances.{answered_event, call_event, event_of, kind_event}
@@ -58,7 +58,7 @@ abbrev pub IsCopyKind : Option StepKind → Type 0
 IsCopyKind (Some kinds.Open) = ⊥
 IsCopyKind (Some kinds.Claim) = ⊥
 IsCopyKind (Some kinds.Replace) = ⊥
-IsCopyKind (Some kinds.Bury) = ⊥
+IsCopyKind (Some kinds.Delete) = ⊥
 IsCopyKind (Some kinds.Take) = ⊥
 IsCopyKind _ = Unit {0}
 
@@ -87,7 +87,7 @@ settling_kind (settles.Finishing word) = tt
 stepping_kind : (step : Step) → IsCopyKind (step_kind step)
 stepping_kind (steps.Linking from link) = linking_kind link
 stepping_kind (steps.Settling chunk settle) = settling_kind settle
-stepping_kind (steps.Advancing scan) = tt
+stepping_kind (steps.Advancing cursor) = tt
 stepping_kind (steps.Promoting from to) = tt
 stepping_kind step = tt
 
@@ -109,7 +109,7 @@ moved_cases P other moved kind copies old new answer = by_answer answer
     by_kind (Some kinds.Open) copies = absurd copies
     by_kind (Some kinds.Claim) copies = absurd copies
     by_kind (Some kinds.Replace) copies = absurd copies
-    by_kind (Some kinds.Bury) copies = absurd copies
+    by_kind (Some kinds.Delete) copies = absurd copies
     by_kind (Some kinds.Take) copies = absurd copies
     by_kind (Some kinds.Link) copies = moved kinds.Link
     by_kind (Some kinds.Mark) copies = moved kinds.Mark
@@ -241,23 +241,23 @@ pub record IsCopied {K P : Type 0} (g : Setting K P) (c : Coding K P) (s : State
   pub asked : IsCopyAsked c kind at new s kept by
   pub made : es ≡ by ∷ []
 
-module _ {K P : Type 0} (g : Setting K P) (c : Coding K P) (s : State P) (kind : Option StepKind) (follows : ℕ) (hands : Hands P) where
+module _ {K P : Type 0} (g : Setting K P) (c : Coding K P) (s : State P) (kind : Option StepKind) (follows : ℕ) (loaded : LoadedPairs P) where
   -- what a copy is told is that it made an exchange, or that nothing was exchanged
-  pub copy_told : (ask : CopyAsk) (answer : Answer) (es : List (Exchange P)) (hands' : Hands P) → IsCopyTold g c s kind follows hands ask answer es hands' → (es ≡ []) ⊎ IsCopied g c s kind hands.kept ask es
-  copy_told (Load at) answer es hands' h = inl h.1
-  copy_told (Copy_exchange at old new) answer es hands' h =
-      matched ((es ≡ []) ⊎ IsCopied g c s kind hands.kept (Copy_exchange at old new) es) (word_of g c s at == old) _ _ h
+  pub copy_told : (ask : CopyAsk) (answer : Answer) (es : List (Exchange P)) (loaded' : LoadedPairs P) → IsCopyTold g c s kind follows loaded ask answer es loaded' → (es ≡ []) ⊎ IsCopied g c s kind loaded.kept ask es
+  copy_told (Load at) answer es loaded' h = inl h.1
+  copy_told (Copy_exchange at old new) answer es loaded' h =
+      matched ((es ≡ []) ⊎ IsCopied g c s kind loaded.kept (Copy_exchange at old new) es) (word_of g c s at == old) _ _ h
       (λ same h'. let e = h'.1 in inr (record { at = at; old = old; new = new; by = e.0; ask_is = refl; stood = eqb-true (word_of g c s at) old same; asked = e.1; made = e.2 }))
       (λ differ h'. inl h'.1)
-  copy_told (LoadHint t x) answer es hands' h = inl h.1.0
-  copy_told (WriteHint t x hint) answer es hands' h = inl h.1.0
-  copy_told (SizeOf t) answer es hands' h = inl h.1.0
-  copy_told (HashOf n) answer es hands' h = inl h.1
-  copy_told (SamePair m n) answer es hands' h = inl h.1.0
-  copy_told Count answer es hands' h = inl h.1.0
-  copy_told (MakeTable slots limit chunks) answer es hands' h = inl h.1.0
+  copy_told (LoadHint t x) answer es loaded' h = inl h.1.0
+  copy_told (WriteHint t x hint) answer es loaded' h = inl h.1.0
+  copy_told (SizeOf t) answer es loaded' h = inl h.1.0
+  copy_told (HashOf n) answer es loaded' h = inl h.1
+  copy_told (SamePair m n) answer es loaded' h = inl h.1.0
+  copy_told Count answer es loaded' h = inl h.1.0
+  copy_told (MakeTable slots limit chunks) answer es loaded' h = inl h.1.0
 
 -- so at most one exchange
-pub one_exchange : {K P : Type 0} (g : Setting K P) (c : Coding K P) (k : K) (s : State P) (kind : Option StepKind) (follows : ℕ) (hands : Hands P) (ask : Ask) (answer : Answer) (es : List (Exchange P)) (hands' : Hands P) → IsTold g c k s kind follows hands ask answer es hands' → (es ≡ []) ⊎ ((e : Exchange P) × (es ≡ e ∷ []))
-one_exchange g c k s kind follows hands (asks.Call ask) answer es hands' h = calls.one_exchange g c k s kind hands.call ask h.told es h.call h.tells
-one_exchange {P = P} g c k s kind follows hands (asks.Copy ask) answer es hands' h = ⊎_elim (λ none. inl none) (λ (made : IsCopied g c s kind hands.kept ask es). inr (made.by, made.made)) (copy_told g c s kind follows hands ask answer es hands' h)
+pub one_exchange : {K P : Type 0} (g : Setting K P) (c : Coding K P) (k : K) (s : State P) (kind : Option StepKind) (follows : ℕ) (loaded : LoadedPairs P) (ask : Ask) (answer : Answer) (es : List (Exchange P)) (loaded' : LoadedPairs P) → IsTold g c k s kind follows loaded ask answer es loaded' → (es ≡ []) ⊎ ((e : Exchange P) × (es ≡ e ∷ []))
+one_exchange g c k s kind follows loaded (asks.Call ask) answer es loaded' h = calls.one_exchange g c k s kind loaded.call ask h.told es h.call h.tells
+one_exchange {P = P} g c k s kind follows loaded (asks.Copy ask) answer es loaded' h = ⊎_elim (λ none. inl none) (λ (made : IsCopied g c s kind loaded.kept ask es). inr (made.by, made.made)) (copy_told g c s kind follows loaded ask answer es loaded' h)

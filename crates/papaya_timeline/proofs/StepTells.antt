@@ -17,8 +17,8 @@ use Rattle.papaya_chain.specs.declared.machine.Machine.{Machine}
 use Rattle.papaya_chain.specs.Machine.{ask_of, kind_of_ask}
 use Rattle.papaya_law.specs.Code.{Coding}
 use Rattle.papaya_law.specs.Exchange.{Exchange, Setting, State}
-use Rattle.papaya_rests.specs.Says.{MakesPair, show}
-use Rattle.papaya_chain_rests.specs.Told.{Hands, IsTold}
+use Rattle.papaya_call_law.specs.Says.{MakesPair, show}
+use Rattle.papaya_chain_law.specs.Told.{IsTold, LoadedPairs}
 use Rattle.papaya_store.specs.declared.pairs.Running.{Running}
 use Rattle.papaya_store.specs.Asks.{PerformsAsk}
 use Rattle.papaya_store.specs.Store.{StoreState}
@@ -90,11 +90,11 @@ module _ {K V S A : Type 0} (eq : K → K → Bool) (says : Says K V A) (hash : 
         let same : own_value s' r' ≡ own_value s r = ap (λ l. value_at l r'.value) (copy_pairs eq hash refuse ask s a s' performs) ∙ ap (λ (y : Running K V A). value_at s.pairs y.value) as_was in
         inl (λ v h. same ∙ h, λ valued v h. sym same ∙ h)
 
-module _ {K P : Type 0} (g : Setting K P) (c : Coding K P) (k : K) (s : State P) (kind : Option StepKind) (follows : ℕ) (hands : Hands P) where
+module _ {K P : Type 0} (g : Setting K P) (c : Coding K P) (k : K) (s : State P) (kind : Option StepKind) (follows : ℕ) (loaded : LoadedPairs P) where
   -- a pair that was made is at the head of those that the machine was told of
-  pub told_made : (asked : Call_ask) (ask : Ask) (a : Answer) (es : List (Exchange P)) (hands' : Hands P) (n : ℕ) → ask ≡ asks.Call asked → MakesPair asked → a ≡ answers.Call (Made_number n) → IsTold g c k s kind follows hands ask a es hands' → (q : P) × (c.number q ≡ n) × (hands'.call.made ≡ q ∷ hands.call.made)
-  told_made asked ask a es hands' n asking makes is told =
-      let h = subst (λ y. IsTold g c k s kind follows hands y a es hands') asking told in
+  pub told_made : (asked : Call_ask) (ask : Ask) (a : Answer) (es : List (Exchange P)) (loaded' : LoadedPairs P) (n : ℕ) → ask ≡ asks.Call asked → MakesPair asked → a ≡ answers.Call (Made_number n) → IsTold g c k s kind follows loaded ask a es loaded' → (q : P) × (c.number q ≡ n) × (loaded'.call.made ≡ q ∷ loaded.call.made)
+  told_made asked ask a es loaded' n asking makes is told =
+      let h = subst (λ y. IsTold g c k s kind follows loaded y a es loaded') asking told in
       let same : h.told ≡ Made_number n = cc (h.is, is) in
-      let (q, number, made) = calls.told_made g c k s kind hands.call asked h.told es h.call n makes same h.tells in
-      (q, number, ap (λ (y : Hands P). y.call.made) h.handed ∙ made)
+      let (q, number, made) = calls.told_made g c k s kind loaded.call asked h.told es h.call n makes same h.tells in
+      (q, number, ap (λ (y : LoadedPairs P). y.call.made) h.handed ∙ made)

@@ -14,8 +14,8 @@ use Rattle.papaya_ask.specs.declared.call.Task.{Task}
 use Rattle.papaya_ask.specs.declared.call.Task.TheVariants as tasks
 use Rattle.papaya_law.specs.Code.{Coding}
 use Rattle.papaya_law.specs.Exchange.{Exchange, Setting, State}
-use Rattle.papaya_rests.specs.Says.{MakesPair, show}
-use Rattle.papaya_rests.specs.Told.{Hands, IsTold}
+use Rattle.papaya_call_law.specs.Says.{MakesPair, show}
+use Rattle.papaya_call_law.specs.Told.{IsTold, LoadedPairs}
 use Rattle.papaya_store.specs.declared.pairs.Running.{Running}
 use Rattle.papaya_timeline.specs.declared.trace.Event.{Event}
 use Rattle.papaya_timeline.specs.declared.trace.Event.TheVariants as events
@@ -52,7 +52,7 @@ event_tells kind (Ask_exchange at old new) answer = by_answer answer
     by_kind (Some kinds.Open) = tt
     by_kind (Some kinds.Claim) = (at, old, new, refl)
     by_kind (Some kinds.Replace) = (at, old, new, refl)
-    by_kind (Some kinds.Bury) = (at, old, new, refl)
+    by_kind (Some kinds.Delete) = (at, old, new, refl)
     by_kind (Some kinds.Link) = tt
     by_kind (Some kinds.Mark) = tt
     by_kind (Some kinds.Close) = tt
@@ -317,16 +317,16 @@ module _ {K V S A : Type 0} (eq : K → K → Bool) (says : Says K V A) (refuse 
     at_hand (AddToShard by) (e, (number, same), as_was) = kept (AddToShard by) (ap (λ (y : StoreState K V S). y.pairs) same) (ap (λ (y : Running K V A). y.value) as_was)
     at_hand (Ask_done reply) (e, stays) = stayed (Ask_done reply) stays
 
-module _ {K P : Type 0} (g : Setting K P) (c : Coding K P) (k : K) (s : State P) (kind : Option StepKind) (hands : Hands P) where
+module _ {K P : Type 0} (g : Setting K P) (c : Coding K P) (k : K) (s : State P) (kind : Option StepKind) (loaded : LoadedPairs P) where
   number_made : (q : P) (n : ℕ) → Made_number (c.number q) ≡ Made_number n → c.number q ≡ n
   number_made q n e = cc
 
   -- a pair that was made is at the head of those that the machine was told of
-  pub told_made : (ask : Ask) (a : Answer) (es : List (Exchange P)) (hands' : Hands P) (n : ℕ) → MakesPair ask → a ≡ Made_number n → IsTold g c k s kind hands ask a es hands' → (q : P) × (c.number q ≡ n) × (hands'.made ≡ q ∷ hands.made)
-  told_made MakePair a es hands' n makes is (inl (inl (why, e), quiet)) = let f = sym is ∙ e in absurd cc
-  told_made MakePair a es hands' n makes is (inl (inr e, quiet)) = let f = sym is ∙ e in absurd cc
-  told_made MakePair a es hands' n makes is (inr (q, own, (e, none, same))) = (q, number_made q n (sym e ∙ is), ap (λ (y : Hands P). y.made) same)
-  told_made (MakePairOf m) a es hands' n makes is (inl (inl (why, e), quiet)) = let f = sym is ∙ e in absurd cc
-  told_made (MakePairOf m) a es hands' n makes is (inl (inr e, quiet)) = let f = sym is ∙ e in absurd cc
-  told_made (MakePairOf m) a es hands' n makes is (inr (q, of, (e, none, same))) = (q, number_made q n (sym e ∙ is), ap (λ (y : Hands P). y.made) same)
-  told_made ask a es hands' n makes is told = absurd makes
+  pub told_made : (ask : Ask) (a : Answer) (es : List (Exchange P)) (loaded' : LoadedPairs P) (n : ℕ) → MakesPair ask → a ≡ Made_number n → IsTold g c k s kind loaded ask a es loaded' → (q : P) × (c.number q ≡ n) × (loaded'.made ≡ q ∷ loaded.made)
+  told_made MakePair a es loaded' n makes is (inl (inl (why, e), quiet)) = let f = sym is ∙ e in absurd cc
+  told_made MakePair a es loaded' n makes is (inl (inr e, quiet)) = let f = sym is ∙ e in absurd cc
+  told_made MakePair a es loaded' n makes is (inr (q, own, (e, none, same))) = (q, number_made q n (sym e ∙ is), ap (λ (y : LoadedPairs P). y.made) same)
+  told_made (MakePairOf m) a es loaded' n makes is (inl (inl (why, e), quiet)) = let f = sym is ∙ e in absurd cc
+  told_made (MakePairOf m) a es loaded' n makes is (inl (inr e, quiet)) = let f = sym is ∙ e in absurd cc
+  told_made (MakePairOf m) a es loaded' n makes is (inr (q, of, (e, none, same))) = (q, number_made q n (sym e ∙ is), ap (λ (y : LoadedPairs P). y.made) same)
+  told_made ask a es loaded' n makes is told = absurd makes

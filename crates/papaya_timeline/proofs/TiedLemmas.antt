@@ -20,11 +20,11 @@ use Rattle.papaya_chain.specs.declared.ask.Ask.{Ask}
 use Rattle.papaya_chain.specs.declared.ask.Ask.TheVariants as asks
 use Rattle.papaya_chain.specs.declared.ask.Answer.{Answer}
 use Rattle.papaya_chain.specs.Machine.{ask_of}
-use Rattle.papaya_chain_rests.specs.Rests.{Rests}
-use Rattle.papaya_chain_rests.specs.Told.{Hands}
-use Rattle.papaya_rests.specs.Rests.{IsReply, change_of_reply, WasAtMoment}
-use Rattle.papaya_rests.specs.Says.{Said, Agrees, Inserts, Makes, Removes, said_in_reply}
-use Rattle.papaya_rests.specs.Told.{IsOneOf}
+use Rattle.papaya_chain_law.specs.Relies.{Relies}
+use Rattle.papaya_chain_law.specs.Told.{LoadedPairs}
+use Rattle.papaya_call_law.specs.Relies.{IsReply, change_of_reply, WasAtMoment}
+use Rattle.papaya_call_law.specs.Says.{Said, Agrees, Inserts, Makes, Removes, said_in_reply}
+use Rattle.papaya_call_law.specs.Told.{IsOneOf}
 use Rattle.papaya_words.specs.Table.{TableWords}
 use Rattle.papaya_words.specs.declared.probe.Refused.{Refused as Refusal}
 use Rattle.papaya_words.specs.declared.probe.Refused.TheVariants.{RemoveNothing}
@@ -34,7 +34,7 @@ use Rattle.papaya_store.specs.declared.pairs.Running.{Running}
 use Rattle.papaya_timeline.specs.declared.trace.Entry.{Entry}
 use Rattle.papaya_timeline.specs.declared.trace.Event.{Event}
 use Rattle.papaya_timeline.proofs.Begun.{the_task}
-use Rattle.papaya_timeline.specs.Kept.{Tale, told_tales, setting_of, coding_of}
+use Rattle.papaya_timeline.specs.Kept.{CallTrace, told_call_traces, setting_of, coding_of}
 use Rattle.papaya_timeline.specs.Maps.{Map, Does, at_key, key_of}
 use Rattle.papaya_store.specs.Asks.{PerformsAsk}
 use Rattle.papaya_store.specs.Copies.{PerformsCopy}
@@ -215,61 +215,61 @@ module _ {K V A : Type 0} where
 
 module _ {K V A : Type 0} (eq : K → K → Bool) where
   -- what the key of a call had since its begin, it had at a moment of the call
-  abbrev pub Moments : Call K V A → ℕ → Tale K V → History → List (Map K V) → Type 0
-  Moments call caller tale h maps = (so_far rest : List (Exchange (Stored K V))) → so_far ++ rest ≡ tale.since → AtSomeMoment (λ m. at_key m (key_of call) ≡ at_key (replayed eq (replay eq tale.begun) so_far) (key_of call)) caller h maps
+  abbrev pub Moments : Call K V A → ℕ → CallTrace K V → History → List (Map K V) → Type 0
+  Moments call caller call_trace h maps = (so_far rest : List (Exchange (Stored K V))) → so_far ++ rest ≡ call_trace.since → AtSomeMoment (λ m. at_key m (key_of call) ≡ at_key (replayed eq (replay eq call_trace.begun) so_far) (key_of call)) caller h maps
 
-  module _ (call : Call K V A) (caller : ℕ) (tale : Tale K V) (h : History) (maps : List (Map K V)) (hash : K → ℕ) (mode : Mode) (tables : List TableWords) (k : K) (own : Some k ≡ key_of call) (moments : Moments call caller tale h maps) where
-    -- so what a machine rests on of a moment was so at a moment of the run
-    pub at_moment : (v : Option (Stored K V)) → WasAtMoment (setting_of eq hash mode tables) (coding_of hash) tale.begun tale.since k v → AtSomeMoment (λ m. at_key m (key_of call) ≡ v) caller h maps
+  module _ (call : Call K V A) (caller : ℕ) (call_trace : CallTrace K V) (h : History) (maps : List (Map K V)) (hash : K → ℕ) (mode : Mode) (tables : List TableWords) (k : K) (own : Some k ≡ key_of call) (moments : Moments call caller call_trace h maps) where
+    -- so what a machine relies on of a moment was so at a moment of the run
+    pub at_moment : (v : Option (Stored K V)) → WasAtMoment (setting_of eq hash mode tables) (coding_of hash) call_trace.begun call_trace.since k v → AtSomeMoment (λ m. at_key m (key_of call) ≡ v) caller h maps
     at_moment v was =
-        let value : at_key (replayed eq (replay eq tale.begun) was.so_far) (key_of call) ≡ v =
-        ap (at_key (replayed eq (replay eq tale.begun) was.so_far)) (sym own)
-        ∙ ap (λ m. replayed eq m was.so_far k) (sym (map_replayed eq hash mode tables tale.begun (λ j. None)))
+        let value : at_key (replayed eq (replay eq call_trace.begun) was.so_far) (key_of call) ≡ v =
+        ap (at_key (replayed eq (replay eq call_trace.begun) was.so_far)) (sym own)
+        ∙ ap (λ m. replayed eq m was.so_far k) (sym (map_replayed eq hash mode tables call_trace.begun (λ j. None)))
         ∙ ap (λ m. m k) (sym (map_replayed eq hash mode tables was.so_far _))
         ∙ was.value_is in
-        at_weaker (λ m. at_key m (key_of call) ≡ at_key (replayed eq (replay eq tale.begun) was.so_far) (key_of call)) (λ m. at_key m (key_of call) ≡ v) caller h maps (λ m e. e ∙ value) (moments was.so_far was.rest was.is)
+        at_weaker (λ m. at_key m (key_of call) ≡ at_key (replayed eq (replay eq call_trace.begun) was.so_far) (key_of call)) (λ m. at_key m (key_of call) ≡ v) caller h maps (λ m e. e ∙ value) (moments was.so_far was.rest was.is)
 
     -- a reply that leaves what its key had then
-    pub at_answer : (v : Option (Stored K V)) (reply : Reply) → Does call v reply v → WasAtMoment (setting_of eq hash mode tables) (coding_of hash) tale.begun tale.since k v → AtSomeMoment (λ m. Does call (at_key m (key_of call)) reply (at_key m (key_of call))) caller h maps
+    pub at_answer : (v : Option (Stored K V)) (reply : Reply) → Does call v reply v → WasAtMoment (setting_of eq hash mode tables) (coding_of hash) call_trace.begun call_trace.since k v → AtSomeMoment (λ m. Does call (at_key m (key_of call)) reply (at_key m (key_of call))) caller h maps
     at_answer v reply does was =
         at_weaker (λ m. at_key m (key_of call) ≡ v) (λ m. Does call (at_key m (key_of call)) reply (at_key m (key_of call))) caller h maps (λ m e. subst (λ y. Does call y reply y) (sym e) does) (at_moment v was)
 
     -- and what a closure is shown of it
-    at_number : (v : Option (Stored K V)) (shown : Option ℕ) → number_in v ≡ shown → WasAtMoment (setting_of eq hash mode tables) (coding_of hash) tale.begun tale.since k v → AtSomeMoment (λ m. number_in (at_key m (key_of call)) ≡ shown) caller h maps
+    at_number : (v : Option (Stored K V)) (shown : Option ℕ) → number_in v ≡ shown → WasAtMoment (setting_of eq hash mode tables) (coding_of hash) call_trace.begun call_trace.since k v → AtSomeMoment (λ m. number_in (at_key m (key_of call)) ≡ shown) caller h maps
     at_number v shown number was =
         at_weaker (λ m. at_key m (key_of call) ≡ v) (λ m. number_in (at_key m (key_of call)) ≡ shown) caller h maps (λ m e. ap (λ (o : Option (Stored K V)). number_in o) e ∙ number) (at_moment v was)
 
-    pub at_showing : (p : Stored K V) (n : ℕ) → p.number ≡ n → WasAtMoment (setting_of eq hash mode tables) (coding_of hash) tale.begun tale.since k (Some p) → FitsShown eq (Some call) (Some n) caller h maps
+    pub at_showing : (p : Stored K V) (n : ℕ) → p.number ≡ n → WasAtMoment (setting_of eq hash mode tables) (coding_of hash) call_trace.begun call_trace.since k (Some p) → FitsShown eq (Some call) (Some n) caller h maps
     at_showing p n number was = (at_number (Some p) (Some n) (ap Some number) was, tt)
 
     -- that there is none it is shown once
-    pub at_showing_none : was_shown_none caller h ≡ false → WasAtMoment (setting_of eq hash mode tables) (coding_of hash) tale.begun tale.since k None → FitsShown eq (Some call) None caller h maps
+    pub at_showing_none : was_shown_none caller h ≡ false → WasAtMoment (setting_of eq hash mode tables) (coding_of hash) call_trace.begun call_trace.since k None → FitsShown eq (Some call) None caller h maps
     at_showing_none once was = (at_number None None refl was, once)
 
   module _ {S : Type 0} where
     -- another caller's step leaves how a call stands to its history
-    pub tied_other : (s s' : StoreState K V S) (r : Running K V A) (call : Call K V A) (c d turn : ℕ) (event : Event) (tales : ℕ → Tale K V) (made : List (Exchange (Stored K V))) (hands : Hands (Stored K V)) (h : History) (es : List (Exchange (Stored K V))) (maps : List (Map K V)) (o : Option (Operation V ℕ)) (answers : Answered V)
-        → KeepsParts s s' → IsValued s r → KeepsPairs s s' → (made ≡ []) ⊎ ((x : Exchange (Stored K V)) × (made ≡ x ∷ [])) → c ≢ d → (tales d).begun ++ (tales d).since ≡ es
-        → IsTied eq s r call d (tales d) h maps answers → IsTied eq s' r call d (told_tales tales c made hands d) (entry turn c event ∷ h) (replay eq (es ++ made) ∷ maps) (o ∷ answers)
-    tied_other s s' r call c d turn event tales made hands h es maps o answers parts valued pairs one differ split tied = record {
+    pub tied_other : (s s' : StoreState K V S) (r : Running K V A) (call : Call K V A) (c d turn : ℕ) (event : Event) (call_traces : ℕ → CallTrace K V) (made : List (Exchange (Stored K V))) (loaded : LoadedPairs (Stored K V)) (h : History) (es : List (Exchange (Stored K V))) (maps : List (Map K V)) (o : Option (Operation V ℕ)) (answers : Answered V)
+        → KeepsParts s s' → IsValued s r → KeepsPairs s s' → (made ≡ []) ⊎ ((x : Exchange (Stored K V)) × (made ≡ x ∷ [])) → c ≢ d → (call_traces d).begun ++ (call_traces d).since ≡ es
+        → IsTied eq s r call d (call_traces d) h maps answers → IsTied eq s' r call d (told_call_traces call_traces c made loaded d) (entry turn c event ∷ h) (replay eq (es ++ made) ∷ maps) (o ∷ answers)
+    tied_other s s' r call c d turn event call_traces made loaded h es maps o answers parts valued pairs one differ split tied = record {
       own = tied.own;
       key = parts.keys r.key tied.own tied.key;
       key_is = tied.key_is;
       task = tied.task;
       value = λ v e. tied.value v (value_back s.pairs s'.pairs parts.values r.value valued v e);
-      made = λ q one. tied.made q (subst (λ (y : Hands (Stored K V)). IsOneOf y.call.made q) (ap (λ b. cond b hands (tales d).hands) (differs d c (λ z. differ (sym z)))) one);
+      made = λ q one. tied.made q (subst (λ (y : LoadedPairs (Stored K V)). IsOneOf y.call.made q) (ap (λ b. cond b loaded (call_traces d).loaded) (differs d c (λ z. differ (sym z)))) one);
       change = change_of-other c d turn event h differ ∙ tied.change;
       said = λ said stands. said-other s s' r c d turn event h o answers parts pairs differ said (tied.said said stands);
       shows = tied.shows;
       once = λ e. tied.once (sym (was_shown_none-other c d turn event h differ) ∙ e);
-      moments = subst (λ (l : List (Exchange (Stored K V))). (so_far rest : List (Exchange (Stored K V))) → so_far ++ rest ≡ (tales d).since ++ made → AtSomeMoment (λ m. at_key m (key_of call) ≡ at_key (replayed eq (replay eq (tales d).begun) so_far) (key_of call)) d (entry turn c event ∷ h) (replay eq (l ++ made) ∷ maps)) split
-          (moments_more eq (key_of call) d (entry turn c event) h maps (tales d).begun (tales d).since made one (not_begin-other c d turn event differ) tied.moments);
+      moments = subst (λ (l : List (Exchange (Stored K V))). (so_far rest : List (Exchange (Stored K V))) → so_far ++ rest ≡ (call_traces d).since ++ made → AtSomeMoment (λ m. at_key m (key_of call) ≡ at_key (replayed eq (replay eq (call_traces d).begun) so_far) (key_of call)) d (entry turn c event ∷ h) (replay eq (l ++ made) ∷ maps)) split
+          (moments_more eq (key_of call) d (entry turn c event) h maps (call_traces d).begun (call_traces d).since made one (not_begin-other c d turn event differ) tied.moments);
     }
 
     -- and so does an entry of another with a map of its own
-    pub tied_entry : (s s' : StoreState K V S) (r : Running K V A) (call : Call K V A) (c d turn : ℕ) (event : Event) (tale : Tale K V) (h : History) (m : Map K V) (maps : List (Map K V)) (o : Option (Operation V ℕ)) (answers : Answered V) → s' ≡ s → c ≢ d
-        → IsTied eq s r call d tale h maps answers → IsTied eq s' r call d tale (entry turn c event ∷ h) (m ∷ maps) (o ∷ answers)
-    tied_entry s s' r call c d turn event tale h m maps o answers same differ tied = record {
+    pub tied_entry : (s s' : StoreState K V S) (r : Running K V A) (call : Call K V A) (c d turn : ℕ) (event : Event) (call_trace : CallTrace K V) (h : History) (m : Map K V) (maps : List (Map K V)) (o : Option (Operation V ℕ)) (answers : Answered V) → s' ≡ s → c ≢ d
+        → IsTied eq s r call d call_trace h maps answers → IsTied eq s' r call d call_trace (entry turn c event ∷ h) (m ∷ maps) (o ∷ answers)
+    tied_entry s s' r call c d turn event call_trace h m maps o answers same differ tied = record {
       own = tied.own;
       key = ap (λ (y : StoreState K V S). own_key y r) same ∙ tied.key;
       key_is = tied.key_is;
@@ -284,23 +284,23 @@ module _ {K V A : Type 0} (eq : K → K → Bool) where
     }
 
     -- where the machine asks no more, its reply fits
-    pub tied_fits : (s : StoreState K V S) (r : Running K V A) (call : Call K V A) (caller : ℕ) (tale : Tale K V) (h : History) (maps : List (Map K V)) (answers : Answered V) (hash : K → ℕ) (mode : Mode) (tables : List TableWords) (k : K) → Some k ≡ key_of call
-        → IsTied eq s r call caller tale h maps answers → Rests (setting_of eq hash mode tables) (coding_of hash) tale.begun tale.since k r.machine tale.hands → (reply : Reply) → ask_of r.machine ≡ asks.Call (Ask_done reply) → IsEnding r.machine.call.task call reply caller h maps → Fits eq call reply caller h maps
-    tied_fits s r call caller tale h maps answers hash mode tables k own tied rests reply done ending =
+    pub tied_fits : (s : StoreState K V S) (r : Running K V A) (call : Call K V A) (caller : ℕ) (call_trace : CallTrace K V) (h : History) (maps : List (Map K V)) (answers : Answered V) (hash : K → ℕ) (mode : Mode) (tables : List TableWords) (k : K) → Some k ≡ key_of call
+        → IsTied eq s r call caller call_trace h maps answers → Relies (setting_of eq hash mode tables) (coding_of hash) call_trace.begun call_trace.since k r.machine call_trace.loaded → (reply : Reply) → ask_of r.machine ≡ asks.Call (Ask_done reply) → IsEnding r.machine.call.task call reply caller h maps → Fits eq call reply caller h maps
+    tied_fits s r call caller call_trace h maps answers hash mode tables k own tied relies reply done ending =
         let replied = (own_asks r.machine (Ask_done reply) done).1 in
-        let ends = machine_replies (setting_of eq hash mode tables) (coding_of hash) tale.begun tale.since k r.machine.call tale.hands.call rests.call reply replied in
-        by_reply call reply own (subst (λ y. IsReply (setting_of eq hash mode tables) (coding_of hash) tale.begun tale.since k tale.hands.call y reply) tied.task ends.0) (tied.change ∙ ends.1)
+        let ends = machine_replies (setting_of eq hash mode tables) (coding_of hash) call_trace.begun call_trace.since k r.machine.call call_trace.loaded.call relies.call reply replied in
+        by_reply call reply own (subst (λ y. IsReply (setting_of eq hash mode tables) (coding_of hash) call_trace.begun call_trace.since k call_trace.loaded.call y reply) tied.task ends.0) (tied.change ∙ ends.1)
         (λ said e. tied.said said (inl (machine_says r.machine.call reply replied ∙ ap (λ t. said_in_reply t reply) tied.task ∙ e)))
         (subst (λ t. IsEnding t call reply caller h maps) tied.task ending) tied.moments
       where
-        answer : (call : Call K V A) (v : Option (Stored K V)) (reply : Reply) → Some k ≡ key_of call → Moments call caller tale h maps → Does call v reply v → WasAtMoment (setting_of eq hash mode tables) (coding_of hash) tale.begun tale.since k v → AtSomeMoment (λ m. Does call (at_key m (key_of call)) reply (at_key m (key_of call))) caller h maps
-        answer call v reply own moments = at_answer call caller tale h maps hash mode tables k own moments v reply
+        answer : (call : Call K V A) (v : Option (Stored K V)) (reply : Reply) → Some k ≡ key_of call → Moments call caller call_trace h maps → Does call v reply v → WasAtMoment (setting_of eq hash mode tables) (coding_of hash) call_trace.begun call_trace.since k v → AtSomeMoment (λ m. Does call (at_key m (key_of call)) reply (at_key m (key_of call))) caller h maps
+        answer call v reply own moments = at_answer call caller call_trace h maps hash mode tables k own moments v reply
 
         -- only a compute may remove nothing
         no_compute : (task : Task) (call : Call K V A) (refused : Refusal) (X : Type 0) → (task ≡ tasks.Compute → ⊥) → IsEnding task call (Refused refused) caller h maps → refused ≡ RemoveNothing → X
         no_compute task call refused X other ending is = absurd (other (ending.nothing (ap Refused is)).0)
 
-        by_reply : (call : Call K V A) (reply : Reply) → Some k ≡ key_of call → IsReply (setting_of eq hash mode tables) (coding_of hash) tale.begun tale.since k tale.hands.call (the_task call) reply → change_of caller h ≡ change_of_reply reply → SaidForReply s r (the_task call) reply caller h answers → IsEnding (the_task call) call reply caller h maps → Moments call caller tale h maps → Fits eq call reply caller h maps
+        by_reply : (call : Call K V A) (reply : Reply) → Some k ≡ key_of call → IsReply (setting_of eq hash mode tables) (coding_of hash) call_trace.begun call_trace.since k call_trace.loaded.call (the_task call) reply → change_of caller h ≡ change_of_reply reply → SaidForReply s r (the_task call) reply caller h answers → IsEnding (the_task call) call reply caller h maps → Moments call caller call_trace h maps → Fits eq call reply caller h maps
         by_reply (Get j) Done own is change said ending moments = absurd is
         by_reply (Get j) Absent own is change said ending moments = (change, answer (Get j) None Absent own moments refl is)
         by_reply (Get j) (Found n) own (p, number, was) change said ending moments = (change, answer (Get j) (Some p) (Found n) own moments (number, refl) was)

@@ -9,7 +9,7 @@ use Rattle.papaya_ask.specs.declared.ask.OpKind.TheVariants as op_kinds
 use Rattle.papaya_ask.specs.declared.call.Task.TheVariants as tasks
 use Rattle.papaya_call.specs.declared.machine.Machine.{Machine as Call_machine}
 use Rattle.papaya_call.specs.declared.machine.State.{State as Stage}
-use Rattle.papaya_call.specs.declared.machine.State.TheVariants.{AtRoot, Making, Opening, Searching, Writing, Offering, Showing, Pairing, Putting, Burying, Counting, Noting, Uncounting, Leaving, Growing, Ended}
+use Rattle.papaya_call.specs.declared.machine.State.TheVariants.{AtRoot, Making, Opening, Searching, Writing, Offering, Showing, Pairing, Putting, Deleting, Counting, Noting, Uncounting, Leaving, Growing, Ended}
 use Rattle.papaya_ask.specs.declared.call.Reply.{Reply}
 use Rattle.papaya_call.specs.declared.compute.Gap.TheVariants.{NoRoot, At, After}
 use Rattle.papaya_call.specs.declared.compute.Purpose.{Purpose}
@@ -19,18 +19,18 @@ use Rattle.papaya_call.specs.declared.made.Grown.TheVariants.{On, Pair}
 use Rattle.papaya_call.specs.Compute.{in_place_of, provides, with_pair}
 use Rattle.papaya_call.specs.Made.{grown, pair_ask, told}
 use Rattle.papaya_call.specs.Machine.{paired, paired_held}
-use Rattle.papaya_rests.proofs.Makings.{makes_pair, numbered_leads}
+use Rattle.papaya_call_law.proofs.Makings.{makes_pair, numbered_leads}
 use Rattle.papaya_call.specs.Machine as calls
 use Rattle.papaya_chain.specs.declared.ask.Ask.TheVariants as asks
 use Rattle.papaya_chain.specs.declared.ask.Answer.{Answer}
 use Rattle.papaya_chain.specs.declared.ask.Answer.TheVariants as answers
 use Rattle.papaya_chain.specs.declared.machine.Machine.{Machine}
 use Rattle.papaya_chain.specs.Machine.{after, ask_of, asks_in}
-use Rattle.papaya_chain_rests.specs.Goes.{Goes, IsOwnStep}
-use Rattle.papaya_chain_rests.specs.Rests.{left_by}
-use Rattle.papaya_chain_rests.proofs.Names.{call_asks}
-use Rattle.papaya_chain_rests.proofs.Replies.{aside_asks}
-use Rattle.papaya_rests.specs.Says.{IsAnswered, Makes, MakesPair, StandsOn, said_in, said_to_choose, said_to_fill}
+use Rattle.papaya_chain_law.specs.Goes.{Goes, IsOwnStep}
+use Rattle.papaya_chain_law.specs.Relies.{left_by}
+use Rattle.papaya_chain_law.proofs.Names.{call_asks}
+use Rattle.papaya_chain_law.proofs.Replies.{aside_asks}
+use Rattle.papaya_call_law.specs.Says.{IsAnswered, Makes, MakesPair, StandsOn, said_in, said_to_choose, said_to_fill}
 use Rattle.papaya_timeline.proofs.MadePairs.{MakesOver}
 
 -- the stages of a call that waits for a value's pair, or is over
@@ -45,7 +45,7 @@ waiting Holds pairing ended (Writing write) waits = absurd waits
 waiting Holds pairing ended (Offering gap) waits = absurd waits
 waiting Holds pairing ended (Showing removal) waits = absurd waits
 waiting Holds pairing ended (Putting put) waits = absurd waits
-waiting Holds pairing ended (Burying removal) waits = absurd waits
+waiting Holds pairing ended (Deleting removal) waits = absurd waits
 waiting Holds pairing ended (Counting claimed) waits = absurd waits
 waiting Holds pairing ended (Noting claimed) waits = absurd waits
 waiting Holds pairing ended (Uncounting n) waits = absurd waits

@@ -8,7 +8,7 @@ use Rattle.papaya_ask.specs.declared.ask.Ask.TheVariants.{AddToShard, Exchange, 
 use Rattle.papaya_ask.specs.declared.ask.Answer.{Answer as Call_answer}
 use Rattle.papaya_ask.specs.declared.ask.Answer.TheVariants.{Exchanged, Yes, Op}
 use Rattle.papaya_ask.specs.declared.ask.StepKind.{StepKind}
-use Rattle.papaya_ask.specs.declared.ask.StepKind.TheVariants.{Open, Claim, Replace, Bury, Link, Mark, Close, Place, Finish, Advance, Promote, Abort, Take}
+use Rattle.papaya_ask.specs.declared.ask.StepKind.TheVariants.{Open, Claim, Replace, Delete, Link, Mark, Close, Place, Finish, Advance, Promote, Abort, Take}
 use Rattle.papaya_ask.specs.declared.call.Reply.{Reply}
 use Rattle.papaya_ask.specs.declared.call.Reply.TheVariants.{Refused as Reply_refused}
 use Rattle.papaya_ask.specs.declared.copy_ask.CopyAsk.{CopyAsk}
@@ -19,23 +19,23 @@ use Rattle.papaya_chain.specs.declared.ask.Ask.TheVariants as asks
 use Rattle.papaya_chain.specs.declared.ask.Answer.{Answer}
 use Rattle.papaya_chain.specs.declared.ask.Answer.TheVariants as answers
 use Rattle.papaya_chain.specs.Machine.{ask_of, kind_of_ask, after}
-use Rattle.papaya_chain_rests.specs.Goes.{IsCause}
+use Rattle.papaya_chain_law.specs.Goes.{IsCause}
 use Rattle.papaya_store.specs.declared.pairs.Running.{Running}
 use Rattle.papaya_store.specs.Asks.{PerformsAsk}
 use Rattle.papaya_timeline.specs.declared.trace.Event.{Event}
 use Rattle.papaya_timeline.specs.declared.trace.Event.TheVariants.{Changed, Moved, Asked, Shown, Other}
-use Rattle.papaya_timeline.specs.Callers.{visiting, with_call}
+use Rattle.papaya_timeline.specs.Callers.{scanning, with_call}
 use Rattle.papaya_timeline.specs.Core.{CoreState, call_of}
-use Rattle.papaya_chain.specs.declared.visit_ask.VisitAsk.TheVariants as visit_asks
-use Rattle.papaya_chain.specs.Visitor as visitor
-use Rattle.papaya_store.specs.declared.visits.Visiting.{Visiting}
+use Rattle.papaya_chain.specs.declared.scan_ask.ScanAsk.TheVariants as scan_asks
+use Rattle.papaya_chain.specs.Scanner as scanner
+use Rattle.papaya_store.specs.declared.scans.Scanning.{Scanning}
 
 -- the event of an exchange of this kind that was made: a change of the map names the pair that went
 -- and the one that came
 abbrev pub exchange_event : StepKind → (old new : ℕ) → Event
 exchange_event Claim old new = Changed Claim None (Some (pair_of new))
 exchange_event Replace old new = Changed Replace (Some (pair_of old)) (Some (pair_of new))
-exchange_event Bury old new = Changed Bury (Some (pair_of old)) None
+exchange_event Delete old new = Changed Delete (Some (pair_of old)) None
 exchange_event Open old new = Moved Open
 exchange_event Link old new = Moved Link
 exchange_event Mark old new = Moved Mark
@@ -96,14 +96,14 @@ goes_on None r = Some r
 goes_on (Some reply) r = None
 
 -- What a step adds to the count goes to the shard that the caller's number picks: of a call on one
--- key, and of a clear or a retain, which takes 1 for each pair that it has buried.
+-- key, and of a clear or a retain, which takes 1 for each pair that it has deleted.
 pub record AddsToShard {K V S A : Type 0} (s : CoreState K V S A) (caller : ℕ)
     (s' : CoreState K V S A) : Type 0 where
   pub call : (r : Running K V A) (by : ℤ) → call_of s caller ≡ Some r
       → ask_of r.machine ≡ asks.Call (AddToShard by)
       → s'.store.count ≡ added s.store.count caller by
-  pub visit : (v : Visiting A) (by : ℤ) → visiting s.callers caller ≡ Some v
-      → visitor.ask_of v.visitor ≡ Some (visit_asks.AddToShard by)
+  pub scan : (v : Scanning A) (by : ℤ) → scanning s.callers caller ≡ Some v
+      → scanner.ask_of v.scanner ≡ Some (scan_asks.AddToShard by)
       → s'.store.count ≡ added s.store.count caller by
 
 -- Just one ask of the caller's machine is answered, a load or an exchange by the word that stands

@@ -19,10 +19,10 @@ use Rattle.papaya_timeline.specs.declared.seat.Work.TheVariants as works
 use Rattle.papaya_timeline.specs.Callers.{with_seat, with_work}
 use Rattle.papaya_timeline.specs.Core.{CoreState}
 use Rattle.papaya_timeline.specs.Maps.{key_of}
-use Rattle.papaya_chain.specs.declared.visitor.Visit.{Visit}
-use Rattle.papaya_chain.specs.declared.visitor.Visit.TheVariants as visits
-use Rattle.papaya_chain.specs.Visitor as visitor
-use Rattle.papaya_store.specs.declared.visits.Visiting.{Visiting}
+use Rattle.papaya_chain.specs.declared.scanner.Scan.{Scan}
+use Rattle.papaya_chain.specs.declared.scanner.Scan.TheVariants as scans
+use Rattle.papaya_chain.specs.Scanner as scanner
+use Rattle.papaya_store.specs.declared.scans.Scanning.{Scanning}
 
 -- the value that a call was handed, its closure's answers, and its task
 abbrev pub value_of_call : {K V A : Type 0} → Call K V A → Option V
@@ -44,11 +44,11 @@ task_of_call (RemoveIf k a) = Some tasks.RemoveIf
 task_of_call (Compute k a) = Some tasks.Compute
 task_of_call _ = None
 
--- a call that visits a table as it begins: it gave nothing yet
-abbrev pub visitor_begun : {A : Type 0} → ResizeMode → (initial number : ℕ) → Visit → Option A
-    → Visiting A
-visitor_begun mode initial number visit answers = record {
-  visitor = visitor.begun visit mode initial number;
+-- a call that scans a table as it begins: it gave nothing yet
+abbrev pub scanner_begun : {A : Type 0} → ResizeMode → (initial number : ℕ) → Scan → Option A
+    → Scanning A
+scanner_begun mode initial number scan answers = record {
+  scanner = scanner.begun scan mode initial number;
   answers = answers;
   given = [];
 }
@@ -83,10 +83,10 @@ module _ {K V A : Type 0} (hash : K → ℕ) (mode : Mode) (initial number : ℕ
   begun_work (Compute k a) = works.Call (begun tasks.Compute k None (Some a))
   begun_work (Reserve more) = resizer_begun (resizes.Reserve more)
   begun_work CopyAll = resizer_begun resizes.CopyAll
-  begun_work Clear = works.Visit (visitor_begun mode.resize initial number visits.Clear None)
+  begun_work Clear = works.Scan (scanner_begun mode.resize initial number scans.Clear None)
   begun_work (Retain a) =
-      works.Visit (visitor_begun mode.resize initial number visits.Retain (Some a))
-  begun_work Walk = works.Visit (visitor_begun mode.resize initial number visits.Walk None)
+      works.Scan (scanner_begun mode.resize initial number scans.Retain (Some a))
+  begun_work Walk = works.Scan (scanner_begun mode.resize initial number scans.Walk None)
 
 -- a begin changes no word, no log and no other caller's call
 pub record Begins {K V S A : Type 0} (hash : K → ℕ) (s : CoreState K V S A) (caller : ℕ)

@@ -1,11 +1,11 @@
--- The calls that callers have under way: on one key, to resize the map, or to visit a table.
+-- The calls that callers have under way: on one key, to resize the map, or to scan a table.
 use Rattle.std.specs.Prelude.{◌≡◌, ◌≢◌, ℕ, ◌<◌, ◌≤◌, ◌==◌, if◌then◌else◌, List, [], ◌∷◌, length, Option, Some, None, slice_get}
 use Rattle.papaya_store.specs.declared.pairs.Running.{Running}
 use Rattle.papaya_timeline.specs.declared.seat.Seat.{Seat}
 use Rattle.papaya_chain.specs.declared.resizer.Resizer.{Resizer}
 use Rattle.papaya_timeline.specs.declared.seat.Work.{Work}
-use Rattle.papaya_timeline.specs.declared.seat.Work.TheVariants.{Call, Resize, Visit}
-use Rattle.papaya_store.specs.declared.visits.Visiting.{Visiting}
+use Rattle.papaya_timeline.specs.declared.seat.Work.TheVariants.{Call, Resize, Scan}
+use Rattle.papaya_store.specs.declared.scans.Scanning.{Scanning}
 
 module _ {K V A : Type 0} where
   -- the call on one key that is under way, if one is
@@ -13,21 +13,21 @@ module _ {K V A : Type 0} where
   call_in None = None
   call_in (Some (Call r)) = Some r
   call_in (Some (Resize resizer)) = None
-  call_in (Some (Visit v)) = None
+  call_in (Some (Scan v)) = None
 
   -- the call that resizes the map, if one is under way
   abbrev pub resizer_in : Option (Work K V A) → Option Resizer
   resizer_in None = None
   resizer_in (Some (Call r)) = None
   resizer_in (Some (Resize resizer)) = Some resizer
-  resizer_in (Some (Visit v)) = None
+  resizer_in (Some (Scan v)) = None
 
-  -- the call that visits a table, if one is under way
-  abbrev pub visitor_in : Option (Work K V A) → Option (Visiting A)
-  visitor_in None = None
-  visitor_in (Some (Call r)) = None
-  visitor_in (Some (Resize resizer)) = None
-  visitor_in (Some (Visit v)) = Some v
+  -- the call that scans a table, if one is under way
+  abbrev pub scanner_in : Option (Work K V A) → Option (Scanning A)
+  scanner_in None = None
+  scanner_in (Some (Call r)) = None
+  scanner_in (Some (Resize resizer)) = None
+  scanner_in (Some (Scan v)) = Some v
 
   -- what a caller has under way
   abbrev pub working : List (Seat K V A) → ℕ → Option (Work K V A)
@@ -42,9 +42,9 @@ module _ {K V A : Type 0} where
   abbrev pub resizing : List (Seat K V A) → ℕ → Option Resizer
   resizing seats caller = resizer_in (working seats caller)
 
-  -- the call that visits a table, which a caller has under way
-  abbrev pub visiting : List (Seat K V A) → ℕ → Option (Visiting A)
-  visiting seats caller = visitor_in (working seats caller)
+  -- the call that scans a table, which a caller has under way
+  abbrev pub scanning : List (Seat K V A) → ℕ → Option (Scanning A)
+  scanning seats caller = scanner_in (working seats caller)
 
   -- the caller has a seat
   abbrev pub IsSeated : List (Seat K V A) → ℕ → Type 0

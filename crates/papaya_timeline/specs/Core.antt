@@ -13,14 +13,14 @@ use Rattle.papaya_chain.specs.Machine.{IsStanding, ask_of}
 use Rattle.papaya_store.specs.declared.mode.Mode.{Mode}
 use Rattle.papaya_store.specs.declared.pairs.Running.{Running}
 use Rattle.papaya_timeline.specs.declared.seat.Seat.{Seat}
-use Rattle.papaya_timeline.specs.Callers.{resizing, running, visiting, working}
+use Rattle.papaya_timeline.specs.Callers.{resizing, running, scanning, working}
 use Rattle.papaya_timeline.specs.declared.seat.Work.{Work}
 use Rattle.papaya_chain.specs.declared.resizer.Resizer.{Resizer}
 use Rattle.papaya_chain.specs.Resizer.{IsStandingResizer, reply_of}
 use Rattle.papaya_store.specs.Tables.{table_of}
 use Rattle.papaya_store.specs.Store.{StoreState}
-use Rattle.papaya_chain.specs.Visitor as visitor
-use Rattle.papaya_store.specs.declared.visits.Visiting.{Visiting}
+use Rattle.papaya_chain.specs.Scanner as scanner
+use Rattle.papaya_store.specs.declared.scans.Scanning.{Scanning}
 
 -- the words, the log and the count; the callers with what they have under way; and how the core
 -- resizes, and its limit
@@ -46,7 +46,7 @@ call_of s caller = running s.callers caller
 abbrev pub IsGoing : Machine → Type 0
 IsGoing m = (reply : Reply) → ask_of m ≡ Call (Ask_done reply) → ⊥
 
--- each table has the size of a table, each machine, each resizer and each visitor stands within its
+-- each table has the size of a table, each machine, each resizer and each scanner stands within its
 -- tables, and no call under way has replied
 pub record IsCore {K V S A : Type 0} (store : StoreState K V S) (callers : List (Seat K V A))
     (mode : Mode) : Type 0 where
@@ -59,5 +59,5 @@ pub record IsCore {K V S A : Type 0} (store : StoreState K V S) (callers : List 
   pub going : (caller : ℕ) (r : Running K V A) → running callers caller ≡ Some r → IsGoing r.machine
   pub resizers : (caller : ℕ) (resizer : Resizer) → resizing callers caller ≡ Some resizer
       → IsStandingResizer resizer × (reply_of resizer ≡ None)
-  pub visitors : (caller : ℕ) (v : Visiting A) → visiting callers caller ≡ Some v
-      → visitor.IsStandingVisitor v.visitor × (visitor.reply_of v.visitor ≡ None)
+  pub scanners : (caller : ℕ) (v : Scanning A) → scanning callers caller ≡ Some v
+      → scanner.IsStandingScanner v.scanner × (scanner.reply_of v.scanner ≡ None)

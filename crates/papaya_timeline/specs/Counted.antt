@@ -2,21 +2,21 @@
 use Rattle.std.specs.Prelude.{◌≡◌, ℤ, pos, negsuc, ◌+ℤ◌, Bool, List, [], ◌∷◌, length, Option, Some, None}
 use Rattle.std.specs.Int.{w64, int_wrap}
 use Rattle.papaya_chain.specs.Machine.{ask_of}
-use Rattle.papaya_chain_rests.specs.Goes as calls
+use Rattle.papaya_chain_law.specs.Goes as calls
 use Rattle.papaya_store.specs.declared.pairs.Running.{Running}
 use Rattle.papaya_timeline.specs.declared.seat.Seat.{Seat}
 use Rattle.papaya_timeline.specs.declared.seat.Work.{Work}
 use Rattle.papaya_timeline.specs.declared.seat.Work.TheVariants as works
 use Rattle.papaya_timeline.specs.Content.{content}
 use Rattle.papaya_store.specs.Store.{StoreState}
-use Rattle.papaya_chain.specs.declared.visitor.State.{State}
-use Rattle.papaya_chain.specs.declared.visitor.State.TheVariants.{Uncounting}
+use Rattle.papaya_chain.specs.declared.scanner.State.{State}
+use Rattle.papaya_chain.specs.declared.scanner.State.TheVariants.{Uncounting}
 
--- what a call that visits a table has yet to add to the count: it takes 1 for a pair that it has
--- buried
-abbrev pub owed_visit : State → ℤ
-owed_visit (Uncounting spot) = negsuc 0
-owed_visit state = pos 0
+-- what a call that scans a table has yet to add to the count: it takes 1 for a pair that it has
+-- deleted
+abbrev pub owed_scan : State → ℤ
+owed_scan (Uncounting spot) = negsuc 0
+owed_scan state = pos 0
 
 module _ {K V A : Type 0} where
   -- what a call on one key has yet to add to the count, for a change that it made; 0 where there is
@@ -30,7 +30,7 @@ module _ {K V A : Type 0} where
   owed_work None = pos 0
   owed_work (Some (works.Call r)) = owed_of (Some r)
   owed_work (Some (works.Resize resizer)) = pos 0
-  owed_work (Some (works.Visit v)) = owed_visit v.visitor.state
+  owed_work (Some (works.Scan v)) = owed_scan v.scanner.state
 
   -- what all calls under way have yet to add
   abbrev pub owed_in : List (Seat K V A) → ℤ

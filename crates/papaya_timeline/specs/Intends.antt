@@ -10,10 +10,10 @@ use Rattle.papaya_call.specs.declared.answers.Operation.{Operation}
 use Rattle.papaya_call.specs.declared.answers.Operation.TheVariants as ops
 use Rattle.papaya_call.specs.declared.made.Made.{Made}
 use Rattle.papaya_call.specs.declared.made.Of.{Of}
-use Rattle.papaya_chain.specs.declared.visitor.State.{State}
-use Rattle.papaya_chain.specs.declared.visitor.State.TheVariants.{Burying}
-use Rattle.papaya_chain.specs.declared.visitor.Visit.TheVariants.{Retain}
-use Rattle.papaya_rests.specs.Says.{Agrees, Inserts, Makes, Removes, StandsOn}
+use Rattle.papaya_chain.specs.declared.scanner.State.{State}
+use Rattle.papaya_chain.specs.declared.scanner.State.TheVariants.{Deleting}
+use Rattle.papaya_chain.specs.declared.scanner.Scan.TheVariants.{Retain}
+use Rattle.papaya_call_law.specs.Says.{Agrees, Inserts, Makes, Removes, StandsOn}
 use Rattle.papaya_store.specs.declared.pairs.Running.{Running}
 use Rattle.papaya_store.specs.Performs.{own_value}
 use Rattle.papaya_store.specs.Store.{StoreState, Stored, pair_of}
@@ -25,9 +25,9 @@ use Rattle.papaya_timeline.specs.Begins.{value_of_call}
 use Rattle.papaya_timeline.specs.Core.{CoreState, work_of}
 use Rattle.papaya_timeline.specs.Given.{GivesIn}
 
--- a visit is about to take out the pair of this number
+-- a scan is about to take out the pair of this number
 abbrev pub TakesOut : State → ℕ → Type 0
-TakesOut (Burying spot word) n = pair_in word ≡ n
+TakesOut (Deleting spot word) n = pair_in word ≡ n
 TakesOut _ n = ⊥
 
 -- an insertion made this pair, of its own key or of one that it met
@@ -62,15 +62,15 @@ module _ {K V S A : Type 0} (store : StoreState K V S) where
   -- a value, or remove the pair. A retain would remove it from whatever class has it.
   abbrev pub Intends : Work K V A → (shown : Option ℕ) → Operation V ℕ → Type 0
   Intends (works.Call r) shown op = IntendsAs r.machine.call.task r shown op
-  Intends (works.Visit v) (Some n) ops.Remove = (v.visitor.visit ≡ Retain)
-      × TakesOut v.visitor.state n
+  Intends (works.Scan v) (Some n) ops.Remove = (v.scanner.scan ≡ Retain)
+      × TakesOut v.scanner.state n
   Intends _ _ _ = ⊥
 
 module _ {K V A : Type 0} where
   -- the answer by which a pair goes that a closure is asked of: a removal's agrees to that, and a
   -- retain's says that the pair does not stay
   abbrev pub word_to_go : Work K V A → Bool
-  word_to_go (works.Visit v) = false
+  word_to_go (works.Scan v) = false
   word_to_go _ = true
 
   -- the event tells that its closure was shown this, and answered so
@@ -84,7 +84,7 @@ module _ {K V A : Type 0} where
   abbrev pub answers_left : Work K V A → Option A
   answers_left (works.Call r) = r.answers
   answers_left (works.Resize resizer) = None
-  answers_left (works.Visit v) = v.answers
+  answers_left (works.Scan v) = v.answers
 
 -- in this step its closure is shown this, and answers so
 pub record AnswersNow {K V S A : Type 0} (says : Says K V A) (store : StoreState K V S)

@@ -13,9 +13,9 @@ use Rattle.papaya_copy.specs.declared.link.Link.{Link}
 use Rattle.papaya_copy.specs.declared.link.Link.TheVariants.{Linking}
 use Rattle.papaya_chain.specs.declared.ask.Ask.TheVariants.{Call}
 use Rattle.papaya_chain.specs.Machine.{ask_of}
-use Rattle.papaya_chain_rests.specs.Goes.{link_in}
-use Rattle.papaya_chain_rests.specs.Rests.{Rests}
-use Rattle.papaya_chain_rests.specs.Told.{Hands, no_hands}
+use Rattle.papaya_chain_law.specs.Goes.{link_in}
+use Rattle.papaya_chain_law.specs.Relies.{Relies}
+use Rattle.papaya_chain_law.specs.Told.{LoadedPairs, nothing_loaded}
 use Rattle.papaya_law.specs.Allows.{AllAllowed}
 use Rattle.papaya_law.specs.Code.{Coding}
 use Rattle.papaya_law.specs.Exchange.{Setting, Exchange, run, start}
@@ -24,29 +24,29 @@ use Rattle.papaya_law.specs.Hashing.{hashed}
 use Rattle.papaya_law.specs.Hints.{IsHint}
 use Rattle.papaya_law.specs.Invariant.{named}
 use Rattle.papaya_law.specs.Meaning.{map_left}
-use Rattle.papaya_rests.specs.Rests.{change_in}
-use Rattle.papaya_rests.specs.Says.{IsAnswered, Makes, ShowsPairs, StandsOn}
-use Rattle.papaya_rests.specs.Told.{IsOneOf, word_of}
+use Rattle.papaya_call_law.specs.Relies.{change_in}
+use Rattle.papaya_call_law.specs.Says.{IsAnswered, Makes, ShowsPairs, StandsOn}
+use Rattle.papaya_call_law.specs.Told.{IsOneOf, word_of}
 use Rattle.papaya_store.specs.declared.mode.Mode.{Mode}
 use Rattle.papaya_store.specs.declared.pairs.Part.{Part}
 use Rattle.papaya_store.specs.declared.pairs.Running.{Running}
 use Rattle.papaya_timeline.specs.declared.seat.Seat.{Seat}
-use Rattle.papaya_timeline.specs.Callers.{resizing, running, visiting}
+use Rattle.papaya_timeline.specs.Callers.{resizing, running, scanning}
 use Rattle.papaya_chain.specs.declared.resizer.Resizer.{Resizer}
 use Rattle.papaya_chain.specs.declared.resizer.State.TheVariants.{Opening}
-use Rattle.papaya_chain_rests.specs.Resizers.{HasLink, RestsResizer}
+use Rattle.papaya_chain_law.specs.Resizers.{HasLink, ReliesResizer}
 use Rattle.papaya_timeline.specs.Core.{IsCore}
 use Rattle.papaya_store.specs.Pairs.{value_in}
 use Rattle.papaya_store.specs.Performs.{own_key, own_value}
 use Rattle.papaya_store.specs.Store.{StoreState, Stored, pair_of}
 use Rattle.papaya_store.specs.Tables.{hint_at, table_of, word_at}
-use Rattle.papaya_chain.specs.declared.visitor.State.{State}
-use Rattle.papaya_chain.specs.declared.visitor.State.TheVariants.{Copying}
-use Rattle.papaya_chain.specs.declared.visitor.Visit.{Visit}
-use Rattle.papaya_chain.specs.declared.visitor.Visit.TheVariants.{Retain}
-use Rattle.papaya_chain_rests.specs.VisitTold as visits
-use Rattle.papaya_chain_rests.specs.Visits.{RestsVisitor}
-use Rattle.papaya_store.specs.declared.visits.Visiting.{Visiting}
+use Rattle.papaya_chain.specs.declared.scanner.State.{State}
+use Rattle.papaya_chain.specs.declared.scanner.State.TheVariants.{Copying}
+use Rattle.papaya_chain.specs.declared.scanner.Scan.{Scan}
+use Rattle.papaya_chain.specs.declared.scanner.Scan.TheVariants.{Retain}
+use Rattle.papaya_chain_law.specs.ScanTold as scans
+use Rattle.papaya_chain_law.specs.Scans.{ReliesScanner}
+use Rattle.papaya_store.specs.declared.scans.Scanning.{Scanning}
 
 -- does the core resize with blocking?
 abbrev pub is_blocking : ResizeMode → Bool
@@ -86,31 +86,32 @@ abbrev pub low : {K : Type 0} → (K → ℕ) → K → ℕ
 low hash k = hash k % 2 ^ 64
 
 -- What is told of a call: the exchanges when it began, those since then, and the pairs that its
--- machine was told of, and the one that it carries to another table; and, where it visits a table,
--- what its visitor was told of, gave and showed.
-pub record Tale (K V : Type 0) : Type 0 where
+-- machine was told of, and the one that it carries to another table; and, where it scans a table,
+-- what its scanner was told of, gave and showed.
+pub record CallTrace (K V : Type 0) : Type 0 where
   pub begun : List (Exchange (Stored K V))
   pub since : List (Exchange (Stored K V))
-  pub hands : Hands (Stored K V)
-  pub visit : visits.Hands (Stored K V)
+  pub loaded : LoadedPairs (Stored K V)
+  pub scan : scans.LoadedPairs (Stored K V)
 
--- What is told of a call that visits a table: the exchanges when it began, those since then, and the
+-- What is told of a call that scans a table: the exchanges when it began, those since then, and the
 -- pairs that its machine was told of, gave and showed.
-pub record VisitTale (K V : Type 0) : Type 0 where
+pub record ScanTrace (K V : Type 0) : Type 0 where
   pub begun : List (Exchange (Stored K V))
   pub since : List (Exchange (Stored K V))
-  pub hands : visits.Hands (Stored K V)
+  pub loaded : scans.LoadedPairs (Stored K V)
 
-abbrev pub visit_tale : {K V : Type 0} → Tale K V → VisitTale K V
-visit_tale tale = record { begun = tale.begun; since = tale.since; hands = tale.visit }
+abbrev pub scan_trace : {K V : Type 0} → CallTrace K V → ScanTrace K V
+scan_trace call_trace =
+    record { begun = call_trace.begun; since = call_trace.since; loaded = call_trace.scan }
 
 -- the same after a step, which made these exchanges
-abbrev pub told_more : {K V : Type 0} → VisitTale K V → List (Exchange (Stored K V))
-    → visits.Hands (Stored K V) → VisitTale K V
-told_more tale made hands = record {
-  begun = tale.begun;
-  since = tale.since ++ made;
-  hands = hands;
+abbrev pub told_more : {K V : Type 0} → ScanTrace K V → List (Exchange (Stored K V))
+    → scans.LoadedPairs (Stored K V) → ScanTrace K V
+told_more call_trace made loaded = record {
+  begun = call_trace.begun;
+  since = call_trace.since ++ made;
+  loaded = loaded;
 }
 
 -- the numbers of these pairs, of which the newest is the first, in the order in which they came
@@ -119,9 +120,9 @@ numbers_of [] = []
 numbers_of (p ∷ older) = numbers_of older ++ p.number ∷ []
 
 -- the making of a table that is under way for the copy of all
-abbrev pub IsVisitLink : State → Link → Type 0
-IsVisitLink (Copying stage) link = HasLink stage link
-IsVisitLink state link = ⊥
+abbrev pub IsScanLink : State → Link → Type 0
+IsScanLink (Copying stage) link = HasLink stage link
+IsScanLink state link = ⊥
 
 -- its closure was shown this pair
 abbrev pub WasShown : {P : Type 0} → List (P × Bool) → P → Type 0
@@ -129,7 +130,7 @@ WasShown [] p = ⊥
 WasShown (one ∷ older) p = (one.0 ≡ p) ⊎ WasShown older p
 
 -- a retain has its closure's answers
-abbrev pub HasAnswers : {A : Type 0} → Visit → Option A → Type 0
+abbrev pub HasAnswers : {A : Type 0} → Scan → Option A → Type 0
 HasAnswers {A = A} Retain left = (a : A) × (left ≡ Some a)
 HasAnswers _ left = Unit {0}
 
@@ -149,13 +150,13 @@ module _ {K V S : Type 0} (store : StoreState K V S) where
 
 module _ {K V S : Type 0} (eq : K → K → Bool) (hash : K → ℕ) (mode : Mode)
     (store : StoreState K V S) where
-  -- a call that resizes the map rests on what is told of it, after the exchanges es
+  -- a call that resizes the map relies on what is told of it, after the exchanges es
   pub record IsResizing (resizer : Resizer) (es : List (Exchange (Stored K V)))
-      (tale : Tale K V) : Type 0 where
-    pub rests : RestsResizer (setting_of eq (low hash) mode store.words.tables)
-        (coding_of (low hash)) (run es start) resizer tale.hands
-    pub last : (p : Stored K V) → tale.hands.call.last ≡ Some p → IsLogged store p
-    pub carried : (p : Stored K V) → tale.hands.kept ≡ Some p → IsLogged store p
+      (call_trace : CallTrace K V) : Type 0 where
+    pub relies : ReliesResizer (setting_of eq (low hash) mode store.words.tables)
+        (coding_of (low hash)) (run es start) resizer call_trace.loaded
+    pub last : (p : Stored K V) → call_trace.loaded.call.last ≡ Some p → IsLogged store p
+    pub carried : (p : Stored K V) → call_trace.loaded.kept ≡ Some p → IsLogged store p
     -- the table that it is about to open or to link was made, as was asked for
     pub opens : (t : ℕ) → resizer.state ≡ Opening t → IsMade store t
     pub links : (behind t chunks : ℕ) → HasLink resizer.state (Linking behind t chunks)
@@ -163,22 +164,23 @@ module _ {K V S : Type 0} (eq : K → K → Bool) (hash : K → ℕ) (mode : Mod
 
 module _ {K V S A : Type 0} (eq : K → K → Bool) (hash : K → ℕ) (mode : Mode)
     (store : StoreState K V S) where
-  -- a call that visits a table rests on what is told of it, after the exchanges es
-  pub record IsVisiting (v : Visiting A) (es : List (Exchange (Stored K V)))
-      (tale : VisitTale K V) : Type 0 where
-    pub split : tale.begun ++ tale.since ≡ es
-    pub rests : RestsVisitor (setting_of eq (low hash) mode store.words.tables)
-        (coding_of (low hash)) (run tale.begun start)
-        (map_left (setting_of eq (low hash) mode store.words.tables) tale.begun) tale.since
-        v.visitor tale.hands
-    pub answers : HasAnswers v.visitor.visit v.answers
+  -- a call that scans a table relies on what is told of it, after the exchanges es
+  pub record IsScanning (v : Scanning A) (es : List (Exchange (Stored K V)))
+      (call_trace : ScanTrace K V) : Type 0 where
+    pub split : call_trace.begun ++ call_trace.since ≡ es
+    pub relies : ReliesScanner (setting_of eq (low hash) mode store.words.tables)
+        (coding_of (low hash)) (run call_trace.begun start)
+        (map_left (setting_of eq (low hash) mode store.words.tables) call_trace.begun)
+        call_trace.since
+        v.scanner call_trace.loaded
+    pub answers : HasAnswers v.scanner.scan v.answers
     -- its list names the pairs that it gave
-    pub given : v.given ≡ numbers_of tale.hands.given
-    pub last : (p : Stored K V) → tale.hands.copy.call.last ≡ Some p → IsLogged store p
-    pub carried : (p : Stored K V) → tale.hands.copy.kept ≡ Some p → IsLogged store p
-    pub shown : (p : Stored K V) → WasShown tale.hands.shown p → IsLogged store p
+    pub given : v.given ≡ numbers_of call_trace.loaded.given
+    pub last : (p : Stored K V) → call_trace.loaded.copy.call.last ≡ Some p → IsLogged store p
+    pub carried : (p : Stored K V) → call_trace.loaded.copy.kept ≡ Some p → IsLogged store p
+    pub shown : (p : Stored K V) → WasShown call_trace.loaded.shown p → IsLogged store p
     -- the table that it is about to link was made, as was asked for
-    pub links : (behind t chunks : ℕ) → IsVisitLink v.visitor.state (Linking behind t chunks)
+    pub links : (behind t chunks : ℕ) → IsScanLink v.scanner.state (Linking behind t chunks)
         → IsMadeFor store t chunks
 
   -- the pair of this number has the value that a call has
@@ -186,25 +188,25 @@ module _ {K V S A : Type 0} (eq : K → K → Bool) (hash : K → ℕ) (mode : M
   HasOwnValue r n = (p : Stored K V) × (pair_of store n ≡ Some p)
       × (own_value store r ≡ Some p.value)
 
-  -- a call under way rests on what is told of it, after the exchanges es
+  -- a call under way relies on what is told of it, after the exchanges es
   pub record IsCall (r : Running K V A) (es : List (Exchange (Stored K V)))
-      (tale : Tale K V) : Type 0 where
+      (call_trace : CallTrace K V) : Type 0 where
     pub key : K
     pub own : own_key store r ≡ Some key
     -- a call with a closure has its answers
     pub answers : HasClosure r.machine.call.task → (a : A) × (r.answers ≡ Some a)
-    pub split : tale.begun ++ tale.since ≡ es
-    pub rests : Rests (setting_of eq (low hash) mode store.words.tables) (coding_of (low hash))
-        tale.begun tale.since key r.machine tale.hands
-    pub last : (p : Stored K V) → tale.hands.call.last ≡ Some p → IsLogged store p
-    pub carried : (p : Stored K V) → tale.hands.kept ≡ Some p → IsLogged store p
-    pub made : (p : Stored K V) → IsOneOf tale.hands.call.made p → IsLogged store p
+    pub split : call_trace.begun ++ call_trace.since ≡ es
+    pub relies : Relies (setting_of eq (low hash) mode store.words.tables) (coding_of (low hash))
+        call_trace.begun call_trace.since key r.machine call_trace.loaded
+    pub last : (p : Stored K V) → call_trace.loaded.call.last ≡ Some p → IsLogged store p
+    pub carried : (p : Stored K V) → call_trace.loaded.kept ≡ Some p → IsLogged store p
+    pub made : (p : Stored K V) → IsOneOf call_trace.loaded.call.made p → IsLogged store p
     -- the table that a call is about to open or to link was made, as was asked for
     pub opens : (t : ℕ) → ask_of r.machine ≡ Call (Asks_exchange Root 0 t) → IsMade store t
     pub links : (behind t chunks : ℕ) → link_in r.machine.phase ≡ Some (Linking behind t chunks)
         → IsMadeFor store t chunks
     -- a pair that was made and is not written yet stands in no slot
-    pub unwritten : (p : Stored K V) → IsOneOf tale.hands.call.made p
+    pub unwritten : (p : Stored K V) → IsOneOf call_trace.loaded.call.made p
         → change_in r.machine.call.state ≡ None
         → (t x : ℕ) (q : Stored K V) → named ((run es start).slot t x) ≡ Some q
         → q.number ≢ p.number
@@ -218,9 +220,9 @@ module _ {K V S A : Type 0} (eq : K → K → Bool) (hash : K → ℕ) (mode : M
         → IsAnswered r.machine.call.state ⊎ HasOwnValue r n
 
   -- The words are those that the exchanges es leave, which were allowed, and each call under way
-  -- rests on what is told of it.
+  -- relies on what is told of it.
   pub record IsKept (callers : List (Seat K V A)) (es : List (Exchange (Stored K V)))
-      (tales : ℕ → Tale K V) : Type 0 where
+      (call_traces : ℕ → CallTrace K V) : Type 0 where
     pub allowed : AllAllowed (setting_of eq (low hash) mode store.words.tables) start es
     pub coded : (at : At) → word_of (setting_of eq (low hash) mode store.words.tables)
         (coding_of (low hash)) (run es start) at ≡ word_at store.words at
@@ -235,15 +237,16 @@ module _ {K V S A : Type 0} (eq : K → K → Bool) (hash : K → ℕ) (mode : M
     -- there are no more tables than there may be
     pub tables_few : length store.words.tables ≤ MAX_TABLES
     pub calls : (caller : ℕ) (r : Running K V A) → running callers caller ≡ Some r
-        → IsCall r es (tales caller)
+        → IsCall r es (call_traces caller)
     pub resizers : (caller : ℕ) (resizer : Resizer) → resizing callers caller ≡ Some resizer
-        → IsResizing eq hash mode store resizer es (tales caller)
-    pub visitors : (caller : ℕ) (v : Visiting A) → visiting callers caller ≡ Some v
-        → IsVisiting v es (visit_tale (tales caller))
+        → IsResizing eq hash mode store resizer es (call_traces caller)
+    pub scanners : (caller : ℕ) (v : Scanning A) → scanning callers caller ≡ Some v
+        → IsScanning v es (scan_trace (call_traces caller))
     -- two calls make two pairs
     pub apart : (c d : ℕ) (r q : Running K V A) → running callers c ≡ Some r
-        → running callers d ≡ Some q → c ≢ d → (p p' : Stored K V) → IsOneOf (tales c).hands.call.made p
-        → IsOneOf (tales d).hands.call.made p' → p.number ≢ p'.number
+        → running callers d ≡ Some q → c ≢ d → (p p' : Stored K V)
+        → IsOneOf (call_traces c).loaded.call.made p
+        → IsOneOf (call_traces d).loaded.call.made p' → p.number ≢ p'.number
 
 -- What always holds of a core: its tables and machines are in order, and there are exchanges by
 -- which its words keep to the law.
@@ -251,29 +254,34 @@ pub record IsLawfulCore {K V S A : Type 0} (eq : K → K → Bool) (hash : K →
     (store : StoreState K V S) (callers : List (Seat K V A)) (mode : Mode) : Type 0 where
   pub core : IsCore store callers mode
   pub law : (es : List (Exchange (Stored K V)))
-      × ((tales : ℕ → Tale K V) × IsKept eq hash mode store callers es tales)
+      × ((call_traces : ℕ → CallTrace K V) × IsKept eq hash mode store callers es call_traces)
 
--- the tales after a step of a caller that made these exchanges, and of which its machine has these
--- hands
-abbrev pub told_tales : {K V : Type 0} → (ℕ → Tale K V) → ℕ → List (Exchange (Stored K V))
-    → Hands (Stored K V) → ℕ → Tale K V
-told_tales tales caller made hands d = record {
-  begun = (tales d).begun;
-  since = (tales d).since ++ made;
-  hands = if d == caller then hands else (tales d).hands;
-  visit = (tales d).visit;
+-- the traces after a step of a caller that made these exchanges, and of which its machine has these
+-- pairs loaded
+abbrev pub told_call_traces : {K V : Type 0} → (ℕ → CallTrace K V) → ℕ
+    → List (Exchange (Stored K V)) → LoadedPairs (Stored K V) → ℕ → CallTrace K V
+told_call_traces call_traces caller made loaded d = record {
+  begun = (call_traces d).begun;
+  since = (call_traces d).since ++ made;
+  loaded = if d == caller then loaded else (call_traces d).loaded;
+  scan = (call_traces d).scan;
 }
 
--- the same after a step of a caller that visits a table
-abbrev pub visited_tales : {K V : Type 0} → (ℕ → Tale K V) → ℕ → List (Exchange (Stored K V))
-    → visits.Hands (Stored K V) → ℕ → Tale K V
-visited_tales tales caller made hands d =
-    record (told_tales tales caller made (tales caller).hands d) {
-      visit = if d == caller then hands else (tales d).visit;
+-- the same after a step of a caller that scans a table
+abbrev pub scanned_call_traces : {K V : Type 0} → (ℕ → CallTrace K V) → ℕ
+    → List (Exchange (Stored K V)) → scans.LoadedPairs (Stored K V) → ℕ → CallTrace K V
+scanned_call_traces call_traces caller made loaded d =
+    record (told_call_traces call_traces caller made (call_traces caller).loaded d) {
+      scan = if d == caller then loaded else (call_traces d).scan;
     }
 
--- the tales after a call of a caller began
-abbrev pub begun_tales : {K V : Type 0} → (ℕ → Tale K V) → ℕ → List (Exchange (Stored K V)) → ℕ
-    → Tale K V
-begun_tales tales caller es d = if d == caller
-    then record { begun = es; since = []; hands = no_hands; visit = visits.no_hands } else tales d
+-- the traces after a call of a caller began
+abbrev pub begun_call_traces : {K V : Type 0} → (ℕ → CallTrace K V) → ℕ
+    → List (Exchange (Stored K V)) → ℕ → CallTrace K V
+begun_call_traces call_traces caller es d = if d == caller
+    then record {
+      begun = es;
+      since = [];
+      loaded = nothing_loaded;
+      scan = scans.nothing_loaded;
+    } else call_traces d

@@ -20,9 +20,9 @@ pub mod Resizes
 pub mod Runs
 pub mod Solo
 pub mod Timeline
--- how a call that visits a table stands to the law of exchanges
-pub mod Visits
+-- how a call that scans a table stands to the law of exchanges
+pub mod Scans
 -- what one step makes of it
-pub mod VisitGoes
+pub mod ScanGoes
 -- a pair that has left the map does not come back
 pub mod Once

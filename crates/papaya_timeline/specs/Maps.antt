@@ -11,7 +11,7 @@ use Rattle.papaya_store.specs.Store.{Stored}
 abbrev pub Map : (K V : Type 0) → Type 0
 Map K V = K → Option (Stored K V)
 
--- the key of a call, where it has one: a call that resizes the map or visits a table has none
+-- the key of a call, where it has one: a call that resizes the map or scans a table has none
 abbrev pub key_of : {K V A : Type 0} → Call K V A → Option K
 key_of (Get k) = Some k
 key_of (Insert k v) = Some k

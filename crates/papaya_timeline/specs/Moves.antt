@@ -4,22 +4,22 @@ use Rattle.papaya_ask.specs.declared.call.Call.{Call}
 use Rattle.papaya_ask.specs.declared.call.Reply.{Reply}
 use Rattle.papaya_call.specs.Machine.{IsChanger}
 use Rattle.papaya_call.specs.declared.answers.Operation.TheVariants as ops
-use Rattle.papaya_rests.specs.Rests.{change_of_reply}
+use Rattle.papaya_call_law.specs.Relies.{change_of_reply}
 use Rattle.papaya_store.specs.declared.pairs.Running.{Running}
 use Rattle.papaya_timeline.specs.declared.seat.Work.TheVariants as works
 use Rattle.papaya_timeline.specs.declared.trace.Event.{Event}
 use Rattle.papaya_timeline.specs.declared.trace.Event.TheVariants.{Changed}
 use Rattle.papaya_timeline.specs.Begins.{task_of_call}
 use Rattle.papaya_timeline.specs.Content.{map_of}
-use Rattle.papaya_timeline.specs.Callers.{visiting}
+use Rattle.papaya_timeline.specs.Callers.{scanning}
 use Rattle.papaya_timeline.specs.Core.{CoreState, call_of}
 use Rattle.papaya_timeline.specs.Maps.{Does, IsUpdate, IsUpdateBy, Same, key_of}
 use Rattle.papaya_store.specs.Performs.{own_key}
 use Rattle.papaya_store.specs.Store.{Stored}
 use Rattle.papaya_timeline.specs.Intends.{Intends}
 use Rattle.papaya_timeline.specs.Timeline.{IsFresh, number_in, operation_for}
-use Rattle.papaya_chain.specs.declared.visitor.Visit.TheVariants.{Retain, Walk}
-use Rattle.papaya_store.specs.declared.visits.Visiting.{Visiting}
+use Rattle.papaya_chain.specs.declared.scanner.Scan.TheVariants.{Retain, Walk}
+use Rattle.papaya_store.specs.declared.scans.Scanning.{Scanning}
 
 module _ {K V S A : Type 0} (eq : K → K → Bool) (s : CoreState K V S A) (caller : ℕ)
     (s' : CoreState K V S A) where
@@ -49,20 +49,20 @@ module _ {K V S A : Type 0} (eq : K → K → Bool) (s : CoreState K V S A) (cal
     pub intended : Intends s.store (works.Call running_call) old (operation_for came)
 
   -- A clear or a retain takes the pair of this number out of the map, and no other class changes.
-  pub record IsTakenByVisit (old new : Option ℕ) : Type 0 where
-    pub visitor : Visiting A
-    pub is_visiting : visiting s.callers caller ≡ Some visitor
-    pub no_walk : visitor.visitor.visit ≡ Walk → ⊥
+  pub record IsTakenByScan (old new : Option ℕ) : Type 0 where
+    pub scanner : Scanning A
+    pub is_scanning : scanning s.callers caller ≡ Some scanner
+    pub no_walk : scanner.scanner.scan ≡ Walk → ⊥
     pub pair : Stored K V
     pub update : IsUpdate eq pair.key (Some pair) None (map_of eq s) (map_of eq s')
     pub went_is : old ≡ Some pair.number
     pub came_is : new ≡ None
     -- of a retain, its closure has answered that the pair does not stay
-    pub intended : visitor.visitor.visit ≡ Retain
-        → Intends s.store (works.Visit visitor) (Some pair.number) ops.Remove
+    pub intended : scanner.scanner.scan ≡ Retain
+        → Intends s.store (works.Scan scanner) (Some pair.number) ops.Remove
 
   -- a step whose event is a change of the map changes the class of its own call's key, or takes out
-  -- a pair that its call visits, and every other step leaves the map
+  -- a pair that its call scans, and every other step leaves the map
   abbrev pub MovesMap : Event → Type 0
-  MovesMap (Changed kind old new) = IsOwnChange old new ⊎ IsTakenByVisit old new
+  MovesMap (Changed kind old new) = IsOwnChange old new ⊎ IsTakenByScan old new
   MovesMap _ = Same (map_of eq s) (map_of eq s')

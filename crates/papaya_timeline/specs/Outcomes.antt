@@ -4,12 +4,12 @@ use Rattle.papaya_ask.specs.declared.call.Reply.{Reply}
 use Rattle.papaya_ask.specs.declared.call.Reply.TheVariants.{Done}
 use Rattle.papaya_timeline.specs.declared.outcome.Outcome.{Outcome}
 use Rattle.papaya_timeline.specs.declared.outcome.Outcome.TheVariants.{Replied, Walked}
-use Rattle.papaya_chain.specs.declared.visit_ask.VisitAsk.{VisitAsk}
-use Rattle.papaya_chain.specs.declared.visit_ask.VisitAsk.TheVariants.{Give}
-use Rattle.papaya_chain.specs.declared.visitor.Visit.{Visit}
-use Rattle.papaya_chain.specs.declared.visitor.Visit.TheVariants.{Walk}
-use Rattle.papaya_chain.specs.Visitor.{ask_of}
-use Rattle.papaya_store.specs.declared.visits.Visiting.{Visiting}
+use Rattle.papaya_chain.specs.declared.scan_ask.ScanAsk.{ScanAsk}
+use Rattle.papaya_chain.specs.declared.scan_ask.ScanAsk.TheVariants.{Give}
+use Rattle.papaya_chain.specs.declared.scanner.Scan.{Scan}
+use Rattle.papaya_chain.specs.declared.scanner.Scan.TheVariants.{Walk}
+use Rattle.papaya_chain.specs.Scanner.{ask_of}
+use Rattle.papaya_store.specs.declared.scans.Scanning.{Scanning}
 
 -- the reply, as a trace tells it: of a walk, that it is done
 abbrev pub reply_told : Outcome → Reply
@@ -22,26 +22,26 @@ as_reply None = None
 as_reply (Some outcome) = Some (reply_told outcome)
 
 -- the pair that is to be given by this ask
-abbrev pub given_by : Option VisitAsk → List ℕ
+abbrev pub given_by : Option ScanAsk → List ℕ
 given_by (Some (Give n)) = n ∷ []
 given_by _ = []
 
--- what a visit has given, and what it gives by what it asks now
-abbrev pub all_given : {A : Type 0} → Visiting A → List ℕ
-all_given v = v.given ++ given_by (ask_of v.visitor)
+-- what a scan has given, and what it gives by what it asks now
+abbrev pub all_given : {A : Type 0} → Scanning A → List ℕ
+all_given v = v.given ++ given_by (ask_of v.scanner)
 
--- a walk that is done answers all that it gave, and no other visit answers a list
-abbrev pub ListsGiven : Visit → (given : List ℕ) → Outcome → Type 0
-ListsGiven visit given (Walked list) = (visit ≡ Walk) × (list.items ≡ given)
-ListsGiven visit given (Replied reply) = visit ≡ Walk → reply ≡ Done → ⊥
+-- a walk that is done answers all that it gave, and no other scan answers a list
+abbrev pub ListsGiven : Scan → (given : List ℕ) → Outcome → Type 0
+ListsGiven scan given (Walked list) = (scan ≡ Walk) × (list.items ≡ given)
+ListsGiven scan given (Replied reply) = scan ≡ Walk → reply ≡ Done → ⊥
 
--- a call that is no visit answers no list
+-- a call that is no scan answers no list
 abbrev pub ListsNone : Outcome → Type 0
 ListsNone (Walked list) = ⊥
 ListsNone (Replied reply) = Unit {0}
 
--- what a step answers of the visit that was under way before it, if one was
-abbrev pub AnswersWalk : {A : Type 0} → Option (Visiting A) → Option Outcome → Type 0
+-- what a step answers of the scan that was under way before it, if one was
+abbrev pub AnswersWalk : {A : Type 0} → Option (Scanning A) → Option Outcome → Type 0
 AnswersWalk before None = Unit {0}
 AnswersWalk None (Some outcome) = ListsNone outcome
-AnswersWalk (Some v) (Some outcome) = ListsGiven v.visitor.visit (all_given v) outcome
+AnswersWalk (Some v) (Some outcome) = ListsGiven v.scanner.scan (all_given v) outcome

@@ -1,4 +1,4 @@
--- The end of a call that resizes the map or visits a table and is made alone: what holds of the core
+-- The end of a call that resizes the map or scans a table and is made alone: what holds of the core
 -- while nobody else has a call under way, and what is so when it has ended.
 use Rattle.std.specs.Prelude.{◌≡◌, ℕ, ◌+◌, ◌<◌, ◌≤◌, Bool, [], ◌∷◌, Some}
 use Rattle.papaya_words.specs.Counter.{count_of}
@@ -14,8 +14,8 @@ use Rattle.papaya_timeline.specs.declared.seat.Work.TheVariants as works
 use Rattle.papaya_timeline.specs.Core.{CoreState}
 use Rattle.papaya_timeline.specs.Ends.{IsLone, budget_of}
 use Rattle.papaya_timeline.specs.Kept.{IsLawfulCore, slots_in}
-use Rattle.papaya_alone.specs.Visitors.{IsVisitorRead, visitor_measure}
-use Rattle.papaya_store.specs.declared.visits.Visiting.{Visiting}
+use Rattle.papaya_alone.specs.Scanners.{IsScannerRead, scanner_measure}
+use Rattle.papaya_store.specs.declared.scans.Scanning.{Scanning}
 
 -- The one caller has this call that resizes the map under way: the core is in order, and what the
 -- call has read stands there still.
@@ -36,32 +36,32 @@ pub record IsNearerResized {K V S A : Type 0} (eq : K → K → Bool) (hash : S 
   pub lone : IsLoneResizer eq hash s' later
   pub less : lone_resizer_measure s' later < lone_resizer_measure s resizer
 
--- The one caller has this call that visits a table under way: the core is in order, and what the
+-- The one caller has this call that scans a table under way: the core is in order, and what the
 -- call has read stands there still.
-pub record IsLoneVisitor {K V S A : Type 0} (eq : K → K → Bool) (hash : S → K → ℕ)
-    (s : CoreState K V S A) (v : Visiting A) : Type 0 where
-  pub callers : s.callers ≡ record { caller = 0; work = Some (works.Visit v) } ∷ []
+pub record IsLoneScanner {K V S A : Type 0} (eq : K → K → Bool) (hash : S → K → ℕ)
+    (s : CoreState K V S A) (v : Scanning A) : Type 0 where
+  pub callers : s.callers ≡ record { caller = 0; work = Some (works.Scan v) } ∷ []
   pub lawful : IsLawfulCore eq (hash s.store.hasher) s.store s.callers s.mode
-  pub read : IsVisitorRead (word_at s.store.words) v.visitor
+  pub read : IsScannerRead (word_at s.store.words) v.scanner
 
 -- how far such a call is from its end, at most
-abbrev pub lone_visitor_measure : {K V S A : Type 0} → CoreState K V S A → Visiting A → ℕ
-lone_visitor_measure s v =
-    visitor_measure (budget_of s.store) (word_at s.store.words) v.visitor
+abbrev pub lone_scanner_measure : {K V S A : Type 0} → CoreState K V S A → Scanning A → ℕ
+lone_scanner_measure s v =
+    scanner_measure (budget_of s.store) (word_at s.store.words) v.scanner
 
 -- a step has left it under way, and nearer its end
-pub record IsNearerVisited {K V S A : Type 0} (eq : K → K → Bool) (hash : S → K → ℕ)
-    (s : CoreState K V S A) (v : Visiting A) (s' : CoreState K V S A) : Type 0 where
-  pub later : Visiting A
-  pub lone : IsLoneVisitor eq hash s' later
-  pub less : lone_visitor_measure s' later < lone_visitor_measure s v
+pub record IsNearerScanned {K V S A : Type 0} (eq : K → K → Bool) (hash : S → K → ℕ)
+    (s : CoreState K V S A) (v : Scanning A) (s' : CoreState K V S A) : Type 0 where
+  pub later : Scanning A
+  pub lone : IsLoneScanner eq hash s' later
+  pub less : lone_scanner_measure s' later < lone_scanner_measure s v
 
 -- the one caller has this under way
 abbrev pub IsLoneWork : {K V S A : Type 0} → (K → K → Bool) → (S → K → ℕ) → CoreState K V S A
     → Work K V A → Type 0
 IsLoneWork eq hash s (works.Call r) = IsLone eq hash s r
 IsLoneWork eq hash s (works.Resize resizer) = IsLoneResizer eq hash s resizer
-IsLoneWork eq hash s (works.Visit v) = IsLoneVisitor eq hash s v
+IsLoneWork eq hash s (works.Scan v) = IsLoneScanner eq hash s v
 
 -- the root has slots for so many pairs more than the map counts
 abbrev pub IsRoomy : {K V S : Type 0} → StoreState K V S → (more : ℕ) → Type 0

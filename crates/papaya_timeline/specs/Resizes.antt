@@ -8,7 +8,7 @@ use Rattle.papaya_chain.specs.declared.ask.Ask.TheVariants as asks
 use Rattle.papaya_chain.specs.declared.ask.Answer.{Answer}
 use Rattle.papaya_chain.specs.declared.resizer.Resizer.{Resizer}
 use Rattle.papaya_chain.specs.Resizer.{after, ask_of, kind_of_ask, reply_of}
-use Rattle.papaya_chain_rests.specs.Resizers.{IsResizeCause}
+use Rattle.papaya_chain_law.specs.Resizers.{IsResizeCause}
 use Rattle.papaya_store.specs.Copies.{PerformsCopy}
 use Rattle.papaya_timeline.specs.declared.seat.Work.TheVariants.{Resize}
 use Rattle.papaya_timeline.specs.declared.trace.Event.{Event}

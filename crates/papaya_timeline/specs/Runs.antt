@@ -13,7 +13,7 @@ use Rattle.papaya_timeline.specs.Core.{CoreState, work_of}
 use Rattle.papaya_timeline.specs.Begins.{Begins}
 use Rattle.papaya_timeline.specs.Advances.{Advances}
 use Rattle.papaya_timeline.specs.Resizes.{Resizes}
-use Rattle.papaya_timeline.specs.VisitGoes.{Visits}
+use Rattle.papaya_timeline.specs.ScanGoes.{Scans}
 
 -- a history is a trace, its newest entry first
 abbrev pub History : Type 0
@@ -36,11 +36,11 @@ module _ {K V S A : Type 0} (eq : K → K → Bool) (says : Says K V A) (hash : 
   PassesOver s before s' after = (s' ≡ s) × (after ≡ before)
 
   -- one step of a caller: of its call on one key, of its call that resizes the map, or of its call
-  -- that visits a table
+  -- that scans a table
   abbrev pub Steps : Bool → CoreState K V S A → ℕ → CoreState K V S A → Event → Option Reply → Type 0
   Steps refuse s caller s' event reply = Advances eq says hash refuse s caller s' event reply
       ⊎ Resizes eq hash refuse s caller s' event reply
-      ⊎ Visits eq says hash refuse s caller s' event reply
+      ⊎ Scans eq says hash refuse s caller s' event reply
 
   -- a caller that is in no call begins one, and one that is in a call is passed over
   abbrev pub BeginRuns : (turn caller : ℕ) → Call K V A → CoreState K V S A → History

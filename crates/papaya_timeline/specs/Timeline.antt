@@ -4,7 +4,7 @@ use Rattle.std.specs.Prelude.{◌≡◌, ◌≢◌, ℕ, ◌==◌, Bool, true, f
 use Rattle.papaya_words.specs.declared.probe.Refused.{Refused}
 use Rattle.papaya_words.specs.declared.probe.Refused.TheVariants.{RemoveNothing}
 use Rattle.papaya_call.specs.Answers.{op_kind}
-use Rattle.papaya_rests.specs.Rests.{Change, change_of_reply}
+use Rattle.papaya_call_law.specs.Relies.{Change, change_of_reply}
 use Rattle.papaya_call.specs.declared.answers.Operation.{Operation}
 use Rattle.papaya_call.specs.declared.answers.Operation.TheVariants as ops
 use Rattle.papaya_ask.specs.declared.ask.OpKind.{OpKind}

@@ -4,7 +4,7 @@
 
 pub mod once;
 pub mod outcome;
+pub mod scans;
 pub mod seat;
 pub mod solo;
 pub mod trace;
-pub mod visits;

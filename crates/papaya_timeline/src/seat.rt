@@ -1,7 +1,7 @@
 //! A caller's seat.
 use papaya_chain::resizer::Resizer;
 use papaya_store::pairs::Running;
-use papaya_store::visits::Visiting;
+use papaya_store::scans::Scanning;
 
 /// A call under way.
 #[derive(Drop)]
@@ -10,8 +10,8 @@ pub enum Work<K, V, A> {
     Call(Running<K, V, A>),
     /// A call that resizes the map.
     Resize(Resizer),
-    /// A call that visits a table.
-    Visit(Visiting<A>),
+    /// A call that scans a table.
+    Scan(Scanning<A>),
 }
 
 /// A caller that has begun a call at some time, and the call that it has under way.

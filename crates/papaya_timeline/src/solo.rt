@@ -7,9 +7,9 @@ ghost use Rattle.papaya_timeline.specs.Core.{CoreState};
 ghost use Rattle.papaya_timeline.specs.Counted.{IsCounted};
 ghost use Rattle.papaya_timeline.specs.Ends.{IsLone, IsNearer};
 ghost use Rattle.papaya_timeline.specs.Resized.{IsLoneResizer, IsLoneWork, IsNearerResized, IsResized};
-ghost use Rattle.papaya_timeline.specs.Resized.{IsLoneVisitor, IsNearerVisited};
+ghost use Rattle.papaya_timeline.specs.Resized.{IsLoneScanner, IsNearerScanned};
 ghost use Rattle.papaya_timeline.specs.Resizes.{Resizes};
-ghost use Rattle.papaya_timeline.specs.VisitGoes.{Visits};
+ghost use Rattle.papaya_timeline.specs.ScanGoes.{Scans};
 ghost use Rattle.papaya_ask.specs.declared.call.Reply.TheVariants.{Done as Reply_done};
 ghost use Rattle.papaya_timeline.specs.Kept.{IsLawfulCore};
 ghost use Rattle.papaya_timeline.specs.Solo.{IsAnswered, IsNewIn, RunsAlone, whatever};
@@ -20,11 +20,11 @@ use crate::trace::Event;
 use papaya_ask::call::{Call, Reply};
 use papaya_chain::resizer::Resizer;
 use papaya_store::pairs::Running;
-use papaya_store::visits::Visiting;
+use papaya_store::scans::Scanning;
 use std::hash::{BuildHasher, Hash};
 
 /// A call that is made alone does what the finite map does, and leaves the words and the count in
-/// order: what a map for one caller rests on.
+/// order: what a map for one caller relies on.
 pub fn one_call<K: Hash + Eq, V, S: BuildHasher, A, B>()
     ensures answers { (s s' : CoreState K V S A) (call : Call K V A) (reply : Reply)
         → IsLawfulCore K.eq (hash_of K.hash_input S.build_hasher S.Hasher.write S.Hasher.finish
@@ -78,10 +78,10 @@ pub fn one_call_ends<K: Hash + Eq, V, S: BuildHasher, A>()
         (hash_of K.hash_input S.build_hasher S.Hasher.write S.Hasher.finish) s resizer
         → Resizes K.eq (hash_of K.hash_input S.build_hasher S.Hasher.write S.Hasher.finish)
         refuse s 0 s' event (Some Reply_done) → IsResized resizer.resize s'.store }
-    ensures visitor_nearer { (refuse : Bool) (s s' : CoreState K V S A) (v : Visiting A)
-        (event : Event) → IsLoneVisitor K.eq
+    ensures scanner_nearer { (refuse : Bool) (s s' : CoreState K V S A) (v : Scanning A)
+        (event : Event) → IsLoneScanner K.eq
         (hash_of K.hash_input S.build_hasher S.Hasher.write S.Hasher.finish) s v
-        → Visits K.eq whatever (hash_of K.hash_input S.build_hasher S.Hasher.write S.Hasher.finish)
-        refuse s 0 s' event None → IsNearerVisited K.eq
+        → Scans K.eq whatever (hash_of K.hash_input S.build_hasher S.Hasher.write S.Hasher.finish)
+        refuse s 0 s' event None → IsNearerScanned K.eq
         (hash_of K.hash_input S.build_hasher S.Hasher.write S.Hasher.finish) s v s' }
 {}

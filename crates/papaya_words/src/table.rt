@@ -96,7 +96,7 @@ impl Table {
         self.slots.len()
     }
 
-    /// How many places a search visits after the first.
+    /// How many places a search looks at after the first.
     #[inline(always)]
     pub fn limit(&self) -> usize
         ensures { result ≡ self.now.limit }

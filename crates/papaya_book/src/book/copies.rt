@@ -14,10 +14,10 @@ use crate::book::gains::pair_in;
 use crate::keyed::Keyed;
 use crate::rule::entry::Stored;
 use crate::rule::law::Found;
+use crate::rule::offer;
+use crate::rule::offer::{Offer, Seen};
 use crate::rule::steps::{Copy, Fetch, Laying, Sought, Try, Wanted};
 use crate::rule::token::token;
-use crate::rule::trade;
-use crate::rule::trade::{Sight, Trade};
 use crate::slot::Cell;
 use crate::table::Table;
 use boxcar::Pushed;
@@ -28,7 +28,7 @@ use std::hash::{BuildHasher, Hash};
 impl<K: Hash + Eq, V, S: BuildHasher> Book<K, V, S> {
     /// The table of this number, which has come: one atomic load of the root gains its token.
     #[inline]
-    pub fn table<'a>(&'a self, number: u64, sight: &mut Sight<K, V, S>) -> &'a Table<K, V, S>
+    pub fn table<'a>(&'a self, number: u64, sight: &mut Seen<K, V, S>) -> &'a Table<K, V, S>
         requires book { sight.old.book ≡ self.now.begun.book }
         requires come { HasCome sight.old.log number }
         ensures book { sight.new.book ≡ sight.old.book }
@@ -37,15 +37,15 @@ impl<K: Hash + Eq, V, S: BuildHasher> Book<K, V, S> {
     {
         sight.learn(&self.begun);
         let wanted = Wanted { number };
-        let mut trade = trade::bare::<K, V, S, Wanted, Fetch>(sight, &wanted);
-        self.root.load::<Fetch, Found<K, V>>(sight, &mut trade);
-        let known = trade::table_known(trade.into_gain());
+        let mut offer = offer::bare::<K, V, S, Wanted, Fetch>(sight, &wanted);
+        self.root.load::<Fetch, Found<K, V>>(sight, &mut offer);
+        let known = offer::table_known(offer.into_gain());
         let token = token(known, (number - 1) as usize);
         self.parts.tables.value(&token)
     }
 
     /// One atomic load of the word that says whether a table was given up.
-    pub fn aborted(&self, table: &Table<K, V, S>, number: u64, sight: &mut Sight<K, V, S>) -> u64
+    pub fn aborted(&self, table: &Table<K, V, S>, number: u64, sight: &mut Seen<K, V, S>) -> u64
         requires book { sight.old.book ≡ self.now.begun.book }
         requires table { IsTable sight.old.log number table.now }
         ensures book { sight.new.book ≡ sight.old.book }
@@ -67,7 +67,7 @@ impl<K: Hash + Eq, V, S: BuildHasher> Book<K, V, S> {
         table: &Table<K, V, S>,
         number: u64,
         chunk: usize,
-        sight: &mut Sight<K, V, S>,
+        sight: &mut Seen<K, V, S>,
     ) -> u64
         requires book { sight.old.book ≡ self.now.begun.book }
         requires table { IsTable sight.old.log number table.now }
@@ -92,8 +92,8 @@ impl<K: Hash + Eq, V, S: BuildHasher> Book<K, V, S> {
         copy: &Copy<K, V>,
         old: u64,
         new: u64,
-        sight: &mut Sight<K, V, S>,
-    ) -> (u64, Trade<K, V, S>)
+        sight: &mut Seen<K, V, S>,
+    ) -> (u64, Offer<K, V, S>)
         requires book { sight.old.book ≡ self.now.begun.book }
         requires word { word.now ≡ word_named self.now.begun.book word.now.key }
         requires key { key_at (steps_of sight.old.log) copy.now.at ≡ Some word.now.key }
@@ -104,12 +104,12 @@ impl<K: Hash + Eq, V, S: BuildHasher> Book<K, V, S> {
             result.0 sight.new.log result.1.state }
     {
         sight.learn(&self.begun);
-        let mut trade = trade::bare::<K, V, S, Copy<K, V>, Try>(sight, copy);
+        let mut offer = offer::bare::<K, V, S, Copy<K, V>, Try>(sight, copy);
         let mut pen = sight.no_pen();
         let found = word.compare_exchange::<Try, Found<K, V>>(
-            old, new, sight, &mut trade, &mut pen,
+            old, new, sight, &mut offer, &mut pen,
         );
-        (found, trade)
+        (found, offer)
     }
 
     /// One atomic exchange of a slot for a copy: the word found there, and the token of the pair
@@ -122,7 +122,7 @@ impl<K: Hash + Eq, V, S: BuildHasher> Book<K, V, S> {
         kind: Option<StepKind>,
         kept: &Option<Stored<K, V>>,
         words: (u64, u64),
-        sight: &mut Sight<K, V, S>,
+        sight: &mut Seen<K, V, S>,
     ) -> (u64, Option<Stored<K, V>>)
         requires book { sight.old.book ≡ self.now.begun.book }
         requires table { IsTable sight.old.log number table.now }
@@ -141,8 +141,8 @@ impl<K: Hash + Eq, V, S: BuildHasher> Book<K, V, S> {
             kept,
         };
         let (old, new) = words;
-        let (found, trade) = self.copy(table.slot(place), &copy, old, new, sight);
-        (found, pair_in(found, trade))
+        let (found, offer) = self.copy(table.slot(place), &copy, old, new, sight);
+        (found, pair_in(found, offer))
     }
 
     /// One atomic exchange of the root for a copy: the number found there.
@@ -151,7 +151,7 @@ impl<K: Hash + Eq, V, S: BuildHasher> Book<K, V, S> {
         kind: Option<StepKind>,
         kept: &Option<Stored<K, V>>,
         words: (u64, u64),
-        sight: &mut Sight<K, V, S>,
+        sight: &mut Seen<K, V, S>,
     ) -> u64
         requires book { sight.old.book ≡ self.now.begun.book }
         requires can { CanCopy ⟦<S as Keyed<K>>⟧.keys self.now Root kind kept.now words
@@ -180,7 +180,7 @@ impl<K: Hash + Eq, V, S: BuildHasher> Book<K, V, S> {
         kind: Option<StepKind>,
         kept: &Option<Stored<K, V>>,
         words: (u64, u64),
-        sight: &mut Sight<K, V, S>,
+        sight: &mut Seen<K, V, S>,
     ) -> u64
         requires book { sight.old.book ≡ self.now.begun.book }
         requires table { IsTable sight.old.log number table.now }
@@ -212,7 +212,7 @@ impl<K: Hash + Eq, V, S: BuildHasher> Book<K, V, S> {
         kind: Option<StepKind>,
         kept: &Option<Stored<K, V>>,
         words: (u64, u64),
-        sight: &mut Sight<K, V, S>,
+        sight: &mut Seen<K, V, S>,
     ) -> u64
         requires book { sight.old.book ≡ self.now.begun.book }
         requires table { IsTable sight.old.log number table.now }
@@ -243,7 +243,7 @@ impl<K: Hash + Eq, V, S: BuildHasher> Book<K, V, S> {
         number: u64,
         table: &Pushed<Table<K, V, S>>,
         seal: &mut Pen,
-        sight: &mut Sight<K, V, S>,
+        sight: &mut Seen<K, V, S>,
     ) -> u64
         requires book { sight.old.book ≡ self.now.begun.book }
         requires after { IsTable sight.old.log number after.now }

@@ -9,8 +9,8 @@ use crate::book::Book;
 use crate::book::gains::pair_in;
 use crate::keyed::Keyed;
 use crate::rule::entry::Stored;
+use crate::rule::offer::Seen;
 use crate::rule::steps::{Put, Wish};
-use crate::rule::trade::Sight;
 use crate::table::Table;
 use papaya_ask::ask::{At, StepKind};
 use std::hash::{BuildHasher, Hash};
@@ -26,7 +26,7 @@ impl<K: Hash + Eq, V, S: BuildHasher> Book<K, V, S> {
         place: usize,
         kind: Option<StepKind>,
         words: (u64, u64),
-        sight: &mut Sight<K, V, S>,
+        sight: &mut Seen<K, V, S>,
     ) -> (u64, Option<Stored<K, V>>)
         requires book { sight.old.book ≡ self.now.begun.book }
         requires table { IsTable sight.old.log number table.now }
@@ -44,8 +44,8 @@ impl<K: Hash + Eq, V, S: BuildHasher> Book<K, V, S> {
         };
         let (old, new) = words;
         sight.learn(&self.begun);
-        let (found, trade) = self.exchange(table.slot(place), &wish, old, new, sight);
-        (found, pair_in(found, trade))
+        let (found, offer) = self.exchange(table.slot(place), &wish, old, new, sight);
+        (found, pair_in(found, offer))
     }
 
     /// One atomic exchange of a slot, with which the pair comes that the call has made: the word
@@ -59,7 +59,7 @@ impl<K: Hash + Eq, V, S: BuildHasher> Book<K, V, S> {
         kind: Option<StepKind>,
         made: &Stored<K, V>,
         words: (u64, u64),
-        sight: &mut Sight<K, V, S>,
+        sight: &mut Seen<K, V, S>,
     ) -> (u64, Option<Stored<K, V>>)
         requires book { sight.old.book ≡ self.now.begun.book }
         requires table { IsTable sight.old.log number table.now }
@@ -79,7 +79,7 @@ impl<K: Hash + Eq, V, S: BuildHasher> Book<K, V, S> {
             made,
         };
         let (old, new) = words;
-        let (found, trade) = self.put(table.slot(place), &wish, old, new, sight);
-        (found, pair_in(found, trade))
+        let (found, offer) = self.put(table.slot(place), &wish, old, new, sight);
+        (found, pair_in(found, offer))
     }
 }

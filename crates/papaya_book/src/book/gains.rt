@@ -5,8 +5,8 @@ ghost use Rattle.papaya_book.specs.Calls.{IsPairOf, NamesPair};
 ghost use Rattle.papaya_book.specs.declared.rule.entry.Named.TheVariants.{Pair as PairNamed};
 
 use crate::rule::entry::Stored;
-use crate::rule::trade;
-use crate::rule::trade::Trade;
+use crate::rule::offer;
+use crate::rule::offer::Offer;
 use papaya_log::token::token;
 use papaya_words::word::{Kind, Word};
 use std::hash::{BuildHasher, Hash};
@@ -15,12 +15,12 @@ use std::hash::{BuildHasher, Hash};
 #[inline(always)]
 pub fn named_pair<K: Hash + Eq, V, S: BuildHasher>(
     found: u64,
-    trade: Trade<K, V, S>,
+    offer: Offer<K, V, S>,
 ) -> Stored<K, V>
-    requires { (p : _) × (trade.state ≡ Some (PairNamed p)) × (pair_of found ≡ p.index) }
-    ensures { trade.state ≡ Some (PairNamed result) }
+    requires { (p : _) × (offer.state ≡ Some (PairNamed p)) × (pair_of found ≡ p.index) }
+    ensures { offer.state ≡ Some (PairNamed result) }
 {
-    let known = trade::pair_known(trade.into_gain());
+    let known = offer::pair_known(offer.into_gain());
     token(known, Word(found).pair() as usize)
 }
 
@@ -28,13 +28,13 @@ pub fn named_pair<K: Hash + Eq, V, S: BuildHasher>(
 #[inline(always)]
 pub fn pair_in<K: Hash + Eq, V, S: BuildHasher>(
     found: u64,
-    trade: Trade<K, V, S>,
+    offer: Offer<K, V, S>,
 ) -> Option<Stored<K, V>>
-    requires { NamesPair found trade.state }
-    ensures { IsPairOf found trade.state result }
+    requires { NamesPair found offer.state }
+    ensures { IsPairOf found offer.state result }
 {
     match Word(found).kind() {
         Kind::Empty | Kind::Closed => None,
-        _ => Some(named_pair(found, trade)),
+        _ => Some(named_pair(found, offer)),
     }
 }

@@ -6,7 +6,7 @@ ghost use Rattle.papaya_book.specs.Calls.{IsTable};
 
 use crate::book::Book;
 use crate::keyed::Keyed;
-use crate::rule::trade::Sight;
+use crate::rule::offer::Seen;
 use crate::table::Table;
 use std::hash::{BuildHasher, Hash};
 
@@ -18,7 +18,7 @@ impl<K: Hash + Eq, V, S: BuildHasher> Book<K, V, S> {
         table: &Table<K, V, S>,
         number: u64,
         place: usize,
-        sight: &mut Sight<K, V, S>,
+        sight: &mut Seen<K, V, S>,
     ) -> u64
         requires book { sight.old.book ≡ self.now.begun.book }
         requires table { IsTable sight.old.log number table.now }
@@ -42,7 +42,7 @@ impl<K: Hash + Eq, V, S: BuildHasher> Book<K, V, S> {
         number: u64,
         place: usize,
         hint: u8,
-        sight: &Sight<K, V, S>,
+        sight: &Seen<K, V, S>,
     )
         requires book { sight.now.book ≡ self.now.begun.book }
         requires table { IsTable sight.now.log number table.now }

@@ -4,8 +4,8 @@ ghost use mathlib.Core.List.{IsPrefix};
 
 use crate::book::Book;
 use crate::keyed::Keyed;
+use crate::rule::offer::Seen;
 use crate::rule::steps::Sought;
-use crate::rule::trade::Sight;
 use crate::table::Table;
 use papaya_ask::ask::At;
 use std::hash::{BuildHasher, Hash};
@@ -18,7 +18,7 @@ use std::marker::Model;
 pub struct KeptRoot<'a, K: Hash + Eq, V, S: BuildHasher> {
     number: u64,
     table: Option<&'a Table<K, V, S>>,
-    sight: Sight<K, V, S>,
+    sight: Seen<K, V, S>,
 }
 
 impl<'a, K: Hash + Eq, V, S: BuildHasher> Model for KeptRoot<'a, K, V, S> {
@@ -71,7 +71,7 @@ impl<K: Hash + Eq, V, S: BuildHasher> Book<K, V, S> {
     pub fn root_by<'a>(
         &'a self,
         kept: &KeptRoot<'a, K, V, S>,
-        sight: &mut Sight<K, V, S>,
+        sight: &mut Seen<K, V, S>,
     ) -> (u64, Option<&'a Table<K, V, S>>)
         requires book { sight.old.book ≡ self.now.begun.book }
         requires kept { kept.now ≡ self.now.begun.book }

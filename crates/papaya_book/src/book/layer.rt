@@ -10,17 +10,17 @@ ghost use Rattle.boxcar.specs.Table.{Shows};
 ghost use Rattle.papaya_book.specs.Limits.{HasTableFrom, IsFull, tables_of};
 ghost use Rattle.papaya_book.specs.Sheets.{AllOf};
 ghost use Rattle.papaya_book.specs.declared.rule.entry.Named.TheVariants.{Table as TableNamed};
-ghost use Rattle.papaya_book.specs.declared.rule.own.Given.TheVariants as numbers;
+ghost use Rattle.papaya_book.specs.declared.rule.own.CapacityCause.TheVariants as numbers;
 ghost use Rattle.papaya_words.specs.Probe.{IsEntriesFor};
 ghost use Rattle.papaya_words.specs.declared.limits.TheConstants.{MAX_TABLE_LEN};
 
 use crate::book::Book;
 use crate::keyed::Keyed;
-use crate::rule::own::{Given, Own};
+use crate::rule::offer;
+use crate::rule::offer::{Offer, Seen};
+use crate::rule::own::{CapacityCause, OwnSteps};
 use crate::rule::steps::Laying;
 use crate::rule::token::token;
-use crate::rule::trade;
-use crate::rule::trade::{Sight, Trade};
 use crate::slot::{Cell, Slot};
 use crate::table::Table;
 use boxcar::Pushed;
@@ -60,7 +60,7 @@ impl<K: Hash + Eq, V, S: BuildHasher> Book<K, V, S> {
         room: Vec<Slot<K, V, S>>,
         len: usize,
         row: &mut Pens,
-        sight: &Sight<K, V, S>,
+        sight: &Seen<K, V, S>,
     ) -> Result<Vec<Slot<K, V, S>>, AllocError>
         requires room { room.items ≡ [] }
         requires left { len ≤ row.old.left }
@@ -85,7 +85,7 @@ impl<K: Hash + Eq, V, S: BuildHasher> Book<K, V, S> {
         len: usize,
         limit: usize,
         chunks: usize,
-        sight: &mut Sight<K, V, S>,
+        sight: &mut Seen<K, V, S>,
     ) -> Option<(Table<K, V, S>, Pen)>
         requires book { sight.old.book ≡ self.now.begun.book }
         requires size { IsSize len limit }
@@ -120,12 +120,12 @@ impl<K: Hash + Eq, V, S: BuildHasher> Book<K, V, S> {
     }
 
     /// What tells that the log of tables gave this number.
-    fn gave_table(&self, table: &Pushed<Table<K, V, S>>) -> Own<Given>
+    fn gave_table(&self, table: &Pushed<Table<K, V, S>>) -> OwnSteps<CapacityCause>
         requires { Shows self.now.parts.tables table.now }
         ensures { result.done ≡ numbers.Table table.now.index ∷ [] }
     {
-        let number = Given::Table(table.index());
-        Own::only(&number)
+        let number = CapacityCause::Table(table.index());
+        OwnSteps::only(&number)
     }
 
     /// A table of so many slots, all Empty, to which a table of so many chunks is copied, in the log
@@ -140,8 +140,8 @@ impl<K: Hash + Eq, V, S: BuildHasher> Book<K, V, S> {
         len: usize,
         limit: usize,
         chunks: usize,
-        sight: &mut Sight<K, V, S>,
-        given: &mut Own<Given>,
+        sight: &mut Seen<K, V, S>,
+        given: &mut OwnSteps<CapacityCause>,
     ) -> Result<(Pushed<Table<K, V, S>>, Pen), Refused>
         requires book { sight.old.book ≡ self.now.begun.book }
         requires size { IsSize len limit }
@@ -177,8 +177,8 @@ impl<K: Hash + Eq, V, S: BuildHasher> Book<K, V, S> {
         &self,
         table: &Pushed<Table<K, V, S>>,
         seal: &mut Pen,
-        sight: &mut Sight<K, V, S>,
-    ) -> (u64, Trade<K, V, S>)
+        sight: &mut Seen<K, V, S>,
+    ) -> (u64, Offer<K, V, S>)
         requires book { sight.old.book ≡ self.now.begun.book }
         requires placed { IsIn self.now (TableNamed table.now) }
         requires made { IsMade table.now.value sight.old.log }
@@ -204,7 +204,7 @@ impl<K: Hash + Eq, V, S: BuildHasher> Book<K, V, S> {
         &'a self,
         table: &Pushed<Table<K, V, S>>,
         seal: &mut Pen,
-        sight: &mut Sight<K, V, S>,
+        sight: &mut Seen<K, V, S>,
     ) -> (u64, &'a Table<K, V, S>)
         requires book { sight.old.book ≡ self.now.begun.book }
         requires placed { IsIn self.now (TableNamed table.now) }
@@ -217,11 +217,11 @@ impl<K: Hash + Eq, V, S: BuildHasher> Book<K, V, S> {
         ensures held { IsTable sight.new.log (root_then table.now result.0) result.1.now }
     {
         sight.learn(&self.begun);
-        let (found, trade) = self.open(table, seal, sight);
+        let (found, offer) = self.open(table, seal, sight);
         if found == 0 {
             return (0, self.parts.tables.value(table));
         }
-        let known = trade::table_known(trade.into_gain());
+        let known = offer::table_known(offer.into_gain());
         let token = token(known, (found - 1) as usize);
         (found, self.parts.tables.value(&token))
     }
@@ -238,7 +238,7 @@ impl<K: Hash + Eq, V, S: BuildHasher> Book<K, V, S> {
         alloc: Global,
         capacity: usize,
         initial: usize,
-    ) -> Result<Sight<K, V, S>, Refused>
+    ) -> Result<Seen<K, V, S>, Refused>
         requires { IsEntriesFor capacity initial × (initial ≤ MAX_TABLE_LEN) }
         ensures book { IfOk result (λ sight. sight.book ≡ self.now.begun.book) }
         ensures came { IfOk result (λ sight. HasTableFrom initial (tables_of sight.log)) }
@@ -246,7 +246,7 @@ impl<K: Hash + Eq, V, S: BuildHasher> Book<K, V, S> {
     {
         let len = table_len(initial);
         let mut sight = self.pass();
-        let mut given = Own::nothing();
+        let mut given = OwnSteps::nothing();
         let Ok((table, mut seal)) = self.make_table(
             rt,
             alloc,

@@ -6,7 +6,7 @@ ghost use Rattle.papaya_book.specs.declared.rule.entry.Event.TheVariants.{Begin}
 
 use crate::book::Book;
 use crate::book::parts::Parts;
-use crate::rule::trade::Sight;
+use crate::rule::offer::Seen;
 use papaya_log::log::Log;
 use papaya_words::probe::ResizeMode;
 use std::alloc::{AllocError, Global};
@@ -14,7 +14,7 @@ use std::hash::{BuildHasher, Hash};
 use std::sync::Wait;
 
 impl<K: Hash + Eq + Drop, V: Drop, S: BuildHasher + Drop> Parts<K, V, S> {
-    /// The hasher, and two logs that hold nothing. The log of pairs will begin with room for
+    /// The hasher, and two logs that hold nothing. The arena of pairs will begin with room for
     /// `capacity`, and may have no more pairs than `limit`.
     pub fn new(
         alloc: Global,
@@ -54,7 +54,7 @@ impl<K: Hash + Eq, V, S: BuildHasher> Book<K, V, S> {
     }
 
     /// What one has seen who saw the book opened, and no more: no exchange.
-    pub fn unseen(&self) -> Sight<K, V, S>
+    pub fn unseen(&self) -> Seen<K, V, S>
         ensures book { result.book ≡ self.now.begun.book }
         ensures log { result.log ≡ Begin (begun_of self.now.parts) ∷ [] }
     {
@@ -62,7 +62,7 @@ impl<K: Hash + Eq, V, S: BuildHasher> Book<K, V, S> {
     }
 
     /// A new pass. What it has seen begins what every other has seen.
-    pub fn pass(&self) -> Sight<K, V, S>
+    pub fn pass(&self) -> Seen<K, V, S>
         ensures { result ≡ self.now.begun }
     {
         self.begun.again()

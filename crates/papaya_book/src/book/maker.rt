@@ -19,12 +19,12 @@ use crate::book::Book;
 use crate::book::parts::{First, Parts};
 use crate::keyed::Keyed;
 use crate::rule::law::{Drawn, Found};
+use crate::rule::offer;
+use crate::rule::offer::{Offer, Seen};
 use crate::rule::steps::{Bring, Call, Deal, Laying};
 use crate::rule::token::{drawn, tell};
-use crate::rule::trade;
-use crate::rule::trade::{Sight, Trade};
 use crate::slot::Cell;
-use logbook::{Pen, Pens, Seen, Word};
+use logbook::{Pen, Pens, Word};
 use std::hash::{BuildHasher, Hash};
 use std::sync::Wait;
 
@@ -39,9 +39,9 @@ impl<K: Hash + Eq, V, S: BuildHasher> Book<K, V, S> {
         ensures ok { IfOk result (λ book. book.parts ≡ parts) }
         ensures err { IfErr result (λ back. back ≡ parts) }
     {
-        let (mut begun, mut pens) = Seen::open_row::<Parts<K, V, S>, First>(
+        let (mut begun, mut pens) = logbook::Seen::open_row::<Parts<K, V, S>, First>(
             &parts,
-            trade::begin(&parts),
+            offer::begin(&parts),
             3 + ROW_LEN as usize,
         );
         let mut pen = pens.take();
@@ -51,10 +51,10 @@ impl<K: Hash + Eq, V, S: BuildHasher> Book<K, V, S> {
         let mut pen = pens.take();
         let made = Word::tracked(0, &mut pen);
         let known = begun.again();
-        let mut trade = trade::with_row(&known, &mut pens);
+        let mut offer = offer::with_row(&known, &mut pens);
         let mut pen = begun.no_pen();
         let found = maker.compare_exchange::<Call, Found<K, V>>(
-            0, 1, &mut begun, &mut trade, &mut pen,
+            0, 1, &mut begun, &mut offer, &mut pen,
         );
         if found != 0 {
             return Err(parts);
@@ -75,7 +75,7 @@ impl<K: Hash + Eq, V, S: BuildHasher> Book<K, V, S> {
         &self,
         rt: &R,
         count: u64,
-        sight: &mut Sight<K, V, S>,
+        sight: &mut Seen<K, V, S>,
     ) -> Option<(Cell<K, V, S>, Pen, Pens)>
         requires { sight.old.book ≡ self.now.begun.book }
         ensures book { sight.new.book ≡ sight.old.book }
@@ -93,7 +93,7 @@ impl<K: Hash + Eq, V, S: BuildHasher> Book<K, V, S> {
             if count > ROW_LEN || old > ROW_LEN + 1 - count {
                 return None;
             }
-            let mut draw = trade::drawing(sight, old + 2, count);
+            let mut draw = offer::drawing(sight, old + 2, count);
             let mut pen = sight.no_pen();
             let found = self
                 .maker
@@ -127,8 +127,8 @@ impl<K: Hash + Eq, V, S: BuildHasher> Book<K, V, S> {
         old: u64,
         new: u64,
         seal: &mut Pen,
-        sight: &mut Sight<K, V, S>,
-    ) -> (u64, Trade<K, V, S>)
+        sight: &mut Seen<K, V, S>,
+    ) -> (u64, Offer<K, V, S>)
         requires book { sight.old.book ≡ self.now.begun.book }
         requires word { word.now ≡ word_named self.now.begun.book word.now.key }
         requires key { key_at (steps_of sight.old.log) laying.now.at ≡ Some word.now.key }
@@ -144,12 +144,12 @@ impl<K: Hash + Eq, V, S: BuildHasher> Book<K, V, S> {
         ensures pen { IsLeft seal.old seal.new result.0 old }
     {
         sight.learn(&self.begun);
-        let mut trade = trade::with_table::<K, V, S, Laying<K, V, S>, Bring>(
+        let mut offer = offer::with_table::<K, V, S, Laying<K, V, S>, Bring>(
             sight,
             laying,
             tell(laying.table),
         );
-        let found = word.compare_exchange::<Bring, Found<K, V>>(old, new, sight, &mut trade, seal);
-        (found, trade)
+        let found = word.compare_exchange::<Bring, Found<K, V>>(old, new, sight, &mut offer, seal);
+        (found, offer)
     }
 }

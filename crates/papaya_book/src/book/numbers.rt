@@ -6,14 +6,14 @@ ghost use Rattle.papaya_book.specs.Books.{CanCopy, CopiesWord, IsWord};
 
 use crate::book::Book;
 use crate::keyed::Keyed;
+use crate::rule::offer::Seen;
 use crate::rule::steps::{Sought, Wish};
-use crate::rule::trade::Sight;
 use papaya_ask::ask::{At, StepKind};
 use std::hash::{BuildHasher, Hash};
 
 impl<K: Hash + Eq, V, S: BuildHasher> Book<K, V, S> {
     /// One atomic load: how many numbers for pairs were taken.
-    pub fn made(&self, sight: &mut Sight<K, V, S>) -> u64
+    pub fn made(&self, sight: &mut Seen<K, V, S>) -> u64
         requires book { sight.old.book ≡ self.now.begun.book }
         ensures book { sight.new.book ≡ sight.old.book }
         ensures seen { IsPrefix sight.old.log sight.new.log }
@@ -29,7 +29,7 @@ impl<K: Hash + Eq, V, S: BuildHasher> Book<K, V, S> {
         &self,
         kind: Option<StepKind>,
         words: (u64, u64),
-        sight: &mut Sight<K, V, S>,
+        sight: &mut Seen<K, V, S>,
     ) -> u64
         requires book { sight.old.book ≡ self.now.begun.book }
         requires can { CanCopy ⟦<S as Keyed<K>>⟧.keys self.now Made kind None words sight.old.log }

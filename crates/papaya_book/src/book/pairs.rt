@@ -1,4 +1,4 @@
-//! Pairs in the log of pairs: what they hold, and logging what callers put into a map.
+//! Pairs in the arena of pairs: what they hold, and logging what callers put into a map.
 ghost use Rattle.papaya_book.specs.Books.{IsIn};
 ghost use Rattle.std.specs.Prelude.{◌≡◌, None, Some, IfErr, IfOk, [], ◌∷◌};
 ghost use Rattle.boxcar.specs.Table.{Shows, id_at};
@@ -6,11 +6,11 @@ ghost use Rattle.papaya_book.specs.Brought.{IsBrought, pair_held};
 ghost use Rattle.papaya_book.specs.PairParts.{IsKeyPartIn, IsValuePartIn, key_in, value_in};
 ghost use Rattle.papaya_book.specs.Pairs.{IsKeyIn, IsValueIn};
 ghost use Rattle.papaya_book.specs.declared.rule.entry.Named.TheVariants.{Pair as PairNamed};
-ghost use Rattle.papaya_book.specs.declared.rule.own.Given.TheVariants as given;
+ghost use Rattle.papaya_book.specs.declared.rule.own.CapacityCause.TheVariants as given;
 
 use crate::book::Book;
 use crate::rule::entry::Stored;
-use crate::rule::own::{Given, Own};
+use crate::rule::own::{CapacityCause, OwnSteps};
 use crate::rule::pair::{Held, Pair, Shown, first_of, shown_of};
 use papaya_log::token::Pushed;
 use std::hash::{BuildHasher, Hash};
@@ -121,13 +121,13 @@ impl<K: Hash + Eq, V, S: BuildHasher> Book<K, V, S> {
         }
     }
 
-    /// What tells that the log of pairs gave this number.
-    pub fn gave_pair(&self, stored: &Stored<K, V>) -> Own<Given>
+    /// What tells that the arena of pairs gave this number.
+    pub fn gave_pair(&self, stored: &Stored<K, V>) -> OwnSteps<CapacityCause>
         requires { IsIn self.now (PairNamed stored.now) }
         ensures { result.done ≡ given.Pair stored.now.index ∷ [] }
     {
-        let number = Given::Pair(stored.index());
-        Own::only(&number)
+        let number = CapacityCause::Pair(stored.index());
+        OwnSteps::only(&number)
     }
 
     /// The pair that brought the key of a logged pair.

@@ -14,8 +14,8 @@ use papaya_words::probe::ResizeMode;
 use std::collections::LinkedList;
 use std::marker::Model;
 
-/// A pair as the log names it: its number, the row and the slot where the log of pairs keeps it, and
-/// the pair.
+/// A pair as the log names it: its number, the row and the slot where the arena of pairs keeps it,
+/// and the pair.
 pub type Stored<K, V> = LoggedPair<Pair<K, V>>;
 
 /// What the log says of a table: its words' keys, and how far a search of it goes. A table's words
@@ -67,7 +67,7 @@ pub enum Step<K, V> {
     Open(Laid),
     Claim(u64, u64, Stored<K, V>),
     Replace(u64, u64, Stored<K, V>, Stored<K, V>),
-    Bury(u64, u64, Stored<K, V>),
+    Delete(u64, u64, Stored<K, V>),
     Link(u64, Laid),
     Mark(u64, u64, Stored<K, V>),
     Close(u64, u64),

@@ -18,7 +18,7 @@ impl<K: Hash + Eq, V, S: BuildHasher> Rule<Event<K, V, S>, Named<K, V>> for Law<
     ghost use Rattle.papaya_book.specs.Rule.{IsKept};
     ghost use Rattle.papaya_log.specs.Tokens.{stands as pair_stands};
     ghost use Rattle.papaya_book.specs.Tokens.{stands};
-    ghost use Rattle.papaya_book.specs.Trade.{held, Moved};
+    ghost use Rattle.papaya_book.specs.Offer.{held, Moved};
     ghost use Rattle.papaya_book.specs.contracts.rule.pair.Pair.{the_row as PairOf};
     ghost use Rattle.papaya_book.specs.contracts.rule.entry.Sheet.{the_row as SheetRow};
 
@@ -52,7 +52,7 @@ pub struct Found<K, V> {
 impl<K, V, S> Gain<Event<K, V, S>, Named<K, V>> for Found<K, V> {
     ghost use Rattle.papaya_log.specs.Tokens.{stands as pair_stands};
     ghost use Rattle.papaya_book.specs.Tokens.{stands};
-    ghost use Rattle.papaya_book.specs.Trade.{shown};
+    ghost use Rattle.papaya_book.specs.Offer.{shown};
     ghost use Rattle.papaya_book.specs.contracts.rule.pair.Pair.{the_row as PairOf};
     ghost use Rattle.papaya_book.specs.contracts.rule.entry.Sheet.{the_row as SheetRow};
 
@@ -64,7 +64,7 @@ impl<K, V, S> Gain<Event<K, V, S>, Named<K, V>> for Found<K, V> {
 pub struct Drawn;
 
 impl<K, V, S> Gain<Event<K, V, S>, Named<K, V>> for Drawn {
-    ghost use Rattle.papaya_book.specs.Trade.{drawn};
+    ghost use Rattle.papaya_book.specs.Offer.{drawn};
 
     ghost after = { λ names about answer. drawn about };
 }

@@ -6,62 +6,62 @@ ghost use base.Stored.{coded_list};
 ghost use Rattle.papaya_book.specs.Own.{last_step};
 
 use crate::rule::entry::Step;
-use crate::rule::trade::Sight;
+use crate::rule::offer::Seen;
 use std::hash::{BuildHasher, Hash};
 use std::marker::{Model, PhantomData};
 
 /// A number that a map gave to a call: one of its logs to what was put into it, or the sum of its
 /// count.
 #[derive(Clone, Copy)]
-pub enum Given {
+pub enum CapacityCause {
     Pair(usize),
     Table(usize),
     Sum(usize),
 }
 
 /// Steps that a caller made, or what it was given, oldest first.
-pub struct Own<T> {
+pub struct OwnSteps<T> {
     marker: PhantomData<T>,
     pub ghost done: { List T } by { coded_list T.code },
 }
 
-impl<T> Model for Own<T> {
+impl<T> Model for OwnSteps<T> {
     ghost also_owns = { λ own. ftrue };
 }
 
 // It owns nothing.
-unsafe impl<T> Send for Own<T> {}
+unsafe impl<T> Send for OwnSteps<T> {}
 
-impl<T> Drop for Own<T> {
+impl<T> Drop for OwnSteps<T> {
     fn drop(self) {
         let Self { marker: _ } = self;
     }
 }
 
-impl<T> Own<T> {
+impl<T> OwnSteps<T> {
     /// No step.
-    pub fn nothing() -> Own<T>
+    pub fn nothing() -> OwnSteps<T>
         ensures { result.done ≡ [] }
     {
-        Own {
+        OwnSteps {
             marker: PhantomData,
         }
     }
 
     /// This alone. Only who may tell so calls it.
-    pub(crate) fn only(x: &T) -> Own<T>
+    pub(crate) fn only(x: &T) -> OwnSteps<T>
         ensures { result.done ≡ x.now ∷ [] }
     {
-        Own {
+        OwnSteps {
             marker: PhantomData,
         }
     }
 
     /// The same steps.
-    pub fn again(&self) -> Own<T>
+    pub fn again(&self) -> OwnSteps<T>
         ensures { result.done ≡ self.now.done }
     {
-        Own {
+        OwnSteps {
             marker: PhantomData,
         }
     }
@@ -69,12 +69,12 @@ impl<T> Own<T> {
 
 /// These steps, and after them the last of what was seen.
 pub fn with_last<K: Hash + Eq, V, S: BuildHasher>(
-    own: &Own<Step<K, V>>,
-    sight: &Sight<K, V, S>,
-) -> Own<Step<K, V>>
+    own: &OwnSteps<Step<K, V>>,
+    sight: &Seen<K, V, S>,
+) -> OwnSteps<Step<K, V>>
     ensures { result.done ≡ own.now.done ++ last_step sight.now.log }
 {
-    Own {
+    OwnSteps {
         marker: PhantomData,
     }
 }

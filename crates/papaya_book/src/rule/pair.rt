@@ -1,4 +1,4 @@
-//! Pairs, as the log of pairs keeps them.
+//! Pairs, as the arena of pairs keeps them.
 //!
 //! A pair's key lies beside its value, so that a lookup that has found the pair has its key at
 //! hand. But keys and values are logged once: a pair that replaces another has that one's key, and a
@@ -10,7 +10,7 @@ ghost use Rattle.papaya_book.specs.Pairs.{Pair as PairSeen, pair_coded};
 use papaya_log::token::{Known, Pushed, token};
 use std::marker::{Model, PhantomData};
 
-/// What contracts see of a pair. The log of pairs can't name the type of its own tokens.
+/// What contracts see of a pair. The arena of pairs can't name the type of its own tokens.
 pub struct Shown<K, V> {
     key: K,
     value: V,
@@ -37,7 +37,7 @@ pub(crate) enum Held<K, V> {
     Both(Pushed<Shown<K, V>>, Pushed<Shown<K, V>>),
 }
 
-/// What lies in the log of pairs.
+/// What lies in the arena of pairs.
 #[derive(Drop)]
 pub struct Pair<K, V> {
     pub(crate) held: Held<K, V>,

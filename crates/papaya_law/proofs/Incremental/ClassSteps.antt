@@ -102,9 +102,9 @@ module _ {P : Type 0} where
           let own' : IsOwner On n V' p = record { table = t; at = at; on = on; within = within; has = inr new; front = front_on On n S V V' t x (Here p) (Leaving p) turn refl t front } in
           kept_after On n S V V' t x (Here p) (Leaving p) turn m k safe m (subst (IsTied On n V') (sym it) own')
 
-      -- a burial
-      pub bury_kept : (p : P) → IsTurn S V V' t x (Here p) (Grave p) → (m ≡ Some p) × IsIncrementalClass On n S V' None
-      bury_kept p turn =
+      -- a deletion
+      pub delete_kept : (p : P) → IsTurn S V V' t x (Here p) (Grave p) → (m ≡ Some p) × IsIncrementalClass On n S V' None
+      delete_kept p turn =
           let old : V t at ≡ Here p = (turned S V V' t x (Here p) (Grave p) turn at is).0 in
           let new : V' t at ≡ Grave p = (turned S V V' t x (Here p) (Grave p) turn at is).1 in
           let safe : IsSafe On n S V t x (Here p) (Grave p) = record {

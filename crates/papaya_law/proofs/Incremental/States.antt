@@ -1,7 +1,7 @@
 -- What every allowed exchange keeps without blocking, of all words and all keys.
 use Rattle.std.proofs.Common.{◌≡◌, ◌⊎◌, inl, inr, ⊎_elim, ℕ, zero, suc, ◌<◌, ◌≤◌, true, false, cond, Option, None, Some, refl, sym, ap, ◌∙◌, subst, arith}
 use Rattle.std.proofs.lemmas.Bool.{cases_lt, cases_Bool, cond-true, cond-false}
-use Rattle.papaya_law.specs.Exchange.{Word, Empty, Closed, Live, Marked, Copied, Buried, Setting, State, slot_put, walk}
+use Rattle.papaya_law.specs.Exchange.{Word, Empty, Closed, Live, Marked, Copied, Tombstone, Setting, State, slot_put, walk}
 use Rattle.papaya_law.specs.View.{View, Free, Foreign, Here, Gone, Grave, view, look, beyond, IsPassed, IsFull, IsReached, IsNextPlace}
 use Rattle.papaya_law.specs.Copying.{IsTaker}
 use Rattle.papaya_law.specs.Allows.{MayClaim}
@@ -23,7 +23,7 @@ same_kept On n S V V' t x m k turn =
 module _ {K P : Type 0} (g : Setting K P) (law : IsLawful g) (inc : g.blocking ≡ false) where
   -- a finished table is passed by each key: one of its words is there to say so, or none is
   passed_finished : (s : State P) (k : K) (t : ℕ) → ((x : ℕ) → x < g.size t → finished (s.slot t x) ≡ true) → IsPassed g.places (look g s k) t
-  passed_finished s k t all = ⊎_elim (λ f. inl (f.0, f.1, f.2, f.3)) (λ f. inr f) (scan (g.places t) (λ j lt. all (g.place k t j) (law.within k t j lt)))
+  passed_finished s k t all = ⊎_elim (λ f. inl (f.0, f.1, f.2, f.3)) (λ f. inr f) (cursor (g.places t) (λ j lt. all (g.place k t j) (law.within k t j lt)))
     where
       at_word : (w : Word P) → finished w ≡ true → ((p : P) × (view g k w ≡ Gone p)) ⊎ (beyond (view g k w) ≡ true)
       at_word Empty h = absurd cc
@@ -31,11 +31,11 @@ module _ {K P : Type 0} (g : Setting K P) (law : IsLawful g) (inc : g.blocking �
       at_word (Live p) h = absurd cc
       at_word (Marked p) h = absurd cc
       at_word (Copied p) h = ⊎_elim (λ e. inl (p, cond-true (g.same k (g.key p)) (Gone p) Foreign e)) (λ e. inr (ap beyond (cond-false (g.same k (g.key p)) (Gone p) Foreign e))) (cases_Bool (g.same k (g.key p)))
-      at_word (Buried p) h = ⊎_elim (λ e. inr (ap beyond (cond-true (g.same k (g.key p)) (Grave p) Foreign e))) (λ e. inr (ap beyond (cond-false (g.same k (g.key p)) (Grave p) Foreign e))) (cases_Bool (g.same k (g.key p)))
+      at_word (Tombstone p) h = ⊎_elim (λ e. inr (ap beyond (cond-true (g.same k (g.key p)) (Grave p) Foreign e))) (λ e. inr (ap beyond (cond-false (g.same k (g.key p)) (Grave p) Foreign e))) (cases_Bool (g.same k (g.key p)))
 
-      scan : (n : ℕ) → ((j : ℕ) → j < n → finished (s.slot t (g.place k t j)) ≡ true) → ((j : ℕ) × (p : P) × (j < n) × (look g s k t j ≡ Gone p)) ⊎ ((j : ℕ) → j < n → beyond (look g s k t j) ≡ true)
-      scan zero h = inr (λ j lt. absurd (omega arith))
-      scan (suc n) h =
+      cursor : (n : ℕ) → ((j : ℕ) → j < n → finished (s.slot t (g.place k t j)) ≡ true) → ((j : ℕ) × (p : P) × (j < n) × (look g s k t j ≡ Gone p)) ⊎ ((j : ℕ) → j < n → beyond (look g s k t j) ≡ true)
+      cursor zero h = inr (λ j lt. absurd (omega arith))
+      cursor (suc n) h =
           ⊎_elim
           (λ f. inl (f.0, f.1, omega (arith, f.2), f.3))
           (λ (f : (j : ℕ) → j < n → beyond (look g s k t j) ≡ true).
@@ -43,7 +43,7 @@ module _ {K P : Type 0} (g : Setting K P) (law : IsLawful g) (inc : g.blocking �
           (λ e. inl (n, e.0, omega arith, e.1))
           (λ (e : beyond (look g s k t n) ≡ true). inr (λ j lt. ⊎_elim (λ l. f j l) (λ (l : n ≤ j). let q : j ≡ n = omega arith in subst (λ y. beyond (look g s k t y) ≡ true) (sym q) e) (cases_lt j n)))
           (at_word (s.slot t (g.place k t n)) (h n (omega arith))))
-          (scan n (λ j lt. h j (omega arith)))
+          (cursor n (λ j lt. h j (omega arith)))
 
   module _ (s : State P) (m : K → Option P) (holds : IsIncrementalState g s m) where
     -- a table that is reached is in the chain, and a search goes past all before it

@@ -12,7 +12,7 @@ use crate::map::HashMap;
 use papaya_book::book::Book;
 use papaya_book::book::parts::Parts;
 use papaya_book::count::Count;
-use papaya_book::rule::trade::Sight;
+use papaya_book::rule::offer::Seen;
 use papaya_keys::guard::Collector;
 use papaya_keys::sizes::{check_chunk, initial_len};
 use papaya_words::limits::DEFAULT_SHARDS;
@@ -28,7 +28,7 @@ fn first_table<R: Wait, K: Hash + Eq, V, S: BuildHasher>(
     book: &Book<K, V, S>,
     capacity: usize,
     initial: usize,
-) -> Result<Sight<K, V, S>, Refused>
+) -> Result<Seen<K, V, S>, Refused>
     requires { IsEntriesFor capacity initial × (initial ≤ MAX_TABLE_LEN) }
     ensures book { IfOk result (λ sight. sight.book ≡ book.now.begun.book) }
     ensures came { IfOk result (λ sight. 0 < capacity → HasTableFrom initial

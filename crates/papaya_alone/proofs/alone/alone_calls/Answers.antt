@@ -1,7 +1,7 @@
 use Rattle.std.proofs.Common.{ℕ, Option, None, Some}
 use Rattle.papaya_ask.specs.declared.ask.At.{At}
 use Rattle.papaya_call.specs.Made.{wanted}
-use Rattle.papaya_rests.specs.Alone.{IsNumberRead}
+use Rattle.papaya_call_law.specs.Alone.{IsNumberRead}
 use Rattle.papaya_alone.proofs.ChainLaw.{call_current, call_nears}
 use Rattle.papaya_alone.proofs.alone.alone_calls.Goals as goal
 
@@ -14,9 +14,9 @@ pub returns-clause-begins : goal.returns-clause-begins
 returns-clause-begins g c = λ words task hash mode initial number limit. record { number = wanted_read words limit; read = (tt, tt) }
 
 pub returns-clause-nearer : goal.returns-clause-nearer
-returns-clause-nearer g c = λ h d hashed begun since may bounded k m hands r made current answer es hands' told served before later spends few standing.
-    call_nears h d hashed begun since may bounded k m hands r made current answer es hands' told served before later spends few standing
+returns-clause-nearer g c = λ h d hashed begun since may bounded k m loaded r made current answer es loaded' told served before later spends few standing.
+    call_nears h d hashed begun since may bounded k m loaded r made current answer es loaded' told served before later spends few standing
 
 pub returns-clause-current : goal.returns-clause-current
-returns-clause-current g c = λ h d hashed begun since may bounded k m hands r made current answer es hands' told served.
-    call_current h d hashed begun since may bounded k m hands r made current answer es hands' told served
+returns-clause-current g c = λ h d hashed begun since may bounded k m loaded r made current answer es loaded' told served.
+    call_current h d hashed begun since may bounded k m loaded r made current answer es loaded' told served

@@ -3,19 +3,19 @@ use Rattle.papaya_words.specs.declared.probe.ResizeMode.TheVariants.{Incremental
 use Rattle.papaya_chain.specs.declared.resizer.Resize.TheVariants.{Chunk}
 use Rattle.papaya_chain.specs.Resizer.{after_in}
 use Rattle.papaya_law.specs.Exchange.{run}
-use Rattle.papaya_rests.specs.Rests.{IsCutAs, IsModeOf}
-use Rattle.papaya_rests.specs.Told.{word_of}
+use Rattle.papaya_call_law.specs.Relies.{IsCutAs, IsModeOf}
+use Rattle.papaya_call_law.specs.Told.{word_of}
 use Rattle.papaya_alone.specs.Chunks.{WillCopyIn, chunks_of}
 use Rattle.papaya_alone.specs.Resizers.{IsStageRead}
 use Rattle.papaya_alone.proofs.ChunkCounts.{chunks_rounded, copies_fewer, copies_leave, stage_copies}
 use Rattle.papaya_alone.proofs.chunks.alone_chunks.Goals as goal
 
 pub returns-clause-goes_on : goal.returns-clause-goes_on
-returns-clause-goes_on g c = λ h d hashed s m keeps bounded resizer hands r made read from to slots due will answer es hands' told.
+returns-clause-goes_on g c = λ h d hashed s m keeps bounded resizer loaded r made read from to slots due will answer es loaded' told.
     let as_moded = subst (λ y. IsModeOf y h.blocking) will.mode r.mode in
     let as_cut = subst (λ y. IsCutAs y h.chunk_of) will.mode r.cut in
     let as_read = subst (λ y. IsStageRead (Incremental slots) (word_of h d s) y resizer.state) will.resize (subst (λ y. IsStageRead y (word_of h d s) resizer.resize resizer.state) will.mode read) in
-    let leads = stage_copies h d hashed s m keeps bounded slots resizer.initial resizer.number hands as_moded as_cut from to due resizer.state r.stage made as_read will.stage answer es hands' told in
+    let leads = stage_copies h d hashed s m keeps bounded slots resizer.initial resizer.number loaded as_moded as_cut from to due resizer.state r.stage made as_read will.stage answer es loaded' told in
     record {
       mode = will.mode;
       resize = will.resize;

@@ -21,7 +21,7 @@ use Rattle.papaya_change.proofs.Doing.{does_on, does_still, idles, makes}
 use Rattle.papaya_change.proofs.Changing.{form}
 use Rattle.papaya_change.proofs.Helped.{helped_does, helped_keeps}
 use Rattle.papaya_change.proofs.InsertingHelped.{inserting_helped}
-use Rattle.papaya_change.proofs.OwnSteps.{own_settings}
+use Rattle.papaya_change.proofs.StepsOfOwn.{own_settings}
 use Rattle.papaya_change.proofs.Written.{own_query}
 use Rattle.papaya_book.proofs.Windows.{sees_trans}
 use Rattle.papaya_change.proofs.insertion.drive.Goals as goal

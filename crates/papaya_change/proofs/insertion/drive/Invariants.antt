@@ -8,7 +8,7 @@ use Rattle.papaya_book.specs.Parts.{begun_of}
 use Rattle.papaya_book.specs.Windows.{Does, Sees}
 use Rattle.papaya_change.proofs.insertion.drive.Given as goal
 
--- the insertion rests on what is seen by now, and asks for itself
+-- the insertion relies on what is seen by now, and asks for itself
 abbrev pub invariant-loop : goal.invariant-loop
 invariant-loop g l =
     GoesOn g.K.PartialEq.eq (hash_of g.K.Hash.hash_input g.S.BuildHasher.build_hasher g.S.Hasher.Hasher.write g.S.Hasher.Hasher.finish) (begun_of l.window.book.now.parts) l.window.book.now.begun.book l.fn.window.sight.log l.fn.begun l.window.sight.log l.insertion

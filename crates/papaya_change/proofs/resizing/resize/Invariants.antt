@@ -1,10 +1,10 @@
 use Rattle.std.proofs.Common.{◌≡◌}
 use Rattle.papaya_chain.specs.Resizer.{IsStandingResizer}
 use Rattle.papaya_book.specs.Windows.{Sees}
-use Rattle.papaya_change.specs.Resizes.{CanResize}
+use Rattle.papaya_change.specs.Window.Resizing.{CanResize}
 use Rattle.papaya_change.proofs.resizing.resize.Given as goal
 
--- it rests on what is seen by now
+-- it relies on what is seen by now
 abbrev pub invariant-loop : goal.invariant-loop
 invariant-loop g l = record {
   sees : Sees l.fn.window l.window;

@@ -10,15 +10,15 @@ use Rattle.papaya_book.proofs.Logs.{prefix_trans}
 use Rattle.papaya_lookup.specs.Drivers.{own, past}
 use Rattle.papaya_lookup.specs.History.{Makes}
 use Rattle.papaya_lookup.specs.declared.lookup.Met.{Met}
-use Rattle.papaya_change.specs.declared.at_once.Turn.{Turn}
+use Rattle.papaya_change.specs.declared.fast_path.Turn.{Turn}
 use Rattle.papaya_change.specs.Seeking.{Computes, leads, met_by}
-use Rattle.papaya_change.specs.Seeks.{IsSeekingAt}
-use Rattle.papaya_change.specs.declared.at_once.Turn.TheVariants.{Empty, Met as MetPair}
-use Rattle.papaya_compute.specs.AtOnce.{GoesOnce, IfOn, IfOver, IsAhead, IsFoundAt, IsOnItsWay, RepliesOnce}
+use Rattle.papaya_change.specs.Window.Seeking.{IsSeekingAt}
+use Rattle.papaya_change.specs.declared.fast_path.Turn.TheVariants.{Empty, Met as MetPair}
+use Rattle.papaya_compute.specs.FastPath.{GoesOnce, IfOn, IfOver, IsAhead, IsFoundAt, IsOnItsWay, RepliesOnce}
 use Rattle.papaya_compute.specs.Computing.{value_in}
 use Rattle.papaya_compute.specs.Deciding.{IsDecided, Wishes, puts}
-use Rattle.papaya_compute.specs.declared.at_once.First.{First}
-use Rattle.papaya_compute.proofs.AtOnce.{decided_once, does_since, if_on, if_over, made_still, on_still, refused_still, said_once, unremoved}
+use Rattle.papaya_compute.specs.declared.fast_path.First.{First}
+use Rattle.papaya_compute.proofs.FastPath.{decided_once, does_since, if_on, if_over, made_still, on_still, refused_still, said_once, unremoved}
 use Rattle.papaya_compute.proofs.Found.{pair_placed}
 use Rattle.papaya_compute.proofs.deciding.decide_at_once.Goals as goal
 

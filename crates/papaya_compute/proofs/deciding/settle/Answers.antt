@@ -1,6 +1,6 @@
 use Rattle.std.proofs.Common.{sym, ap, ◌∙◌}
 use Rattle.papaya_compute.specs.Deciding.{outcomes}
-use Rattle.papaya_compute.specs.declared.at_once.First.TheVariants.{Over}
+use Rattle.papaya_compute.specs.declared.fast_path.First.TheVariants.{Over}
 use Rattle.papaya_compute.proofs.deciding.settle.Goals as goal
 
 pub decision-requires : goal.decision-requires

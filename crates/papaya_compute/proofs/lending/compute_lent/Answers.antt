@@ -12,18 +12,18 @@ use Rattle.papaya_change.specs.Doing.{has_changed}
 use Rattle.papaya_change.specs.Showings.{Operates}
 use Rattle.papaya_change.proofs.Doing.{does_on, does_still, idles, makes}
 use Rattle.papaya_change.proofs.Helped.{helped_does, helped_keeps}
-use Rattle.papaya_change.proofs.OwnSteps.{own_settings}
+use Rattle.papaya_change.proofs.StepsOfOwn.{own_settings}
 use Rattle.papaya_lookup.proofs.Histories.{history_since}
 use Rattle.papaya_book.proofs.Windows.{sees_trans}
 use Rattle.papaya_change.proofs.Logged.{makes_since}
 use Rattle.papaya_lookup.specs.Drivers.{own, past}
 use Rattle.papaya_lookup.specs.History.{Makes}
 use Rattle.papaya_book.proofs.Logs.{prefix_trans}
-use Rattle.papaya_compute.specs.AtOnce.{IfOn, IfOver, IsAhead, IsOnItsWay}
+use Rattle.papaya_compute.specs.FastPath.{IfOn, IfOver, IsAhead, IsOnItsWay}
 use Rattle.papaya_compute.specs.ComputeAnswers.{IsComputeBy, changes}
-use Rattle.papaya_compute.specs.declared.at_once.First.{First}
-use Rattle.papaya_compute.specs.declared.at_once.First.TheVariants.{Over}
-use Rattle.papaya_compute.proofs.AtOnce.{does_since}
+use Rattle.papaya_compute.specs.declared.fast_path.First.{First}
+use Rattle.papaya_compute.specs.declared.fast_path.First.TheVariants.{Over}
+use Rattle.papaya_compute.proofs.FastPath.{does_since}
 use Rattle.papaya_compute.proofs.ComputeReplies.{computed_by}
 use Rattle.papaya_compute.proofs.lending.compute_lent.Goals as goal
 

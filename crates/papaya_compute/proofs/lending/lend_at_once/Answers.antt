@@ -7,13 +7,13 @@ use Rattle.papaya_book.specs.Parts.{begun_of}
 use Rattle.papaya_book.proofs.Logs.{prefix_trans}
 use Rattle.papaya_lookup.specs.Drivers.{past}
 use Rattle.papaya_lookup.specs.declared.lookup.Met.{Met}
-use Rattle.papaya_change.specs.declared.at_once.Turn.{Turn}
+use Rattle.papaya_change.specs.declared.fast_path.Turn.{Turn}
 use Rattle.papaya_change.specs.Seeking.{Computes, leads, met_by}
-use Rattle.papaya_change.specs.Seeks.{IsSeekingAt}
+use Rattle.papaya_change.specs.Window.Seeking.{IsSeekingAt}
 use Rattle.papaya_change.specs.Showings.{Operates}
-use Rattle.papaya_change.specs.declared.at_once.Turn.TheVariants.{Empty, Met as MetPair}
-use Rattle.papaya_compute.specs.AtOnce.{GoesOnce, IsFoundAt, RepliesOnce}
-use Rattle.papaya_compute.proofs.AtOnce.{does_since, if_on, if_over}
+use Rattle.papaya_change.specs.declared.fast_path.Turn.TheVariants.{Empty, Met as MetPair}
+use Rattle.papaya_compute.specs.FastPath.{GoesOnce, IsFoundAt, RepliesOnce}
+use Rattle.papaya_compute.proofs.FastPath.{does_since, if_on, if_over}
 use Rattle.papaya_compute.proofs.ComputeReplies.{computed_by}
 use Rattle.papaya_compute.proofs.Found.{pair_placed}
 use Rattle.papaya_compute.proofs.lending.lend_at_once.Goals as goal

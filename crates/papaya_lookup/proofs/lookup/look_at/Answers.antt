@@ -1,8 +1,8 @@
 use Rattle.std.proofs.Common.{◌≡◌, ◌<◌, ◌∙◌, rules, arith, subst}
 use Rattle.papaya_ask.specs.declared.search.Place.{Place}
 use Rattle.papaya_ask.specs.declared.search.Search.TheVariants.{Reading}
-use Rattle.papaya_ask.specs.declared.search.Seen.TheVariants.{On}
-use Rattle.papaya_ask.specs.Search.{IsSeen, hinted}
+use Rattle.papaya_ask.specs.declared.search.Probed.TheVariants.{On}
+use Rattle.papaya_ask.specs.Search.{IsProbed, hinted}
 use Rattle.papaya_call.specs.declared.machine.State.TheVariants.{Searching}
 use Rattle.papaya_book.specs.Logs.{exchanges_of}
 use Rattle.papaya_book.specs.Parts.{begun_of}
@@ -42,7 +42,7 @@ returns-in_default-clause-turned g c =
     record { feeds = g.met.Q.Equivalent.hashes_as_key c.args.key.now; class = λ k l. g.met.Q.Equivalent.matches_equal_keys c.args.key.now k l } in
     let w = c.args.window.now.book.now in let h = c.hint-hint in
     let none : (a : Place) → hinted c.args.at c.args.hash h.result ≡ On (Reading a) → ⊥ = λ a e. elim c.in_default.branch [ in_default-via-in-On+in_default x ↦ search rules | in_default-via-in_default x ↦ search rules ] in
-    let seen : IsSeen (hinted c.args.at c.args.hash h.result) = subst IsSeen c.hinted-seen.ensures.value c.hinted-seen.ensures.seen in
+    let seen : IsProbed (hinted c.args.at c.args.hash h.result) = subst IsProbed c.hinted-seen.ensures.value c.hinted-seen.ensures.seen in
     rw (h.ensures.sees.book, c.without.ensures, c.hinted-seen.ensures.value)
     (hint_passed g.K.PartialEq.eq g.K.Hash.hash_input g.S.BuildHasher.build_hasher g.S.Hasher.Hasher.write g.S.Hasher.Hasher.finish g.met.K.Eq.laws g.met.K.Hash.respects_eq (begun_of w.parts) (g.Q.Equivalent.matches c.args.key.now) (g.Q.Hash.hash_input c.args.key.now) lawful (exchanges_of c.args.began.now.log) c.args.hash w.begun.book c.args.window.now.sight.log c.args.at c.requires.within c.args.table.now c.requires.reading
     h.new.self.sight.log h.ensures.sees.log h.result h.ensures.hint seen none).0

@@ -1,8 +1,8 @@
 use Rattle.std.proofs.Common.{◌≡◌, ℕ, ap, ◌∙◌, rules, subst}
 use Rattle.papaya_ask.specs.declared.search.Place.{Place}
 use Rattle.papaya_ask.specs.declared.search.Search.TheVariants.{Comparing}
-use Rattle.papaya_ask.specs.declared.search.Seen.TheVariants.{Here, On}
-use Rattle.papaya_ask.specs.Search.{IsSeen, at_yes, look}
+use Rattle.papaya_ask.specs.declared.search.Probed.TheVariants.{Here, On}
+use Rattle.papaya_ask.specs.Search.{IsProbed, at_yes, look}
 use Rattle.papaya_book.specs.Logs.{exchanges_of}
 use Rattle.papaya_book.specs.Parts.{begun_of}
 use Rattle.papaya_lookup.proofs.Readings.{IsQuery}
@@ -47,7 +47,7 @@ returns-in-On-Comparing g c =
     let looks : look c.args.at s.result.0 ≡ On (Comparing c.in-On-Comparing.field-0-0 c.in-On-Comparing.field-0-1) = search rules in
     let same = c.equivalent-same.ensures ∙ ap (g.Q.Equivalent.matches c.args.key.now) (c.entry.ensures.key ∙ ap (λ z. z.key.value) c.pair-pair.ensures) in
     let none : (a : Place) (n : ℕ) → at_yes (Comparing c.args.at s.result.0) c.equivalent-same.result ≡ Here a n → ⊥ = λ a n e. c.in_default-compared.not-Here a n (c.at_yes-compared.ensures.value ∙ e) in
-    let seen : IsSeen (at_yes (Comparing c.args.at s.result.0) c.equivalent-same.result) = subst IsSeen c.at_yes-compared.ensures.value c.at_yes-compared.ensures.seen in
+    let seen : IsProbed (at_yes (Comparing c.args.at s.result.0) c.equivalent-same.result) = subst IsProbed c.at_yes-compared.ensures.value c.at_yes-compared.ensures.seen in
     let all = other_pair g.K.PartialEq.eq g.K.Hash.hash_input g.S.BuildHasher.build_hasher g.S.Hasher.Hasher.write g.S.Hasher.Hasher.finish g.met.K.Eq.laws g.met.K.Hash.respects_eq (begun_of w.parts) (g.Q.Equivalent.matches c.args.key.now) (g.Q.Hash.hash_input c.args.key.now) lawful (exchanges_of c.args.began.now.log) c.args.hash w.begun.book c.args.window.now.sight.log c.args.at c.requires.within c.args.table.now c.requires.reading
     s.new.self.sight.log s.ensures.sees.log s.result.0 s.result.1.state s.ensures.slot c.in-On-Comparing.field-0-0 c.in-On-Comparing.field-0-1 looks c.named_pair-stored.result c.named_pair-stored.ensures c.equivalent-same.result same seen none in
     record { sees = s.ensures.sees; own = s.ensures.own; turned = rw (s.ensures.sees.book, c.without.ensures, c.at_yes-compared.ensures.value) all.0; fewer = rw (c.without.ensures, c.at_yes-compared.ensures.value) all.1 }
@@ -58,7 +58,7 @@ returns-clause-turned g c =
     record { feeds = g.met.Q.Equivalent.hashes_as_key c.args.key.now; class = λ k l. g.met.Q.Equivalent.matches_equal_keys c.args.key.now k l } in
     let w = c.args.window.now.book.now in let s = c.slot_word-word in
     let none : (a : Place) (n : ℕ) → look c.args.at s.result.0 ≡ On (Comparing a n) → ⊥ = λ a n e. elim c.in_default.branch [ in_default-via-in-On+in_default x ↦ search rules | in_default-via-in_default x ↦ search rules ] in
-    let seen : IsSeen (look c.args.at s.result.0) = subst IsSeen c.look-seen.ensures.value c.look-seen.ensures.seen in
+    let seen : IsProbed (look c.args.at s.result.0) = subst IsProbed c.look-seen.ensures.value c.look-seen.ensures.seen in
     let all = passed g.K.PartialEq.eq g.K.Hash.hash_input g.S.BuildHasher.build_hasher g.S.Hasher.Hasher.write g.S.Hasher.Hasher.finish g.met.K.Eq.laws g.met.K.Hash.respects_eq (begun_of w.parts) (g.Q.Equivalent.matches c.args.key.now) (g.Q.Hash.hash_input c.args.key.now) lawful (exchanges_of c.args.began.now.log) c.args.hash w.begun.book c.args.window.now.sight.log c.args.at c.requires.within c.args.table.now c.requires.reading
     s.new.self.sight.log s.ensures.sees.log s.result.0 s.result.1.state s.ensures.slot seen none in
     rw (s.ensures.sees.book, c.without-in_default.ensures, c.look-seen.ensures.value) all.0

@@ -12,7 +12,7 @@ use Rattle.papaya_change.specs.Doing.{has_changed}
 use Rattle.papaya_change.specs.Showings.{Operates}
 use Rattle.papaya_change.proofs.Doing.{does_on, does_still, idles, makes}
 use Rattle.papaya_change.proofs.Helped.{helped_does, helped_keeps}
-use Rattle.papaya_change.proofs.OwnSteps.{own_settings}
+use Rattle.papaya_change.proofs.StepsOfOwn.{own_settings}
 use Rattle.papaya_lookup.proofs.Histories.{history_since}
 use Rattle.papaya_book.proofs.Windows.{sees_trans}
 use Rattle.papaya_compute.proofs.ComputeReplies.{computed_by}

@@ -41,7 +41,7 @@ returns-then-chunk g c aim =
 
 pub loop-settle-preserved : goal.loop-settle-preserved
 loop-settle-preserved g c = (
-  record { scan = c.loop-settle.invariant.0.scan; at = c.if-chunk.false; within = c.loop-settle.invariant.0.within },
+  record { cursor = c.loop-settle.invariant.0.cursor; at = c.if-chunk.false; within = c.loop-settle.invariant.0.within },
   c.copy_slot.ensures.sized,
   λ aim.
       subst (λ x. Comes g.K.PartialEq.eq (hash g) c.args.mode c.args.store.now (On (Stepping aim (Settling c.args.chunk Looking))) c.copy_slot.new.store (leads aim c.args.mode x)) (next_slots c.loop-settle.chunk c.if-chunk.false)

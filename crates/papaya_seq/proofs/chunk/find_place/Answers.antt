@@ -1,8 +1,8 @@
 use Rattle.std.proofs.Common.{rules, ◌≡◌, ℕ, subst}
 use Rattle.papaya_ask.specs.declared.ask.At.TheVariants as words
 use Rattle.papaya_ask.specs.declared.search.Search.TheVariants as searches
-use Rattle.papaya_ask.specs.declared.search.Seen.TheVariants as seen
-use Rattle.papaya_ask.specs.Search.{IsSeen, hinted}
+use Rattle.papaya_ask.specs.declared.search.Probed.TheVariants as seen
+use Rattle.papaya_ask.specs.Search.{IsProbed, hinted}
 use Rattle.papaya_copy.specs.declared.carry.Carry.TheVariants.{Looking, Reading, Placing}
 use Rattle.papaya_keys.specs.Hashes.{hash_of}
 use Rattle.papaya_store.specs.Tables.{hint_at, word_at}
@@ -20,7 +20,7 @@ loop-next-preserved g c =
     let at = c.loop-next.place in
     let saw : c.hinted.result ≡ seen.On (searches.Looking c.in-On-Looking.next) = search rules in
     let further : hinted at c.args.hash (hint_at s.words at.table at.probe.i) ≡ seen.On (searches.Looking c.in-On-Looking.next) = search rules in (
-      subst IsSeen saw c.hinted.ensures.seen,
+      subst IsProbed saw c.hinted.ensures.seen,
       λ mode slot marked.
           carry_then g.K.PartialEq.eq (hash g) mode slot s marked (Looking c.args.hash c.args.place) (Looking c.args.hash at) (Looking c.args.hash c.in-On-Looking.next)
           (c.loop-next.invariant.1 mode slot marked) (looks_further g.K.PartialEq.eq (hash g) mode slot s marked c.args.hash at c.in-On-Looking.next further),

@@ -1,6 +1,6 @@
 use Rattle.std.proofs.Common.{rules, ◌≡◌, sym, ◌∙◌, ap, subst}
 use Rattle.papaya_ask.specs.declared.search.Search.TheVariants.{Looking, Reading}
-use Rattle.papaya_ask.specs.declared.search.Seen.TheVariants.{On}
+use Rattle.papaya_ask.specs.declared.search.Probed.TheVariants.{On}
 use Rattle.papaya_ask.specs.Search.{hinted}
 use Rattle.papaya_call.specs.declared.machine.State.TheVariants.{Searching}
 use Rattle.papaya_store.specs.Tables.{word_at}

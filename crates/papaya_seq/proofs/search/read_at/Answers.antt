@@ -1,6 +1,6 @@
 use Rattle.std.proofs.Common.{rules, ◌≡◌, refl, sym, ◌∙◌, ap, subst}
 use Rattle.papaya_ask.specs.declared.search.Search.TheVariants.{Reading, Comparing}
-use Rattle.papaya_ask.specs.declared.search.Seen.TheVariants.{On}
+use Rattle.papaya_ask.specs.declared.search.Probed.TheVariants.{On}
 use Rattle.papaya_ask.specs.Search.{at_yes, look}
 use Rattle.papaya_call.specs.declared.machine.State.TheVariants.{Searching}
 use Rattle.papaya_words.specs.Word.{kind_of}

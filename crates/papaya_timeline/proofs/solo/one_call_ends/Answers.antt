@@ -1,7 +1,7 @@
 use Rattle.papaya_timeline.specs.Solo.{whatever}
 use Rattle.papaya_timeline.proofs.SoloEnds.{alone_begins, alone_nears}
 use Rattle.papaya_timeline.proofs.SoloResizes.{resizer_done, resizer_nears}
-use Rattle.papaya_timeline.proofs.SoloVisitors.{visitor_nears}
+use Rattle.papaya_timeline.proofs.SoloScanners.{scanner_nears}
 use Rattle.papaya_timeline.proofs.solo.one_call_ends.Goals as goal
 
 pub returns-clause-begins : goal.returns-clause-begins
@@ -16,5 +16,5 @@ returns-clause-resizer_nearer g c refuse s s' resizer event lone x = resizer_nea
 pub returns-clause-resized : goal.returns-clause-resized
 returns-clause-resized g c refuse s s' resizer event lone x = resizer_done g.K.PartialEq.eq g.K.Hash.hash_input g.S.BuildHasher.build_hasher g.S.Hasher.Hasher.write g.S.Hasher.Hasher.finish g.met.K.Eq.laws g.met.K.Hash.respects_eq refuse s s' event resizer lone x
 
-pub returns-clause-visitor_nearer : goal.returns-clause-visitor_nearer
-returns-clause-visitor_nearer g c refuse s s' v event lone x = visitor_nears g.K.PartialEq.eq g.K.Hash.hash_input g.S.BuildHasher.build_hasher g.S.Hasher.Hasher.write g.S.Hasher.Hasher.finish g.met.K.Eq.laws g.met.K.Hash.respects_eq whatever refuse s s' event v lone x
+pub returns-clause-scanner_nearer : goal.returns-clause-scanner_nearer
+returns-clause-scanner_nearer g c refuse s s' v event lone x = scanner_nears g.K.PartialEq.eq g.K.Hash.hash_input g.S.BuildHasher.build_hasher g.S.Hasher.Hasher.write g.S.Hasher.Hasher.finish g.met.K.Eq.laws g.met.K.Hash.respects_eq whatever refuse s s' event v lone x

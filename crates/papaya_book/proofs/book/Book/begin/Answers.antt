@@ -11,7 +11,7 @@ use Rattle.papaya_log.specs.Tokens.{stands as pair_stands}
 use Rattle.papaya_log.proofs.Made.{stands_keyless as pair_stands_keyless}
 use Rattle.papaya_book.proofs.Makers.{calls_moves}
 use Rattle.papaya_book.proofs.Opening.{opens_kept, row_is, stands_keyless}
-use Rattle.papaya_book.proofs.Trades.{held_keyless}
+use Rattle.papaya_book.proofs.Offers.{held_keyless}
 use Rattle.papaya_book.proofs.book.Book.begin.Goals as goal
 
 pub open_row-begun-requires : goal.open_row-begun-requires
@@ -22,8 +22,8 @@ open_row-begun-requires g c =
       c.begin.ensures.1,
     )
 
-pub with_row-trade-requires : goal.with_row-trade-requires
-with_row-trade-requires g c =
+pub with_row-offer-requires : goal.with_row-offer-requires
+with_row-offer-requires g c =
     let row = c.open_row-begun.ensures in let one = c.take-pen.ensures.rest in let two = c.take-pen-2.ensures.rest in let three = c.take-pen-3.ensures.rest in
     let first = row.3 in let count = row.4 in let a = one.1 in let b = two.1 in let d = three.1 in let a' = one.2 in let b' = two.2 in let d' = three.2 in let r = row_is in
     (omega arith, omega arith)
@@ -35,10 +35,10 @@ compare_exchange-found-requires g c =
     let book : c.tracked-maker.result.book ≡ row.result.0.book = ap (λ w. w.book) c.tracked-maker.ensures.0 ∙ (second.0 ∙ (rest.0 ∙ row.ensures.2)) in
     let key : c.tracked-maker.result.key ≡ 1 = ap (λ w. w.key) c.tracked-maker.ensures.0 ∙ (ap (λ (p : Nib). p.key) second.1 ∙ (rest.1 ∙ ap (λ n. n + 1) row.ensures.3)) in
     let whole : c.take-pen-3.new.self.book ≡ row.result.0.book = c.take-pen-3.ensures.rest.0 ∙ (c.take-pen-2.ensures.rest.0 ∙ (rest.0 ∙ row.ensures.2)) in
-    let ask = c.with_row-trade.ensures.1 ∙ ap (λ b. Called b) whole in (
+    let ask = c.with_row-offer.ensures.1 ∙ ap (λ b. Called b) whole in (
       ap (λ w. w.tracked) c.tracked-maker.ensures.0,
       sym book,
       c.no_pen-pen.ensures.0 ∙ sym book,
-      c.with_row-trade.ensures.0 ∙ ap (λ z. z.names) c.again-known.ensures,
-      rw (key, c.no_pen-pen.ensures.1, ask, c.with_row-trade.ensures.3) (calls_moves g.K.PartialEq.eq hash row.result.0.log row.result.0.book),
+      c.with_row-offer.ensures.0 ∙ ap (λ z. z.names) c.again-known.ensures,
+      rw (key, c.no_pen-pen.ensures.1, ask, c.with_row-offer.ensures.3) (calls_moves g.K.PartialEq.eq hash row.result.0.log row.result.0.book),
     )

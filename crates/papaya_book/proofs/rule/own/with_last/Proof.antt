@@ -19,7 +19,7 @@ use denote.Ref.{shr_vals, shr_Tells}
 use denote.Triple.Walked.{Stays, stay_dropped, walk_of, Goes-dropped}
 use Rattle.atomic_table.proofs.Walks.{proved}
 use Rattle.logbook.proofs.Fields.{token, Token, token_made, ends}
-use Rattle.papaya_book.specs.contracts.rule.own.Own as Own
+use Rattle.papaya_book.specs.contracts.rule.own.OwnSteps as OwnSteps
 use Rattle.logbook.specs.contracts.tokens.Seen as Seen
 use Rattle.papaya_book.specs.Own.{last_step}
 use Rattle.papaya_book.specs.contracts.rule.entry.Event as Event
@@ -37,10 +37,10 @@ with_last_spec 𝓤 𝓛 𝓜 𝓡 wired K V S I _ _ _ _ gh dh ge de gp dp gb db
     let H = 𝓛.H in let 𝓣 = tables 𝓤 H 𝓜 𝓡 𝓡.env in let R : RattleType = Step.the_row (param 0 K) (param 1 V) in let En = ended K V S I gh dh ge de gp dp gb db gi di dd in
     let inst = bounded (a_type ∷ a_type ∷ a_type ∷ a_type ∷ []) (K, (V, (S, (I, tt)))) (dcons dh (dcons de (dcons dp (dcons db (dcons di (dcons dd dnil)))))) in let fn = inst_fn inst code.function in let c = clauses K V S I gh dh ge de gp dp gb db gi di dd 𝓛 𝓜.mem 𝓡.returns in
     let S' : RattleType = Seen.the_row (Event.the_row (param 0 K) (param 1 V) (param 2 S)) (Named.the_row (param 0 K) (param 1 V)) (Law.the_row (param 0 K) (param 1 V) (param 2 S)) (LawRule.ghosts (param 0 K) (param 1 V) (param 2 S) (param 3 I) gh LawRule.no_dict ge LawRule.no_dict gp LawRule.no_dict gb LawRule.no_dict gi LawRule.no_dict LawRule.no_dict) in
-    let own = RefOf (0 ∷ []) tt (plain (λ _. Own.the_row R)) (λ _. tt) in let sight = RefOf (1 ∷ []) tt (plain (λ _. S')) (λ _. tt) in
+    let own = RefOf (0 ∷ []) tt (plain (λ _. OwnSteps.the_row R)) (λ _. tt) in let sight = RefOf (1 ∷ []) tt (plain (λ _. S')) (λ _. tt) in
     let hs : Stays En.signature.params En.kept = (stay_dropped own yes, (stay_dropped sight yes, tt)) in
     proved 𝓛 En hs c 𝓜 𝓡 (Goes-dropped 𝓛 6 own yes (λ κs x f. refl), (Goes-dropped 𝓛 6 sight yes (λ κs x f. refl), tt)) (#self inst) fn (code.unfolded 𝓤 H 𝓜 𝓡 wired (K, (V, (S, (I, tt)))) dh de dp db di dd)
-    (λ κs. (shr_vals, (shr_vals, tt))) (λ κs. (shr_Tells (named 0) κs.0 (Own.the_row R), (shr_Tells (named 1) κs.1.0 S', tt))) (λ κs qs bounds a gh are.
+    (λ κs. (shr_vals, (shr_vals, tt))) (λ κs. (shr_Tells (named 0) κs.0 (OwnSteps.the_row R), (shr_Tells (named 1) κs.1.0 S', tt))) (λ κs qs bounds a gh are.
     let p : Val = vptr a.0.ref_ptr.0 a.0.ref_ptr.1 in let q : Val = vptr a.1.0.ref_ptr.0 a.1.0.ref_ptr.1 in
     let y : (walk_of 𝓛 En hs c).Ghost = ((κs, qs, bounds, a, (p ∷ [], (q ∷ [], tt))), gh) in let Post : Val → SProp 𝓤 = (walk_of 𝓛 En hs c).post y in
     qed 𝓛 ((raw (denote.Triple.Entry.alive 𝓛 En.signature κs qs) ⊛ ‵ (owns (types_at En.signature.params κs) a y.0.4)) ∷ raw ((c κs a).requires gh) ∷ []) ∵ split ! $ keep ! (0 ∷ []) $

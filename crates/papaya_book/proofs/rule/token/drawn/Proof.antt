@@ -26,7 +26,7 @@ use Rattle.logbook.proofs.Fields.{token, Token, token_made, token_told, ends}
 use Rattle.logbook.specs.contracts.tokens.Gained as Gained
 use Rattle.logbook.specs.contracts.tokens.Pens as Pens
 use Rattle.papaya_log.proofs.Retyped.{retyped}
-use Rattle.papaya_book.specs.Trade.{drawn}
+use Rattle.papaya_book.specs.Offer.{drawn}
 use Rattle.papaya_book.specs.contracts.rule.entry.Event as Event
 use Rattle.papaya_book.specs.declared.rule.entry.Event.{Event as Entry}
 use Rattle.papaya_book.specs.contracts.rule.entry.Named as Named

@@ -7,7 +7,7 @@ use Rattle.papaya_copy.specs.declared.step.Step.TheVariants.{Advancing}
 use Rattle.papaya_book.specs.Hashes.{hash_of}
 use Rattle.papaya_book.specs.Parts.{begun_of}
 use Rattle.papaya_book.proofs.Windows.{sees_trans}
-use Rattle.papaya_change.specs.Settles.{CanLead, LeavesFrom, stop_in, stop_seen}
+use Rattle.papaya_change.specs.Window.Settling.{CanLead, LeavesFrom, stop_in, stop_seen}
 use Rattle.papaya_change.specs.Settling.{Ends, Leads, Stop, at_slot, past_slot}
 use Rattle.papaya_change.proofs.SettlingTurns.{can_later, ends_here, ends_then, leads_none, leads_then, past_last, past_next}
 use Rattle.papaya_change.proofs.SettlingSeen.{asked, can_still, leads_still, placed_on}
@@ -99,13 +99,13 @@ exchange-answer-requires g c =
     let further = leads_then eq hash b name site.mode s t past led it in
     let may = can_later eq hash b name site.mode t past can it in
     let none : site.chunk.at + 1 < site.chunk.end → ⊥ = λ more. absurd (omega arith) in
-    let ends : past_slot site.aim site.chunk ≡ Stepping site.aim (Advancing site.chunk.scan) = past_last site.aim site.chunk none in
-    let u : Stop _ _ _ _ = stop_in w' (Stepping site.aim (Advancing site.chunk.scan)) h in
+    let ends : past_slot site.aim site.chunk ≡ Stepping site.aim (Advancing site.chunk.cursor) = past_last site.aim site.chunk none in
+    let u : Stop _ _ _ _ = stop_in w' (Stepping site.aim (Advancing site.chunk.cursor)) h in
     let there = subst (λ (z : Copying). CanLead w' site.mode (stop_in w' z h)) ends may in
     record { can = asked w' site.mode u there }
 
 pub returns-then-site-clause-standing : goal.returns-then-site-clause-standing
-returns-then-site-clause-standing g c = c.loop-halt.invariant.placed.standing.scan
+returns-then-site-clause-standing g c = c.loop-halt.invariant.placed.standing.cursor
 
 pub returns-then-site-clause-ends : goal.returns-then-site-clause-ends
 returns-then-site-clause-ends g c =
@@ -122,15 +122,15 @@ returns-then-site-clause-ends g c =
     let further = leads_then eq hash b name site.mode s t past led it in
     let may = can_later eq hash b name site.mode t past can it in
     let none : site.chunk.at + 1 < site.chunk.end → ⊥ = λ more. absurd (omega arith) in
-    let ends : past_slot site.aim site.chunk ≡ Stepping site.aim (Advancing site.chunk.scan) = past_last site.aim site.chunk none in
-    let u : Stop _ _ _ _ = stop_in w' (Stepping site.aim (Advancing site.chunk.scan)) h in
+    let ends : past_slot site.aim site.chunk ≡ Stepping site.aim (Advancing site.chunk.cursor) = past_last site.aim site.chunk none in
+    let u : Stop _ _ _ _ = stop_in w' (Stepping site.aim (Advancing site.chunk.cursor)) h in
     let there = subst (λ (z : Copying). CanLead w' site.mode (stop_in w' z h)) ends may in
     let two = c.exchange-answer in let w'' = two.new.window in
     let to = subst (λ (z : Copying). Leads eq hash b name site.mode s (stop_in w' z h)) ends further in
-    let by = ends_then eq hash b name site.mode s u (stop_in w'' (Stepping site.aim (Advancing site.chunk.scan)) two.new.self) two.result to
-    (ends_here eq hash b name site.mode u w''.sight.log two.new.self two.result two.ensures.sees.log two.ensures.answers l.invariant.placed.standing.scan two.ensures.fit) in
-    subst (λ (z : _). Ends eq hash (begun_of z.now.parts) z.now.begun.book c.args.mode s (stop_in w'' (Stepping site.aim (Advancing site.chunk.scan)) two.new.self) two.result) same
-    (subst (λ (z : ResizeMode). Ends eq hash b name z s (stop_in w'' (Stepping site.aim (Advancing site.chunk.scan)) two.new.self) two.result) l.invariant.mode by)
+    let by = ends_then eq hash b name site.mode s u (stop_in w'' (Stepping site.aim (Advancing site.chunk.cursor)) two.new.self) two.result to
+    (ends_here eq hash b name site.mode u w''.sight.log two.new.self two.result two.ensures.sees.log two.ensures.answers l.invariant.placed.standing.cursor two.ensures.fit) in
+    subst (λ (z : _). Ends eq hash (begun_of z.now.parts) z.now.begun.book c.args.mode s (stop_in w'' (Stepping site.aim (Advancing site.chunk.cursor)) two.new.self) two.result) same
+    (subst (λ (z : ResizeMode). Ends eq hash b name z s (stop_in w'' (Stepping site.aim (Advancing site.chunk.cursor)) two.new.self) two.result) l.invariant.mode by)
 
 pub loop-halt-preserved : goal.loop-halt-preserved
 loop-halt-preserved g c =
@@ -151,7 +151,7 @@ loop-halt-preserved g c =
       sees = sees_trans _ _ _ l.invariant.sees one.ensures.sees;
       own = one.ensures.own ∙ l.invariant.own;
       mode = l.invariant.mode;
-      placed = record { table = (placed_on w w' one.ensures.sees site l.invariant.placed).table; standing = record { scan = l.invariant.placed.standing.scan; at = more; within = l.invariant.placed.standing.within } };
+      placed = record { table = (placed_on w w' one.ensures.sees site l.invariant.placed).table; standing = record { cursor = l.invariant.placed.standing.cursor; at = more; within = l.invariant.placed.standing.within } };
       seen = w'.sight.log;
       since = ([], append-nil w'.sight.log);
       leads = subst (λ (z : Copying). Leads eq hash b name site.mode s (stop_in w' z h)) next further;

@@ -3,7 +3,7 @@ use mathlib.Core.List.{IsPrefix}
 use Rattle.papaya_copy.specs.declared.settle.Settle.TheVariants.{Looking}
 use Rattle.papaya_book.specs.declared.rule.entry.Event.{Event}
 use Rattle.papaya_book.specs.Windows.{Sees}
-use Rattle.papaya_change.specs.Settles.{CanLead, IsPlacedAt, Leads, stop_in, stop_seen}
+use Rattle.papaya_change.specs.Window.Settling.{CanLead, IsPlacedAt, Leads, stop_in, stop_seen}
 use Rattle.papaya_change.specs.Settling.{at_slot}
 use Rattle.papaya_change.proofs.copier.Copier.copy_slots.Given as goal
 

@@ -10,7 +10,7 @@ use Rattle.papaya_book.specs.Hashes.{hash_of}
 use Rattle.papaya_book.specs.Parts.{begun_of}
 use Rattle.papaya_book.specs.Rule.{IsLawfulLog}
 use Rattle.papaya_book.proofs.Loaded.{table_since}
-use Rattle.papaya_change.specs.Settles.{CanLeadAt, stop_at}
+use Rattle.papaya_change.specs.Window.Settling.{CanLeadAt, stop_at}
 use Rattle.papaya_change.proofs.SettlingTurns.{lost, notes, notes_last, places}
 use Rattle.papaya_change.proofs.SettlingSeen.{TurnsBy, asked, can_on, leaves_on, left_on, low, placed_on, settled_on}
 use Rattle.papaya_change.proofs.copier.Copier.fill.Goals as goal

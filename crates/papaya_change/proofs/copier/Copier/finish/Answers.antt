@@ -2,7 +2,7 @@ use Rattle.std.proofs.Common.{[], append-nil}
 use Rattle.papaya_copy.specs.declared.settle.Settle.TheVariants.{Finishing}
 use Rattle.papaya_book.specs.Hashes.{hash_of}
 use Rattle.papaya_book.specs.Parts.{begun_of}
-use Rattle.papaya_change.specs.Settles.{stop_at}
+use Rattle.papaya_change.specs.Window.Settling.{stop_at}
 use Rattle.papaya_change.proofs.SettlingTurns.{finished}
 use Rattle.papaya_change.proofs.SettlingSeen.{asked, low, settled_on}
 use Rattle.papaya_change.proofs.copier.Copier.finish.Goals as goal
@@ -11,7 +11,7 @@ pub exchange_slot-requires-clause-place : goal.exchange_slot-requires-clause-pla
 exchange_slot-requires-clause-place g c =
     let w = c.args.window.now in let site = c.args.site.now in let h = c.args.self.now in
     let eq = g.K.PartialEq.eq in let hash = hash_of g.K.Hash.hash_input g.S.BuildHasher.build_hasher g.S.Hasher.Hasher.write g.S.Hasher.Hasher.finish in
-    low w.sight.log w.sight.log ([], append-nil w.sight.log) site.chunk.scan.from site.chunk.at (asked w site.mode (stop_at w site (Finishing c.args.marked) h) c.requires.can).0 site.table.now c.requires.placed.table
+    low w.sight.log w.sight.log ([], append-nil w.sight.log) site.chunk.cursor.from site.chunk.at (asked w site.mode (stop_at w site (Finishing c.args.marked) h) c.requires.can).0 site.table.now c.requires.placed.table
 
 pub exchange_slot-requires-clause-can : goal.exchange_slot-requires-clause-can
 exchange_slot-requires-clause-can g c =

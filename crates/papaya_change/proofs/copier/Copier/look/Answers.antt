@@ -2,8 +2,8 @@ use Rattle.std.proofs.Common.{◌≡◌, [], append-nil, refl, sym, ap, ◌∙�
 use Rattle.papaya_ask.specs.declared.ask.Answer.TheVariants.{Word}
 use Rattle.papaya_ask.specs.declared.search.Place.{Place}
 use Rattle.papaya_ask.specs.declared.search.Search.TheVariants as seeking
-use Rattle.papaya_ask.specs.declared.search.Seen.TheVariants as seen
-use Rattle.papaya_ask.specs.Search.{IsSeen, IsWithin}
+use Rattle.papaya_ask.specs.declared.search.Probed.TheVariants as seen
+use Rattle.papaya_ask.specs.Search.{IsProbed, IsWithin}
 use Rattle.papaya_copy.specs.declared.carry.Carry.TheVariants.{Looking as Looking_at, Reading}
 use Rattle.papaya_copy.specs.declared.settle.Settle.TheVariants.{Carrying}
 use Rattle.papaya_chain.specs.declared.ask.Answer.TheVariants.{Call}
@@ -11,7 +11,7 @@ use Rattle.papaya_book.specs.Calls.{IsTable}
 use Rattle.papaya_book.specs.Hashes.{hash_of}
 use Rattle.papaya_book.specs.Parts.{begun_of}
 use Rattle.papaya_book.proofs.Loaded.{table_since}
-use Rattle.papaya_change.specs.Settles.{stop_at}
+use Rattle.papaya_change.specs.Window.Settling.{stop_at}
 use Rattle.papaya_change.proofs.SettlingTurns.{hints_at, leads_one, passes, reads}
 use Rattle.papaya_change.proofs.SettlingSeen.{TurnsBy, asked, can_on, leaves_on, left_on, low, nearer, placed_on, turn_on}
 use Rattle.papaya_change.proofs.copier.Copier.look.Goals as goal
@@ -31,7 +31,7 @@ returns-in-On-Looking-clause-looks g c =
     let inner : c.in-On-Looking.field-0 ≡ seeking.Looking next = c.in-On-Looking.field-0-is in
     let led = c.in-On-Looking.is ∙ ap seen.On inner in
     let on = passes c.args.hash c.args.place site.mode one.result next (sym c.hinted.ensures.value ∙ led) in
-    let within : IsWithin next = subst IsSeen led c.hinted.ensures.seen in
+    let within : IsWithin next = subst IsProbed led c.hinted.ensures.seen in
     let turn : TurnsBy w site.mode (stop_at w site (Carrying c.args.marked (Looking_at c.args.hash c.args.place)) h) (stop_at w1 site (Carrying c.args.marked (Looking_at c.args.hash next)) h) = hints_at eq hash (begun_of w.book.now.parts) w.book.now.begun.book site.mode site.aim site.chunk c.requires.placed.standing w.sight.log h w1.sight.log h one.ensures.sees.log c.args.marked c.args.hash c.args.place one.result one.ensures.hint refl (Looking_at c.args.hash next) on.0 within in (
       within,
       subst (λ (z : Place). IsTable w1.sight.log z.table c.args.to.now) (sym on.1) (table_since w.sight.log w1.sight.log c.args.place.table c.args.to.now one.ensures.sees.log c.requires.table),

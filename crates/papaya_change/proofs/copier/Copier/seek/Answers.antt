@@ -2,7 +2,7 @@ use Rattle.std.proofs.Common.{[], append-nil, refl, ◌∙◌, subst}
 use Rattle.papaya_book.specs.Hashes.{hash_of}
 use Rattle.papaya_book.specs.Parts.{begun_of}
 use Rattle.papaya_book.proofs.Windows.{sees_trans}
-use Rattle.papaya_change.specs.Settles.{LooksOn, looking, stop_at}
+use Rattle.papaya_change.specs.Window.Settling.{LooksOn, looking, stop_at}
 use Rattle.papaya_change.specs.Settling.{Stop}
 use Rattle.papaya_change.proofs.SettlingTurns.{can_later, leads_none, leads_then, leaves_led}
 use Rattle.papaya_change.proofs.SettlingSeen.{can_still, leads_still, placed_on}

@@ -2,7 +2,7 @@ use Rattle.std.proofs.Common.{◌≡◌}
 use Rattle.papaya_ask.specs.Search.{IsWithin}
 use Rattle.papaya_book.specs.Windows.{IsTable, Sees}
 use Rattle.papaya_change.specs.Seeking.{left_at}
-use Rattle.papaya_change.specs.Settles.{CanLeadAt, IsPlacedAt, Leads, looking, stop_at}
+use Rattle.papaya_change.specs.Window.Settling.{CanLeadAt, IsPlacedAt, Leads, looking, stop_at}
 use Rattle.papaya_change.proofs.copier.Copier.seek.Given as goal
 
 -- answers so far led on from the first place to this one

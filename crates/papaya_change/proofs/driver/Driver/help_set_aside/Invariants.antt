@@ -2,11 +2,11 @@ use Rattle.std.proofs.Common.{◌≡◌}
 use Rattle.papaya_chain.specs.Machine.{IsStanding}
 use Rattle.papaya_book.specs.Limits.{tables_of}
 use Rattle.papaya_book.specs.Windows.{Sees}
-use Rattle.papaya_change.specs.Drivers.{GoesOn}
+use Rattle.papaya_change.specs.Window.Driver.{GoesOn}
 use Rattle.papaya_change.proofs.HelpingArrives.{HasReached}
 use Rattle.papaya_change.proofs.driver.Driver.help_set_aside.Given as goal
 
--- the call rests on what is seen by now, and what was answered for the copy has led it here
+-- the call relies on what is seen by now, and what was answered for the copy has led it here
 abbrev pub invariant-loop : goal.invariant-loop
 invariant-loop g l = record {
   sees : Sees l.fn.window l.window;

@@ -10,11 +10,11 @@ use Rattle.papaya_ask.specs.declared.call.Task.TheVariants.{Insert}
 use Rattle.papaya_call.specs.Machine as calls
 use Rattle.papaya_chain.specs.Machine.{ask_of}
 use Rattle.papaya_chain.specs.declared.ask.Ask.TheVariants.{Call}
-use Rattle.papaya_rests.specs.Followed.{MayAsk}
-use Rattle.papaya_rests.proofs.Followed.{asked_of_task}
-use Rattle.papaya_rests.specs.Says.{MakesPair}
-use Rattle.papaya_rests.specs.Rests.{IsNumberAsk}
-use Rattle.papaya_chain_rests.proofs.Names.{call_asks}
+use Rattle.papaya_call_law.specs.Followed.{MayAsk}
+use Rattle.papaya_call_law.proofs.Followed.{asked_of_task}
+use Rattle.papaya_call_law.specs.Says.{MakesPair}
+use Rattle.papaya_call_law.specs.Relies.{IsNumberAsk}
+use Rattle.papaya_chain_law.proofs.Names.{call_asks}
 use Rattle.papaya_book.specs.Parts.{begun_of}
 use Rattle.papaya_change.proofs.Inserting.{goes_on}
 use Rattle.papaya_change.proofs.WritingSteps.{counted_on}

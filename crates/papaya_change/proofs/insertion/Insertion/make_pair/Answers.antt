@@ -1,9 +1,9 @@
 use Rattle.std.proofs.Common.{sym, ◌∙◌, subst}
 use Rattle.papaya_ask.specs.declared.ask.Ask.{Ask}
-use Rattle.papaya_rests.specs.Says.{MakesPair}
-use Rattle.papaya_rests.specs.Rests.{IsNumberAsk}
+use Rattle.papaya_call_law.specs.Says.{MakesPair}
+use Rattle.papaya_call_law.specs.Relies.{IsNumberAsk}
 use Rattle.papaya_book.specs.Parts.{begun_of}
-use Rattle.papaya_chain_rests.proofs.Names.{call_asks}
+use Rattle.papaya_chain_law.proofs.Names.{call_asks}
 use Rattle.papaya_change.proofs.Inserting.{pair_made, pair_unmade}
 use Rattle.papaya_change.proofs.OwnParts.{own_key, unlogged_unmade}
 use Rattle.papaya_change.proofs.insertion.Insertion.make_pair.Goals as goal

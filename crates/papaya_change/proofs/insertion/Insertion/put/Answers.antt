@@ -1,8 +1,8 @@
 use Rattle.std.proofs.Common.{◌≡◌, ◌==◌, Some, sym, ap, ◌∙◌, subst}
 use Rattle.papaya_ask.specs.declared.ask.Ask.{Ask}
-use Rattle.papaya_rests.specs.Says.{MakesPair}
-use Rattle.papaya_rests.specs.Rests.{IsNumberAsk}
-use Rattle.papaya_chain_rests.proofs.Names.{call_asks}
+use Rattle.papaya_call_law.specs.Says.{MakesPair}
+use Rattle.papaya_call_law.specs.Relies.{IsNumberAsk}
+use Rattle.papaya_chain_law.proofs.Names.{call_asks}
 use Rattle.papaya_book.specs.Parts.{begun_of}
 use Rattle.papaya_book.specs.Hashes.{hash_of}
 use Rattle.papaya_book.proofs.Opened.{not_zero}

@@ -1,7 +1,7 @@
 use Rattle.std.proofs.Common.{◌≡◌, ℕ, Some, refl, sym, ap, ◌∙◌, rules, subst}
 use Rattle.papaya_chain.specs.Machine.{ask_of}
 use Rattle.papaya_chain.specs.declared.ask.Ask.TheVariants.{Call}
-use Rattle.papaya_chain_rests.proofs.Names.{call_asks}
+use Rattle.papaya_chain_law.proofs.Names.{call_asks}
 use Rattle.papaya_ask.specs.declared.ask.Answer.{Answer}
 use Rattle.papaya_ask.specs.declared.ask.Answer.TheVariants.{Ok, Word}
 use Rattle.papaya_ask.specs.declared.ask.Ask.TheVariants.{AddToShard, Exchange, Load, LoadHint, SameKey, ShowPair, SizeOf}
@@ -15,7 +15,7 @@ use Rattle.papaya_change.specs.Showings.{Judges}
 use Rattle.papaya_lookup.specs.History.{key_of}
 use Rattle.papaya_lookup.proofs.Readings.{IsQuery}
 use Rattle.papaya_change.proofs.Doing.{idle, left_alone}
-use Rattle.papaya_change.proofs.Removing.{bury_can, bury_held, bury_on, compared_last, compared_on, counted_on, hint_held, hinted_on, load_held, loaded_as, shown_last, shown_on, size_held, sized_on}
+use Rattle.papaya_change.proofs.Removing.{compared_last, compared_on, counted_on, delete_can, delete_held, delete_on, hint_held, hinted_on, load_held, loaded_as, shown_last, shown_on, size_held, sized_on}
 use Rattle.papaya_change.proofs.removal.Removal.answer.Goals as goal
 
 pub load-requires : goal.load-requires
@@ -48,23 +48,23 @@ show-requires-clause-last g c =
     let some : (n : ℕ) × (ask_of c.args.self.now.call.machine ≡ Call (ShowPair n)) = search rules in
     shown_last g.K.PartialEq.eq g.K.Hash.hash_input g.S.BuildHasher.build_hasher g.S.Hasher.Hasher.write g.S.Hasher.Hasher.finish g.met.K.Eq.laws g.met.K.Hash.respects_eq (begun_of c.args.window.now.book.now.parts) c.args.window.now.book.now.begun.book (g.Q.Equivalent.matches c.args.key.now) (g.Q.Hash.hash_input c.args.key.now) lawful (Judges g.F.FnMut) c.requires.can.0 c.requires.can.1 c.args.window.now.sight.log c.args.self.now c.args.agrees.now c.requires.can.2 c.requires.standing some.0 some.1
 
-pub bury-requires-clause-held : goal.bury-requires-clause-held
-bury-requires-clause-held g c =
+pub delete-requires-clause-held : goal.delete-requires-clause-held
+delete-requires-clause-held g c =
     let lawful : IsQuery g.K.PartialEq.eq g.K.Hash.hash_input (g.Q.Equivalent.matches c.args.key.now) (g.Q.Hash.hash_input c.args.key.now) = record { feeds = g.met.Q.Equivalent.hashes_as_key c.args.key.now; class = λ k l. g.met.Q.Equivalent.matches_equal_keys c.args.key.now k l } in
     let asks : ask_of c.args.self.now.call.machine ≡ Call (Exchange (Slot c.in-Exchange-Slot-default-default.number c.in-Exchange-Slot-default-default.place) c.in-Exchange-Slot-default-default.old c.in-Exchange-Slot-default-default.new) = search rules in
-    bury_held g.K.PartialEq.eq g.K.Hash.hash_input g.S.BuildHasher.build_hasher g.S.Hasher.Hasher.write g.S.Hasher.Hasher.finish g.met.K.Eq.laws g.met.K.Hash.respects_eq (begun_of c.args.window.now.book.now.parts) c.args.window.now.book.now.begun.book (g.Q.Equivalent.matches c.args.key.now) (g.Q.Hash.hash_input c.args.key.now) lawful (Judges g.F.FnMut) c.requires.can.0 c.requires.can.1 c.args.window.now.sight.log c.args.self.now c.args.agrees.now c.requires.can.2 c.requires.standing c.in-Exchange-Slot-default-default.number c.in-Exchange-Slot-default-default.place c.in-Exchange-Slot-default-default.old c.in-Exchange-Slot-default-default.new asks
+    delete_held g.K.PartialEq.eq g.K.Hash.hash_input g.S.BuildHasher.build_hasher g.S.Hasher.Hasher.write g.S.Hasher.Hasher.finish g.met.K.Eq.laws g.met.K.Hash.respects_eq (begun_of c.args.window.now.book.now.parts) c.args.window.now.book.now.begun.book (g.Q.Equivalent.matches c.args.key.now) (g.Q.Hash.hash_input c.args.key.now) lawful (Judges g.F.FnMut) c.requires.can.0 c.requires.can.1 c.args.window.now.sight.log c.args.self.now c.args.agrees.now c.requires.can.2 c.requires.standing c.in-Exchange-Slot-default-default.number c.in-Exchange-Slot-default-default.place c.in-Exchange-Slot-default-default.old c.in-Exchange-Slot-default-default.new asks
 
-pub bury-requires-clause-can : goal.bury-requires-clause-can
-bury-requires-clause-can g c =
+pub delete-requires-clause-can : goal.delete-requires-clause-can
+delete-requires-clause-can g c =
     let lawful : IsQuery g.K.PartialEq.eq g.K.Hash.hash_input (g.Q.Equivalent.matches c.args.key.now) (g.Q.Hash.hash_input c.args.key.now) = record { feeds = g.met.Q.Equivalent.hashes_as_key c.args.key.now; class = λ k l. g.met.Q.Equivalent.matches_equal_keys c.args.key.now k l } in
     let asks : ask_of c.args.self.now.call.machine ≡ Call (Exchange (Slot c.in-Exchange-Slot-default-default.number c.in-Exchange-Slot-default-default.place) c.in-Exchange-Slot-default-default.old c.in-Exchange-Slot-default-default.new) = search rules in
-    bury_can g.K.PartialEq.eq g.K.Hash.hash_input g.S.BuildHasher.build_hasher g.S.Hasher.Hasher.write g.S.Hasher.Hasher.finish g.met.K.Eq.laws g.met.K.Hash.respects_eq (begun_of c.args.window.now.book.now.parts) c.args.window.now.book.now.begun.book (g.Q.Equivalent.matches c.args.key.now) (g.Q.Hash.hash_input c.args.key.now) lawful (Judges g.F.FnMut) c.requires.can.0 c.requires.can.1 c.args.window.now.sight.log c.args.self.now c.args.agrees.now c.requires.can.2 c.requires.standing c.in-Exchange-Slot-default-default.number c.in-Exchange-Slot-default-default.place c.in-Exchange-Slot-default-default.old c.in-Exchange-Slot-default-default.new asks
+    delete_can g.K.PartialEq.eq g.K.Hash.hash_input g.S.BuildHasher.build_hasher g.S.Hasher.Hasher.write g.S.Hasher.Hasher.finish g.met.K.Eq.laws g.met.K.Hash.respects_eq (begun_of c.args.window.now.book.now.parts) c.args.window.now.book.now.begun.book (g.Q.Equivalent.matches c.args.key.now) (g.Q.Hash.hash_input c.args.key.now) lawful (Judges g.F.FnMut) c.requires.can.0 c.requires.can.1 c.args.window.now.sight.log c.args.self.now c.args.agrees.now c.requires.can.2 c.requires.standing c.in-Exchange-Slot-default-default.number c.in-Exchange-Slot-default-default.place c.in-Exchange-Slot-default-default.old c.in-Exchange-Slot-default-default.new asks
 
 pub returns-in-Load-clause-removes : goal.returns-in-Load-clause-removes
 returns-in-Load-clause-removes g c = λ first begun r.
     let lawful : IsQuery g.K.PartialEq.eq g.K.Hash.hash_input (g.Q.Equivalent.matches c.args.key.now) (g.Q.Hash.hash_input c.args.key.now) = record { feeds = g.met.Q.Equivalent.hashes_as_key c.args.key.now; class = λ k l. g.met.Q.Equivalent.matches_equal_keys c.args.key.now k l } in
     let asks : ask_of c.args.self.now.call.machine ≡ Call (Load c.in-Load.at) = search rules in
-    loaded_as g.K.PartialEq.eq g.K.Hash.hash_input g.S.BuildHasher.build_hasher g.S.Hasher.Hasher.write g.S.Hasher.Hasher.finish g.met.K.Eq.laws g.met.K.Hash.respects_eq (begun_of c.args.window.now.book.now.parts) c.args.window.now.book.now.begun.book (g.Q.Equivalent.matches c.args.key.now) (g.Q.Hash.hash_input c.args.key.now) lawful (Judges g.F.FnMut) first begun c.args.window.now.sight.log c.args.self.now c.args.agrees.now r c.requires.standing c.load.new.window.sight.log c.load.ensures.sees.log c.in-Load.at c.load.result c.load.new.self c.load.ensures.rest asks c.load.ensures.loaded
+    loaded_as g.K.PartialEq.eq g.K.Hash.hash_input g.S.BuildHasher.build_hasher g.S.Hasher.Hasher.write g.S.Hasher.Hasher.finish g.met.K.Eq.laws g.met.K.Hash.respects_eq (begun_of c.args.window.now.book.now.parts) c.args.window.now.book.now.begun.book (g.Q.Equivalent.matches c.args.key.now) (g.Q.Hash.hash_input c.args.key.now) lawful (Judges g.F.FnMut) first begun c.args.window.now.sight.log c.args.self.now c.args.agrees.now r c.requires.standing c.load.new.window.sight.log c.load.ensures.sees.log c.in-Load.at c.load.result c.load.new.self c.load.ensures.rest asks c.load.ensures.as_loaded
 
 pub returns-in-LoadHint-clause-removes : goal.returns-in-LoadHint-clause-removes
 returns-in-LoadHint-clause-removes g c = λ first begun r.
@@ -100,8 +100,8 @@ pub returns-in-Exchange-Slot-default-default-clause-removes : goal.returns-in-Ex
 returns-in-Exchange-Slot-default-default-clause-removes g c = λ first begun r.
     let lawful : IsQuery g.K.PartialEq.eq g.K.Hash.hash_input (g.Q.Equivalent.matches c.args.key.now) (g.Q.Hash.hash_input c.args.key.now) = record { feeds = g.met.Q.Equivalent.hashes_as_key c.args.key.now; class = λ k l. g.met.Q.Equivalent.matches_equal_keys c.args.key.now k l } in
     let asks : ask_of c.args.self.now.call.machine ≡ Call (Exchange (Slot c.in-Exchange-Slot-default-default.number c.in-Exchange-Slot-default-default.place) c.in-Exchange-Slot-default-default.old c.in-Exchange-Slot-default-default.new) = search rules in
-    let b = c.bury.ensures.buries in
-    bury_on g.K.PartialEq.eq g.K.Hash.hash_input g.S.BuildHasher.build_hasher g.S.Hasher.Hasher.write g.S.Hasher.Hasher.finish g.met.K.Eq.laws g.met.K.Hash.respects_eq (begun_of c.args.window.now.book.now.parts) c.args.window.now.book.now.begun.book (g.Q.Equivalent.matches c.args.key.now) (g.Q.Hash.hash_input c.args.key.now) lawful (Judges g.F.FnMut) first begun c.args.window.now.sight.log c.args.self.now c.args.agrees.now r c.requires.standing c.in-Exchange-Slot-default-default.number c.in-Exchange-Slot-default-default.place c.in-Exchange-Slot-default-default.old c.in-Exchange-Slot-default-default.new asks c.bury.new.window.sight.log c.bury.ensures.sees.log b.0 b.1 b.2 c.bury.new.self c.bury.result b.3
+    let b = c.delete.ensures.deletes in
+    delete_on g.K.PartialEq.eq g.K.Hash.hash_input g.S.BuildHasher.build_hasher g.S.Hasher.Hasher.write g.S.Hasher.Hasher.finish g.met.K.Eq.laws g.met.K.Hash.respects_eq (begun_of c.args.window.now.book.now.parts) c.args.window.now.book.now.begun.book (g.Q.Equivalent.matches c.args.key.now) (g.Q.Hash.hash_input c.args.key.now) lawful (Judges g.F.FnMut) first begun c.args.window.now.sight.log c.args.self.now c.args.agrees.now r c.requires.standing c.in-Exchange-Slot-default-default.number c.in-Exchange-Slot-default-default.place c.in-Exchange-Slot-default-default.old c.in-Exchange-Slot-default-default.new asks c.delete.new.window.sight.log c.delete.ensures.sees.log b.0 b.1 b.2 c.delete.new.self c.delete.result b.3
 
 pub returns-in-AddToShard-clause-removes : goal.returns-in-AddToShard-clause-removes
 returns-in-AddToShard-clause-removes g c = λ first begun r.

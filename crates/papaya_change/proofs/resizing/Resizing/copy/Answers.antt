@@ -6,7 +6,7 @@ use Rattle.papaya_book.specs.Parts.{begun_of}
 use Rattle.papaya_change.specs.Copier.{AnswersTo, CanAnswerTo}
 use Rattle.papaya_change.specs.Resizing.{IsResizing}
 use Rattle.papaya_change.proofs.ResizingAnswers.{resized}
-use Rattle.papaya_change.proofs.ResizingRests.{can_answer}
+use Rattle.papaya_change.proofs.ResizingRelies.{can_answer}
 use Rattle.papaya_change.proofs.ResizingStages.{stage_fits}
 use Rattle.papaya_change.proofs.resizing.Resizing.copy.Goals as goal
 

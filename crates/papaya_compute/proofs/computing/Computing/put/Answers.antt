@@ -2,7 +2,7 @@ use Rattle.std.proofs.Common.{◌≡◌, None, Some, sym, ap, ◌∙◌, subst}
 use Rattle.papaya_ask.specs.declared.ask.Ask.TheVariants.{Exchange}
 use Rattle.papaya_ask.specs.declared.ask.At.TheVariants.{Slot}
 use Rattle.papaya_chain.specs.Machine.{kind_of_ask}
-use Rattle.papaya_rests.specs.Told.{IsOneOf}
+use Rattle.papaya_call_law.specs.Told.{IsOneOf}
 use Rattle.papaya_change.specs.Writing.{MayStand}
 use Rattle.papaya_compute.specs.Computing.{pair_for}
 use Rattle.papaya_book.specs.Parts.{begun_of}

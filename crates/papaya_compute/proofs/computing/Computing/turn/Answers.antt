@@ -3,7 +3,7 @@ use Rattle.papaya_ask.specs.declared.ask.Ask.TheVariants.{AddToShard, WriteHint}
 use Rattle.papaya_ask.specs.declared.ask.Answer.TheVariants.{Ok}
 use Rattle.papaya_chain.specs.Machine.{ask_of}
 use Rattle.papaya_chain.specs.declared.ask.Ask.TheVariants.{Call}
-use Rattle.papaya_chain_rests.proofs.Names.{call_asks}
+use Rattle.papaya_chain_law.proofs.Names.{call_asks}
 use Rattle.papaya_book.specs.Parts.{begun_of}
 use Rattle.papaya_change.proofs.Doing.{left_alone}
 use Rattle.papaya_compute.proofs.ComputeGoes.{goes_untold, left_to_write}

@@ -1,7 +1,7 @@
 use Rattle.std.proofs.Common.{rules, ◌≡◌, ⊎_elim, [], append-nil, refl, subst}
 use Rattle.papaya_ask.specs.declared.ask.Ask.TheVariants.{Exchange}
 use Rattle.papaya_ask.specs.declared.ask.At.TheVariants.{Root}
-use Rattle.papaya_rests.specs.Rests.{IsNumberAsk}
+use Rattle.papaya_call_law.specs.Relies.{IsNumberAsk}
 use Rattle.papaya_book.specs.Parts.{begun_of}
 use Rattle.papaya_compute.proofs.ComputeGoes.{goes_on, goes_untold, writers_silent}
 use Rattle.papaya_compute.proofs.computing.Computing.write.Goals as goal

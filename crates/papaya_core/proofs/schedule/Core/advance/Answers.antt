@@ -1,7 +1,7 @@
 use Rattle.std.proofs.Common.{◌≡◌, List, None, refl, sym, ap, subst, ◌∙◌}
 use Rattle.papaya_call.specs.Answers.{Says}
 use Rattle.papaya_timeline.specs.declared.seat.Seat.{Seat}
-use Rattle.papaya_timeline.specs.Callers.{visiting, visitor_in, with_work}
+use Rattle.papaya_timeline.specs.Callers.{scanner_in, scanning, with_work}
 use Rattle.papaya_timeline.specs.Core.{CoreState}
 use Rattle.papaya_timeline.specs.Kept.{IsLawfulCore}
 use Rattle.papaya_keys.specs.Hashes.{hash_of}
@@ -44,8 +44,8 @@ returns-clause-steps g c = (sound g (goal.at.returns-clause-steps g c).After-put
 -- what is answered of a walk is answered of what was under way
 pub returns-clause-walked : goal.returns-clause-walked
 returns-clause-walked g c =
-    subst (λ (s : CoreState _ _ _ _). AnswersWalk (visiting s.callers c.args.caller) c.advance_work-event.result.1) c.self.view_is
-    (subst (λ o. AnswersWalk (visitor_in o) c.advance_work-event.result.1) (sym c.take-work.ensures.call) c.advance_work-event.ensures.walked)
+    subst (λ (s : CoreState _ _ _ _). AnswersWalk (scanning s.callers c.args.caller) c.advance_work-event.result.1) c.self.view_is
+    (subst (λ o. AnswersWalk (scanner_in o) c.advance_work-event.result.1) (sym c.take-work.ensures.call) c.advance_work-event.ensures.walked)
 
 pub returns-clause-moves : goal.returns-clause-moves
 returns-clause-moves g c = (sound g (goal.at.returns-clause-moves g c).After-put).moves

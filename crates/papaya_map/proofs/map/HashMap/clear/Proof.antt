@@ -19,7 +19,7 @@ use Rattle.papaya_lookup.specs.History.{IsLegalHistory, history_of, key_of}
 use denote.Struct.Field.{unit-field}
 use Rattle.papaya_map.proofs.Telling.{unit_laws}
 use Rattle.papaya_change.specs.Writing.{IsMemoryOrCapacity}
-use Rattle.papaya_sweep.specs.Leaving.{IsCleared}
+use Rattle.papaya_scan.specs.Leaving.{IsCleared}
 use Rattle.papaya_map.specs.Plain.{IsSince, rule_of, unpinned}
 use Rattle.papaya_map.proofs.Telling.{held_good, one_ref}
 use Rattle.papaya_map.proofs.ToldWalks.{walk_rrr}

@@ -22,7 +22,7 @@ use Rattle.papaya_change.specs.Writing.{IsMemoryOrCapacity}
 use Rattle.papaya_book.specs.Logs.{Stored}
 use Rattle.papaya_lookup.specs.History.{Change}
 use Rattle.papaya_change.specs.Showings.{Judges}
-use Rattle.papaya_sweep.specs.Leaving.{HasKept}
+use Rattle.papaya_scan.specs.Leaving.{HasKept}
 use Rattle.papaya_map.proofs.Earlier.{kept}
 use Rattle.papaya_map.specs.Plain.{IsSince, rule_of, unpinned}
 use Rattle.papaya_map.proofs.Telling.{held_good, one_of, one_ref}

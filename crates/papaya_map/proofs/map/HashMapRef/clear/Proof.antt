@@ -22,7 +22,7 @@ use Rattle.papaya_book.specs.contracts.rule.law.LawRuleEventNamed.TheImpl as Law
 use Rattle.papaya_lookup.specs.History.{IsLegalHistory, history_of, key_of}
 use Rattle.papaya_change.specs.Writing.{IsMemoryOrCapacity}
 use denote.Struct.Field.{unit-field}
-use Rattle.papaya_sweep.specs.Leaving.{IsCleared}
+use Rattle.papaya_scan.specs.Leaving.{IsCleared}
 use Rattle.papaya_map.proofs.Telling.{unit_laws}
 use Rattle.papaya_map.specs.Plain.{IsSince, rule_of}
 use Rattle.papaya_map.proofs.Telling.{held_good, one_ref, pair_laws, pair_row, ref_laws, ref_row}

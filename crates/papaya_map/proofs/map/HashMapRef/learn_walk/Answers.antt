@@ -4,7 +4,7 @@ use Rattle.papaya_lookup.specs.History.{Past, history_of}
 use Rattle.papaya_book.specs.Limits.{tables_of}
 use Rattle.papaya_book.proofs.Lengths.{tables_since}
 use Rattle.papaya_lookup.proofs.Histories.{history_legal, history_since}
-use Rattle.papaya_sweep.specs.Walked.{Walked}
+use Rattle.papaya_scan.specs.Walked.{Walked}
 use Rattle.papaya_map.proofs.map.HashMapRef.learn_walk.Goals as goal
 
 pub invariant_of-pass : goal.invariant_of-pass

@@ -25,7 +25,7 @@ use denote.Struct.Field.{unit-field}
 use Rattle.papaya_book.specs.Logs.{Stored}
 use Rattle.papaya_change.specs.Showings.{Judges}
 use Rattle.papaya_lookup.specs.History.{Change}
-use Rattle.papaya_sweep.specs.Leaving.{HasKept}
+use Rattle.papaya_scan.specs.Leaving.{HasKept}
 use Rattle.papaya_map.proofs.Telling.{unit_laws}
 use Rattle.papaya_map.proofs.Earlier.{kept}
 use Rattle.papaya_map.specs.Plain.{IsSince, rule_of}

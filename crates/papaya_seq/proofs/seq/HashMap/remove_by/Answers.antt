@@ -3,9 +3,9 @@ use Rattle.papaya_ask.specs.declared.call.Task.TheVariants.{RemoveIf}
 use Rattle.papaya_call.specs.Machine.{started}
 use Rattle.papaya_keys.specs.Hashes.{hash_of}
 use Rattle.papaya_timeline.proofs.KeptCore.{keys_lawful}
-use Rattle.papaya_seq.specs.Buries.{itself}
+use Rattle.papaya_seq.specs.Deletes.{itself}
 use Rattle.papaya_seq.specs.Map.{MapState}
-use Rattle.papaya_seq.proofs.Burying.{leads_under_way}
+use Rattle.papaya_seq.proofs.Deleting.{leads_under_way}
 use Rattle.papaya_seq.proofs.RemovalDone.{RemovalDone, removal_finished}
 use Rattle.papaya_seq.proofs.RemovalWays.{IsQuery, under_way}
 use Rattle.papaya_seq.proofs.seq.HashMap.remove_by.Goals as goal
@@ -17,7 +17,7 @@ abbrev hashes : (g : Over) → g.row.S.Denot → g.row.K.Denot → ℕ
 hashes g = hash_of g.K.Hash.hash_input g.S.BuildHasher.build_hasher g.S.Hasher.Hasher.write g.S.Hasher.Hasher.finish
 
 -- it was done at once
-done : (g : Over) (c : In-Some g) → RemovalDone g.F.FnMut g.K.PartialEq.eq (hashes g) (g.Q.Equivalent.matches c.args.key.now) c.args.self.now c.args.agrees c.in-Some.reply (record { store = c.remove_at_once.new.store; mode = c.self.inside.mode; initial = c.self.inside.initial })
+done : (g : Over) (c : In-Some g) → RemovalDone g.F.FnMut g.K.PartialEq.eq (hashes g) (g.Q.Equivalent.matches c.args.key.now) c.args.self.now c.args.agrees c.in-Some.reply (record { store = c.remove_fast.new.store; mode = c.self.inside.mode; initial = c.self.inside.initial })
 done g c =
     let matches = g.Q.Equivalent.matches c.args.key.now in
     let view : MapState g.row.K.Denot g.row.V.Denot g.row.S.Denot = record { store = c.self.inside.store; mode = c.self.inside.mode; initial = c.self.inside.initial } in
@@ -29,9 +29,9 @@ done g c =
       fits = c.hash-hash.ensures.fits;
     } in
     let removed = c.in-Some.ensures.removed view.mode.resize view.initial view.mode.limit in
-    let now = leads_under_way g.F.FnMut g.K.PartialEq.eq (hashes g) matches c.hash-hash.result view c.args.agrees removed.answers view.store c.args.agrees (itself (started RemoveIf c.hash-hash.result view.mode.resize view.initial view.mode.limit)) c.remove_at_once.new.store c.remove_at_once.new.agrees removed.end removed.leads (under_way g.F.FnMut g.K.PartialEq.eq (hashes g) matches c.hash-hash.result view c.args.agrees 0) in
-    subst (λ (m : MapState g.row.K.Denot g.row.V.Denot g.row.S.Denot). RemovalDone g.F.FnMut g.K.PartialEq.eq (hashes g) matches m c.args.agrees c.in-Some.reply (record { store = c.remove_at_once.new.store; mode = c.self.inside.mode; initial = c.self.inside.initial })) c.self.view_is
-    (removal_finished g.F.FnMut g.K.PartialEq.eq g.K.Hash.hash_input g.S.BuildHasher.build_hasher g.S.Hasher.Hasher.write g.S.Hasher.Hasher.finish g.met.K.Eq.laws g.met.K.Hash.respects_eq matches c.hash-hash.result view c.args.agrees query c.remove_at_once.new.store c.remove_at_once.new.agrees removed.end now c.in-Some.reply removed.replied)
+    let now = leads_under_way g.F.FnMut g.K.PartialEq.eq (hashes g) matches c.hash-hash.result view c.args.agrees removed.answers view.store c.args.agrees (itself (started RemoveIf c.hash-hash.result view.mode.resize view.initial view.mode.limit)) c.remove_fast.new.store c.remove_fast.new.agrees removed.end removed.leads (under_way g.F.FnMut g.K.PartialEq.eq (hashes g) matches c.hash-hash.result view c.args.agrees 0) in
+    subst (λ (m : MapState g.row.K.Denot g.row.V.Denot g.row.S.Denot). RemovalDone g.F.FnMut g.K.PartialEq.eq (hashes g) matches m c.args.agrees c.in-Some.reply (record { store = c.remove_fast.new.store; mode = c.self.inside.mode; initial = c.self.inside.initial })) c.self.view_is
+    (removal_finished g.F.FnMut g.K.PartialEq.eq g.K.Hash.hash_input g.S.BuildHasher.build_hasher g.S.Hasher.Hasher.write g.S.Hasher.Hasher.finish g.met.K.Eq.laws g.met.K.Hash.respects_eq matches c.hash-hash.result view c.args.agrees query c.remove_fast.new.store c.remove_fast.new.agrees removed.end now c.in-Some.reply removed.replied)
 
 pub invariant_of-self : goal.invariant_of-self
 invariant_of-self g c = (done g (goal.at.invariant_of-self g c).In-Some).orderly

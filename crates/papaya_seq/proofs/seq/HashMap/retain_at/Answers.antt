@@ -1,7 +1,7 @@
 use Rattle.std.proofs.Common.{rules, ◌≡◌, ℕ, suc, ◌+◌, ◌<◌, Bool, true, false, cond, Some, inl, inr, refl, sym, ◌∙◌, ap, subst, arith}
 use Rattle.std.specs.Prelude.{negsuc}
 use Rattle.papaya_words.specs.Counter.{added}
-use Rattle.papaya_words.specs.Word.{buried_word, kind_of, pair_of as number_of}
+use Rattle.papaya_words.specs.Word.{kind_of, pair_of as number_of, tombstone_word}
 use Rattle.papaya_words.specs.declared.word.Kind.TheVariants.{Live}
 use Rattle.papaya_ask.specs.declared.ask.Answer.TheVariants.{Yes}
 use Rattle.papaya_ask.specs.declared.ask.At.TheVariants.{Slot}
@@ -12,9 +12,9 @@ use Rattle.papaya_timeline.proofs.KeptCore.{keys_lawful}
 use Rattle.papaya_timeline.proofs.KeptSettings.{IsLawfulKeys}
 use Rattle.papaya_seq.specs.Map.{IsLawfulMap, MapState, next_of, slots_of}
 use Rattle.papaya_seq.specs.Retains.{Answers, IsRetaining}
-use Rattle.papaya_seq.proofs.RetainLaw.{buried_at, buried_lawful, live_logged, root_word}
+use Rattle.papaya_seq.proofs.RetainLaw.{live_logged, root_word, tombstone_at, tombstone_lawful}
 use Rattle.papaya_seq.proofs.Exchanging.{exchange_done}
-use Rattle.papaya_seq.proofs.RetainSteps.{IsVisited, shown_answers, visited_more}
+use Rattle.papaya_seq.proofs.RetainSteps.{IsScanned, scanned_more, shown_answers}
 use Rattle.papaya_seq.proofs.seq.HashMap.retain_at.Goals as goal
 use Rattle.papaya_seq.proofs.seq.HashMap.retain_at.Goals.{After-add_to_shard, After-show}
 use Rattle.papaya_seq.proofs.seq.HashMap.retain_at.Given.{Over}
@@ -56,58 +56,58 @@ module _ (g : Over) where
   said : (c : After-show g) → (agrees : Bool) × Answers g.F.FnMut c.args.agrees.now (logged c).0 agrees c.show.new.agrees × (c.show.result ≡ Yes agrees)
   said c = shown_answers g.F.FnMut c.args.agrees.now c.show.new.agrees (logged c).0 (pair_of c.self.inside.store c.pair.result) c.show.result (ap (pair_of c.self.inside.store) (c.pair.ensures ∙ ap number_of (word_is c)) ∙ (logged c).1) c.show.ensures.shown
 
-  -- it was buried
-  buried : (c : After-add_to_shard g) → c.add_to_shard.new.self ≡ buried_at c.self.inside.store c.args.slot
-  buried c =
+  -- it was deleted
+  tombstone : (c : After-add_to_shard g) → c.add_to_shard.new.self ≡ tombstone_at c.self.inside.store c.args.slot
+  tombstone c =
       let s = c.self.inside.store in
       let shown = (goal.at.After-add_to_shard g c).After-show in
-      let grave : c.buried-grave.result.0 ≡ buried_word (number_of (root_word s c.args.slot)) = c.buried-grave.ensures ∙ ap buried_word (c.pair-2.ensures ∙ ap number_of (word_is shown)) in
-      let made : c.exchange.new.self ≡ record s { words = put s.words (Slot c.args.table c.args.slot) c.buried-grave.result.0 } = exchange_done s (Slot c.args.table c.args.slot) c.word.result c.buried-grave.result.0 (sym c.word.ensures) c.exchange.new.self c.exchange.result c.exchange.ensures in
+      let grave : c.tombstone-grave.result.0 ≡ tombstone_word (number_of (root_word s c.args.slot)) = c.tombstone-grave.ensures ∙ ap tombstone_word (c.pair-2.ensures ∙ ap number_of (word_is shown)) in
+      let made : c.exchange.new.self ≡ record s { words = put s.words (Slot c.args.table c.args.slot) c.tombstone-grave.result.0 } = exchange_done s (Slot c.args.table c.args.slot) c.word.result c.tombstone-grave.result.0 (sym c.word.ensures) c.exchange.new.self c.exchange.result c.exchange.ensures in
       c.add_to_shard.ensures
       ∙ ap (λ (y : StoreState g.row.K.Denot g.row.V.Denot g.row.S.Denot). record y { count = added y.count 0 (negsuc 0) }) made
       ∙ ap (λ n. record s { words = put s.words (Slot c.args.table c.args.slot) n; count = added s.count 0 (negsuc 0) }) grave
-      ∙ ap (λ t. record s { words = put s.words (Slot t c.args.slot) (buried_word (number_of (root_word s c.args.slot))); count = added s.count 0 (negsuc 0) }) (root shown)
+      ∙ ap (λ t. record s { words = put s.words (Slot t c.args.slot) (tombstone_word (number_of (root_word s c.args.slot))); count = added s.count 0 (negsuc 0) }) (root shown)
 
-  -- a slot more was visited of a map that is in order
-  visited : (here : Map) → IsLawfulMap g.K.PartialEq.eq (key_hash here.store.hasher) here.store here.mode here.initial → (slot : ℕ) → slot < slots_of here.store → (before after : g.row.F.Denot) (store : StoreState g.row.K.Denot g.row.V.Denot g.row.S.Denot) → IsVisited here.store slot g.F.FnMut before store after
+  -- a slot more was scanned of a map that is in order
+  scanned : (here : Map) → IsLawfulMap g.K.PartialEq.eq (key_hash here.store.hasher) here.store here.mode here.initial → (slot : ℕ) → slot < slots_of here.store → (before after : g.row.F.Denot) (store : StoreState g.row.K.Denot g.row.V.Denot g.row.S.Denot) → IsScanned here.store slot g.F.FnMut before store after
       → (s : Map) (f : g.row.F.Denot) → IsRetaining g.F.FnMut s f slot here before → IsRetaining g.F.FnMut s f (slot + 1) (record here { store = store }) after
-  visited here lawful slot within before after store is s f retaining =
+  scanned here lawful slot within before after store is s f retaining =
       let next : suc slot ≡ slot + 1 = omega arith in
       subst (λ n. IsRetaining g.F.FnMut s f n (record here { store = store }) after) next
-      (visited_more g.F.FnMut s f g.K.PartialEq.eq (key_hash here.store.hasher) slot here before retaining (subst (λ n. slot < n) retaining.long within) lawful (keys here) (record here { store = store }) after refl refl is)
+      (scanned_more g.F.FnMut s f g.K.PartialEq.eq (key_hash here.store.hasher) slot here before retaining (subst (λ n. slot < n) retaining.long within) lawful (keys here) (record here { store = store }) after refl refl is)
 
 -- a closure that did not disagree agreed
 agreed : (g : Over) (c : After-show g) (b : Bool) → Answers g.F.FnMut c.args.agrees.now (logged g c).0 b c.show.new.agrees → c.show.result ≡ Yes b → (c.show.result ≡ Yes false → ⊥)
-    → (agrees : Bool) × Answers g.F.FnMut c.args.agrees.now (logged g c).0 agrees c.show.new.agrees × (c.self.inside.store ≡ cond agrees c.self.inside.store (buried_at c.self.inside.store c.args.slot))
+    → (agrees : Bool) × Answers g.F.FnMut c.args.agrees.now (logged g c).0 agrees c.show.new.agrees × (c.self.inside.store ≡ cond agrees c.self.inside.store (tombstone_at c.self.inside.store c.args.slot))
 agreed g c true answers is not = (true, answers, refl)
 agreed g c false answers is not = absurd (not is)
 
-pub returns-in_default-clause-visited : goal.returns-in_default-clause-visited
-returns-in_default-clause-visited g c s f retaining =
-    let at = (goal.at.returns-in_default-clause-visited g c).After-show in
+pub returns-in_default-clause-scanned : goal.returns-in_default-clause-scanned
+returns-in_default-clause-scanned g c s f retaining =
+    let at = (goal.at.returns-in_default-clause-scanned g c).After-show in
     let not : c.show.result ≡ Yes false → ⊥ = λ no. search rules in
     let found = agreed g at (said g at).0 (said g at).1 (said g at).2 not in
     let before = subst (λ (y : Map g). IsRetaining g.F.FnMut s f c.args.slot y c.args.agrees.now) (sym c.self.view_is) retaining in
     subst (λ (y : Map g). IsRetaining g.F.FnMut s f (c.args.slot + 1) y c.show.new.agrees) c.self.view_is
-    (visited g (view g at) c.self.invariant c.args.slot (within g at) c.args.agrees.now c.show.new.agrees c.self.inside.store (inr ((logged g at).0, live g at, (logged g at).1, found.0, found.1, found.2)) s f before)
+    (scanned g (view g at) c.self.invariant c.args.slot (within g at) c.args.agrees.now c.show.new.agrees c.self.inside.store (inr ((logged g at).0, live g at, (logged g at).1, found.0, found.1, found.2)) s f before)
 
-pub returns-then-ne-clause-visited : goal.returns-then-ne-clause-visited
-returns-then-ne-clause-visited g c s f retaining =
+pub returns-then-ne-clause-scanned : goal.returns-then-ne-clause-scanned
+returns-then-ne-clause-scanned g c s f retaining =
     let here = c.args.self.now in
     let read : c.word.result ≡ root_word here.store c.args.slot = c.word.ensures ∙ ap (λ (y : Map g). word_at y.store.words (Slot c.args.table c.args.slot)) c.self.view_is ∙ ap (λ t. word_at here.store.words (Slot t c.args.slot)) c.requires.root in
-    visited g here (subst (λ (y : Map g). IsLawfulMap g.K.PartialEq.eq (key_hash g y.store.hasher) y.store y.mode y.initial) c.self.view_is c.self.invariant) c.args.slot c.requires.within c.args.agrees.now c.args.agrees.now here.store
+    scanned g here (subst (λ (y : Map g). IsLawfulMap g.K.PartialEq.eq (key_hash g y.store.hasher) y.store y.mode y.initial) c.self.view_is c.self.invariant) c.args.slot c.requires.within c.args.agrees.now c.args.agrees.now here.store
     (inl ((λ live. let is : c.kind.result ≡ Live = c.kind.ensures ∙ ap kind_of read ∙ live in search rules), refl, refl)) s f retaining
 
 pub invariant_of-self : goal.invariant_of-self
 invariant_of-self g c =
     let at = (goal.at.invariant_of-self g c).After-show in
-    subst (λ (y : StoreState g.row.K.Denot g.row.V.Denot g.row.S.Denot). IsLawfulMap g.K.PartialEq.eq (key_hash g y.hasher) y c.self.inside.mode c.self.inside.initial) (sym (buried g c))
-    (buried_lawful g.K.PartialEq.eq (key_hash g c.self.inside.store.hasher) (view g at) c.self.invariant (keys g (view g at)) c.args.slot (within g at) (live g at) (last g at) c.count-count.ensures.fits)
+    subst (λ (y : StoreState g.row.K.Denot g.row.V.Denot g.row.S.Denot). IsLawfulMap g.K.PartialEq.eq (key_hash g y.hasher) y c.self.inside.mode c.self.inside.initial) (sym (tombstone g c))
+    (tombstone_lawful g.K.PartialEq.eq (key_hash g c.self.inside.store.hasher) (view g at) c.self.invariant (keys g (view g at)) c.args.slot (within g at) (live g at) (last g at) c.count-count.ensures.fits)
 
-pub returns-clause-visited : goal.returns-clause-visited
-returns-clause-visited g c s f retaining =
-    let at = (goal.at.returns-clause-visited g c).After-show in
+pub returns-clause-scanned : goal.returns-clause-scanned
+returns-clause-scanned g c s f retaining =
+    let at = (goal.at.returns-clause-scanned g c).After-show in
     let no : c.show.result ≡ Yes false = search rules in
     let answer : (said g at).0 ≡ false = let both : Yes (said g at).0 ≡ Yes false = sym (said g at).2 ∙ no in cc in
     let before = subst (λ (y : Map g). IsRetaining g.F.FnMut s f c.args.slot y c.args.agrees.now) (sym c.self.view_is) retaining in
-    visited g (view g at) c.self.invariant c.args.slot (within g at) c.args.agrees.now c.show.new.agrees c.add_to_shard.new.self (inr ((logged g at).0, live g at, (logged g at).1, false, subst (λ b. Answers g.F.FnMut c.args.agrees.now (logged g at).0 b c.show.new.agrees) answer (said g at).1, buried g c)) s f before
+    scanned g (view g at) c.self.invariant c.args.slot (within g at) c.args.agrees.now c.show.new.agrees c.add_to_shard.new.self (inr ((logged g at).0, live g at, (logged g at).1, false, subst (λ b. Answers g.F.FnMut c.args.agrees.now (logged g at).0 b c.show.new.agrees) answer (said g at).1, tombstone g c)) s f before

@@ -19,7 +19,7 @@ use Rattle.papaya_lookup.specs.History.{IsLegalHistory, history_of, key_of}
 use Rattle.papaya_change.specs.Writing.{IsMemoryOrCapacity}
 use Rattle.papaya_words.specs.declared.probe.Refused.TheVariants.{WrongGuard}
 use Rattle.papaya_map.specs.Plain.{unpinned, IsSince, rule_of}
-use Rattle.papaya_sweep.specs.Leaving.{IsCleared}
+use Rattle.papaya_scan.specs.Leaving.{IsCleared}
 use Rattle.papaya_map.proofs.Telling.{held_good, one_ref, unit_laws}
 use Rattle.papaya_map.proofs.ToldWalks.{walk_rrr}
 use Rattle.papaya_map.proofs.Handed.{meets, Answer, six_facts, handed_2}

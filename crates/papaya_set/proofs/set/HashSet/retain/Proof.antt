@@ -20,7 +20,7 @@ use Rattle.papaya_change.specs.Writing.{IsMemoryOrCapacity}
 use Rattle.papaya_words.specs.declared.probe.Refused.TheVariants.{WrongGuard}
 use Rattle.papaya_map.specs.Plain.{unpinned, IsSince, rule_of}
 use Rattle.papaya_book.specs.Logs.{Stored}
-use Rattle.papaya_sweep.specs.Leaving.{HasKept}
+use Rattle.papaya_scan.specs.Leaving.{HasKept}
 use Rattle.papaya_set.specs.Shared.{JudgesKey}
 use Rattle.papaya_map.proofs.Earlier.{kept}
 use Rattle.papaya_map.proofs.Telling.{held_good, one_of, one_ref, unit_laws}

@@ -18,7 +18,7 @@ use Rattle.papaya_book.specs.contracts.rule.law.Law as law
 use Rattle.papaya_book.specs.contracts.rule.law.LawRuleEventNamed.TheImpl as LawRule
 use Rattle.papaya_lookup.specs.History.{IsLegalHistory, history_of, key_of}
 use Rattle.papaya_change.specs.Writing.{IsMemoryOrCapacity}
-use Rattle.papaya_sweep.specs.Leaving.{IsCleared}
+use Rattle.papaya_scan.specs.Leaving.{IsCleared}
 use Rattle.papaya_map.specs.Plain.{IsSince, rule_of}
 use Rattle.papaya_map.proofs.Telling.{held_good, one_ref, unit_laws}
 use Rattle.papaya_map.proofs.ToldWalks.{walk_rr}

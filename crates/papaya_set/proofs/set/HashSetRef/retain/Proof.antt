@@ -19,7 +19,7 @@ use Rattle.papaya_book.specs.contracts.rule.law.LawRuleEventNamed.TheImpl as Law
 use Rattle.papaya_lookup.specs.History.{IsLegalHistory, history_of, key_of, Change}
 use Rattle.papaya_change.specs.Writing.{IsMemoryOrCapacity}
 use Rattle.papaya_book.specs.Logs.{Stored}
-use Rattle.papaya_sweep.specs.Leaving.{HasKept}
+use Rattle.papaya_scan.specs.Leaving.{HasKept}
 use Rattle.papaya_set.specs.Shared.{JudgesKey}
 use Rattle.papaya_map.proofs.Earlier.{kept}
 use Rattle.papaya_map.specs.Plain.{IsSince, rule_of}

@@ -1,0 +1,19 @@
+-- One further key: the numbers that stand at the places are what they were.
+use Rattle.std.proofs.Common.{◌≡◌, ℕ, Bool, refl}
+use Rattle.papaya_ask.specs.declared.ask.At.{At}
+use Rattle.papaya_ask.specs.declared.ask.At.TheVariants.{Root, Next, Aborted, Done, Slot, Made}
+use Rattle.papaya_law.specs.Exchange.{Setting, State}
+use Rattle.papaya_law.specs.Code.{Coding}
+use Rattle.papaya_law.specs.Further.{with_key, coding_with}
+use Rattle.papaya_law.proofs.Further.{key_code}
+use Rattle.papaya_call_law.specs.Told.{word_of}
+
+module _ {K P : Type 0} (g : Setting K P) (matches : K → Bool) (hash : ℕ) where
+  -- what stands at a place has the number that it had
+  pub key_word : (c : Coding K P) (s : State P) (at : At) → word_of (with_key g matches hash) (coding_with c hash) s at ≡ word_of g c s at
+  key_word c s Root = refl
+  key_word c s (Next t) = refl
+  key_word c s (Aborted t) = refl
+  key_word c s (Done t chunk) = refl
+  key_word c s Made = refl
+  key_word c s (Slot t x) = key_code g matches hash c (s.slot t x)

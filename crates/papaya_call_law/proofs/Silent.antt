@@ -1,0 +1,65 @@
+-- An ask whose answer says nothing of a closure, and makes no pair: a machine then stands on what it stood on before.
+use Rattle.std.proofs.Common.{◌≡◌, ⊎_elim, ℕ, Option, None, Some, subst}
+use Rattle.papaya_ask.specs.declared.ask.Ask.{Ask}
+use Rattle.papaya_ask.specs.declared.ask.Ask.TheVariants.{Load, Exchange, LoadHint, WriteHint, SameKey, ShowNone, ShowPair, SizeOf, MakeKey, MakeValue, MakePair, MakePairOf, MakeTable, AddToShard, Done}
+use Rattle.papaya_ask.specs.declared.ask.Answer.{Answer}
+use Rattle.papaya_ask.specs.declared.call.Reply.{Reply}
+use Rattle.papaya_call.specs.declared.machine.Machine.{Machine}
+use Rattle.papaya_call.specs.Machine.{IsStanding, after, ask_of}
+use Rattle.papaya_call_law.specs.Says.{Agrees, Inserts, IsSaidBy, Makes, MakesPair, Removes, Said, ShowsPairs, StandsOn, show}
+use Rattle.papaya_call_law.proofs.SaysSaid.{machine_said}
+
+-- the closure says nothing with the answer to this ask, and no pair is made
+abbrev pub IsSilent : Ask → Type 0
+IsSilent ShowNone = ⊥
+IsSilent (ShowPair n) = ⊥
+IsSilent MakePair = ⊥
+IsSilent (MakePairOf n) = ⊥
+IsSilent (Done reply) = ⊥
+IsSilent (Load at) = Unit {0}
+IsSilent (Exchange at old new) = Unit {0}
+IsSilent (LoadHint t x) = Unit {0}
+IsSilent (WriteHint t x hint) = Unit {0}
+IsSilent (SameKey n) = Unit {0}
+IsSilent (SizeOf t) = Unit {0}
+IsSilent MakeKey = Unit {0}
+IsSilent MakeValue = Unit {0}
+IsSilent (MakeTable slots limit chunks) = Unit {0}
+IsSilent (AddToShard by) = Unit {0}
+
+-- no pair is asked for then
+silent_makes : (ask : Ask) → IsSilent ask → MakesPair ask → ⊥
+silent_makes MakePair silent makes = silent
+silent_makes (MakePairOf n) silent makes = silent
+silent_makes ShowNone silent makes = makes
+silent_makes (ShowPair n) silent makes = makes
+silent_makes (Done reply) silent makes = makes
+silent_makes (Load at) silent makes = makes
+silent_makes (Exchange at old new) silent makes = makes
+silent_makes (LoadHint t x) silent makes = makes
+silent_makes (WriteHint t x hint) silent makes = makes
+silent_makes (SameKey n) silent makes = makes
+silent_makes (SizeOf t) silent makes = makes
+silent_makes MakeKey silent makes = makes
+silent_makes MakeValue silent makes = makes
+silent_makes (MakeTable slots limit chunks) silent makes = makes
+silent_makes (AddToShard by) silent makes = makes
+
+module _ (m : Machine) (answer : Answer) (silent : IsSilent (ask_of m)) where
+  pub not_done : (reply : Reply) → ask_of m ≡ Done reply → ⊥
+  not_done reply e = subst IsSilent e silent
+
+  pub not_show : (shown : Option ℕ) → ask_of m ≡ show shown → ⊥
+  not_show None e = subst IsSilent e silent
+  not_show (Some n) e = subst IsSilent e silent
+
+  -- nothing was said
+  unsaid_now : (said : Said) → IsSaidBy m answer said → ⊥
+  unsaid_now (Agrees n agrees) h = subst IsSilent h.0 silent
+  unsaid_now (Inserts shown) h = not_show shown h.0
+  unsaid_now (Makes shown n) h = silent_makes (ask_of m) silent h.1
+  unsaid_now (Removes n) h = subst IsSilent h.0 silent
+
+  -- what the machine stands on, it stood on before
+  pub stood_before : IsStanding m → ShowsPairs m → (said : Said) → StandsOn (after m answer) said → StandsOn m said
+  stood_before standing words said stands = ⊎_elim (λ h. h) (λ h. absurd (unsaid_now said h)) (machine_said m answer said standing words stands)

@@ -1,0 +1,25 @@
+-- What a call that changed the map has yet to add to the count of pairs.
+use Rattle.std.specs.Prelude.{ℤ, pos, negsuc, Option, Some}
+use Rattle.papaya_ask.specs.declared.ask.Ask.{Ask}
+use Rattle.papaya_ask.specs.declared.ask.Ask.TheVariants.{Exchange, AddToShard}
+use Rattle.papaya_ask.specs.declared.ask.Answer.{Answer}
+use Rattle.papaya_ask.specs.declared.ask.Answer.TheVariants.{Exchanged}
+use Rattle.papaya_ask.specs.declared.ask.StepKind.{StepKind}
+use Rattle.papaya_ask.specs.declared.ask.StepKind.TheVariants as kinds
+
+-- what a machine that asks this has yet to add: the change was made, and it adds next
+abbrev pub owed_by : Ask → ℤ
+owed_by (AddToShard by) = by
+owed_by _ = pos 0
+
+-- by how many pairs an exchange of this kind lets the map grow: a claim by one, and a deletion by
+-- one less
+abbrev pub grows_of : Option StepKind → ℤ
+grows_of (Some kinds.Claim) = pos 1
+grows_of (Some kinds.Delete) = negsuc 0
+grows_of _ = pos 0
+
+-- by how many pairs the map grows where an ask is answered so
+abbrev pub grows_by : Option StepKind → Ask → Answer → ℤ
+grows_by kind (Exchange at old new) Exchanged = grows_of kind
+grows_by kind _ _ = pos 0

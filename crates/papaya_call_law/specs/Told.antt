@@ -1,0 +1,141 @@
+-- What an answer tells a machine of the words.
+use Rattle.std.specs.Prelude.{◌≡◌, ◌⊎◌, ℕ, ◌+◌, ◌<◌, ◌==◌, cond, Bool, Option, None, Some, List, [], ◌∷◌, MatchBool}
+use Rattle.papaya_words.specs.Word.{pair_of}
+use Rattle.papaya_words.specs.declared.probe.Refused.{Refused}
+use Rattle.papaya_ask.specs.declared.ask.At.{At}
+use Rattle.papaya_ask.specs.declared.ask.At.TheVariants.{Root, Next, Aborted, Done, Slot, Made as Made_word}
+use Rattle.papaya_ask.specs.declared.ask.Ask.{Ask}
+use Rattle.papaya_ask.specs.declared.ask.Ask.TheVariants.{Load, Exchange as Ask_exchange, LoadHint, WriteHint, SameKey, ShowNone, ShowPair, SizeOf, MakeKey, MakeValue, MakePair, MakePairOf, MakeTable, AddToShard, Done as Ask_done}
+use Rattle.papaya_ask.specs.declared.ask.Answer.{Answer}
+use Rattle.papaya_ask.specs.declared.ask.Answer.TheVariants.{Word as Word_read, Exchanged, Found as Found_instead, Yes, Op, Size, Made as Made_number, Ok as Ok_done, Refused as Was_refused}
+use Rattle.papaya_ask.specs.declared.ask.OpKind.{OpKind}
+use Rattle.papaya_ask.specs.declared.ask.StepKind.{StepKind}
+use Rattle.papaya_ask.specs.declared.ask.StepKind.TheVariants as kinds
+use Rattle.papaya_law.specs.Exchange.{Live, Setting, State, Exchange, Open, Claim, Replace, Delete, Take}
+use Rattle.papaya_law.specs.Invariant.{named}
+use Rattle.papaya_law.specs.Code.{Coding, code}
+use Rattle.papaya_law.specs.Hints.{IsHint}
+
+-- The pairs that a machine has been told of: the one that the word last loaded names, and those
+-- that it made, the newest first.
+pub record LoadedPairs (P : Type 0) : Type 0 where
+  pub last : Option P
+  pub made : List P
+
+abbrev pub nothing_loaded : {P : Type 0} → LoadedPairs P
+nothing_loaded = record { last = None; made = [] }
+
+-- p is one of these
+abbrev pub IsOneOf : {P : Type 0} → List P → P → Type 0
+IsOneOf [] p = ⊥
+IsOneOf (q ∷ rest) p = (p ≡ q) ⊎ IsOneOf rest p
+
+-- the pair that a word names, or else the one of before
+abbrev pub or_last : {P : Type 0} → Option P → Option P → Option P
+or_last (Some p) last = Some p
+or_last None last = last
+
+module _ {K P : Type 0} (g : Setting K P) (c : Coding K P) where
+  -- the word that stands at a place, as a number
+  abbrev pub word_of : State P → At → ℕ
+  word_of s Root = s.root
+  word_of s (Next t) = s.next t
+  word_of s (Aborted t) = cond (s.aborted t) 1 0
+  word_of s (Done t chunk) = cond (s.done t chunk) 1 0
+  word_of s (Slot t x) = code g c (s.slot t x)
+  word_of s Made_word = s.made
+
+  -- just the word at this place is another
+  pub record IsWritten (s : State P) (at : At) (new : ℕ) (s' : State P) : Type 0 where
+    pub here : word_of s' at ≡ new
+    pub others : (other : At) → (other ≡ at → ⊥) → word_of s' other ≡ word_of s other
+
+-- what the machine has been told of after it was told of the word at a place
+abbrev pub told_of : {P : Type 0} → State P → At → LoadedPairs P → LoadedPairs P
+told_of s (Slot t x) loaded = record loaded { last = or_last (named (s.slot t x)) loaded.last }
+told_of s _ loaded = loaded
+
+-- the pair q was made by the call, and the new word names it
+pub record IsOwnWord {K P : Type 0} (c : Coding K P) (loaded : LoadedPairs P) (new : ℕ)
+    (q : P) : Type 0 where
+  pub made : IsOneOf loaded.made q
+  pub named : c.number q ≡ pair_of new
+
+module _ {K P : Type 0} (g : Setting K P) (c : Coding K P) (k : K) where
+  -- The exchange of the law that a machine asks for, by its kind: a pair that comes is one that the
+  -- machine made, of the call's key where it is claimed, and of the key of the one that goes where
+  -- it is replaced; and the one that goes is the one that stands there.
+  abbrev pub IsAsked : Option StepKind → At → ℕ → State P → LoadedPairs P → Exchange P → Type 0
+  IsAsked (Some kinds.Open) Root new s loaded e = e ≡ Open new
+  IsAsked (Some kinds.Claim) (Slot t x) new s loaded e = (q : P) × IsOwnWord c loaded new q
+      × (g.key q ≡ k) × (e ≡ Claim t x q)
+  IsAsked (Some kinds.Replace) (Slot t x) new s loaded e = (p : P) × (q : P)
+      × (s.slot t x ≡ Live p) × IsOwnWord c loaded new q × (g.key q ≡ g.key p)
+      × (e ≡ Replace t x p q)
+  IsAsked (Some kinds.Delete) (Slot t x) new s loaded e = (p : P) × (s.slot t x ≡ Live p)
+      × (e ≡ Delete t x p)
+  IsAsked (Some kinds.Take) Made_word new s loaded e = e ≡ Take s.made
+  IsAsked _ _ new s loaded e = ⊥
+
+  -- nothing was exchanged, and no pair was told of
+  abbrev pub Quiet : LoadedPairs P → List (Exchange P) → LoadedPairs P → Type 0
+  Quiet loaded es loaded' = (es ≡ []) × (loaded' ≡ loaded)
+
+  -- something was to be made: it was refused, or there was nothing to make
+  abbrev pub IsUnmade : Answer → Type 0
+  IsUnmade answer = ((refused : Refused) × (answer ≡ Was_refused refused)) ⊎ (answer ≡ Ok_done)
+
+  -- the pair q was made
+  abbrev pub IsNew : P → LoadedPairs P → Answer → List (Exchange P) → LoadedPairs P → Type 0
+  IsNew q loaded answer es loaded' = (answer ≡ Made_number (c.number q)) × (es ≡ [])
+      × (loaded' ≡ record loaded { made = q ∷ loaded.made })
+
+  -- it has the key of the pair of this number, which was loaded last
+  abbrev pub IsOfLast : LoadedPairs P → ℕ → P → Type 0
+  IsOfLast loaded n q = (p : P) → loaded.last ≡ Some p → c.number p ≡ n → g.key q ≡ g.key p
+
+  -- a closure answers as it likes; where there is none, it doesn't
+  abbrev pub IsSaying : Answer → Type 0
+  IsSaying answer = ((agrees : Bool) × (answer ≡ Yes agrees))
+      ⊎ ((kind : OpKind) × (answer ≡ Op kind)) ⊎ (answer ≡ Ok_done)
+
+  -- The answer to an ask is true of the words in s, for a call with key k: a load and an exchange
+  -- are answered by the word that stands there, and the load of a hint by one that may be there. es
+  -- has the exchange, if one was made.
+  abbrev pub IsTold : State P → Option StepKind → LoadedPairs P → Ask → Answer → List (Exchange P)
+      → LoadedPairs P → Type 0
+  IsTold s kind loaded (Load at) answer es loaded' = (answer ≡ Word_read (word_of g c s at))
+      × (es ≡ []) × (loaded' ≡ told_of s at loaded)
+  IsTold s kind loaded (Ask_exchange at old new) answer es loaded' =
+      MatchBool (word_of g c s at == old)
+      ((answer ≡ Exchanged) × ((e : Exchange P) × IsAsked kind at new s loaded e × (es ≡ e ∷ []))
+      × (loaded' ≡ loaded))
+      ((answer ≡ Found_instead (word_of g c s at)) × (es ≡ []) × (loaded' ≡ told_of s at loaded))
+  IsTold s kind loaded (LoadHint t x) answer es loaded' =
+      ((n : ℕ) × IsHint g c s t x n × (answer ≡ Word_read n)) × Quiet loaded es loaded'
+  IsTold s kind loaded (WriteHint t x n) answer es loaded' = (answer ≡ Ok_done)
+      × Quiet loaded es loaded'
+  IsTold s kind loaded (SameKey n) answer es loaded' =
+      ((p : P) → loaded.last ≡ Some p → c.number p ≡ n → answer ≡ Yes (g.same k (g.key p)))
+      × Quiet loaded es loaded'
+  IsTold s kind loaded ShowNone answer es loaded' = IsSaying answer × Quiet loaded es loaded'
+  IsTold s kind loaded (ShowPair n) answer es loaded' = IsSaying answer × Quiet loaded es loaded'
+  IsTold s kind loaded (SizeOf t) answer es loaded' =
+      ((limit : ℕ) × (limit + 1 ≡ g.places t) × (answer ≡ Size (g.size t) limit))
+      × Quiet loaded es loaded'
+  IsTold s kind loaded MakeKey answer es loaded' =
+      (IsUnmade answer ⊎ ((n : ℕ) × (answer ≡ Made_number n))) × Quiet loaded es loaded'
+  IsTold s kind loaded MakeValue answer es loaded' =
+      (IsUnmade answer ⊎ ((n : ℕ) × (answer ≡ Made_number n))) × Quiet loaded es loaded'
+  IsTold s kind loaded MakePair answer es loaded' =
+      (IsUnmade answer × Quiet loaded es loaded')
+      ⊎ ((q : P) × (g.key q ≡ k) × IsNew q loaded answer es loaded')
+  IsTold s kind loaded (MakePairOf n) answer es loaded' =
+      (IsUnmade answer × Quiet loaded es loaded')
+      ⊎ ((q : P) × IsOfLast loaded n q × IsNew q loaded answer es loaded')
+  IsTold s kind loaded (MakeTable slots limit chunks) answer es loaded' =
+      (IsUnmade answer ⊎ ((n : ℕ) × (0 < n) × (answer ≡ Made_number n))) × Quiet loaded es loaded'
+  IsTold s kind loaded (AddToShard by) answer es loaded' = (answer ≡ Ok_done)
+      × Quiet loaded es loaded'
+  IsTold s kind loaded (Ask_done reply) answer es loaded' = (answer ≡ Ok_done)
+      × Quiet loaded es loaded'

@@ -1,0 +1,34 @@
+//! A call whose words nobody else changes.
+//!
+//! The functions do nothing: their contracts are laws, on which a backend with one caller relies.
+ghost use Rattle.std.specs.Prelude.{◌≡◌, ℕ, ◌<◌};
+ghost use Rattle.papaya_call_law.specs.Alone.{HasMetNone, IsCurrent, IsPrompt, IsSeeker, IsUnmatched, left};
+ghost use Rattle.papaya_call.specs.Machine.{IsLookup, after, ask_of};
+ghost use Rattle.papaya_ask.specs.declared.call.Reply.TheVariants.{Absent};
+
+use papaya_ask::ask::{Answer, Ask, At};
+use papaya_ask::call::Reply;
+use papaya_call::machine::Machine;
+
+/// Each answer brings a call nearer its end, while no table has a next one: what it has read stands
+/// there still, so no exchange is lost.
+pub fn calls_end()
+    ensures nearer { (words words' : At → ℕ) (m : Machine) (answer : Answer)
+        → IsCurrent words m → ((t : ℕ) → words (At.Next t) ≡ 0)
+        → IsPrompt m.task words (ask_of m) answer words' → left (after m answer) < left m }
+    ensures current { (words words' : At → ℕ) (m : Machine) (answer : Answer)
+        → IsCurrent words m → IsPrompt m.task words (ask_of m) answer words'
+        → IsCurrent words' (after m answer) }
+    ensures single { (words words' : At → ℕ) (m : Machine) (answer : Answer)
+        → ((t : ℕ) → words (At.Next t) ≡ 0) → IsPrompt m.task words (ask_of m) answer words'
+        → (t : ℕ) → words' (At.Next t) ≡ 0 }
+{}
+
+/// A call that looks for its key, and meets no pair with it, only loads, and finds nothing.
+pub fn unmatched_keys_are_absent()
+    ensures goes_on { (m : Machine) (answer : Answer) → IsSeeker m.task → HasMetNone m.state
+        → IsUnmatched (ask_of m) answer → HasMetNone (after m answer).state }
+    ensures asks { (m : Machine) → HasMetNone m.state → IsLookup (ask_of m) }
+    ensures replies { (m : Machine) (reply : Reply) → HasMetNone m.state → ask_of m ≡ Ask.Done reply
+        → reply ≡ Absent }
+{}

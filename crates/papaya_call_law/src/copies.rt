@@ -1,0 +1,156 @@
+//! What a copier relies on, while others exchange words between its asks.
+//!
+//! The machines of a resize ask and are answered as those of calls are. What they rely on are facts
+//! of the words alone, which no exchange undoes, so no list of exchanges and no moment comes into
+//! these laws. `last` is the pair that a copier was told of last, `kept` the one that it carries.
+//! The functions do nothing: their contracts are the laws.
+ghost use Rattle.std.specs.Prelude.{◌≡◌, ℕ, ◌+◌, ◌<◌, List, Option, Some};
+ghost use Rattle.papaya_words.specs.declared.probe.Refused.{Refused};
+ghost use Rattle.papaya_words.specs.declared.probe.ResizeMode.{ResizeMode};
+ghost use Rattle.papaya_ask.specs.declared.ask.At.{At};
+ghost use Rattle.papaya_ask.specs.declared.ask.StepKind.{StepKind};
+ghost use Rattle.papaya_ask.specs.declared.copy_ask.CopyAsk.TheVariants as asks;
+ghost use Rattle.papaya_copy.specs.declared.copying.Aim.{Aim};
+ghost use Rattle.papaya_copy.specs.declared.copying.Copying.{Copying};
+ghost use Rattle.papaya_copy.specs.declared.copying.Copying.TheVariants as copyings;
+ghost use Rattle.papaya_copy.specs.declared.step.Step.TheVariants as steps;
+ghost use Rattle.papaya_copy.specs.Copying.{at_count, at_exchanged, at_found, at_hash, at_made, at_ok, at_refused};
+ghost use Rattle.papaya_copy.specs.Copying.{at_size, at_word, at_yes, copying_ask, copying_follows, copying_kind};
+ghost use Rattle.papaya_law.specs.Allows.{AllAllowed, Allows};
+ghost use Rattle.papaya_law.specs.Class.{IsOn};
+ghost use Rattle.papaya_law.specs.Code.{Coding, IsHashed};
+ghost use Rattle.papaya_law.specs.Exchange.{Setting, State, Exchange, after, run};
+ghost use Rattle.papaya_law.specs.Grows.{Agrees};
+ghost use Rattle.papaya_law.specs.Hints.{IsHint};
+ghost use Rattle.papaya_law.specs.Invariant.{IsKeeping};
+ghost use Rattle.papaya_call_law.specs.Copier.{AreThere, HasWords, IsCopyAsked, ReliesAim, ReliesCopied, ReliesCopying};
+ghost use Rattle.papaya_call_law.specs.Copier.{aim_of, last_after, link_in_copying, told_last};
+ghost use Rattle.papaya_call_law.specs.Relies.{IsCutAs, IsModeOf};
+ghost use Rattle.papaya_call_law.specs.Told.{IsWritten, word_of};
+
+/// What a copier relies on stays so, whatever others exchange and whichever tables are made.
+pub fn copiers_stable<K, P>()
+    ensures exchanges { (g : Setting K P) (c : Coding K P) → IsHashed g c
+        → (s : State P) (m : K → Option P) → IsKeeping g s m → (es : List (Exchange P))
+        → AllAllowed g s es → (last kept : Option P) (copying : Copying)
+        → ReliesCopying g c s last kept copying → ReliesCopying g c (run es s) last kept copying }
+    ensures tables { (g g' : Setting K P) (c : Coding K P) (s : State P) (m : K → Option P)
+        → IsKeeping g s m → Agrees (IsOn s.first s.next) g g'
+        → (last kept : Option P) (copying : Copying) → ReliesCopying g c s last kept copying
+        → ReliesCopying g' c s last kept copying }
+{}
+
+/// An exchange whose old word stands there is one of the law, allowed, and writes just its word. A
+/// table that is linked was made with as many words for chunks as were asked for.
+pub fn copiers_guarantee<K, P>()
+    ensures guarantee { (g : Setting K P) (c : Coding K P) → IsHashed g c
+        → (s : State P) (m : K → Option P) → IsKeeping g s m
+        → (last kept : Option P) (copying : Copying) → ReliesCopying g c s last kept copying
+        → HasWords g (link_in_copying copying) → (at : At) (old new : ℕ)
+        → copying_ask copying ≡ asks.Exchange at old new
+        → word_of g c s at ≡ old → (e : Exchange P)
+        × IsCopyAsked c (copying_kind copying) at new s kept e × Allows g s e
+        × IsWritten g c s at new (after s e) }
+    ensures one { (c : Coding K P) (kind : Option StepKind) (at : At) (new : ℕ) (s : State P)
+        (kept : Option P) (e e' : Exchange P) → IsCopyAsked c kind at new s kept e
+        → IsCopyAsked c kind at new s kept e' → e ≡ e' }
+{}
+
+/// A hint that a copier writes may be there: it put a pair of that key into the slot, or shut it.
+pub fn copiers_guarantee_hint<K, P>()
+    ensures { (g : Setting K P) (c : Coding K P) → IsHashed g c → (s : State P) (m : K → Option P)
+        → IsKeeping g s m → (mode : ResizeMode) → IsModeOf mode g.blocking
+        → (last kept : Option P) (copying : Copying) → ReliesCopying g c s last kept copying
+        → (t x n : ℕ) → copying_ask copying ≡ asks.WriteHint t x n → IsHint g c s t x n }
+{}
+
+/// A copier names only words of tables that were opened or linked, slots within them, the pair last
+/// told of and the one that it carries.
+pub fn copiers_name<K, P>()
+    ensures { (g : Setting K P) (c : Coding K P) → IsHashed g c → (s : State P) (m : K → Option P)
+        → IsKeeping g s m → (last kept : Option P) (copying : Copying)
+        → ReliesCopying g c s last kept copying → AreThere g c s last kept (copying_ask copying) }
+{}
+
+/// After an answer that is true of the words a copier relies on what holds again, or it tells what
+/// was copied: the table in which the call is to look for its key, or the root.
+///
+/// A load and an exchange are answered by the word that stands there, and the load of a hint by any
+/// that may be there. Asked for a hash, a copier carries the pair that it was told of last. What
+/// makes a table gives it a number above the one that it follows, and where the table is linked, as
+/// many words for chunks as were asked for.
+pub fn copiers_learn<K, P>()
+    ensures begins { (g : Setting K P) (c : Coding K P) (s : State P) (last kept : Option P)
+        (aim : Aim) → ReliesAim g c s last kept aim
+        → ReliesCopying g c s last kept (copyings.Stepping aim steps.AtRoot) }
+    ensures load { (g : Setting K P) (c : Coding K P) → IsHashed g c
+        → (s : State P) (m : K → Option P) → IsKeeping g s m → (mode : ResizeMode)
+        → IsModeOf mode g.blocking → (last kept : Option P) (copying : Copying)
+        → ReliesCopying g c s last kept copying → (at : At)
+        → copying_ask copying ≡ asks.Load at → ReliesCopied g c s (told_last s at last) kept
+        (aim_of copying) (at_word copying mode (word_of g c s at)) }
+    ensures hint { (g : Setting K P) (c : Coding K P) → IsHashed g c
+        → (s : State P) (m : K → Option P) → IsKeeping g s m → (mode : ResizeMode)
+        → IsModeOf mode g.blocking → (last kept : Option P) (copying : Copying)
+        → ReliesCopying g c s last kept copying → (t x : ℕ)
+        → copying_ask copying ≡ asks.LoadHint t x → (n : ℕ) → IsHint g c s t x n
+        → ReliesCopied g c s last kept (aim_of copying) (at_word copying mode n) }
+    ensures noted { (g : Setting K P) (c : Coding K P) → IsHashed g c
+        → (s : State P) (m : K → Option P) → IsKeeping g s m → (mode : ResizeMode)
+        → IsModeOf mode g.blocking → (last kept : Option P) (copying : Copying)
+        → ReliesCopying g c s last kept copying → (t x n : ℕ)
+        → copying_ask copying ≡ asks.WriteHint t x n
+        → ReliesCopied g c s last kept (aim_of copying) (at_ok copying mode) }
+    ensures exchanged { (g : Setting K P) (c : Coding K P) → IsHashed g c
+        → (s : State P) (m : K → Option P) → IsKeeping g s m → (mode : ResizeMode)
+        → IsModeOf mode g.blocking → (last kept : Option P) (copying : Copying)
+        → ReliesCopying g c s last kept copying → HasWords g (link_in_copying copying)
+        → (at : At) (old new : ℕ) → copying_ask copying ≡ asks.Exchange at old new
+        → word_of g c s at ≡ old → (e : Exchange P)
+        → IsCopyAsked c (copying_kind copying) at new s kept e
+        → ReliesCopied g c (after s e) (last_after e last) kept (aim_of copying)
+        (at_exchanged copying mode) }
+    ensures found { (g : Setting K P) (c : Coding K P) → IsHashed g c
+        → (s : State P) (m : K → Option P) → IsKeeping g s m → (mode : ResizeMode)
+        → IsModeOf mode g.blocking → (last kept : Option P) (copying : Copying)
+        → ReliesCopying g c s last kept copying → (at : At) (old new : ℕ)
+        → copying_ask copying ≡ asks.Exchange at old new → (word_of g c s at ≡ old → ⊥)
+        → ReliesCopied g c s (told_last s at last) kept (aim_of copying)
+        (at_found copying mode (word_of g c s at)) }
+    ensures size { (g : Setting K P) (c : Coding K P) → IsHashed g c
+        → (s : State P) (m : K → Option P) → IsKeeping g s m → (mode : ResizeMode)
+        → IsModeOf mode g.blocking → IsCutAs mode g.chunk_of → (last kept : Option P)
+        (copying : Copying) → ReliesCopying g c s last kept copying → (number t limit : ℕ)
+        → copying_ask copying ≡ asks.SizeOf t → limit + 1 ≡ g.places t
+        → (aim_of (at_size copying mode number (g.size t) limit) ≡ aim_of copying)
+        × ReliesCopying g c s last kept (at_size copying mode number (g.size t) limit) }
+    ensures hash { (g : Setting K P) (c : Coding K P) → IsHashed g c
+        → (s : State P) (m : K → Option P) → IsKeeping g s m → (mode : ResizeMode)
+        → IsModeOf mode g.blocking → (last kept : Option P) (copying : Copying)
+        → ReliesCopying g c s last kept copying → (n : ℕ) → copying_ask copying ≡ asks.HashOf n
+        → (q : P) → last ≡ Some q → (aim_of (at_hash copying (c.hash (g.key q))) ≡ aim_of copying)
+        × ReliesCopying g c s last last (at_hash copying (c.hash (g.key q))) }
+    ensures same { (g : Setting K P) (c : Coding K P) → IsHashed g c
+        → (s : State P) (m : K → Option P) → IsKeeping g s m → (mode : ResizeMode)
+        → IsModeOf mode g.blocking → (last kept : Option P) (copying : Copying)
+        → ReliesCopying g c s last kept copying → (i n : ℕ)
+        → copying_ask copying ≡ asks.SamePair i n → (p q : P) → kept ≡ Some p → last ≡ Some q
+        → ReliesCopied g c s last kept (aim_of copying)
+        (at_yes copying mode (g.same (g.key p) (g.key q))) }
+    ensures count { (g : Setting K P) (c : Coding K P) → IsHashed g c
+        → (s : State P) (m : K → Option P) → IsKeeping g s m → (mode : ResizeMode)
+        → IsModeOf mode g.blocking → IsCutAs mode g.chunk_of → (last kept : Option P)
+        (copying : Copying) → ReliesCopying g c s last kept copying → (count initial : ℕ)
+        → ReliesCopied g c s last kept (aim_of copying) (at_count copying mode count initial) }
+    ensures made { (g : Setting K P) (c : Coding K P) → IsHashed g c
+        → (s : State P) (m : K → Option P) → IsKeeping g s m → (mode : ResizeMode)
+        → IsModeOf mode g.blocking → (last kept : Option P) (copying : Copying)
+        → ReliesCopying g c s last kept copying → (n : ℕ) → copying_follows copying < n
+        → (aim_of (at_made copying n) ≡ aim_of copying)
+        × ReliesCopying g c s last kept (at_made copying n) }
+    ensures refused { (g : Setting K P) (c : Coding K P) → IsHashed g c
+        → (s : State P) (m : K → Option P) → IsKeeping g s m → (mode : ResizeMode)
+        → IsModeOf mode g.blocking → (last kept : Option P) (copying : Copying)
+        → ReliesCopying g c s last kept copying → (refused : Refused)
+        → ReliesCopied g c s last kept (aim_of copying) (at_refused copying mode refused) }
+{}

@@ -1,0 +1,11 @@
+//! What a machine relies on while others exchange words between its asks, and so what it replies.
+//!
+//! The law of exchanges and the machines meet here. A backend that answers truly needs these laws
+//! and never looks into a machine: [`relies`] for any schedule, [`alone`] for a call whose words
+//! nobody else changes, [`loads`] for how much a lookup loads.
+#![tactic(auto)]
+
+pub mod alone;
+pub mod copies;
+pub mod loads;
+pub mod relies;

@@ -1,0 +1,11 @@
+-- What a call that changes the shared map holds and is told, by what a window shows of the map.
+pub mod Copier
+pub mod Driver
+pub mod Going
+pub mod Inserting
+pub mod Removing
+pub mod Resizing
+pub mod Seeking
+pub mod Settling
+pub mod Steps
+pub mod Writing

@@ -1,0 +1,96 @@
+-- Slots that are copied one after another, by what is seen of the map.
+use Rattle.std.specs.Prelude.{ℕ, ◌<◌, Option, List}
+use mathlib.Core.List.{IsPrefix}
+use Rattle.papaya_words.specs.declared.probe.ResizeMode.{ResizeMode}
+use Rattle.papaya_ask.specs.declared.search.Place.{Place}
+use Rattle.papaya_ask.specs.Search.{IsWithin}
+use Rattle.papaya_copy.specs.declared.carry.Carry.TheVariants.{Looking as Looking_at}
+use Rattle.papaya_copy.specs.declared.copying.Copying.{Copying}
+use Rattle.papaya_copy.specs.declared.settle.Settle.{Settle}
+use Rattle.papaya_copy.specs.declared.settle.Settle.TheVariants.{Carrying, Looking}
+use Rattle.papaya_copy.specs.Step.{IsStandingChunk}
+use Rattle.papaya_chain.specs.declared.ask.Answer.{Answer}
+use Rattle.papaya_book.specs.declared.keyed.Keyed as keyed
+use Rattle.papaya_book.specs.declared.rule.entry.Event.{Event}
+use Rattle.papaya_book.specs.declared.window.Window.{Window}
+use Rattle.papaya_book.specs.Parts.{begun_of}
+use Rattle.papaya_book.specs.Sheets.{Sheet}
+use Rattle.papaya_book.specs.Windows.{IsTable}
+use Rattle.papaya_change.specs.declared.copier.Copier.{Copier}
+use Rattle.papaya_change.specs.declared.settling.Halt.{Halt}
+use Rattle.papaya_change.specs.declared.settling.Look.{Look}
+use Rattle.papaya_change.specs.declared.settling.Look.TheVariants.{Left, Next}
+use Rattle.papaya_change.specs.declared.settling.Site.{Site}
+use Rattle.papaya_change.specs.Seeking.{left_at}
+use Rattle.papaya_change.specs.Settling.{Stop, at_slot}
+use Rattle.papaya_change.specs.Settling as settling
+
+-- the copy of the slot looks at its word, by what was seen before
+abbrev pub stop_seen : {K V S H : Type 0} → List (Event K V S) → Site K V S H → Copier K V S H
+    → Stop K V S H
+stop_seen seen site h = record {
+  copying = at_slot site.aim site.chunk Looking;
+  log = seen;
+  loaded = h;
+}
+
+-- the carry of the slot's pair looks at this place of a table
+abbrev pub looking : (marked hash : ℕ) → Place → Settle
+looking marked hash at = Carrying marked (Looking_at hash at)
+
+module _ {K V S H : Type 0} {d : keyed.Ghosts S K H} where
+  abbrev pub CanLead : Window K V S H d → ResizeMode → Stop K V S H → Type 0
+  CanLead w mode s = settling.CanLead d.keys.eq d.keys.hash (begun_of w.book.now.parts)
+      w.book.now.begun.book mode s
+
+  -- the copy stands here, by what is seen
+  abbrev pub stop_in : Window K V S H d → Copying → Copier K V S H → Stop K V S H
+  stop_in w copying h = record { copying = copying; log = w.sight.log; loaded = h }
+
+  -- the copy of the slot does
+  abbrev pub stop_at : Window K V S H d → Site K V S H → Settle → Copier K V S H → Stop K V S H
+  stop_at w site settle h = stop_in w (at_slot site.aim site.chunk settle) h
+
+  -- the table at hand is that of the chunk that is copied
+  pub record IsPlacedAt (w : Window K V S H d) (site : Site K V S H) : Type 0 where
+    pub table : IsTable w site.chunk.cursor.from site.table.now
+    pub standing : IsStandingChunk site.chunk
+
+  abbrev pub CanLeadAt : Window K V S H d → Site K V S H → Settle → Copier K V S H → Type 0
+  CanLeadAt w site settle h = CanLead w site.mode (stop_at w site settle h)
+
+  -- it was seen that the copy of the slot stands there, and it may be led on
+  abbrev pub WaitsAt : Window K V S H d → Site K V S H → Copier K V S H → Type 0
+  WaitsAt w site h = (seen : List (Event K V S)) × IsPrefix seen w.sight.log
+      × CanLead w site.mode (stop_seen seen site h)
+
+  -- the slot is settled, or its copy was left
+  abbrev pub LeavesFrom : Stop K V S H → Window K V S H d → Site K V S H → Copier K V S H
+      → Option Halt → Type 0
+  LeavesFrom s w site h halt = settling.LeavesSlot d.keys.eq d.keys.hash
+      (begun_of w.book.now.parts) w.book.now.begun.book site.mode site.aim site.chunk s w.sight.log
+      h halt
+
+  abbrev pub Leaves : Window K V S H d → Site K V S H → Settle → Copier K V S H
+      → Window K V S H d → Copier K V S H → Option Halt → Type 0
+  Leaves w site settle h w' h' halt = LeavesFrom (stop_at w site settle h) w' site h' halt
+
+  abbrev pub Leads : Window K V S H d → ResizeMode → Stop K V S H → Stop K V S H → Type 0
+  Leads w mode s t = settling.Leads d.keys.eq d.keys.hash (begun_of w.book.now.parts)
+      w.book.now.begun.book mode s t
+
+  -- a look at this place leads to a later one, or the slot is settled, or its copy was left
+  abbrev pub LooksOn : Window K V S H d → Site K V S H → Sheet → (marked hash : ℕ) → Place
+      → Copier K V S H → Window K V S H d → Copier K V S H → Look → Type 0
+  LooksOn w site to marked hash at h w' h' (Next next) = IsWithin next × IsTable w' next.table to
+      × Leads w' site.mode (stop_at w site (looking marked hash at) h)
+      (stop_at w' site (looking marked hash next) h') × (left_at next < left_at at)
+  LooksOn w site to marked hash at h w' h' (Left halt) = Leaves w site (looking marked hash at) h w'
+      h' halt
+
+  -- answers led to this copy, and the last one is still to be told
+  abbrev pub Ends : Window K V S H d → ResizeMode → Copying → Copier K V S H → Window K V S H d
+      → Copier K V S H → Copying × Answer → Type 0
+  Ends w mode copying h w' h' end = settling.Ends d.keys.eq d.keys.hash
+      (begun_of w.book.now.parts) w.book.now.begun.book mode (stop_in w copying h)
+      (stop_in w' end.0 h') end.1

@@ -1,0 +1,459 @@
+//! Insertions whose search of the root ends where most do: their pair is logged and put in at once.
+//! The machine stands in the proof. Computes search so too, and put their pairs in so.
+ghost use Rattle.std.specs.Prelude.{◌≡◌, ◌<◌, true, is_ok, Ok, Err, IfErr, IfOk, None, Some};
+ghost use Rattle.std.specs.Int.{IsPowerOfTwo};
+ghost use Rattle.papaya_ask.specs.Search.{IsWithin};
+ghost use Rattle.papaya_ask.specs.declared.search.Search.TheVariants.{Looking, Reading};
+ghost use Rattle.papaya_call.specs.declared.machine.State.TheVariants.{Searching};
+ghost use Rattle.papaya_words.specs.Word.{kind_of};
+ghost use Rattle.papaya_words.specs.declared.word.Kind.TheVariants.{Live};
+ghost use Rattle.papaya_book.specs.Limits.{HasNoRoom, IsSpent, tables_of};
+ghost use Rattle.papaya_book.specs.Windows.{Does, IsLawful, Sees};
+ghost use Rattle.papaya_lookup.specs.Drivers.{own, past};
+ghost use Rattle.papaya_lookup.specs.History.{Makes, key_of};
+ghost use Rattle.papaya_change.specs.Changes.{IsPut};
+ghost use Rattle.papaya_change.specs.Seeking.{left_at, left_to, turn_of};
+ghost use Rattle.papaya_change.specs.Window.Seeking.{HasWritten, IsFoundFor, LooksAt, ReadsAt, StandsBy};
+ghost use Rattle.papaya_change.specs.Window.Seeking.{Turns};
+ghost use Rattle.papaya_change.specs.Tries.{IsLoggedAs, Offers, ShowsMet, TakesOut, is_put, pair_in};
+ghost use Rattle.papaya_change.specs.declared.fast_path.Tried.TheVariants.{Put};
+ghost use Rattle.papaya_change.specs.declared.fast_path.Turn.TheVariants.{Empty, Next};
+ghost use Rattle.papaya_change.specs.declared.fast_path.Turn.TheVariants.{Met as MetPair};
+ghost use Rattle.papaya_change.specs.Writing.{IsMemoryCapacityOrLimit, IsMemoryOrCapacity};
+
+use crate::insertion::{insert_logged, insert_met, insert_onward, insert_slow};
+use crate::means::Means;
+use crate::removal::entry;
+use papaya_ask::ask::StepKind;
+use papaya_ask::search::{Place, Probed, Search};
+use papaya_book::book::gains::named_pair;
+use papaya_book::book::pairs::{KeyPart, ValuePart};
+use papaya_book::count::Shard;
+use papaya_book::keyed::Hashed;
+use papaya_book::rule::entry::Stored;
+use papaya_book::rule::own::{CapacityCause, OwnSteps};
+use papaya_book::table::Table;
+use papaya_book::window::Window;
+use papaya_call::write::Write;
+use papaya_lookup::lookup::{Met, hash};
+use papaya_words::limits::MAX_LOG_LEN;
+use papaya_words::probe::Refused;
+use papaya_words::word::{Kind, Word, hint};
+use std::alloc::Global;
+use std::hash::{BuildHasher, Hash};
+use std::sync::Wait;
+
+/// Where a turn of a search leads a call.
+#[derive(Drop)]
+pub enum Turn<K, V> {
+    /// This place is looked at next.
+    Next(Place),
+    /// This place is empty, and no pair has the key.
+    Empty(Place),
+    /// A live pair has the key.
+    Met(Met<K, V>),
+    /// The table of this number has no place for the key.
+    Over(u64),
+    /// The pair of the key is being moved.
+    Else,
+}
+
+/// Where a search goes on that has met no pair of the key.
+#[inline(always)]
+fn without<K, V>(seen: Probed) -> Turn<K, V>
+    ensures { result ≡ turn_of seen }
+{
+    match seen {
+        Probed::On(Search::Looking(at)) => Turn::Next(at),
+        Probed::Empty(at) => Turn::Empty(at),
+        Probed::Over(table) => Turn::Over(table),
+        _ => Turn::Else,
+    }
+}
+
+/// Loads the word at one place of a table, and compares the key of the pair that it names, if it names
+/// one.
+#[inline(always)]
+fn read_at<K: Hash + Eq, V, S: BuildHasher>(
+    window: &mut Window<'_, K, V, S>,
+    key: &K,
+    table: &Table<K, V, S>,
+    at: Place,
+) -> Turn<K, V>
+    requires within { IsWithin at }
+    requires stands { ReadsAt window.old key.now table.now at }
+    ensures sees { Sees window.old window.new }
+    ensures own { window.new.own ≡ window.old.own }
+    ensures turns { Turns window.old window.new key.now table.now (Searching (Reading at)) result }
+    ensures next { (next : _) → result ≡ Next next → IsWithin next }
+    ensures stays { (next : _) → result ≡ Next next → next ≡ record at { probe = next.probe } }
+    ensures live { (met : _) → result ≡ MetPair met → kind_of met.word ≡ Live }
+    ensures fewer { left_to result < left_at at }
+{
+    let (word, offer) = window.slot_word(table, at.table, at.probe.i);
+    let seen = at.look(word);
+    match seen {
+        Probed::On(Search::Comparing(..)) => {
+            let book = window.book;
+            let stored = named_pair(word, offer);
+            let pair = book.pair(&stored);
+            let same = *key == *book.key(pair);
+            let compared = Search::Comparing(at, word).at_yes(same);
+            match compared {
+                Probed::Here(..) if Word(word).kind() == Kind::Live => Turn::Met(Met {
+                    place: at,
+                    word,
+                    stored,
+                }),
+                _ => without(compared),
+            }
+        }
+        _ => without(seen),
+    }
+}
+
+/// Looks at one place of a table: loads its hint, and its word where the hint says nothing or is the
+/// key's.
+#[inline(always)]
+fn look_at<K: Hash + Eq, V, S: BuildHasher>(
+    window: &mut Window<'_, K, V, S>,
+    key: &K,
+    hash: u64,
+    table: &Table<K, V, S>,
+    at: Place,
+) -> Turn<K, V>
+    requires within { IsWithin at }
+    requires hashed { hash ≡ ⟦<S as Hashed<K>>⟧.hash window.old.book.now.parts.hasher key.now }
+    requires stands { LooksAt window.old key.now table.now at }
+    ensures sees { Sees window.old window.new }
+    ensures own { window.new.own ≡ window.old.own }
+    ensures turns { Turns window.old window.new key.now table.now (Searching (Looking at)) result }
+    ensures next { (next : _) → result ≡ Next next → IsWithin next }
+    ensures stays { (next : _) → result ≡ Next next → next ≡ record at { probe = next.probe } }
+    ensures live { (met : _) → result ≡ MetPair met → kind_of met.word ≡ Live }
+    ensures fewer { left_to result < left_at at }
+{
+    let hint = window.hint(table, at.table, at.probe.i);
+    let seen = at.hinted(hash, hint);
+    let Probed::On(Search::Reading(_)) = seen else {
+        return without(seen);
+    };
+    read_at(window, key, table, at)
+}
+
+/// Where a pair of the key may be put in, as one search of a table sees it: at an empty place, or in
+/// place of a live pair of the key.
+#[inline(always)]
+fn seek<K: Hash + Eq, V, S: BuildHasher>(
+    window: &mut Window<'_, K, V, S>,
+    key: &K,
+    hash: u64,
+    table: &Table<K, V, S>,
+    at: Place,
+) -> Turn<K, V>
+    requires within { IsWithin at }
+    requires hashed { hash ≡ ⟦<S as Hashed<K>>⟧.hash window.old.book.now.parts.hasher key.now }
+    requires stands { LooksAt window.old key.now table.now at }
+    ensures sees { Sees window.old window.new }
+    ensures own { window.new.own ≡ window.old.own }
+    ensures turns { Turns window.old window.new key.now table.now (Searching (Looking at)) result }
+    ensures live { (met : _) → result ≡ MetPair met → kind_of met.word ≡ Live }
+{
+    let mut place = at;
+    loop {
+        match look_at(window, key, hash, table, place) {
+            Turn::Next(next) => place.probe = next.probe,
+            turned => return turned,
+        }
+    }
+}
+
+/// Where a search of the root has led a call.
+#[derive(Drop)]
+pub struct Spot<'a, K: Hash + Eq, V, S: BuildHasher> {
+    pub table: &'a Table<K, V, S>,
+    pub turn: Turn<K, V>,
+}
+
+/// Where a pair of the key may be put in, as the search of the root sees it.
+#[inline(always)]
+pub fn find_place<'a, K: Hash + Eq, V, S: BuildHasher>(
+    window: &mut Window<'a, K, V, S>,
+    key: &K,
+    hash: u64,
+) -> Option<Spot<'a, K, V, S>>
+    requires lawful { IsLawful window.old }
+    requires hashed { hash ≡ ⟦<S as Hashed<K>>⟧.hash window.old.book.now.parts.hasher key.now }
+    ensures sees { Sees window.old window.new }
+    ensures own { window.new.own ≡ window.old.own }
+    ensures found { (spot : _) → result ≡ Some spot → IsFoundFor window.old window.new key.now
+        spot.table.now spot.turn }
+    ensures live { (spot : _) → result ≡ Some spot → (met : _) → spot.turn ≡ MetPair met
+        → kind_of met.word ≡ Live }
+{
+    let (number, root) = window.root();
+    let Some(table) = root else {
+        return None;
+    };
+    let (len, limit) = table.size();
+    let first = Place::first(hash, number, len, limit);
+    let turn = seek(window, key, hash, table, first);
+    Some(Spot { table, turn })
+}
+
+/// What came of a pair that was logged for a place that a search had found.
+#[derive(Drop)]
+pub enum Tried<K, V> {
+    /// It was put in.
+    Put(Stored<K, V>),
+    /// Another word stands there by now.
+    Lost(Stored<K, V>),
+}
+
+/// Logs a pair and tries to claim for it the empty place that a search has found.
+#[inline(always)]
+pub fn claim<R: Wait, K: Hash + Eq + Drop, V: Drop, S: BuildHasher>(
+    means: &Means<'_, '_, R>,
+    window: &mut Window<'_, K, V, S>,
+    given: &mut OwnSteps<CapacityCause>,
+    key: K,
+    value: V,
+    hash: u64,
+    table: &Table<K, V, S>,
+    at: Place,
+) -> Result<Tried<K, V>, Refused>
+    requires hashed { hash ≡ ⟦<S as Hashed<K>>⟧.hash window.old.book.now.parts.hasher key }
+    requires limit { window.old.book.now.parts.limit ≡ None }
+    requires stands { StandsBy window.old key table.now (Empty at) }
+    ensures sees { Sees window.old window.new }
+    ensures lawful { IsLawful window.new }
+    ensures logged { IfOk result (λ tried. IsLoggedAs window.new key value (pair_in tried)) }
+    ensures put { (q : _) → result ≡ Ok (Put q) → Offers window.old window.new key table.now
+        (Empty at) q }
+    ensures refused { IfErr result (λ refused. IsMemoryOrCapacity refused) }
+    ensures crowded { result ≡ Err Refused.Capacity → HasNoRoom means.now.initial
+        (tables_of window.new.sight.log) given.new.done }
+    ensures does { Does (is_put result) window.old window.new }
+    ensures made { Makes (is_put result) (own window.old) (own window.new) (past window.new) }
+{
+    let book = window.book;
+    let Ok(pair) = book.log_pair(means.rt, KeyPart::Own(key), ValuePart::Own(value)) else {
+        return Err(Refused::Memory);
+    };
+    if pair.index() >= MAX_LOG_LEN {
+        *given = book.gave_pair(&pair);
+        return Err(Refused::Capacity);
+    }
+    let words = (0, Word::live(pair.index() as u64).0);
+    let (slot, kind) = (at.probe.i, Some(StepKind::Claim));
+    let (found, _) = window.put_slot(table, at.table, slot, kind, &pair, words);
+    if found != 0 {
+        return Ok(Tried::Lost(pair));
+    }
+    means.shard.add(1);
+    window.write_hint(table, at.table, slot, hint(hash));
+    Ok(Tried::Put(pair))
+}
+
+/// Logs a pair with the key that a search has met, and tries to put it in the place of the pair that has
+/// that.
+#[inline(always)]
+pub fn replace<R: Wait, K: Hash + Eq + Drop, V: Drop, S: BuildHasher>(
+    means: &Means<'_, '_, R>,
+    window: &mut Window<'_, K, V, S>,
+    given: &mut OwnSteps<CapacityCause>,
+    value: V,
+    table: &Table<K, V, S>,
+    met: &Met<K, V>,
+) -> Result<Tried<K, V>, Refused>
+    requires limit { window.old.book.now.parts.limit ≡ None }
+    requires stands { (key : K) × StandsBy window.old key table.now (MetPair met.now) }
+    requires live { kind_of met.now.word ≡ Live }
+    ensures sees { Sees window.old window.new }
+    ensures lawful { IsLawful window.new }
+    ensures logged { IfOk result (λ tried. IsLoggedAs window.new (key_of met.now.stored) value
+        (pair_in tried)) }
+    ensures put { (q : _) → result ≡ Ok (Put q) → (key : K) → Offers window.old window.new key
+        table.now (MetPair met.now) q }
+    ensures refused { IfErr result (λ refused. IsMemoryOrCapacity refused) }
+    ensures crowded { result ≡ Err Refused.Capacity → HasNoRoom means.now.initial
+        (tables_of window.new.sight.log) given.new.done }
+    ensures does { Does (is_put result) window.old window.new }
+    ensures made { Makes (is_put result) (own window.old) (own window.new) (past window.new) }
+{
+    let book = window.book;
+    let (place, word) = (met.place, met.word);
+    let of = KeyPart::Of(met.stored.again());
+    let Ok(pair) = book.log_pair(means.rt, of, ValuePart::Own(value)) else {
+        return Err(Refused::Memory);
+    };
+    if pair.index() >= MAX_LOG_LEN {
+        *given = book.gave_pair(&pair);
+        return Err(Refused::Capacity);
+    }
+    let words = (word, Word::live(pair.index() as u64).0);
+    let (slot, kind) = (place.probe.i, Some(StepKind::Replace));
+    let (found, before) = window.put_slot(table, place.table, slot, kind, &pair, words);
+    if found != word {
+        return Ok(Tried::Lost(pair));
+    }
+    let Some(taken) = before else { unreachable!() };
+    book.parts.pairs.agrees(&met.stored, &taken);
+    Ok(Tried::Put(pair))
+}
+
+/// Tries to delete the live pair that a search has met: whether its word stood there still.
+#[inline(always)]
+pub fn delete<K: Hash + Eq, V, S: BuildHasher>(
+    shard: &Shard<'_>,
+    window: &mut Window<'_, K, V, S>,
+    table: &Table<K, V, S>,
+    met: &Met<K, V>,
+) -> bool
+    requires shows { (key : K) × (begun : _) × ShowsMet window.old key begun table.now met.now }
+    ensures sees { Sees window.old window.new }
+    ensures lawful { IsLawful window.new }
+    ensures went { result ≡ true → (key : K) → TakesOut window.old window.new key table.now
+        met.now }
+    ensures does { Does result window.old window.new }
+    ensures made { Makes result (own window.old) (own window.new) (past window.new) }
+{
+    let (place, word) = (met.place, met.word);
+    let (slot, kind) = (place.probe.i, Some(StepKind::Delete));
+    let grave = Word::tombstone(Word(word).pair());
+    let (found, before) = window.exchange_slot(table, place.table, slot, kind, (word, grave.0));
+    if found != word {
+        return false;
+    }
+    shard.add(-1);
+    let Some(taken) = before else { unreachable!() };
+    window.book.parts.pairs.agrees(&met.stored, &taken);
+    true
+}
+
+/// Inserts a pair at the empty place that a search has found for it. Where another word stands there by
+/// now, its machine begins.
+#[inline(always)]
+fn claim_at<'a, R: Wait, K: Hash + Eq + Drop, V: Drop, S: BuildHasher>(
+    means: &Means<'_, '_, R>,
+    window: &mut Window<'a, K, V, S>,
+    given: &mut OwnSteps<CapacityCause>,
+    key: K,
+    value: V,
+    hash: u64,
+    table: &Table<K, V, S>,
+    at: Place,
+) -> Result<Option<&'a V>, Refused>
+    requires initial { IsPowerOfTwo means.now.initial }
+    requires hashed { hash ≡ ⟦<S as Hashed<K>>⟧.hash window.old.book.now.parts.hasher key }
+    requires limit { window.old.book.now.parts.limit ≡ None }
+    requires stands { StandsBy window.old key table.now (Empty at) }
+    ensures sees { Sees window.old window.new }
+    ensures lawful { IsLawful window.new }
+    ensures put { IfOk result (λ answer. HasWritten window.old window.new key value
+        table.now (Empty at) answer) }
+    ensures refused { IfErr result (λ refused. IsMemoryCapacityOrLimit refused) }
+    ensures crowded { result ≡ Err Refused.Capacity → HasNoRoom means.now.initial
+        (tables_of window.new.sight.log) given.new.done }
+    ensures spent { result ≡ Err Refused.Limit → IsSpent window.new.book.now.parts.limit
+        window.new.sight.log }
+    ensures made { Makes (is_ok result) (own window.old) (own window.new) (past window.new) }
+{
+    match claim(means, window, given, key, value, hash, table, at) {
+        Ok(Tried::Put(_)) => Ok(None),
+        Ok(Tried::Lost(pair)) => insert_logged(means, window, given, hash, pair),
+        Err(refused) => Err(refused),
+    }
+}
+
+/// Inserts a pair with the key that a search has met in the place of the pair that has that: the value
+/// that it had. The key that was handed in goes. Where another word stands there by now, its machine
+/// begins.
+#[inline(always)]
+fn replace_at<'a, R: Wait, K: Hash + Eq + Drop, V: Drop, S: BuildHasher>(
+    means: &Means<'_, '_, R>,
+    window: &mut Window<'a, K, V, S>,
+    given: &mut OwnSteps<CapacityCause>,
+    key: K,
+    value: V,
+    hash: u64,
+    table: &Table<K, V, S>,
+    met: Met<K, V>,
+) -> Result<Option<&'a V>, Refused>
+    requires initial { IsPowerOfTwo means.now.initial }
+    requires hashed { hash ≡ ⟦<S as Hashed<K>>⟧.hash window.old.book.now.parts.hasher key }
+    requires limit { window.old.book.now.parts.limit ≡ None }
+    requires stands { StandsBy window.old key table.now (MetPair met) }
+    requires live { kind_of met.word ≡ Live }
+    ensures sees { Sees window.old window.new }
+    ensures lawful { IsLawful window.new }
+    ensures put { IfOk result (λ answer. HasWritten window.old window.new key value
+        table.now (MetPair met) answer) }
+    ensures refused { IfErr result (λ refused. IsMemoryCapacityOrLimit refused) }
+    ensures crowded { result ≡ Err Refused.Capacity → HasNoRoom means.now.initial
+        (tables_of window.new.sight.log) given.new.done }
+    ensures spent { result ≡ Err Refused.Limit → IsSpent window.new.book.now.parts.limit
+        window.new.sight.log }
+    ensures made { Makes (is_ok result) (own window.old) (own window.new) (past window.new) }
+{
+    let book = window.book;
+    match replace(means, window, given, value, table, &met) {
+        Ok(Tried::Put(_)) => Ok(Some(entry(book, &met.stored).1)),
+        Ok(Tried::Lost(pair)) => {
+            let write = Write {
+                place: met.place,
+                old: met.word,
+            };
+            insert_met(means, window, given, key, hash, write, pair)
+        }
+        Err(refused) => Err(refused),
+    }
+}
+
+/// Inserts a pair: the value that its key had. Where it is refused for want of room, `given` tells
+/// the number that a full log gave, or the sum of the count that makes a next table too long.
+pub fn insert<'a, R: Wait, K: Hash + Eq + Drop, V: Drop, S: BuildHasher>(
+    rt: &R,
+    alloc: Global,
+    initial: usize,
+    shard: &Shard<'_>,
+    window: &mut Window<'a, K, V, S>,
+    given: &mut OwnSteps<CapacityCause>,
+    key: K,
+    value: V,
+) -> Result<Option<&'a V>, Refused>
+    requires initial { IsPowerOfTwo initial }
+    ensures sees { Sees window.old window.new }
+    ensures lawful { IsLawful window.new }
+    ensures put { IfOk result (λ answer. IsPut K.eq key value (past window.old) (past window.new)
+        answer) }
+    ensures refused { IfErr result (λ refused. IsMemoryCapacityOrLimit refused) }
+    ensures crowded { result ≡ Err Refused.Capacity → HasNoRoom initial
+        (tables_of window.new.sight.log) given.new.done }
+    ensures spent { result ≡ Err Refused.Limit → IsSpent window.new.book.now.parts.limit
+        window.new.sight.log }
+    ensures made { Makes (is_ok result) (own window.old) (own window.new) (past window.new) }
+{
+    window.learn();
+    let hash = hash(&window.book.parts.hasher, &key);
+    let means = Means {
+        rt,
+        alloc,
+        initial,
+        shard,
+    };
+    // Where there is a limit, each pair needs a number, which its machine takes.
+    if window.book.parts.limit.is_some() {
+        return insert_slow(&means, window, given, key, value);
+    }
+    let Some(spot) = find_place(window, &key, hash) else {
+        return insert_slow(&means, window, given, key, value);
+    };
+    let table = spot.table;
+    match spot.turn {
+        Turn::Empty(at) => claim_at(&means, window, given, key, value, hash, table, at),
+        Turn::Met(met) => replace_at(&means, window, given, key, value, hash, table, met),
+        Turn::Over(number) => insert_onward(&means, window, given, key, value, hash, table, number),
+        _ => insert_slow(&means, window, given, key, value),
+    }
+}

@@ -1,0 +1,75 @@
+//! Removals whose pair a lookup's search finds live: it is deleted at once. The machine stands in
+//! the proof.
+ghost use Rattle.std.specs.Prelude.{◌≡◌};
+ghost use Rattle.papaya_call.specs.Made.{IsLimit};
+ghost use Rattle.papaya_book.specs.Windows.{IsLawful, Sees};
+ghost use Rattle.papaya_lookup.specs.Drivers.{own, past};
+ghost use Rattle.papaya_lookup.specs.History.{Makes};
+ghost use Rattle.papaya_change.specs.RemovalAnswers.{IsTriedRemoval, went_fast};
+ghost use Rattle.papaya_change.specs.Showings.{Judges};
+
+use papaya_ask::ask::StepKind;
+use papaya_book::count::Shard;
+use papaya_book::window::Window;
+use papaya_keys::guard::Equivalent;
+use papaya_lookup::lookup::{Hit, Met, find};
+use papaya_words::word::{Kind, Word};
+use std::hash::{BuildHasher, Hash};
+
+/// A limit on pairs is a number of 64 bits, which no clause of the book says. No code is left of this.
+#[inline(always)]
+fn fits(limit: Option<u64>)
+    ensures { IsLimit limit }
+{}
+
+/// Finds a key's pair by a lookup's search, shows it to the closure where it is live, and deletes it
+/// if that agrees. None where the pair is being moved, or another word stands in its place by then:
+/// the closure may have been shown a pair all the same.
+#[inline(always)]
+pub fn remove_fast<'a, K: Hash + Eq, V, S: BuildHasher, Q: Equivalent<K>, F: FnMut(&K, &V) -> bool>(
+    shard: &Shard<'_>,
+    window: &mut Window<'a, K, V, S>,
+    key: &Q,
+    agrees: &mut F,
+) -> Option<Result<Option<(&'a K, &'a V)>, (&'a K, &'a V)>>
+    requires callable { F.IsAlwaysCallable agrees.old }
+    ensures callable { F.IsAlwaysCallable agrees.new }
+    ensures sees { Sees window.old window.new }
+    ensures lawful { IsLawful window.new }
+    ensures made { Makes (went_fast result) (own window.old) (own window.new)
+        (past window.new) }
+    ensures removed { IsTriedRemoval K.eq (Q.matches key.now) (past window.old) (past window.new)
+        (Judges F.FnMut) agrees.old agrees.new result }
+{
+    let Some(hit) = find(window, key) else {
+        return Some(Ok(None));
+    };
+    if Word(hit.met.word).kind() != Kind::Live {
+        return None;
+    }
+    fits(window.book.parts.limit);
+    let Hit {
+        table,
+        met,
+        key: stored_key,
+        value,
+    } = hit;
+    if !agrees(stored_key, value) {
+        return Some(Err((stored_key, value)));
+    }
+    let Met {
+        place,
+        word,
+        stored,
+    } = met;
+    let (slot, kind) = (place.probe.i, Some(StepKind::Delete));
+    let grave = Word::tombstone(Word(word).pair());
+    let (found, before) = window.exchange_slot(table, place.table, slot, kind, (word, grave.0));
+    if found != word {
+        return None;
+    }
+    shard.add(-1);
+    let Some(taken) = before else { unreachable!() };
+    window.book.parts.pairs.agrees(&stored, &taken);
+    Some(Ok(Some((stored_key, value))))
+}

@@ -1,0 +1,298 @@
+//! The calls that scan the whole map: what they say is so of a history that no caller is shown.
+ghost use Rattle.std.specs.Prelude.{◌≡◌, ◌⊎◌, false, [], Err, IfErr, IfOk};
+ghost use Rattle.papaya_book.specs.Limits.{HasNoRoom};
+ghost use Rattle.papaya_change.specs.Showings.{Judges};
+ghost use Rattle.papaya_change.specs.Writing.{IsMemoryOrCapacity};
+ghost use Rattle.std.specs.Borrow.{sem};
+ghost use Rattle.papaya_book.specs.contracts.rule.entry.Event.{the_row as EventOf};
+ghost use Rattle.papaya_lookup.specs.History.{IsLegalHistory, history_of, key_of};
+ghost use Rattle.papaya_map.specs.Plain.{IsOfHistory, of_its_history, rule_of, unpinned};
+ghost use mathlib.Core.List.{IsPrefix};
+ghost use Rattle.papaya_scan.specs.Leaving.{HasDropped, HasKept, IsCleared};
+
+use crate::map::{HashMap, HashMapRef, Pass};
+use crate::told::{Saying, Told};
+use logbook::Rule;
+use papaya_book::rule::entry::{Event, Named};
+use papaya_book::rule::law::Law;
+use papaya_keys::guard::Guard;
+use papaya_scan::walk::{Iter, Keys, Values};
+use papaya_words::probe::Refused;
+use std::hash::{BuildHasher, Hash};
+use std::sync::Wait;
+
+impl<'a, K: Hash + Eq, V, S: BuildHasher> HashMapRef<'a, K, V, S> {
+    /// Removes the pairs that the map has: `clear` of 0.2.5. Where it is not refused, each pair that
+    /// the map had after what the pass had seen was removed since, by this call or another. A pair that
+    /// is stored meanwhile may stay. Refused as [`HashMapRef::retain_as`] is. Refused or not, the pass
+    /// makes one change for each pair that this call removed, and no other one.
+    pub fn clear_as<R: Wait>(&self, rt: &R, pass: &mut Pass<K, V, S>) -> Result<(), Refused>
+        requires { pass.old.book ≡ self.now.map.book }
+        ensures book { pass.new.book ≡ pass.old.book }
+        ensures seen { IsPrefix pass.old.history pass.new.history }
+        ensures tables { IsPrefix pass.old.tables pass.new.tables }
+        ensures made { HasDropped K.eq pass.old.history pass.new.history pass.old.made
+            pass.new.made }
+        ensures cleared { IfOk result (λ _. IsCleared K.eq pass.old.history pass.new.history) }
+        ensures refused { IfErr result (λ refused. IsMemoryOrCapacity refused) }
+        ensures crowded { result ≡ Err Refused.Capacity → HasNoRoom self.now.map.initial
+            pass.new.tables pass.new.given }
+    {
+        self.retain_as(
+            rt,
+            |_, _|
+                ensures { result ≡ false }
+            { false },
+            pass,
+        )
+    }
+
+    /// The same, with what was seen.
+    #[inline(always)]
+    fn clear_told<R: Wait>(&self, rt: &R) -> Saying<Result<(), Refused>, K, V, S>
+        ensures book { result.book ≡ self.now.map.book }
+        ensures legal { IsLegalHistory K.eq key_of (history_of result.log) }
+        ensures seen { IsPrefix self.now.seen (history_of result.log) }
+        ensures cleared { IfOk result.answer (λ _. IsCleared K.eq self.now.seen (history_of
+            result.log)) }
+        ensures refused { IfErr result.answer IsMemoryOrCapacity }
+    {
+        let mut pass = self.begun(self.map.number());
+        let answer = self.clear_as(rt, &mut pass);
+        pass.tell(answer)
+    }
+
+    /// Removes the pairs that the map has: `clear` of 0.2.5. A pair that is stored meanwhile may stay.
+    ///
+    /// Refused as [`HashMapRef::retain`] is.
+    pub fn clear<R: Wait>(&self, rt: &R) -> Result<(), Refused>
+        ensures* own { sem 𝓛 (of_its_history (EventOf K.row V.row S.row).coded.code
+            (rule_of ⟦<Law<K, V, S> as Rule<Event<K, V, S>, Named<K, V>>>⟧) self.now K.eq
+            (λ h. IfOk result (λ _. IsCleared K.eq self.now.seen h))) }
+        ensures refused { IfErr result (λ refused. IsMemoryOrCapacity refused) }
+    {
+        let Told { answer, marker: _ } = self.clear_told(rt);
+        answer
+    }
+
+    /// The same, with what was seen.
+    #[inline(always)]
+    fn retain_told<R: Wait, F: FnMut(&K, &V) -> bool>(
+        &self,
+        rt: &R,
+        stays: F,
+    ) -> Saying<Result<(), Refused>, K, V, S>
+        requires { F.IsAlwaysCallable stays }
+        ensures book { result.book ≡ self.now.map.book }
+        ensures legal { IsLegalHistory K.eq key_of (history_of result.log) }
+        ensures seen { IsPrefix self.now.seen (history_of result.log) }
+        ensures kept { (made : _) × HasKept K.eq self.now.seen (history_of result.log) [] made
+            (Judges F.FnMut) stays
+            result.answer }
+        ensures refused { IfErr result.answer IsMemoryOrCapacity }
+    {
+        let mut pass = self.begun(self.map.number());
+        let answer = self.retain_as(rt, stays, &mut pass);
+        pass.tell(answer)
+    }
+
+    /// Removes the pairs for which the closure, which is shown each, answers false: `retain` of 0.2.5.
+    /// The closure is shown a key's pair again where another call replaced it meanwhile, or where all
+    /// is copied.
+    ///
+    /// Where it meets a copier's work it copies what is left to copy, and may be refused a table then:
+    /// `Refused::Memory` where a growth was refused, and `Refused::Capacity` where there is no room.
+    /// What was removed stays so.
+    pub fn retain<R: Wait, F: FnMut(&K, &V) -> bool>(&self, rt: &R, stays: F) -> Result<(), Refused>
+        requires { F.IsAlwaysCallable stays }
+        ensures* own { sem 𝓛 (of_its_history (EventOf K.row V.row S.row).coded.code
+            (rule_of ⟦<Law<K, V, S> as Rule<Event<K, V, S>, Named<K, V>>>⟧) self.now K.eq
+            (λ h. (made : _) × HasKept K.eq self.now.seen h [] made (Judges F.FnMut) stays
+            result)) }
+        ensures kept { IsOfHistory K.eq (λ h. (made : _) × HasKept K.eq [] h [] made (Judges
+            F.FnMut)
+            stays result) }
+        ensures refused { IfErr result (λ refused. IsMemoryOrCapacity refused) }
+    {
+        let Told { answer, marker: _ } = self.retain_told(rt, stays);
+        answer
+    }
+
+    /// The pairs of the map, one by one: `iter` of 0.2.5. Refused as [`HashMapRef::iter_as`] is.
+    pub fn iter<R: Wait>(&self, rt: &R) -> Result<Iter<'a, K, V, S>, Refused>
+        ensures walk { IfOk result (λ pairs. pairs.book ≡ self.now.map.book) }
+        ensures began { IfOk result (λ pairs. pairs.began ≡ []) }
+        ensures refused { IfErr result (λ refused. IsMemoryOrCapacity refused) }
+    {
+        let mut pass = self.map().pass();
+        self.iter_as(rt, &mut pass)
+    }
+
+    /// The keys of the map, one by one: `keys` of 0.2.5. Refused as [`HashMapRef::iter_as`] is.
+    pub fn keys<R: Wait>(&self, rt: &R) -> Result<Keys<'a, K, V, S>, Refused>
+        ensures walk { IfOk result (λ keys. keys.pairs.book ≡ self.now.map.book) }
+        ensures began { IfOk result (λ keys. keys.pairs.began ≡ []) }
+        ensures refused { IfErr result (λ refused. IsMemoryOrCapacity refused) }
+    {
+        Ok(Keys::of(self.iter(rt)?))
+    }
+
+    /// The values of the map, one by one: `values` of 0.2.5. Refused as [`HashMapRef::iter_as`] is.
+    pub fn values<R: Wait>(&self, rt: &R) -> Result<Values<'a, K, V, S>, Refused>
+        ensures walk { IfOk result (λ values. values.pairs.book ≡ self.now.map.book) }
+        ensures began { IfOk result (λ values. values.pairs.began ≡ []) }
+        ensures refused { IfErr result (λ refused. IsMemoryOrCapacity refused) }
+    {
+        Ok(Values::of(self.iter(rt)?))
+    }
+}
+
+impl<K: Hash + Eq, V, S: BuildHasher> HashMap<K, V, S> {
+    /// The same, with what was seen.
+    #[inline(always)]
+    fn clear_told<R: Wait, G: Guard>(
+        &self,
+        rt: &R,
+        guard: &G,
+    ) -> Saying<Result<(), Refused>, K, V, S>
+        ensures book { result.book ≡ self.now.book }
+        ensures legal { IsLegalHistory K.eq key_of (history_of result.log) }
+        ensures seen { IsPrefix self.now.seen (history_of result.log) }
+        ensures cleared { IfOk result.answer (λ _. IsCleared K.eq self.now.seen
+            (history_of result.log)) }
+        ensures right { G.collector_number guard.now ≡ self.now.collector
+            → IfErr result.answer IsMemoryOrCapacity }
+        ensures wrong { (G.collector_number guard.now ≡ self.now.collector → ⊥)
+            → result.answer ≡ Err Refused.WrongGuard }
+    {
+        match self.verify(guard) {
+            Ok(()) => {
+                let mut pass = self.begun(guard.number());
+                let answer = self.pin().clear_as(rt, &mut pass);
+                pass.tell(answer)
+            }
+            Err(refused) => self.tell_refused(refused),
+        }
+    }
+
+    /// Removes the pairs that the map has: `clear` of 0.2.5. Refused for a wrong guard, and as
+    /// [`HashMapRef::clear`] is.
+    pub fn clear<R: Wait, G: Guard>(&self, rt: &R, guard: &G) -> Result<(), Refused>
+        ensures* own { sem 𝓛 (of_its_history (EventOf K.row V.row S.row).coded.code
+            (rule_of ⟦<Law<K, V, S> as Rule<Event<K, V, S>, Named<K, V>>>⟧) (unpinned self.now) K.eq
+            (λ h. IfOk result (λ _. IsCleared K.eq self.now.seen h))) }
+        ensures right { G.collector_number guard.now ≡ self.now.collector
+            → IfErr result (λ refused. IsMemoryOrCapacity refused) }
+        ensures wrong { (G.collector_number guard.now ≡ self.now.collector → ⊥)
+            → result ≡ Err Refused.WrongGuard }
+    {
+        let Told { answer, marker: _ } = self.clear_told(rt, guard);
+        answer
+    }
+
+    /// The same, with what was seen.
+    #[inline(always)]
+    fn retain_told<R: Wait, F: FnMut(&K, &V) -> bool, G: Guard>(
+        &self,
+        rt: &R,
+        stays: F,
+        guard: &G,
+    ) -> Saying<Result<(), Refused>, K, V, S>
+        requires { F.IsAlwaysCallable stays }
+        ensures book { result.book ≡ self.now.book }
+        ensures legal { IsLegalHistory K.eq key_of (history_of result.log) }
+        ensures seen { IsPrefix self.now.seen (history_of result.log) }
+        ensures kept { G.collector_number guard.now ≡ self.now.collector
+            → (made : _) × HasKept K.eq self.now.seen (history_of result.log) [] made
+            (Judges F.FnMut) stays result.answer }
+        ensures right { G.collector_number guard.now ≡ self.now.collector
+            → IfErr result.answer IsMemoryOrCapacity }
+        ensures wrong { (G.collector_number guard.now ≡ self.now.collector → ⊥)
+            → result.answer ≡ Err Refused.WrongGuard }
+    {
+        match self.verify(guard) {
+            Ok(()) => {
+                let mut pass = self.begun(guard.number());
+                let answer = self.pin().retain_as(rt, stays, &mut pass);
+                pass.tell(answer)
+            }
+            Err(refused) => self.tell_refused(refused),
+        }
+    }
+
+    /// Removes the pairs for which the closure, which is shown each, answers false: `retain` of 0.2.5.
+    /// Refused for a wrong guard, and as [`HashMapRef::retain`] is.
+    pub fn retain<R: Wait, F: FnMut(&K, &V) -> bool, G: Guard>(
+        &self,
+        rt: &R,
+        stays: F,
+        guard: &G,
+    ) -> Result<(), Refused>
+        requires { F.IsAlwaysCallable stays }
+        ensures* own { sem 𝓛 (of_its_history (EventOf K.row V.row S.row).coded.code
+            (rule_of ⟦<Law<K, V, S> as Rule<Event<K, V, S>, Named<K, V>>>⟧) (unpinned self.now) K.eq
+            (λ h. G.collector_number guard.now ≡ self.now.collector
+            → (made : _) × HasKept K.eq self.now.seen h [] made (Judges F.FnMut) stays result)) }
+        ensures kept { G.collector_number guard.now ≡ self.now.collector
+            → IsOfHistory K.eq (λ h. (made : _) × HasKept K.eq [] h [] made (Judges F.FnMut) stays
+            result) }
+        ensures right { G.collector_number guard.now ≡ self.now.collector
+            → IfErr result (λ refused. IsMemoryOrCapacity refused) }
+        ensures wrong { (G.collector_number guard.now ≡ self.now.collector → ⊥)
+            → result ≡ Err Refused.WrongGuard }
+    {
+        let Told { answer, marker: _ } = self.retain_told(rt, stays, guard);
+        answer
+    }
+
+    /// The pairs of the map, one by one: `iter` of 0.2.5. Refused for a wrong guard, and as
+    /// [`HashMapRef::iter_as`] is.
+    pub fn iter<'g, R: Wait, G: Guard>(
+        &'g self,
+        rt: &R,
+        guard: &'g G,
+    ) -> Result<Iter<'g, K, V, S>, Refused>
+        ensures walk { IfOk result (λ pairs. pairs.book ≡ self.now.book) }
+        ensures began { IfOk result (λ pairs. pairs.began ≡ []) }
+        ensures right { G.collector_number guard.now ≡ self.now.collector
+            → IfErr result (λ refused. IsMemoryOrCapacity refused) }
+        ensures wrong { (G.collector_number guard.now ≡ self.now.collector → ⊥)
+            → result ≡ Err Refused.WrongGuard }
+    {
+        self.verify(guard)?;
+        let mut pass = self.numbered(guard.number());
+        self.pin().iter_as(rt, &mut pass)
+    }
+
+    /// The keys of the map, one by one: `keys` of 0.2.5. Refused as [`HashMap::iter`] is.
+    pub fn keys<'g, R: Wait, G: Guard>(
+        &'g self,
+        rt: &R,
+        guard: &'g G,
+    ) -> Result<Keys<'g, K, V, S>, Refused>
+        ensures walk { IfOk result (λ keys. keys.pairs.book ≡ self.now.book) }
+        ensures began { IfOk result (λ keys. keys.pairs.began ≡ []) }
+        ensures right { G.collector_number guard.now ≡ self.now.collector
+            → IfErr result (λ refused. IsMemoryOrCapacity refused) }
+        ensures wrong { (G.collector_number guard.now ≡ self.now.collector → ⊥)
+            → result ≡ Err Refused.WrongGuard }
+    {
+        Ok(Keys::of(self.iter(rt, guard)?))
+    }
+
+    /// The values of the map, one by one: `values` of 0.2.5. Refused as [`HashMap::iter`] is.
+    pub fn values<'g, R: Wait, G: Guard>(
+        &'g self,
+        rt: &R,
+        guard: &'g G,
+    ) -> Result<Values<'g, K, V, S>, Refused>
+        ensures walk { IfOk result (λ values. values.pairs.book ≡ self.now.book) }
+        ensures began { IfOk result (λ values. values.pairs.began ≡ []) }
+        ensures right { G.collector_number guard.now ≡ self.now.collector
+            → IfErr result (λ refused. IsMemoryOrCapacity refused) }
+        ensures wrong { (G.collector_number guard.now ≡ self.now.collector → ⊥)
+            → result ≡ Err Refused.WrongGuard }
+    {
+        Ok(Values::of(self.iter(rt, guard)?))
+    }
+}

@@ -1,5 +1,0 @@
-use Rattle.papaya_rests.proofs.loads.lookups_are_bounded.Goals as goal
-use Rattle.papaya_rests.proofs.LoadsBound.{lookup_bounded}
-
-pub returns : goal.returns
-returns c = λ hash initial mode most limit answers fit. lookup_bounded limit hash initial mode most answers fit

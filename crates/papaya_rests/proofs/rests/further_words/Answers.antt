@@ -1,5 +1,0 @@
-use Rattle.papaya_rests.proofs.rests.further_words.Goals as goal
-use Rattle.papaya_rests.proofs.FurtherWords.{key_word}
-
-pub returns : goal.returns
-returns g c = λ h d matches hash s at. key_word h matches hash d s at

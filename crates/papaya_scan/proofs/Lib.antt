@@ -1,0 +1,10 @@
+-- what became of a pair that stood in a slot
+pub mod Pairs
+-- and of one that the map had
+pub mod Leaving
+-- what stands in the slots of a table that was taken
+pub mod Taken
+-- how the scan of a slot goes on
+pub mod Scanning
+-- what is so stays so
+pub mod TableScans

@@ -1,0 +1,60 @@
+//! The table that a call scans.
+ghost use Rattle.std.specs.Prelude.{◌≡◌, Err, IfErr, IfOk, MatchOption};
+ghost use Rattle.std.specs.Int.{IsPowerOfTwo};
+ghost use Rattle.papaya_book.specs.Limits.{HasNoRoom, tables_of};
+ghost use Rattle.papaya_book.specs.Windows.{IsLawful, IsTable, Sees};
+ghost use Rattle.papaya_change.specs.Writing.{IsMemoryOrCapacity};
+ghost use Rattle.papaya_scan.specs.TableScans.{IsTaken, root_of};
+
+use papaya_book::count::Shard;
+use papaya_book::rule::own::{CapacityCause, OwnSteps};
+use papaya_book::table::Table;
+use papaya_book::window::Window;
+use papaya_chain::resizer::Resize;
+use papaya_change::resizing::resize;
+use papaya_words::probe::{Refused, ResizeMode};
+use std::alloc::Global;
+use std::hash::{BuildHasher, Hash};
+use std::sync::Wait;
+
+/// Takes the root, and its number, if there is one. Without blocking all is copied before, and the
+/// root is taken by the load that finds no table after it: so each pair of the map is in it then.
+/// Where it is refused for want of room, `given` tells why.
+pub fn take_root<'a, R: Wait, K: Hash + Eq, V, S: BuildHasher>(
+    rt: &R,
+    alloc: Global,
+    initial: usize,
+    shard: &Shard<'_>,
+    window: &mut Window<'a, K, V, S>,
+    given: &mut OwnSteps<CapacityCause>,
+) -> Result<Option<(u64, &'a Table<K, V, S>)>, Refused>
+    requires initial { IsPowerOfTwo initial }
+    ensures sees { Sees window.old window.new }
+    ensures lawful { IsLawful window.new }
+    ensures own { window.new.own ≡ window.old.own }
+    ensures table { IfOk result (λ found. MatchOption found Unit (λ root. IsTable window.new root.0
+        root.1.now)) }
+    ensures taken { IfOk result (λ found. MatchOption found Unit (λ root. IsTaken
+        window.old.sight.log window.new root.0)) }
+    ensures rootless { IfOk result (λ found. MatchOption found (root_of window.new ≡ 0)
+        (λ root. Unit)) }
+    ensures refused { IfErr result (λ refused. IsMemoryOrCapacity refused) }
+    ensures crowded { result ≡ Err Refused.Capacity → HasNoRoom initial
+        (tables_of window.new.sight.log) given.new.done }
+{
+    for _ in rt.forever() {
+        let (number, held) = window.root();
+        let Some(table) = held else {
+            return Ok(None);
+        };
+        if let ResizeMode::Blocking = window.book.parts.mode {
+            return Ok(Some((number, table)));
+        }
+        let (next, _) = window.next(table, number);
+        if next == 0 {
+            return Ok(Some((number, table)));
+        }
+        resize(rt, alloc, initial, shard, window, given, Resize::CopyAll)?;
+    }
+    unreachable!()
+}

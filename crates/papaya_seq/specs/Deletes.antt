@@ -1,0 +1,60 @@
+-- A removal, several of whose asks its driver answers at once.
+use Rattle.std.specs.Prelude.{◌≡◌, ℕ, Bool, false, List, [], ◌∷◌, Option}
+use denote.Ref.{Bor}
+use Rattle.std.specs.Fn.{Mut}
+use Rattle.papaya_words.specs.declared.probe.ResizeMode.{ResizeMode}
+use Rattle.papaya_ask.specs.declared.ask.Answer.{Answer}
+use Rattle.papaya_ask.specs.declared.ask.Ask.{Ask}
+use Rattle.papaya_ask.specs.declared.ask.Ask.TheVariants.{Done}
+use Rattle.papaya_ask.specs.declared.call.Reply.{Reply}
+use Rattle.papaya_ask.specs.declared.call.Task.TheVariants.{RemoveIf}
+use Rattle.papaya_call.specs.declared.machine.Machine.{Machine as Call_machine}
+use Rattle.papaya_call.specs.declared.machine.State.TheVariants.{Showing}
+use Rattle.papaya_call.specs.declared.remove.Removal.{Removal}
+use Rattle.papaya_call.specs.Machine.{started}
+use Rattle.papaya_chain.specs.declared.ask.Answer.TheVariants as answers
+use Rattle.papaya_chain.specs.declared.ask.Ask.TheVariants as asks
+use Rattle.papaya_chain.specs.declared.machine.Machine.{Machine}
+use Rattle.papaya_chain.specs.declared.machine.Phase.TheVariants.{Calling}
+use Rattle.papaya_chain.specs.Machine.{after, ask_of}
+use Rattle.papaya_store.specs.Store.{StoreState}
+use Rattle.papaya_seq.specs.Removes.{IsRemovalAnswer}
+
+-- a call that goes on for itself
+abbrev pub itself : Call_machine → Machine
+itself m = record { call = m; number = 0; helped = false; phase = Calling }
+
+module _ {K V S F : Type 0} (g : Mut F (Bor K × (Bor V × Unit {0})) Bool) (matches : K → Bool) where
+  -- an ask of the removal was answered by the store, or by its closure
+  pub record IsLed (s : StoreState K V S) (f : F) (m : Machine) (answer : Answer)
+      (s' : StoreState K V S) (f' : F) : Type 0 where
+    pub ask : Ask
+    pub asked : asks.Call ask ≡ ask_of m
+    pub answered : IsRemovalAnswer g matches ask s f answer s' f'
+
+  -- several were so, one after the other
+  abbrev pub Leads : List Answer → StoreState K V S → F → Machine → StoreState K V S → F → Machine
+      → Type 0
+  Leads [] s f m s' f' m' = (s' ≡ s) × (f' ≡ f) × (m' ≡ m)
+  Leads (answer ∷ rest) s f m s' f' m' = (middle : StoreState K V S) × (later : F)
+      × IsLed s f m answer middle later
+      × Leads rest middle later (after m (answers.Call answer)) s' f' m'
+
+  -- the removal has replied then
+  pub record IsRemovedFrom (s : StoreState K V S) (f : F) (m : Machine) (reply : Reply)
+      (s' : StoreState K V S) (f' : F) : Type 0 where
+    pub answers : List Answer
+    pub end : Machine
+    pub leads : Leads answers s f m s' f' end
+    pub replied : ask_of end ≡ asks.Call (Done reply)
+
+  -- any removal that was to show this pair has replied
+  abbrev pub IsDeleted : Removal → StoreState K V S → F → Reply → StoreState K V S → F → Type 0
+  IsDeleted removal s f reply s' f' = (m : Call_machine)
+      → IsRemovedFrom s f (itself (record m { task = RemoveIf; state = Showing removal })) reply s' f'
+
+  -- a removal has replied, whatever the map's settings are
+  abbrev pub IsRemovedFast : (hashed : ℕ) → StoreState K V S → F → Reply → StoreState K V S → F
+      → Type 0
+  IsRemovedFast hashed s f reply s' f' = (mode : ResizeMode) (initial : ℕ) (limit : Option ℕ)
+      → IsRemovedFrom s f (itself (started RemoveIf hashed mode initial limit)) reply s' f'
